@@ -1,47 +1,27 @@
 -- A reserve at a chosen level: every admissible history that the link stands for goes on with its offer, and the offer is
 -- the legal reply exactly where the level is the best.
-use Rattle.std.proofs.Common.{◌≡◌, ℕ, ◌<◌, ◌≤◌, max, ⊎_elim, List, ◌∷◌, length, map, get_or, Option, Some, None, refl, sym, ap, ◌∙◌, subst, arith}
+use Rattle.std.proofs.Common.{◌≡◌, ℕ, ◌<◌, ◌≤◌, max, ⊎_elim, List, ◌∷◌, length, map, Option, Some, None, refl, sym, ap, ◌∙◌, subst, arith}
 use Rattle.std.specs.Prelude.{◌↔◌, option_map, slice_get}
-use Rattle.std.proofs.lemmas.Option.{slice_get-map, slice_get_read, slice_get_past}
+use Rattle.std.proofs.lemmas.Option.{slice_get-map, slice_get_past}
 use Rattle.std.proofs.lemmas.Bool.{cases_lt, le-leb}
 use Rattle.net_units.proofs.BoundFacts.{bounds_parts, within_count, level_largest}
 use Rattle.net_units.specs.LevelBounds.{bound_at, reach_of}
-use Rattle.net_units.specs.Numbers.{level_number}
-use Rattle.net_units.specs.declared.numbers.ChanNo.{ChanNo}
-use Rattle.net_units.specs.declared.numbers.Level.{Level}
+use Rattle.link_server.proofs.Words.{level_number, ChanNo, Level, best_level, Traffic, Ask, Offer, LinkShape, need_of, free_units, AskFits, ReserveFits, level_of, Each, Reservation, admitted, clock_of, scan_of, server_of, whole, Offered, Wanted}
 use Rattle.traffic_contract.proofs.AdmissionFacts.{best_level-is}
-use Rattle.traffic_contract.specs.Admission.{best_level}
-use Rattle.traffic_contract.specs.Contract.{Traffic}
-use Rattle.link_steps.specs.declared.asks.Ask.{Ask}
 use Rattle.link_steps.specs.declared.asks.Ask.TheVariants.{Reserve, Relax, Deny, Submit, Release, Arrive, Tick, Pour}
 use Rattle.link_steps.specs.declared.replies.Entry.{Entry}
-use Rattle.link_steps.specs.declared.replies.Reply.TheVariants.{Offer}
-use Rattle.link_steps.specs.declared.shape.LinkShape.{LinkShape}
 use Rattle.link_steps.specs.Admissible.{MayOffer, MayAnswer, IsAdmissible}
-use Rattle.link_steps.specs.Buffer.{need_of, free_units}
-use Rattle.link_steps.specs.Kept.{HasContract, StandsFor, Kept, kept_at, kept_terms, kept_reply}
-use Rattle.link_steps.specs.Legal.{AskFits, ReserveFits}
-use Rattle.link_steps.specs.Levels.{level_of}
-use Rattle.link_steps.specs.Lists.{Each}
+use Rattle.link_steps.specs.Kept.{HasContract, StandsFor, Kept, KeptRow, kept_at, kept_terms, kept_reply}
 use Rattle.link_steps.specs.Replies.{reserve_reply, reply_to}
-use Rattle.link_steps.specs.Reservation.{Reservation, admitted}
 use Rattle.link_steps.specs.Room.{room_of, whole_room}
 use Rattle.link_steps.specs.Rows.{row_terms}
-use Rattle.link_steps.specs.Scan.{clock_of, scan_of}
-use Rattle.link_steps.specs.Shape.{server_of}
-use Rattle.link_steps.specs.Split.{whole}
 use Rattle.link_steps.proofs.Account.{stands-reply, terms-scanned}
 use Rattle.link_steps.proofs.LevelFacts.{level_of-number, level_of-level}
 use Rattle.link_steps.proofs.ReplyFacts.{offer-best, offer-numbers}
 use Rattle.link_server.specs.Held.{seen, seen_at, reach_at, MayReserve, IsBestFor}
-use Rattle.link_server.specs.Rows.{reservation_in, row_in}
 use Rattle.link_server.specs.declared.held_row.HeldRow.{HeldRow}
-use Rattle.link_server.specs.declared.table.served_row.ServedRow.{ServedRow}
-use Rattle.link_server.specs.declared.table.served_row.Offered.{Offered}
-use Rattle.link_server.specs.declared.table.served_row.Wanted.{Wanted}
 use Rattle.link_server.specs.Wants.{ask_for, MayHold}
-use Rattle.link_server.proofs.AnswerFacts.{reserve-offer}
-use Rattle.link_server.proofs.PlaceFacts.{terms-kept}
+use Rattle.link_server.proofs.Replies.Setup.{reserve-offer}
 
 -- ---- the rows held
 
@@ -55,16 +35,13 @@ pub seen-stand : (shape : LinkShape) (k : Kept) (place : ℕ) (row : Option Held
 seen-stand shape k place row same h stands = same ∙ ap (λ held. seen_at shape.bounds held place) (terms-stand shape k h stands)
 
 -- what is seen at a place is the row there, and nothing past the last row
-seen-kept : (bounds : List ℕ) (rows : List ServedRow) (place : ℕ) (found : Option ServedRow) → slice_get rows place ≡ found → option_map (seen bounds) (option_map reservation_in found) ≡ seen_at bounds (map kept_terms (map row_in rows)) place
-seen-kept bounds rows place found at =
-    ap (option_map (seen bounds)) (ap (option_map reservation_in) (sym at) ∙ sym (slice_get-map reservation_in rows place) ∙ ap (λ held. slice_get held place) (sym (terms-kept rows)))
-    ∙ sym (slice_get-map (seen bounds) (map kept_terms (map row_in rows)) place)
+pub seen-row : (bounds : List ℕ) (rows : List KeptRow) (place : ℕ) (found : Option KeptRow) → slice_get rows place ≡ found → option_map (seen bounds) (option_map kept_terms found) ≡ seen_at bounds (map kept_terms rows) place
+seen-row bounds rows place found at =
+    ap (option_map (seen bounds)) (ap (option_map kept_terms) (sym at) ∙ sym (slice_get-map kept_terms rows place))
+    ∙ sym (slice_get-map (seen bounds) (map kept_terms rows) place)
 
-pub seen-row : (bounds : List ℕ) (rows : List ServedRow) (place : ℕ) (row : ServedRow) → place < length rows → row ≡ get_or rows place row → Some (seen bounds (reservation_in row)) ≡ seen_at bounds (map kept_terms (map row_in rows)) place
-seen-row bounds rows place row inside at = seen-kept bounds rows place (Some row) (slice_get_read rows (length rows) place row refl inside at)
-
-pub seen-none : (bounds : List ℕ) (rows : List ServedRow) (place : ℕ) → length rows ≤ place → None ≡ seen_at bounds (map kept_terms (map row_in rows)) place
-seen-none bounds rows place past = seen-kept bounds rows place None (slice_get_past rows place past)
+pub seen-none : (bounds : List ℕ) (rows : List KeptRow) (place : ℕ) → length rows ≤ place → None ≡ seen_at bounds (map kept_terms rows) place
+seen-none bounds rows place past = seen-row bounds rows place None (slice_get_past rows place past)
 
 -- ---- admissible
 

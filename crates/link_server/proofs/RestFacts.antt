@@ -2,28 +2,18 @@
 use Rattle.std.proofs.Common.{◌≡◌, ℕ, zero, suc, ◌+◌, ◌<◌, ◌≤◌, Bool, true, false, ◌&&◌, List, [], ◌∷◌, map, get_or, All, Option, Some, None, ⊎_elim, refl, sym, ◌∙◌, subst, arith, nat_eq}
 use Rattle.std.proofs.lemmas.Bool.{cases_Bool, lt-leb}
 use Rattle.std.proofs.lemmas.List.Folds.{list_any_none}
-use Rattle.link_steps.specs.declared.asks.Ask.TheVariants.{Tick}
-use Rattle.link_steps.specs.declared.shape.LinkShape.{LinkShape}
+use Rattle.link_server.proofs.Words.{Tick, LinkShape, Each, SourcePacket, Arrival, Start, channel_number, Entry, Schedule, ServedRow, row_in}
 use Rattle.link_steps.specs.Kept.{HasContracts, Kept, KeptRow, kept_stays, kept_after, kept_reply}
-use Rattle.link_steps.specs.Lists.{Each}
-use Rattle.link_steps.specs.Rows.{SourcePacket}
-use Rattle.link_steps.specs.Service.{Arrival, Start}
 use Rattle.link_steps.proofs.ListFacts.{Each-if}
-use Rattle.net_units.specs.Numbers.{channel_number}
-use Rattle.tick_calendar.specs.Calendar.{Entry, Schedule}
-use Rattle.link_server.specs.declared.table.served_row.ServedRow.{ServedRow}
-use Rattle.link_server.specs.KeptQueue.{KeptQueue}
-use Rattle.link_server.specs.Account.{account}
 use Rattle.link_server.specs.Holds.{AreListed, IsListed, tells_end}
-use Rattle.link_server.specs.Plans.{ArePlanned, IsTold}
+use Rattle.link_server.specs.Plans.{IsTold}
 use Rattle.link_server.specs.Planned.{IsPlannedFrom, left_in}
 use Rattle.link_server.specs.Resting.{RestsFromClock}
-use Rattle.link_server.specs.Rows.{row_in}
 use Rattle.link_server.specs.Sound.{IsSound}
 use Rattle.link_server.specs.Stood.{IsStood}
-use Rattle.link_server.proofs.PlansFacts.{told-quiet}
-use Rattle.link_server.proofs.SoundTick.{sound-tick}
-use Rattle.link_server.proofs.StoodFacts.{stood-answered}
+use Rattle.link_server.proofs.Calendars.Plans.{told-quiet}
+use Rattle.link_server.proofs.Sound.Tick.{sound-tick}
+use Rattle.link_server.proofs.Sound.Stood.{stood-answered}
 use Rattle.link_steps.specs.Quiet.{RowRests, RestsUntil, ServiceRests, IsEligibleFrom, quiet_reply, later_by}
 use Rattle.link_steps.proofs.QuietFacts.{quiet-after, quiet-tick, later-rests, one-more, none-later}
 
@@ -52,23 +42,14 @@ listed-stays bounds clock until entries row later listed t from before =
     absurd (let f : false ≡ true = sym (list_any_none (tells_end bounds t row) entries (λ k d inside. not-told bounds t until row (get_or entries k d) (later k d inside) before)) ∙ listed.told t from ends in cc))
     (cases_Bool (kept_stays bounds t row))
 
-rows-rest : (bounds : List ℕ) (clock until : ℕ) (holds plans : Schedule) (rows : List ServedRow) → All (λ entry. until ≤ entry.0) holds.entries → All (λ entry. until ≤ entry.0) plans.entries
+-- so each row rests
+pub rows-rest : (bounds : List ℕ) (clock until : ℕ) (holds plans : Schedule) (rows : List ServedRow) → All (λ entry. until ≤ entry.0) holds.entries → All (λ entry. until ≤ entry.0) plans.entries
     → Each (IsListed bounds clock holds.entries) (map row_in rows) → Each (IsTold plans.entries) (map row_in rows) → Each (RowRests bounds clock until) (map row_in rows)
 rows-rest bounds clock until holds plans [] held planned listed told = tt
 rows-rest bounds clock until holds plans (row ∷ rows) held planned listed told = (
   record { plans = told-rests until plans.entries row planned told.0; stays = listed-stays bounds clock until holds.entries (row_in row) held listed.0 },
   rows-rest bounds clock until holds plans rows held planned listed.1 told.1,
 )
-
--- so the account rests, where no packet starts or departs before either
-pub rests-by : (shape : LinkShape) (clock until : ℕ) (holds plans : Schedule) (queue : KeptQueue) (rows : List ServedRow) → All (λ entry. until ≤ entry.0) holds.entries → All (λ entry. until ≤ entry.0) plans.entries
-    → AreListed shape.bounds clock holds (map row_in rows) → ArePlanned clock plans (map row_in rows) → Each (IsPlannedFrom until) queue.best → ServiceRests shape.rate until queue.here queue.on
-    → RestsUntil shape until (account clock queue rows)
-rests-by shape clock until holds plans queue rows held planned listed told best service = record {
-  rows = rows-rest shape.bounds clock until holds plans rows held planned listed.listed told.told;
-  best = best;
-  service = service;
-}
 
 -- nothing is said of a tick that the clock has reached
 pub due-now : (shape : LinkShape) (k : Kept) → RestsFromClock shape 0 k

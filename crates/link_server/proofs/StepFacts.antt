@@ -1,29 +1,21 @@
 -- What the account says of a step, every history that the link stands for says.
-use Rattle.std.proofs.Common.{◌≡◌, true, false, List, [], ◌∷◌, map, refl, ◌∙◌, sym, ap, subst}
+use Rattle.std.proofs.Common.{◌≡◌, true, false, List, ◌∷◌, length, refl, ◌∙◌, sym, ap, subst}
 use Rattle.std.specs.Prelude.{Result, Ok, Err, IfOk, OnErr}
-use Rattle.link_steps.specs.declared.asks.Ask.{Ask}
+use Rattle.link_server.proofs.Words.{Ask, Reply, LinkShape, whole, HasContract, StandsFor, Kept, kept_reply, kept_after, Each, clock_of, scan_of, AskFits, LinkState, kept_in}
 use Rattle.link_steps.specs.declared.replies.Entry.{Entry}
-use Rattle.link_steps.specs.declared.replies.Reply.{Reply}
-use Rattle.link_steps.specs.declared.shape.LinkShape.{LinkShape}
-use Rattle.link_steps.specs.Split.{whole}
-use Rattle.link_steps.specs.Kept.{HasContract, StandsFor, Kept, kept_reply, kept_after}
-use Rattle.link_steps.specs.Lists.{Each}
-use Rattle.link_steps.specs.Scan.{clock_of, scan_of}
 use Rattle.link_steps.specs.Replies.{reply_to}
 use Rattle.link_steps.specs.HopGuarantee.{HopGuarantee}
 use Rattle.link_steps.specs.Admissible.{IsAdmissible}
 use Rattle.link_steps.proofs.LegalAdmissible.{may-answer, whole-fits}
-use Rattle.link_steps.specs.Legal.{AskFits}
 use Rattle.link_steps.proofs.HopHolds.{hop-guarantee}
+use Rattle.link_steps.proofs.ListFacts.{Each-if}
 use Rattle.link_steps.proofs.Account.{stands-reply, stands-entry}
-use Rattle.link_server.specs.declared.table.served_row.ServedRow.{ServedRow}
 use Rattle.link_server.specs.Asks.{IsOffer}
-use Rattle.link_server.specs.Rows.{row_in}
+use Rattle.link_server.specs.Sound.{IsSoundRow}
 
 -- the rows have contracts
-pub rows-have : (rows : List ServedRow) → Each HasContract (map row_in rows)
-rows-have [] = tt
-rows-have (row ∷ rows) = (row.is_contract, rows-have rows)
+pub rows-have : (link : LinkState) → Each HasContract (kept_in link).rows
+rows-have link = Each-if (IsSoundRow (length link.shape.bounds) link.clock link.queue.taken) HasContract link.table.rows (λ row is. is.contract) link.sound.rows
 
 -- the reply of the account is the legal one
 pub step-legal : (shape : LinkShape) (k : Kept) (ask asked : Ask) (reply : Reply) → Each HasContract k.rows → ask ≡ asked → reply ≡ kept_reply (whole shape) k asked → (h : List Entry) → StandsFor shape k h → reply ≡ reply_to (whole shape) h ask

@@ -2,10 +2,7 @@
 -- hold ends, with the number of the row's channel. So a tick looks only at the rows of the entries that are due. An entry that is
 -- no row's any more means nothing. For each row that has none yet the calendar keeps room for one.
 use Rattle.std.specs.Prelude.{◌≡◌, ℕ, ◌<◌, ◌≤◌, Bool, true, false, not, nat_eq, nat_le, ◌&&◌, ◌||◌, if◌then◌else◌, List, length, slice_index_or}
-use Rattle.std.specs.Coded.{le_prop}
 use Rattle.std.specs.List.{list_any}
-use Rattle.std.proofs.Math.Bool.{Bool-set}
-use native.Mathlib.Nat.{ℕ_set}
 use Rattle.net_units.specs.Numbers.{channel_number}
 use Rattle.traffic_contract.specs.Admission.{total}
 use Rattle.link_steps.specs.declared.replies.Phase.TheVariants.{Closing}
@@ -16,7 +13,6 @@ use Rattle.tick_calendar.specs.Calendar.{Entry, Schedule}
 use Rattle.link_server.specs.declared.table.served_row.ServedRow.{ServedRow}
 use Rattle.link_server.specs.Index.{channel_in}
 use Rattle.link_server.specs.Rows.{row_in}
-use Rattle.link_server.specs.SoundProp.{Each-prop}
 
 -- whether the row waits for a packet yet, or isn't released
 abbrev pub is_open : KeptRow → Bool
@@ -64,13 +60,3 @@ pub record HasEnded (bounds : List ℕ) (clock key : ℕ) (rows : List ServedRow
 -- the hold of the row hasn't, if it is of that channel
 abbrev pub StaysIfOf : List ℕ → ℕ → ℕ → KeptRow → Type 0
 StaysIfOf bounds clock key row = channel_number row.terms.chan ≡ key → kept_stays bounds clock row ≡ true
-
--- there is one proof of it at most
-IsListed-prop : (bounds : List ℕ) (clock : ℕ) (entries : List Entry) (row : KeptRow) → IsProp (IsListed bounds clock entries row)
-IsListed-prop bounds clock entries row = Prim.hlevel (ℕ_set, Bool-set)
-
-Listed-prop : (bounds : List ℕ) (clock : ℕ) (entries : List Entry) (rows : List KeptRow) → IsProp (Each (IsListed bounds clock entries) rows)
-Listed-prop bounds clock entries rows = Each-prop (IsListed bounds clock entries) (IsListed-prop bounds clock entries) rows
-
-pub AreListed-prop : (bounds : List ℕ) (clock : ℕ) (holds : Schedule) (rows : List KeptRow) → IsProp (AreListed bounds clock holds rows)
-AreListed-prop bounds clock holds rows = Prim.hlevel (le_prop, Listed-prop)

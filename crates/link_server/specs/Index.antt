@@ -1,8 +1,6 @@
 -- A link finds the row of a channel by an index: by the number of a channel it keeps the place of the channel's row. What it has
 -- for a channel without a row means nothing, so a look-up compares the channel of the row at the place.
 use Rattle.std.specs.Prelude.{◌≡◌, ℕ, suc, ◌<◌, ◌≤◌, List, length, map, slice_index_or}
-use native.Mathlib.Nat.{ℕ_set}
-use Rattle.std.specs.Coded.{le_prop}
 use Rattle.net_units.specs.Numbers.{channel_number}
 use Rattle.link_server.specs.declared.table.served_row.ServedRow.{ServedRow}
 
@@ -27,10 +25,3 @@ IsIndex places channels = (k d : ℕ) → k < length channels → LeadsTo places
 pub record IsAheadFrom (i : ℕ) (places channels : List ℕ) : Type 0 where
   pub before : (k d : ℕ) → k < i → k < length channels → LeadsTo places (slice_index_or channels k d) k
   pub from : (k d : ℕ) → i ≤ k → k < length channels → LeadsTo places (slice_index_or channels k d) (suc k)
-
--- there is one proof of it at most
-LeadsTo-prop : (places : List ℕ) (channel place : ℕ) → IsProp (LeadsTo places channel place)
-LeadsTo-prop places channel place = Prim.hlevel (le_prop, ℕ_set)
-
-pub IsIndex-prop : (places channels : List ℕ) → IsProp (IsIndex places channels)
-IsIndex-prop places channels = Prim.hlevel LeadsTo-prop

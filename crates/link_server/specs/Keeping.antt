@@ -2,7 +2,6 @@
 -- how many places their packets may want, one for each slot and one more a row. A row adds its share as it is reserved, has a
 -- smaller one once it is relaxed, and gives it back as it is denied or expires.
 use Rattle.std.specs.Prelude.{◌≡◌, ℕ, suc, List}
-use native.Mathlib.Nat.{ℕ_set}
 use Rattle.buffer_budget.specs.Parts.{whole_of}
 use Rattle.traffic_contract.specs.Admission.{total}
 use Rattle.link_steps.specs.Buffer.{slots_of, kept_units}
@@ -18,7 +17,3 @@ pub record IsKeeping (buffer : ℕ) (bounds : List ℕ) (keeping : Keeping) (hel
   pub whole : whole_of keeping.budget ≡ buffer
   pub units : keeping.budget.held ≡ total (kept_units bounds) held
   pub places : keeping.places ≡ total (places_for bounds) held
-
--- there is one proof of it at most
-pub IsKeeping-prop : (buffer : ℕ) (bounds : List ℕ) (keeping : Keeping) (held : List Reservation) → IsProp (IsKeeping buffer bounds keeping held)
-IsKeeping-prop buffer bounds keeping held = Prim.hlevel ℕ_set

@@ -1,3 +1,4 @@
+-- The definitions of this crate.
 pub mod Planned
 pub mod Rows
 pub mod Index
@@ -8,6 +9,11 @@ pub mod Wants
 pub mod Packets
 pub mod KeptQueue
 pub mod QueueParts
+pub mod KeptTable
+pub mod RowParts
+pub mod TableParts
+pub mod Changes
+pub mod RoomFor
 pub mod Counts
 pub mod Serving
 pub mod Asks

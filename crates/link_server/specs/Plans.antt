@@ -3,9 +3,7 @@
 -- turns in the order of the rows, whatever that of their entries. An entry that is no row's any more means nothing. For each row
 -- that has no packet left and isn't closing the calendar keeps room for one entry.
 use Rattle.std.specs.Prelude.{◌≡◌, ℕ, suc, ◌+◌, ◌<◌, ◌≤◌, Bool, true, false, not, nat_eq, ◌&&◌, if◌then◌else◌, Some, None, is_none, find, List, [], ◌∷◌, map, length, slice_index_or}
-use Rattle.std.specs.Coded.{le_prop}
 use Rattle.std.specs.List.{list_any}
-use Rattle.std.proofs.Math.Bool.{Bool-set}
 use Rattle.net_units.specs.Numbers.{channel_number}
 use Rattle.traffic_contract.specs.Admission.{total}
 use Rattle.link_steps.specs.declared.replies.Phase.TheVariants.{Closing}
@@ -18,7 +16,6 @@ use Rattle.link_server.specs.declared.table.served_row.ServedRow.{ServedRow}
 use Rattle.link_server.specs.Index.{channel_in}
 use Rattle.link_server.specs.Planned.{IsPlannedFrom, first_tick}
 use Rattle.link_server.specs.Rows.{row_in}
-use Rattle.link_server.specs.SoundProp.{Each-prop}
 
 -- whether it is the entry of the channel of this number for this tick
 abbrev pub is_entry_of : ℕ → ℕ → Entry → Bool
@@ -73,13 +70,3 @@ RestsIfOf clock key row = channel_number row.terms.chan ≡ key → find (is_for
 -- the row plans no packet for a tick before this one
 abbrev pub IsQuiet : ℕ → KeptRow → Type 0
 IsQuiet until row = Each (IsPlannedFrom until) row.left
-
--- there is one proof of it at most
-IsTold-prop : (entries : List Entry) (row : KeptRow) → IsProp (IsTold entries row)
-IsTold-prop entries row = Prim.hlevel Bool-set
-
-Told-prop : (entries : List Entry) (rows : List KeptRow) → IsProp (Each (IsTold entries) rows)
-Told-prop entries rows = Each-prop (IsTold entries) (IsTold-prop entries) rows
-
-pub ArePlanned-prop : (clock : ℕ) (plans : Schedule) (rows : List KeptRow) → IsProp (ArePlanned clock plans rows)
-ArePlanned-prop clock plans rows = Prim.hlevel (le_prop, Told-prop)

@@ -43,15 +43,15 @@ is_served_at_hop chan first row = is_at_hop chan first (reservation_in row)
 abbrev pub summed : ServedRow → Held
 summed row = held_at (channel_number row.chan) row.contract (level_number row.level)
 
--- no row passes the test
-abbrev pub NoRowPasses : (ServedRow → Bool) → List ServedRow → Type 0
+-- none of these passes the test
+abbrev pub NoRowPasses : {X : Type 0} → (X → Bool) → List X → Type 0
 NoRowPasses test rows = All (λ row. test row ≡ false) rows
 
--- the first row that passes it stands at place i
-pub record IsFirstPlace (test : ServedRow → Bool) (rows : List ServedRow) (i : ℕ) : Type 0 where
+-- the first that passes it stands at place i
+pub record IsFirstPlace {X : Type 0} (test : X → Bool) (rows : List X) (i : ℕ) : Type 0 where
   pub inside : i < length rows
-  pub here : (d : ServedRow) → test (slice_index_or rows i d) ≡ true
-  pub before : (k : ℕ) (d : ServedRow) → k < i → test (slice_index_or rows k d) ≡ false
+  pub here : (d : X) → test (slice_index_or rows i d) ≡ true
+  pub before : (k : ℕ) (d : X) → k < i → test (slice_index_or rows k d) ≡ false
 
 -- no row is the channel's
 abbrev pub IsAbsent : ChanNo → List ServedRow → Type 0

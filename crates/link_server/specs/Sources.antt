@@ -1,14 +1,16 @@
 -- In a tick each row with a packet planned for it takes that packet, where one of its slots is free, or else drops it.
 -- The rows do so in the order of their reserves, and a slot is free by the packets that are here as the tick begins. The
 -- account says what each row and the packets become; here it is said of the rows and packets that the link keeps.
-use Rattle.std.specs.Prelude.{ℕ, ◌+◌, ◌<◌, ◌^◌, List, map}
+use Rattle.std.specs.Prelude.{ℕ, ◌+◌, ◌<◌, ◌≤◌, ◌^◌, ◌++◌, List, length, map}
 use Rattle.traffic_contract.specs.Eligible.{newest}
 use Rattle.link_steps.specs.Kept.{KeptRow, kept_step, kept_packets, kept_rows_after, kept_lost}
 use Rattle.link_steps.specs.Lists.{Each}
 use Rattle.link_steps.specs.Service.{Arrival}
 use Rattle.link_steps.specs.Sources.{SourceStep}
+use Rattle.link_server.specs.KeptQueue.{KeptQueue}
 use Rattle.link_server.specs.Planned.{IsPlannedFrom}
 use Rattle.link_server.specs.Rows.{row_in}
+use Rattle.link_server.specs.Sound.{HaveOwnLeads}
 use Rattle.link_server.specs.declared.table.served_row.ServedRow.{ServedRow}
 
 -- what the row's source does in tick t, with these packets here
@@ -37,3 +39,22 @@ pub record IsReady (clock : ℕ) (row : KeptRow) : Type 0 where
 -- and so for each row
 abbrev pub AreReady : ℕ → List ServedRow → Type 0
 AreReady clock rows = Each (IsReady clock) (map row_in rows)
+
+-- these rows can make the step of the tick of the clock, and what they bring has room in the queue
+pub record MayBring (bounds : List ℕ) (clock : ℕ) (queue : KeptQueue) (rows : List KeptRow) : Type 0 where
+  pub early : clock < 2 ^ 61
+  pub few : length rows < 2 ^ 32
+  pub ready : Each (IsReady clock) rows
+  pub apart : HaveOwnLeads rows
+  pub leads : Each (λ row. row.lead ≤ queue.taken) rows
+  pub looked : queue.looked ≤ clock
+  pub room : length queue.here + length (kept_packets bounds queue.here clock queue.taken rows) ≤ queue.room
+  pub numbers : queue.taken + length (kept_packets bounds queue.here clock queue.taken rows) < 2 ^ 64
+
+-- the queue with the packets that they bring, where the link last looked which packets are eligible in this tick
+abbrev pub queue_after : List ℕ → ℕ → List KeptRow → ℕ → KeptQueue → KeptQueue
+queue_after bounds clock rows looked queue = record queue {
+  taken = queue.taken + length (kept_packets bounds queue.here clock queue.taken rows);
+  here = queue.here ++ kept_packets bounds queue.here clock queue.taken rows;
+  looked = looked;
+}

@@ -11,7 +11,7 @@ use Rattle.link_server.specs.declared.link_state.LinkState.{LinkState}
 
 -- the account that it keeps
 abbrev pub kept_in : LinkState → Kept
-kept_in link = account link.clock link.queue link.rows.items
+kept_in link = account link.clock link.queue link.table.rows
 
 -- it stands for this history, newest first
 abbrev pub LinkStands : LinkState → List Entry → Type 0

@@ -1,33 +1,20 @@
 //! The state of a link, and its steps.
 ghost use Rattle.std.specs.Prelude.{◌≡◌, ◌^◌, ◌<◌, ◌≤◌, ◌∷◌, [], List, map, length, IfOk, OnErr, IsOk};
-ghost use Rattle.std.specs.Vec.{vec_capacity};
-ghost use Rattle.rcsp_admission.specs.Sums.{AreAdmitted};
 ghost use Rattle.link_steps.specs.Legal.{AskFits};
 ghost use Rattle.link_steps.specs.Shape.{server_of};
 ghost use Rattle.link_server.specs.Account.{account};
-ghost use Rattle.link_server.specs.Holds.{AreListed, AreListed-prop};
-ghost use Rattle.link_server.specs.Index.{channels_in, IsIndex, IsIndex-prop};
-ghost use Rattle.link_server.specs.Keeping.{IsKeeping, IsKeeping-prop};
-ghost use Rattle.link_server.specs.Rows.{reservation_in, row_in, summed, AreWithin};
-ghost use Rattle.link_server.specs.Plans.{ArePlanned, ArePlanned-prop};
 ghost use Rattle.link_server.specs.Resting.{RestsFromClock, RestsFromClock-prop};
 ghost use Rattle.link_server.specs.Sound.{IsSound};
 ghost use Rattle.link_server.specs.SoundProp.{IsSound-prop};
 ghost use Rattle.link_server.specs.Stood.{IsStood, IsStood-prop};
 
 use crate::held_row::HeldRow;
-use crate::keyed_list::KeyedList;
 use crate::queue::Queue;
-use crate::table::keeping::Keeping;
-use crate::table::plans::Plans;
-use crate::table::row_index::RowIndex;
-use crate::table::rows::{need_of, place_of, reach_of};
-use crate::table::served_row::ServedRow;
+use crate::table::Table;
+use crate::table::rows::{need_of, reach_of};
 use link_steps::{Ask, LinkShape, LinkStep, Reply};
 use net_units::{ChanNo, Level, OutOfMemory};
-use rcsp_admission::LevelSums;
 use std::alloc::Global;
-use tick_calendar::Calendar;
 use traffic_contract::Contract;
 
 /// A link: its shape, its clock, the reservations that it holds, and its packets.
@@ -36,34 +23,19 @@ pub struct LinkState {
     pub(crate) alloc: Global,
     pub(crate) shape: LinkShape,
     pub(crate) clock: u64,
-    // In the order of their reserves.
-    pub(crate) rows: KeyedList<ServedRow>,
-    pub(crate) index: RowIndex,
-    // When the holds of closing rows end, with the numbers of their channels.
-    pub(crate) holds: Calendar,
-    pub(crate) plans: Plans,
+    // The reservations that it holds.
+    pub(crate) table: Table,
     // It has room for the packets of channels that are here, one in each free slot, one more a row, and the best-effort packets
     // that may be here.
     pub(crate) queue: Queue,
-    pub(crate) sums: LevelSums,
-    // What the rows keep together.
-    pub(crate) keeping: Keeping,
     // Nothing falls due before this tick.
     pub(crate) due: u64,
-    ghost admitted: { AreAdmitted sums },
-    ghost same_server: { sums.server ≡ server_of shape },
-    ghost same_rows: { sums.rows ≡ map summed rows.items },
-    ghost within: { AreWithin (length shape.bounds) rows.items },
-    ghost indexed: { IsIndex index.places.items (channels_in rows.items) } by { IsIndex-prop index.places.items (channels_in rows.items) },
-    ghost listed: { AreListed shape.bounds clock holds (map row_in rows.items) } by { AreListed-prop shape.bounds clock holds (map row_in rows.items) },
-    ghost keeps: { IsKeeping shape.buffer shape.bounds keeping (map reservation_in rows.items) } by { IsKeeping-prop shape.buffer shape.bounds keeping (map reservation_in rows.items) },
-    ghost sound: { IsSound shape queue.room (account clock queue rows.items) } by { IsSound-prop shape queue.room (account clock queue rows.items) },
-    ghost planned: { ArePlanned clock plans.calendar (map row_in rows.items) } by { ArePlanned-prop clock plans.calendar (map row_in rows.items) },
-    ghost turns: { length rows.items ≤ vec_capacity plans.turns },
+    ghost of_shape: { table ≡ record table { server = server_of shape; buffer = shape.buffer } },
+    ghost looked: { (table.looked ≤ clock) × (queue.looked ≤ clock) },
     ghost few: { queue.room < 2 ^ 63 },
-    ghost looked: { queue.looked ≤ clock },
-    ghost stood: { IsStood shape (account clock queue rows.items) } by { IsStood-prop shape (account clock queue rows.items) },
-    ghost rests: { RestsFromClock shape due (account clock queue rows.items) } by { RestsFromClock-prop shape due (account clock queue rows.items) },
+    ghost sound: { IsSound shape queue.room (account clock queue table.rows) } by { IsSound-prop shape queue.room (account clock queue table.rows) },
+    ghost stood: { IsStood shape (account clock queue table.rows) } by { IsStood-prop shape (account clock queue table.rows) },
+    ghost rests: { RestsFromClock shape due (account clock queue table.rows) } by { RestsFromClock-prop shape due (account clock queue table.rows) },
 }
 
 impl LinkState {
@@ -83,20 +55,14 @@ impl LinkState {
         ensures clock { IfOk result (λ link. link.clock ≡ 0) }
         ensures stands { IfOk result (λ link. LinkStands link []) }
     {
-        let blocking = shape.blocking();
         let places = shape.best + 1;
         let mut queue = Queue::new(alloc)?;
         queue.reserve(places as usize)?;
         Ok(LinkState {
             alloc,
-            sums: LevelSums::new(alloc, shape.bounds, shape.rate, blocking, shape.test),
+            table: Table::new(alloc, &shape)?,
             shape,
             clock: 0,
-            rows: KeyedList::new(alloc),
-            index: RowIndex::new(alloc),
-            holds: Calendar::new(alloc)?,
-            plans: Plans::new(alloc)?,
-            keeping: Keeping::new(shape.buffer),
             queue,
             due: 0,
         })
@@ -109,10 +75,10 @@ impl LinkState {
         ensures stands { (h : List Entry) → LinkStands self.now h → result ≡ seen_at self.now.shape.bounds (map row_terms (scan_of self.now.shape h).rows) place }
     {
         let place = place as usize;
-        if place >= self.rows.len() {
+        if place >= self.table.len() {
             return None;
         }
-        let row = &self.rows[place];
+        let row = self.table.row(place);
         Some(HeldRow {
             chan: row.chan,
             contract: row.contract,
@@ -126,10 +92,10 @@ impl LinkState {
     pub fn held_of(&self, chan: ChanNo) -> Option<HeldRow>
         ensures row { result ≡ seen_of self.now.shape.bounds (reservations_held self.now) chan }
     {
-        let Some(place) = place_of(&self.rows, &self.index, chan) else {
+        let Some(place) = self.table.place_of(chan) else {
             return None;
         };
-        let row = &self.rows[place];
+        let row = self.table.row(place);
         Some(HeldRow {
             chan: row.chan,
             contract: row.contract,
@@ -143,7 +109,7 @@ impl LinkState {
     pub fn rows_held(&self) -> u32
         ensures count { result ≡ length (reservations_held self.now) }
     {
-        self.rows.len() as u32
+        self.table.len() as u32
     }
 
     /// The units that a new reservation of this contract would keep that is offered this level: the most packets that may be

@@ -1,8 +1,333 @@
 //! The table of a link's rows: each row as the link serves it, where a channel's stands, when its next packets are planned, and what
 //! the rows keep together.
+ghost use Rattle.std.specs.Prelude.{◌≡◌, ℕ, ◌+◌, ◌-◌, ◌^◌, ◌<◌, ◌≤◌, ◌∷◌, ◌++◌, [], List, filter, find, length, map, remove, slice_get, None, Some, IfNone, IfSome, IfOk, IfErr, OnOk, OnErr, MatchResult};
+ghost use Rattle.std.specs.Vec.{vec_capacity};
+ghost use Rattle.net_units.specs.Limits.{most_bound};
+ghost use Rattle.net_units.specs.LevelBounds.{last_bound};
+ghost use Rattle.net_units.specs.Numbers.{channel_number, level_number};
+ghost use Rattle.traffic_contract.specs.Admission.{total, best_level, refused_sum};
+ghost use Rattle.link_steps.specs.Buffer.{kept_units};
+ghost use Rattle.link_steps.specs.Kept.{is_kept_of, is_kept_at_hop, kept_terms, kept_stays, kept_relaxed, kept_planned, kept_closed, kept_arrived_row, kept_arrived, kept_packets, kept_rows_after, kept_lost};
+ghost use Rattle.link_steps.specs.Lists.{Each};
+ghost use Rattle.link_steps.specs.Quiet.{RowRests};
+ghost use Rattle.link_steps.specs.Reservation.{admitted};
+ghost use Rattle.link_steps.specs.Shape.{server_of};
+ghost use Rattle.link_server.specs.Index.{IsIndex};
+ghost use Rattle.link_server.specs.RoomFor.{IsWider, HasRoomFor};
+ghost use Rattle.link_server.specs.Packets.{arrival_in};
+ghost use Rattle.link_server.specs.Rows.{row_in, IsFirstPlace, IsWithinLevels};
+ghost use Rattle.link_server.specs.Sources.{IsReady, MayBring, queue_after};
 
+mod expiry;
 pub(crate) mod keeping;
 pub(crate) mod plans;
 pub(crate) mod row_index;
 pub(crate) mod rows;
 pub(crate) mod served_row;
+mod sources;
+
+use crate::keyed_list::KeyedList;
+use crate::planned::Planned;
+use crate::queue::Queue;
+use crate::queue::held_packet::HeldPacket;
+use crate::table::expiry::{expire, put_hold};
+use crate::table::keeping::Keeping;
+use crate::table::plans::{Plans, put_plan};
+use crate::table::row_index::RowIndex;
+use crate::table::rows::{place_at_hop, place_of, take_out};
+use crate::table::served_row::ServedRow;
+use crate::table::sources::take_turns;
+use link_steps::{LinkShape, Packet};
+use net_units::{Bounds, ChanNo, Level, OutOfMemory};
+use rcsp_admission::{LevelSums, NoLevel};
+use std::alloc::Global;
+use std::marker::Model;
+use tick_calendar::Calendar;
+use traffic_contract::Contract;
+
+// The rows of a link. A contract sees the record `KeptTable`.
+#[derive(Drop)]
+pub(crate) struct Table {
+    // Those of the link's levels.
+    bounds: Bounds,
+    // The tick in which it was last looked which rows fall due.
+    looked: u64,
+    // In the order of their reserves.
+    rows: KeyedList<ServedRow>,
+    index: RowIndex,
+    // When the holds of closing rows end, with the numbers of their channels.
+    holds: Calendar,
+    plans: Plans,
+    sums: LevelSums,
+    // What the rows keep together.
+    keeping: Keeping,
+}
+
+impl Model for Table {
+    ghost use Rattle.link_server.specs.KeptTable.{KeptTable};
+
+    ghost Value = { KeptTable };
+
+    ghost use Rattle.link_server.specs.TableParts.{table_seen, IsTable};
+
+    ghost view = { table_seen };
+
+    ghost invariant = { IsTable };
+}
+
+impl Table {
+    ghost use Rattle.link_server.specs.Changes.{changed_at, HasAt, MayCommit, MayPlan, MayClose, MayTake, MayAdd};
+    ghost use Rattle.link_server.specs.Sound.{all_places_of};
+    ghost use Rattle.link_server.specs.Strays.{stray};
+
+    // That of no rows, at a link of this shape.
+    pub(crate) fn new(alloc: Global, shape: &LinkShape) -> Result<Table, OutOfMemory>
+        ensures { IfOk result (λ made. made ≡ record { rows = []; server = server_of shape.now; buffer = shape.now.buffer; looked = 0 }) }
+    {
+        let blocking = shape.blocking();
+        Ok(Table {
+            bounds: shape.bounds,
+            looked: 0,
+            rows: KeyedList::new(alloc),
+            index: RowIndex::new(alloc),
+            holds: Calendar::new(alloc)?,
+            plans: Plans::new(alloc)?,
+            sums: LevelSums::new(alloc, shape.bounds, shape.rate, blocking, shape.test),
+            keeping: Keeping::new(shape.buffer),
+        })
+    }
+
+    // How many rows there are.
+    pub(crate) fn len(&self) -> usize
+        ensures { result ≡ length self.now.rows }
+    {
+        self.rows.len()
+    }
+
+    // Where the channel's row stands.
+    pub(crate) fn place_of(&self, chan: ChanNo) -> Option<usize>
+        ensures none { IfNone result (find (is_kept_of chan) self.now.rows ≡ None) }
+        ensures some { IfSome result (IsFirstPlace (is_kept_of chan) self.now.rows) }
+    {
+        place_of(&self.rows, &self.index, chan)
+    }
+
+    // Where the channel's row at its first hop stands, or that at a later one.
+    pub(crate) fn place_at_hop(&self, chan: ChanNo, first: bool) -> Option<usize>
+        ensures none { IfNone result (find (is_kept_at_hop chan first) self.now.rows ≡ None) }
+        ensures some { IfSome result (IsFirstPlace (is_kept_at_hop chan first) self.now.rows) }
+    {
+        place_at_hop(&self.rows, &self.index, chan, first)
+    }
+
+    // The row at this place.
+    pub(crate) fn row(&self, place: usize) -> &ServedRow
+        requires inside { place < length self.now.rows }
+        ensures row { slice_get self.now.rows place ≡ Some (row_in result.now) }
+        ensures within { IsWithinLevels (length self.now.server.bounds) result.now }
+    {
+        &self.rows[place]
+    }
+
+    // The best level of a new contract, or why there is none.
+    pub(crate) fn best(&self, contract: &Contract) -> Result<Level, NoLevel>
+        ensures level { MatchResult result
+            (λ level. best_level self.now.server (map admitted (map kept_terms self.now.rows)) contract.now ≡ Some (level_number level))
+            (λ _. best_level self.now.server (map admitted (map kept_terms self.now.rows)) contract.now ≡ None) }
+        ensures within { IfOk result (λ level. level_number level ≤ length self.now.server.bounds) }
+        ensures sum { IfErr result (λ none. none.sum ≡ refused_sum self.now.server (map admitted (map kept_terms self.now.rows)) contract.now) }
+        ensures bound { IfErr result (λ none. none.bound ≡ last_bound self.now.server.bounds) }
+    {
+        self.sums.best(contract)
+    }
+
+    // The units of the buffer that no row keeps.
+    pub(crate) fn free(&self) -> u64
+        ensures { result ≡ self.now.buffer - total (kept_units self.now.server.bounds) (map kept_terms self.now.rows) }
+    {
+        self.keeping.budget.free()
+    }
+
+    // The places that the packets of the rows may want together with those of one row more.
+    pub(crate) fn places_with(&self, row: &ServedRow) -> u64
+        requires within { IsWithinLevels (length self.now.server.bounds) row.now }
+        ensures value { result ≡ total (all_places_of self.now.server.bounds) self.now.rows + all_places_of self.now.server.bounds (row_in row.now) }
+        ensures small { result < 2 ^ 56 }
+    {
+        self.keeping.places + 1 + row.slots(&self.bounds)
+    }
+
+    // Adds a row after the others, with all memory that it can ever need. An `Err` leaves the table as it was.
+    pub(crate) fn add(&mut self, row: ServedRow) -> Result<(), OutOfMemory>
+        requires few { length self.old.rows < 2 ^ 32 }
+        requires may { MayAdd self.old (row_in row) }
+        ensures added { OnOk result (self.new ≡ record self.old { rows = self.old.rows ++ row_in row ∷ [] }) }
+        ensures same { OnErr result (self.new ≡ self.old) }
+    {
+        make_room(
+            &mut self.rows,
+            &mut self.index,
+            &mut self.holds,
+            &mut self.plans,
+            &mut self.sums,
+            row.chan,
+        )?;
+        let place = self.rows.len() as u32;
+        self.keeping.hold(&row, &self.bounds);
+        self.index.put(row.chan, place);
+        self.sums.add(row.chan.get(), row.contract, row.level);
+        self.rows.push(row);
+        Ok(())
+    }
+
+    // Commits the row at this place.
+    pub(crate) fn commit(&mut self, place: usize, level: Level, up_bound: u64)
+        requires level { level_number level ≤ length self.old.server.bounds }
+        requires bound { up_bound ≤ most_bound }
+        requires may { HasAt (MayCommit self.old.server.bounds level up_bound) self.old.rows place }
+        ensures { self.new ≡ record self.old { rows = changed_at (kept_relaxed level up_bound) self.old.rows place } }
+    {
+        let row = &mut self.rows[place];
+        self.keeping.give_back(row, &self.bounds);
+        self.sums.move_to(row.chan.get(), level);
+        row.commit(level, up_bound, &self.bounds);
+        self.keeping.hold(row, &self.bounds);
+    }
+
+    // Takes the row at this place out.
+    pub(crate) fn remove(&mut self, place: usize)
+        requires { place < length self.old.rows }
+        ensures { self.new ≡ record self.old { rows = remove self.old.rows place } }
+    {
+        take_out(
+            &mut self.rows,
+            &mut self.index,
+            &mut self.sums,
+            &mut self.keeping,
+            &self.bounds,
+            place,
+        );
+    }
+
+    // Plans packets of the row at this place.
+    pub(crate) fn plan(&mut self, place: usize, planned: Planned)
+        requires looked { self.old.looked ≤ planned.tick }
+        requires may { HasAt MayPlan self.old.rows place }
+        ensures { self.new ≡ record self.old { rows = changed_at (kept_planned planned.tick planned.count planned.gap planned.size) self.old.rows place } }
+    {
+        let row = &mut self.rows[place];
+        row.plan(planned);
+        put_plan(&mut self.plans.calendar, row);
+    }
+
+    // Closes the row at this place, with the count of its packets, in the tick of the clock.
+    pub(crate) fn close(&mut self, place: usize, count: u64, clock: u64)
+        requires looked { self.old.looked ≤ clock }
+        requires may { HasAt MayClose self.old.rows place }
+        ensures { self.new ≡ record self.old { rows = changed_at (kept_closed count) self.old.rows place; looked = clock } }
+    {
+        let row = &mut self.rows[place];
+        row.close(count);
+        put_hold(&mut self.holds, row, &self.bounds, clock);
+        self.looked = clock;
+    }
+
+    // The row at this place takes a packet from the link before, which isn't stray, in the tick of the clock. The packet has
+    // `number`, the next arrival number of the link.
+    pub(crate) fn take(
+        &mut self,
+        place: usize,
+        packet: &Packet,
+        number: u64,
+        clock: u64,
+    ) -> HeldPacket
+        requires looked { self.old.looked ≤ clock }
+        requires early { clock < 2 ^ 61 }
+        requires size { 1 ≤ packet.now.size }
+        requires due { packet.now.due < 2 ^ 62 }
+        requires may { HasAt (MayTake clock number packet.now) self.old.rows place }
+        ensures packet { IfSome (slice_get self.old.rows place) (λ row. arrival_in result ≡ kept_arrived clock number packet.now row) }
+        ensures table { self.new ≡ record self.old { rows = changed_at (kept_arrived_row clock number packet.now) self.old.rows place; looked = clock } }
+    {
+        let row = &mut self.rows[place];
+        let taken = row.take(packet.size, packet.due, number, clock);
+        put_hold(&mut self.holds, row, &self.bounds, clock);
+        self.looked = clock;
+        taken
+    }
+
+    // Takes the rows out whose hold has ended by this tick. It looks only at those of which the calendar tells so.
+    pub(crate) fn expire(&mut self, clock: u64)
+        requires looked { self.old.looked ≤ clock }
+        requires ready { Each (IsReady clock) self.old.rows }
+        ensures { self.new ≡ record self.old { rows = filter (kept_stays self.old.server.bounds clock) self.old.rows; looked = clock } }
+    {
+        self.looked = clock;
+        expire(
+            &mut self.holds,
+            &mut self.rows,
+            &mut self.index,
+            &mut self.sums,
+            &mut self.keeping,
+            &self.bounds,
+            clock,
+        );
+    }
+
+    // The rows, in their order, take the packets that are planned for this tick. It answers how many packets found no slot
+    // free, and so were dropped. It looks only at the rows of which the calendar tells one.
+    pub(crate) fn take_source_packets(&mut self, queue: &mut Queue, clock: u64) -> u32
+        requires looked { self.old.looked ≤ clock }
+        requires may { MayBring self.old.server.bounds clock queue.old self.old.rows }
+        ensures lost { result ≡ kept_lost self.old.server.bounds queue.old.here clock self.old.rows }
+        ensures table { self.new ≡ record self.old { rows = kept_rows_after self.old.server.bounds queue.old.here clock queue.old.taken self.old.rows; looked = clock } }
+        ensures queue { queue.new ≡ queue_after self.old.server.bounds clock self.old.rows queue.new.looked queue.old }
+        ensures queue_looked { queue.new.looked ≤ clock }
+    {
+        self.looked = clock;
+        self.plans.call(&self.rows, &self.index, clock);
+        take_turns(
+            &mut self.rows,
+            &self.plans.turns,
+            &mut self.plans.calendar,
+            queue,
+            &self.bounds,
+            clock,
+        )
+    }
+
+    // A tick before which no row's hold ends and no packet of one is planned.
+    pub(crate) fn rests_until(&self) -> u64
+        ensures { (clock : ℕ) → self.now.looked ≤ clock → Each (RowRests self.now.server.bounds clock result) self.now.rows }
+    {
+        self.holds
+            .rests_until()
+            .min(self.plans.calendar.rests_until())
+    }
+}
+
+// Makes room for one row more, of this channel, in each part of a table. The parts stay, an `Err` or not.
+fn make_room(
+    rows: &mut KeyedList<ServedRow>,
+    index: &mut RowIndex,
+    holds: &mut Calendar,
+    plans: &mut Plans,
+    sums: &mut LevelSums,
+    chan: ChanNo,
+) -> Result<(), OutOfMemory>
+    requires few { length rows.old.items < 2 ^ 32 }
+    ensures rows { rows.new.items ≡ rows.old.items }
+    ensures leads { (channels : List ℕ) → IsIndex index.old.places.items channels → IsIndex index.new.places.items channels }
+    ensures holds { IsWider holds.old holds.new }
+    ensures plans { IsWider plans.old.calendar plans.new.calendar }
+    ensures turns { vec_capacity plans.old.turns ≤ vec_capacity plans.new.turns }
+    ensures sums { sums.new ≡ record sums.old { spare = sums.new.spare } }
+    ensures fits { OnOk result (HasRoomFor chan rows.new index.new.places.items holds.new plans.new sums.new) }
+{
+    let all = rows.len() + 1;
+    rows.reserve(all)?;
+    sums.reserve(1)?;
+    index.reserve(chan)?;
+    holds.reserve(all)?;
+    plans.reserve(all)
+}

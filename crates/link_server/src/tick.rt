@@ -5,14 +5,10 @@ ghost use Rattle.link_steps.specs.Kept.{kept_reply, kept_after};
 ghost use Rattle.link_steps.specs.Split.{whole};
 ghost use Rattle.link_server.specs.State.{kept_in};
 
-pub(crate) mod expiry;
 mod resting;
-mod sources;
 
 use crate::link_state::LinkState;
-use crate::tick::expiry::expire;
 use crate::tick::resting::next_due;
-use crate::tick::sources::take_source_packets;
 use link_steps::Reply;
 use net_units::OutOfMemory;
 
@@ -46,28 +42,13 @@ impl LinkState {
     {
         let clock = self.clock;
         let shape = self.shape;
-        expire(
-            &mut self.holds,
-            &mut self.rows,
-            &mut self.index,
-            &mut self.sums,
-            &mut self.keeping,
-            &shape.bounds,
-            clock,
-        );
+        self.table.expire(clock);
         let fits = self.queue.best_fits(&shape, clock);
-        let full = take_source_packets(
-            &mut self.rows,
-            &self.index,
-            &mut self.plans,
-            &mut self.queue,
-            &shape.bounds,
-            clock,
-        );
+        let full = self.table.take_source_packets(&mut self.queue, clock);
         let best_lost = self.queue.take_best(fits, &shape, clock);
         let left = self.queue.serve(&shape, clock);
         self.clock += 1;
-        self.due = next_due(&self.queue, &self.holds, &self.plans.calendar, &shape);
+        self.due = next_due(&self.table, &self.queue, &shape);
         Ok(Reply::Ticked {
             clock,
             full,

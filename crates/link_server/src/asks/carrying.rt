@@ -8,10 +8,7 @@ ghost use Rattle.link_server.specs.State.{kept_in};
 
 use crate::link_state::LinkState;
 use crate::planned::Planned;
-use crate::table::plans::put_plan;
-use crate::table::rows::{place_at_hop, place_of};
 use crate::table::served_row::busy_with;
-use crate::tick::expiry::put_hold;
 use link_steps::{Packet, Refusal, Reply, Why};
 use net_units::ChanNo;
 
@@ -25,26 +22,27 @@ impl LinkState {
         ensures reply { result ≡ kept_reply (whole self.old.shape) (kept_in self.old) (AskSubmit chan count gap size) }
         ensures kept { kept_in self.new ≡ kept_after self.old.shape (kept_in self.old) (AskSubmit chan count gap size) result }
     {
-        let Some(place) = place_at_hop(&self.rows, &self.index, chan, true) else {
+        let Some(place) = self.table.place_at_hop(chan, true) else {
             return Reply::Refused(Refusal::NoSuch);
         };
-        if let Some(refusal) = self.rows[place].not_committed() {
+        let row = self.table.row(place);
+        if let Some(refusal) = row.not_committed() {
             return Reply::Refused(refusal);
         }
-        if let Some(refusal) = self.rows[place].busy() {
+        if let Some(refusal) = row.busy() {
             return Reply::Refused(refusal);
         }
-        if let Some(refusal) = self.rows[place].too_big(size) {
+        if let Some(refusal) = row.too_big(size) {
             return Reply::Refused(refusal);
         }
         self.due = 0;
-        self.rows[place].plan(Planned {
+        let planned = Planned {
             tick: self.clock,
             gap,
             size,
             count,
-        });
-        put_plan(&mut self.plans.calendar, &self.rows[place]);
+        };
+        self.table.plan(place, planned);
         Reply::Planned { clock: self.clock }
     }
 
@@ -56,18 +54,17 @@ impl LinkState {
         ensures reply { result ≡ kept_reply (whole self.old.shape) (kept_in self.old) (AskRelease chan upstream) }
         ensures kept { kept_in self.new ≡ kept_after self.old.shape (kept_in self.old) (AskRelease chan upstream) result }
     {
-        let Some(place) = place_at_hop(&self.rows, &self.index, chan, upstream.is_none()) else {
+        let Some(place) = self.table.place_at_hop(chan, upstream.is_none()) else {
             return Reply::Refused(Refusal::NoSuch);
         };
-        if let Some(refusal) = self.rows[place].not_committed() {
+        let row = self.table.row(place);
+        if let Some(refusal) = row.not_committed() {
             return Reply::Refused(refusal);
         }
-        let count = self.rows[place].count_at_release(upstream);
-        let cancelled = self.rows[place].cancelled_at_release(upstream);
+        let count = row.count_at_release(upstream);
+        let cancelled = row.cancelled_at_release(upstream);
         self.due = 0;
-        self.rows[place].close(count);
-        let bounds = self.shape.bounds;
-        put_hold(&mut self.holds, &self.rows[place], &bounds, self.clock);
+        self.table.close(place, count, self.clock);
         Reply::Closing { count, cancelled }
     }
 
@@ -80,23 +77,23 @@ impl LinkState {
         ensures reply { result ≡ kept_reply (whole self.old.shape) (kept_in self.old) (AskArrive packet.now) }
         ensures kept { kept_in self.new ≡ kept_after self.old.shape (kept_in self.old) (AskArrive packet.now) result }
     {
-        let Some(place) = place_of(&self.rows, &self.index, packet.chan) else {
+        let Some(place) = self.table.place_of(packet.chan) else {
             return Reply::Refused(Refusal::Stray { why: Why::NoRow });
         };
-        if let Some(refusal) = self.rows[place].stray(packet) {
+        let row = self.table.row(place);
+        if let Some(refusal) = row.stray(packet) {
             return Reply::Refused(refusal);
         }
         let bounds = self.shape.bounds;
-        let held = self.queue.held(self.rows[place].lead);
-        if let Some(refusal) = self.rows[place].full(&bounds, held) {
+        let held = self.queue.held(row.lead);
+        if let Some(refusal) = row.full(&bounds, held) {
             return Reply::Refused(refusal);
         }
         self.due = 0;
         let clock = self.clock;
         let number = self.queue.taken() + 1;
-        let taken = self.rows[place].take(packet.size, packet.due, number, clock);
+        let taken = self.table.take(place, packet, number, clock);
         self.queue.push(taken, clock);
-        put_hold(&mut self.holds, &self.rows[place], &bounds, clock);
         Reply::Taken {
             clock,
             eligible: taken.eligible,

@@ -1,12 +1,10 @@
 //! The asks of a setup at a link: reserve, relax and deny.
-ghost use Rattle.std.specs.Prelude.{◌≡◌, ◌+◌, ◌<◌, ◌≤◌, ◌↔◌, ◌∷◌, List, suc, map, length, IfOk, OnOk, OnErr};
-ghost use Rattle.std.specs.Vec.{vec_capacity};
-ghost use Rattle.net_units.specs.Numbers.{channel_number, level_number};
+ghost use Rattle.std.specs.Prelude.{◌≡◌, ◌+◌, ◌<◌, ◌↔◌, ◌∷◌, List, length, IfOk, OnOk, OnErr};
+ghost use Rattle.net_units.specs.Numbers.{level_number};
 ghost use Rattle.link_steps.specs.declared.asks.Ask.TheVariants.{Relax as AskRelax, Deny as AskDeny};
 ghost use Rattle.link_steps.specs.declared.replies.Entry.{Entry};
 ghost use Rattle.link_steps.specs.declared.replies.Reply.TheVariants.{Offer};
 ghost use Rattle.link_steps.specs.Admissible.{IsAdmissible};
-ghost use Rattle.link_steps.specs.Buffer.{slots_of};
 ghost use Rattle.link_steps.specs.HopGuarantee.{HopGuarantee};
 ghost use Rattle.link_steps.specs.Replies.{reply_to};
 ghost use Rattle.link_steps.specs.Split.{whole};
@@ -14,13 +12,11 @@ ghost use Rattle.link_steps.specs.Kept.{kept_reply, kept_after};
 ghost use Rattle.link_steps.specs.Legal.{AskFits, ReserveFits, RelaxFits};
 ghost use Rattle.link_server.specs.Asks.{IsOffer};
 ghost use Rattle.link_server.specs.Held.{reservations_held, reach_at, MayReserve, IsBestFor};
-ghost use Rattle.link_server.specs.Rows.{reservation_in, row_in, IsWithinLevels};
-ghost use Rattle.link_server.specs.Sound.{most_places};
 ghost use Rattle.link_server.specs.State.{kept_in, LinkStands};
 ghost use Rattle.link_server.specs.Wants.{ask_for, offer_reply, MayHold};
 
 use crate::link_state::LinkState;
-use crate::table::rows::{need_of, place_of, reach_of, take_row};
+use crate::table::rows::{need_of, reach_of};
 use crate::table::served_row::{Offered, ServedRow, Wanted};
 use link_steps::{Ask, Refusal, Reply};
 use net_units::{ChanNo, Level, OutOfMemory};
@@ -105,12 +101,12 @@ impl LinkState {
                 cap: u64::from(self.shape.cap),
             });
         }
-        if let Some(place) = place_of(&self.rows, &self.index, wanted.chan) {
+        if let Some(place) = self.table.place_of(wanted.chan) {
             return Err(Refusal::Twice {
-                phase: self.rows[place].phase,
+                phase: self.table.row(place).phase,
             });
         }
-        match self.sums.best(&wanted.contract) {
+        match self.table.best(&wanted.contract) {
             Err(none) => Err(Refusal::NoLevel {
                 sum: none.sum,
                 bound: none.bound,
@@ -118,7 +114,7 @@ impl LinkState {
             Ok(level) => {
                 let reach = reach_of(&self.shape.bounds, wanted.delay, level);
                 let need = need_of(&self.shape.bounds, &wanted.contract, wanted.up_reach, reach);
-                let free = self.keeping.budget.free();
+                let free = self.table.free();
                 if need > free {
                     return Err(Refusal::NoBuffer { need, free });
                 }
@@ -137,41 +133,10 @@ impl LinkState {
         ensures memory { OnErr result (kept_in self.new ≡ kept_in self.old) }
     {
         let row = ServedRow::new(self.alloc, wanted, offer)?;
-        self.make_room(&row)?;
-        self.due = 0;
-        let bounds = self.shape.bounds;
-        self.keeping.hold(&row, &bounds);
-        let place = self.rows.len() as u32;
-        self.index.put(wanted.chan, place);
-        self.rows.push(row);
-        self.sums
-            .add(wanted.chan.get(), wanted.contract, offer.level);
-        Ok(())
-    }
-
-    // Takes all memory that one row more can ever need. An `Err` leaves what is held.
-    fn make_room(&mut self, row: &ServedRow) -> Result<(), OutOfMemory>
-        requires within { IsWithinLevels (length self.old.shape.bounds) row.now }
-        ensures shape { self.new.shape ≡ self.old.shape }
-        ensures clock { self.new.clock ≡ self.old.clock }
-        ensures kept { kept_in self.new ≡ kept_in self.old }
-        ensures row_fits { OnOk result (length self.new.rows.items < self.new.rows.room) }
-        ensures place_fits { OnOk result (channel_number row.now.chan < length self.new.index.places.items) }
-        ensures hold_fits { OnOk result (length self.new.rows.items + 1 ≤ self.new.holds.spare) }
-        ensures plan_fits { OnOk result (length self.new.rows.items + 1 ≤ self.new.plans.calendar.spare) }
-        ensures turn_fits { OnOk result (length self.new.rows.items + 1 ≤ vec_capacity self.new.plans.turns) }
-        ensures sum_fits { OnOk result (1 ≤ self.new.sums.spare) }
-        ensures packets_fit { OnOk result (most_places self.new.shape.bounds self.new.queue.here (map row_in self.new.rows.items) + suc (slots_of self.new.shape.bounds (reservation_in row.now)) + suc self.new.shape.best ≤ self.new.queue.room) }
-    {
-        let bounds = self.shape.bounds;
-        let places = self.keeping.places + 1 + row.slots(&bounds) + u64::from(self.shape.best) + 1;
-        let rows = self.rows.len() + 1;
-        self.rows.reserve(rows)?;
-        self.sums.reserve(1)?;
+        let places = self.table.places_with(&row) + u64::from(self.shape.best) + 1;
         self.queue.reserve(places as usize)?;
-        self.index.reserve(row.chan)?;
-        self.holds.reserve(rows)?;
-        self.plans.reserve(rows)?;
+        self.table.add(row)?;
+        self.due = 0;
         Ok(())
     }
 
@@ -183,21 +148,18 @@ impl LinkState {
         ensures reply { result ≡ kept_reply (whole self.old.shape) (kept_in self.old) (AskRelax chan level up_bound) }
         ensures kept { kept_in self.new ≡ kept_after self.old.shape (kept_in self.old) (AskRelax chan level up_bound) result }
     {
-        let Some(place) = place_of(&self.rows, &self.index, chan) else {
+        let Some(place) = self.table.place_of(chan) else {
             return Reply::Refused(Refusal::NoSuch);
         };
-        if let Some(refusal) = self.rows[place].not_tentative() {
+        let row = self.table.row(place);
+        if let Some(refusal) = row.not_tentative() {
             return Reply::Refused(refusal);
         }
-        if let Some(refusal) = self.rows[place].unfit(level, up_bound) {
+        if let Some(refusal) = row.unfit(level, up_bound) {
             return Reply::Refused(refusal);
         }
         self.due = 0;
-        let bounds = self.shape.bounds;
-        self.keeping.give_back(&self.rows[place], &bounds);
-        self.sums.move_to(chan.get(), level);
-        self.rows[place].commit(level, up_bound, &bounds);
-        self.keeping.hold(&self.rows[place], &bounds);
+        self.table.commit(place, level, up_bound);
         Reply::Relaxed { clock: self.clock }
     }
 
@@ -208,17 +170,15 @@ impl LinkState {
         ensures reply { result ≡ kept_reply (whole self.old.shape) (kept_in self.old) (AskDeny chan) }
         ensures kept { kept_in self.new ≡ kept_after self.old.shape (kept_in self.old) (AskDeny chan) result }
     {
-        let Some(place) = place_of(&self.rows, &self.index, chan) else {
+        let Some(place) = self.table.place_of(chan) else {
             return Reply::Refused(Refusal::NoSuch);
         };
-        if let Some(refusal) = self.rows[place].not_tentative() {
+        let row = self.table.row(place);
+        if let Some(refusal) = row.not_tentative() {
             return Reply::Refused(refusal);
         }
         self.due = 0;
-        let bounds = self.shape.bounds;
-        self.keeping.give_back(&self.rows[place], &bounds);
-        self.sums.remove(chan.get());
-        take_row(&mut self.rows, &mut self.index, place);
+        self.table.remove(place);
         Reply::Denied
     }
 }

@@ -1,16 +1,20 @@
 //! The rows of a link together: where a channel's stands, and the need and the reach of a new one.
 ghost use Rattle.std.specs.Prelude.{◌≡◌, ◌<◌, ◌≤◌, IfNone, IfSome, length, remove};
+ghost use Rattle.buffer_budget.specs.Parts.{whole_of};
 ghost use Rattle.net_units.specs.Numbers.{level_number};
 ghost use Rattle.net_units.specs.Limits.{most_bound};
 ghost use Rattle.net_units.specs.LevelBounds.{reach_of};
 ghost use Rattle.link_steps.specs.Buffer.{need_of};
 ghost use Rattle.link_server.specs.Index.{channels_in, IsIndex};
+ghost use Rattle.link_server.specs.RowParts.{AreParts};
 ghost use Rattle.link_server.specs.Rows.{is_served_at_hop, NoRowPasses, IsFirstPlace, IsAbsent, IsPlaceOf};
 
 use crate::keyed_list::KeyedList;
+use crate::table::keeping::Keeping;
 use crate::table::row_index::RowIndex;
 use crate::table::served_row::{ServedRow, units_for};
 use net_units::{Bounds, ChanNo, Level};
+use rcsp_admission::LevelSums;
 use traffic_contract::Contract;
 
 // The place of the channel's row.
@@ -44,13 +48,24 @@ pub(crate) fn place_at_hop(
     None
 }
 
-// Takes out the row at this place. Those after it move up, and are found at their new places.
-pub(crate) fn take_row(rows: &mut KeyedList<ServedRow>, index: &mut RowIndex, place: usize)
+// Takes out the row at this place, and its share of each part. Those after it move up, and are found at their new places.
+pub(crate) fn take_out(
+    rows: &mut KeyedList<ServedRow>,
+    index: &mut RowIndex,
+    sums: &mut LevelSums,
+    keeping: &mut Keeping,
+    bounds: &Bounds,
+    place: usize,
+)
     requires inside { place < length rows.old.items }
-    requires indexed { IsIndex index.old.places.items (channels_in rows.old.items) }
+    requires parts { AreParts (whole_of keeping.old.budget) bounds.now rows.old.items index.old.places.items sums.old keeping.old }
     ensures rows { rows.new.items ≡ remove rows.old.items place }
-    ensures indexed { IsIndex index.new.places.items (channels_in rows.new.items) }
+    ensures parts { AreParts (whole_of keeping.old.budget) bounds.now rows.new.items index.new.places.items sums.new keeping.new }
+    ensures server { sums.new.server ≡ sums.old.server }
 {
+    let row = &rows[place];
+    keeping.give_back(row, bounds);
+    sums.remove(row.chan.get());
     rows.remove(place);
     index.move_up(rows, place);
 }

@@ -1,5 +1,5 @@
 //! A link rests while nothing falls due in it: its ticks then change its clock alone.
-ghost use Rattle.std.specs.Prelude.{◌≡◌, ℕ, ◌+◌, ◌^◌, ◌<◌, ◌≤◌, suc, List, All};
+ghost use Rattle.std.specs.Prelude.{◌≡◌, ℕ, ◌+◌, ◌^◌, ◌<◌, ◌≤◌, suc, List};
 ghost use Rattle.link_steps.specs.declared.asks.Ask.TheVariants.{Tick as AskTick};
 ghost use Rattle.link_steps.specs.Kept.{kept_reply, kept_after};
 ghost use Rattle.link_steps.specs.Lists.{Each};
@@ -7,12 +7,12 @@ ghost use Rattle.link_steps.specs.Replies.{reply_to};
 ghost use Rattle.link_steps.specs.Split.{whole};
 ghost use Rattle.link_steps.specs.declared.replies.Entry.{Entry};
 ghost use Rattle.link_server.specs.State.{LinkStands, kept_in};
-ghost use Rattle.link_steps.specs.Quiet.{IsPlannedFrom, RestsUntil, ServiceRests, later_by, quiet_reply, quiet_ticks};
+ghost use Rattle.link_steps.specs.Quiet.{IsPlannedFrom, RestsUntil, RowRests, ServiceRests, later_by, quiet_reply, quiet_ticks};
 
 use crate::link_state::LinkState;
 use crate::queue::Queue;
+use crate::table::Table;
 use link_steps::{LinkShape, Reply};
-use tick_calendar::Calendar;
 
 impl LinkState {
     /// A tick before which nothing falls due: no row's hold ends, no packet is planned, and none starts or departs.
@@ -22,7 +22,7 @@ impl LinkState {
         if self.clock < self.due {
             return self.due;
         }
-        next_due(&self.queue, &self.holds, &self.plans.calendar, &self.shape)
+        next_due(&self.table, &self.queue, &self.shape)
     }
 
     /// Makes this many ticks, all before one until which it rests.
@@ -59,16 +59,11 @@ impl LinkState {
     }
 }
 
-// A tick before which nothing falls due at a link of this shape with these packets, by the calendars of the holds and of the rows'
-// plans.
-pub(crate) fn next_due(queue: &Queue, holds: &Calendar, plans: &Calendar, shape: &LinkShape) -> u64
-    ensures service { ServiceRests shape.now.rate result queue.now.here queue.now.on }
+// A tick before which nothing falls due at a link of this shape with these rows and packets.
+pub(crate) fn next_due(table: &Table, queue: &Queue, shape: &LinkShape) -> u64
+    ensures rows { (clock : ℕ) → table.now.looked ≤ clock → Each (RowRests table.now.server.bounds clock result) table.now.rows }
     ensures best { Each (IsPlannedFrom result) queue.now.best }
-    ensures holds { All (λ entry. result ≤ entry.0) holds.now.entries }
-    ensures plans { All (λ entry. result ≤ entry.0) plans.now.entries }
+    ensures service { ServiceRests shape.now.rate result queue.now.here queue.now.on }
 {
-    let packets = queue.rests_until(shape.rate);
-    let held = holds.rests_until();
-    let planned = plans.rests_until();
-    packets.min(held).min(planned)
+    queue.rests_until(shape.rate).min(table.rests_until())
 }

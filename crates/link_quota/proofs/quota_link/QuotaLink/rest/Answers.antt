@@ -23,7 +23,7 @@ invariant_of-self c =
       shared = subst (λ s. AreShares (record { shape = s; split = quota.split }) (held_in (kept_in c.rest.new.self)) quota.shares.items) (sym shape)
           (subst (λ (k : Kept). AreShares (rules_of quota) (held_in k) quota.shares.items) (sym c.rest.ensures.kept) quota.shared);
       stood = subst (λ s. IsLegallyStood (record { shape = s; split = quota.split }) (kept_in c.rest.new.self)) (sym shape)
-          (subst (IsLegallyStood (rules_of quota)) (sym c.rest.ensures.kept) (later-stood (rules_of quota) rests.0 c.args.ticks (kept_in quota.link) (rows-have quota.link.rows.items) rests.1.0 rests.1.1 quota.stood));
+          (subst (IsLegallyStood (rules_of quota)) (sym c.rest.ensures.kept) (later-stood (rules_of quota) rests.0 c.args.ticks (kept_in quota.link) (rows-have quota.link) rests.1.0 rests.1.1 quota.stood));
       rests = subst (λ s. RestsFromClock s quota.due (kept_in c.rest.new.self)) (sym shape)
           (subst (RestsFromClock quota.link.shape quota.due) (sym c.rest.ensures.kept) (λ before. later-rests quota.link.shape quota.due c.args.ticks (kept_in quota.link) (quota.rests (omega (arith, before)))));
     }
@@ -35,4 +35,4 @@ pub returns-clause-legal : goal.returns-clause-legal
 returns-clause-legal c = λ m h few stands.
     let quota = c.args.self.now in
     let rests = c.requires.rests in
-    (quiet-ticks (rules_of quota) rests.0 c.args.ticks (kept_in quota.link) h (rows-have quota.link.rows.items) stands rests.1.0 rests.1.1).replied m few
+    (quiet-ticks (rules_of quota) rests.0 c.args.ticks (kept_in quota.link) h (rows-have quota.link) stands rests.1.0 rests.1.1).replied m few

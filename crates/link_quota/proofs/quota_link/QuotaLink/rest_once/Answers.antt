@@ -23,4 +23,4 @@ pub returns-clause-goes : goal.returns-clause-goes
 returns-clause-goes c =
     let quota = c.args.self.now in
     subst (λ k. GoesOn (rules_of quota) (kept_in quota.link) k Tick (quiet_reply c.clock-clock.result)) (sym c.rest.ensures.kept)
-    (subst (λ t. GoesOn (rules_of quota) (kept_in quota.link) (later_by 1 (kept_in quota.link)) Tick (quiet_reply t)) (sym c.clock-clock.ensures) (one-goes (rules_of quota) quota.due (kept_in quota.link) (rows-have quota.link.rows.items) (quota.rests c.requires.rests) c.requires.rests))
+    (subst (λ t. GoesOn (rules_of quota) (kept_in quota.link) (later_by 1 (kept_in quota.link)) Tick (quiet_reply t)) (sym c.clock-clock.ensures) (one-goes (rules_of quota) quota.due (kept_in quota.link) (rows-have quota.link) (quota.rests c.requires.rests) c.requires.rests))

@@ -1,14 +1,14 @@
 -- The rows are those of the account.
-use Rattle.std.proofs.Common.{◌≡◌, ◌≤◌, ◌<◌, None, Some, ap, ◌∙◌, subst}
+use Rattle.std.proofs.Common.{◌≡◌, ◌≤◌, None, Some, ap, ◌∙◌, subst}
 use Rattle.link_server.specs.Held.{reservations_held, seen, seen_at}
-use Rattle.link_server.specs.Rows.{reservation_in}
-use Rattle.link_server.specs.State.{kept_in}
+use Rattle.link_server.proofs.Words.{reservation_in, row_in, kept_in}
 use Rattle.link_server.proofs.ChosenFacts.{seen-stand, seen-row, seen-none}
+use Rattle.link_server.proofs.RowFacts.Parts.{at-levels}
 use Rattle.link_server.proofs.link_state.LinkState.held.Goals as goal
 use Rattle.link_server.proofs.link_state.LinkState.held.Goals.{Then-place-len, After-units}
 
 past : (c : Then-place-len) → None ≡ seen_at c.args.self.now.shape.bounds (reservations_held c.args.self.now) c.args.place
-past c = seen-none c.args.self.now.shape.bounds c.args.self.now.rows.items c.args.place (subst (λ n. n ≤ c.args.place) c.len.ensures c.if-place-len.true)
+past c = seen-none c.args.self.now.shape.bounds c.args.self.now.table.rows c.args.place (subst (λ n. n ≤ c.args.place) c.len.ensures c.if-place-len.true)
 
 pub returns-then-place-len-clause-row : goal.returns-then-place-len-clause-row
 returns-then-place-len-clause-row c = past (goal.at.returns-then-place-len-clause-row c).Then-place-len
@@ -16,10 +16,13 @@ returns-then-place-len-clause-row c = past (goal.at.returns-then-place-len-claus
 pub returns-then-place-len-clause-stands : goal.returns-then-place-len-clause-stands
 returns-then-place-len-clause-stands c = seen-stand c.args.self.now.shape (kept_in c.args.self.now) c.args.place None (past (goal.at.returns-then-place-len-clause-stands c).Then-place-len)
 
-here : (c : After-units) → Some (record (seen c.args.self.now.shape.bounds (reservation_in c.index-row.result.now)) { kept = c.units.result }) ≡ seen_at c.args.self.now.shape.bounds (reservations_held c.args.self.now) c.args.place
+pub units-requires : goal.units-requires
+units-requires c = at-levels c.args.self.now c.row-row.result.now c.row-row.ensures.within
+
+here : (c : After-units) → Some (record (seen c.args.self.now.shape.bounds (reservation_in c.row-row.result.now)) { kept = c.units.result }) ≡ seen_at c.args.self.now.shape.bounds (reservations_held c.args.self.now) c.args.place
 here c =
-    ap (λ units. Some (record (seen c.args.self.now.shape.bounds (reservation_in c.index-row.result.now)) { kept = units })) c.units.ensures
-    ∙ seen-row c.args.self.now.shape.bounds c.args.self.now.rows.items c.args.place c.index-row.result.now (subst (λ n. c.args.place < n) c.len.ensures c.if-place-len.false) c.index-row.ensures
+    ap (λ units. Some (record (seen c.args.self.now.shape.bounds (reservation_in c.row-row.result.now)) { kept = units })) c.units.ensures
+    ∙ seen-row c.args.self.now.shape.bounds c.args.self.now.table.rows c.args.place (Some (row_in c.row-row.result.now)) c.row-row.ensures.row
 
 pub returns-clause-row : goal.returns-clause-row
 returns-clause-row c = here (goal.at.returns-clause-row c).After-units

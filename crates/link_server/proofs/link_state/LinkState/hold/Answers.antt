@@ -1,152 +1,124 @@
--- The channel had no row, so its number is new to the sums; the row is put at the end of both, and there is room for its
--- packets.
-use Rattle.std.proofs.Common.{inl, ◌≡◌, ◌+◌, ◌<◌, ◌≤◌, [], ◌∷◌, ◌++◌, length, map, set, sym, ap, ◌∙◌, subst, arith}
-use Rattle.std.proofs.lemmas.List.{length-append}
-use Rattle.link_steps.specs.declared.replies.Reply.TheVariants.{Offer}
-use Rattle.net_units.specs.Numbers.{channel_number, level_number}
-use Rattle.link_steps.specs.Buffer.{kept_units, need_of, free_units}
-use Rattle.link_steps.specs.Kept.{kept_terms, kept_after, new_kept}
-use Rattle.link_steps.proofs.RuleFacts.{need-kept}
+-- There is room for the packets of the row, and the row comes into the table.
+use Rattle.std.proofs.Common.{◌≡◌, ◌+◌, ◌≤◌, suc, length, refl, sym, ap, ◌∙◌, subst, arith}
+use Rattle.std.specs.Prelude.{Result, Ok, Err, OnErr}
+use Rattle.link_server.proofs.Words.{total, Offer, slots_of, kept_after, account, KeptQueue, KeptTable, reservation_in, row_in, IsWithinLevels, kept_in}
 use Rattle.link_steps.proofs.ReplyFacts.{may-reach}
-use Rattle.link_server.proofs.CalendarFacts.{phase-listed}
-use Rattle.link_server.proofs.CalendarRows.{listed-pushed}
-use Rattle.link_server.specs.Holds.{AreListed}
-use Rattle.link_server.proofs.IndexFacts.{row-pushed}
-use Rattle.link_server.specs.Index.{channels_in, IsIndex}
-use Rattle.link_server.specs.Account.{account}
 use Rattle.link_server.specs.Held.{reservations_held}
-use Rattle.link_server.specs.Rows.{reservation_in, row_in, summed, IsWithinLevels, AreWithin}
-use Rattle.link_server.specs.Keeping.{IsKeeping}
-use Rattle.link_server.specs.Sound.{IsSound}
-use Rattle.link_server.specs.Planned.{first_tick}
-use Rattle.link_server.specs.Plans.{ArePlanned}
-use Rattle.link_server.specs.State.{kept_in}
-use Rattle.link_server.specs.Wants.{ask_for, MayHold}
-use Rattle.link_server.specs.declared.link_state.LinkState.{LinkState}
-use Rattle.link_server.specs.declared.table.served_row.Offered.{Offered}
-use Rattle.link_server.specs.declared.table.served_row.ServedRow.{ServedRow}
-use Rattle.link_server.specs.declared.table.served_row.Wanted.{Wanted}
-use Rattle.link_server.proofs.PlaceFacts.{terms-kept, terms-none}
-use Rattle.link_server.proofs.KeepingFacts.{keeping-free, keeps-pushed, slots-units, places-few}
-use Rattle.link_server.proofs.SumsFacts.{within-reserved, absent-new}
-use Rattle.link_server.proofs.AnswerFacts.{reserve-kept}
-use Rattle.link_server.proofs.HoldingFacts.{held_terms, sound-held, may-new, may-within, may-passes, summed-pushed, within-pushed}
-use Rattle.link_server.proofs.PlansFacts.{told-none}
-use Rattle.link_server.proofs.PlansRows.{planned-pushed}
+use Rattle.link_server.specs.Resting.{RestsFromClock}
+use Rattle.link_server.specs.Sound.{IsSound, all_places_of, most_places}
 use Rattle.link_server.specs.Stood.{IsStood}
-use Rattle.link_server.proofs.StepFacts.{rows-have}
-use Rattle.link_server.proofs.StoodFacts.{rows-few, stood-offered}
+use Rattle.link_server.specs.Wants.{ask_for}
+use Rattle.link_server.proofs.Replies.Setup.{reserve-kept}
+use Rattle.link_server.proofs.Replies.Holding.{held_terms, may-add, sound-held}
 use Rattle.link_server.proofs.RestFacts.{due-now}
+use Rattle.link_server.proofs.Sound.Room.{most_places-are}
+use Rattle.link_server.proofs.Sound.Setup.{sound-larger}
+use Rattle.link_server.proofs.StepFacts.{rows-have}
+use Rattle.link_server.proofs.Sound.Stood.{rows-few, stood-offered}
+use Rattle.link_server.proofs.RowFacts.Sums.{within-reserved}
+use Rattle.link_server.proofs.RowFacts.Parts.{still-of}
 use Rattle.link_server.proofs.link_state.LinkState.hold.Goals as goal
-use Rattle.link_server.proofs.link_state.LinkState.hold.Goals.{After-add}
+use Rattle.link_server.proofs.link_state.LinkState.hold.Goals.{In_ok-add}
 
--- the link may make the offer yet, once it has the memory
-still-may : (old new : LinkState) (wanted : Wanted) (offer : Offered) → new.shape ≡ old.shape → kept_in new ≡ kept_in old → MayHold old.shape (reservations_held old) wanted offer → MayHold new.shape (reservations_held new) wanted offer
-still-may old new wanted offer shape kept may =
-    subst (λ s. MayHold s (reservations_held new) wanted offer) (sym shape) (subst (λ k. MayHold old.shape (map kept_terms k.rows) wanted offer) (sym kept) may)
-
--- its need is free
-fits-free : (link : LinkState) (wanted : Wanted) (offer : Offered) (row : ServedRow) → MayHold link.shape (reservations_held link) wanted offer → row_in row ≡ new_kept (held_terms wanted offer) → kept_units link.shape.bounds (reservation_in row) ≤ link.keeping.budget.free
-fits-free link wanted offer row may same =
-    let need : kept_units link.shape.bounds (reservation_in row) ≡ need_of link.shape.bounds wanted.contract wanted.up_reach (level_number offer.reach) =
-    ap (λ k. kept_units link.shape.bounds k.terms) same ∙ need-kept link.shape.bounds wanted.chan wanted.contract wanted.kind wanted.first wanted.next wanted.up_reach offer.level offer.reach in
-    let free = keeping-free link.shape link.keeping (map reservation_in link.rows.items) link.keeps ∙ ap (free_units link.shape) (sym (terms-kept link.rows.items)) in
-    let fits = may.free in
-    omega (arith, need, free, fits)
-
-pub hold-requires-clause-free : goal.hold-requires-clause-free
-hold-requires-clause-free c =
-    fits-free c.make_room.new.self c.args.wanted.now c.args.offer.now c.in_ok-row.row
-    (still-may c.args.self.now c.make_room.new.self c.args.wanted.now c.args.offer.now c.make_room.ensures.shape c.make_room.ensures.kept c.requires.may) c.in_ok-row.ensures
-
-pub hold-requires-clause-few : goal.hold-requires-clause-few
-hold-requires-clause-few c =
-    let fits = fits-free c.make_room.new.self c.args.wanted.now c.args.offer.now c.in_ok-row.row
-    (still-may c.args.self.now c.make_room.new.self c.args.wanted.now c.args.offer.now c.make_room.ensures.shape c.make_room.ensures.kept c.requires.may) c.in_ok-row.ensures in
-    let slots = slots-units c.make_room.new.self.shape.bounds (reservation_in c.in_ok-row.row) c.in_ok-row.row.is_contract in
-    let few = places-few c.make_room.new.self in
-    let whole = c.make_room.new.self.keeps.whole in
-    let buffer : c.make_room.new.self.shape.buffer ≤ 262144 = c.make_room.new.self.shape.buffer_most in
-    omega (arith, fits, slots, few, whole, buffer)
-
-pub hold-requires-clause-within : goal.hold-requires-clause-within
-hold-requires-clause-within c =
-    subst (λ shape. IsWithinLevels (length shape.bounds) c.in_ok-row.row) (sym c.make_room.ensures.shape)
-    (within-reserved _ c.in_ok-row.row (held_terms c.args.wanted.now c.args.offer.now) c.in_ok-row.ensures c.requires.may.level_most
-    (may-reach c.args.self.now.shape (reservations_held c.args.self.now) c.args.wanted.now.chan c.args.wanted.now.contract c.args.wanted.now.delay c.args.wanted.now.up_reach c.args.offer.now.level c.args.offer.now.reach c.requires.may))
-
-pub make_room-requires : goal.make_room-requires
-make_room-requires c =
+pub places_with-requires : goal.places_with-requires
+places_with-requires c =
+    let link = c.args.self.now in
+    let wanted = c.args.wanted.now in
+    let offer = c.args.offer.now in
     record {
       within =
-          within-reserved _ c.in_ok-row.row (held_terms c.args.wanted.now c.args.offer.now) c.in_ok-row.ensures c.requires.may.level_most
-          (may-reach c.args.self.now.shape (reservations_held c.args.self.now) c.args.wanted.now.chan c.args.wanted.now.contract c.args.wanted.now.delay c.args.wanted.now.up_reach c.args.offer.now.level c.args.offer.now.reach c.requires.may);
+          subst (λ n. IsWithinLevels n c.in_ok-row.row) (sym (ap (λ (table : KeptTable). length table.server.bounds) link.of_shape))
+          (within-reserved _ c.in_ok-row.row (held_terms wanted offer) c.in_ok-row.ensures c.requires.may.level_most
+          (may-reach link.shape (reservations_held link) wanted.chan wanted.contract wanted.delay wanted.up_reach offer.level offer.reach c.requires.may));
     }
 
-pub overflow_cast-place : goal.overflow_cast-place
-overflow_cast-place c = (let few = rows-few c.make_room.new.self in omega (arith, few, c.len-place.ensures))
+pub add-requires-clause-few : goal.add-requires-clause-few
+add-requires-clause-few c = rows-few c.args.self.now
 
-pub add-requires-clause-new : goal.add-requires-clause-new
-add-requires-clause-new c =
-    may-new _ c.make_room.new.self.rows.items c.make_room.new.self.sums c.args.wanted.now c.args.offer.now c.get.result c.make_room.new.self.same_rows c.get.ensures.value
-    (still-may c.args.self.now c.make_room.new.self c.args.wanted.now c.args.offer.now c.make_room.ensures.shape c.make_room.ensures.kept c.requires.may)
+pub add-requires-clause-may : goal.add-requires-clause-may
+add-requires-clause-may c = may-add c.args.self.now.shape c.args.self.now.table c.args.wanted.now c.args.offer.now (row_in c.in_ok-row.row) c.args.self.now.of_shape c.requires.may c.in_ok-row.ensures
 
-pub add-requires-clause-within : goal.add-requires-clause-within
-add-requires-clause-within c =
-    may-within _ _ c.make_room.new.self.sums c.args.wanted.now c.args.offer.now c.make_room.new.self.same_server
-    (still-may c.args.self.now c.make_room.new.self c.args.wanted.now c.args.offer.now c.make_room.ensures.shape c.make_room.ensures.kept c.requires.may)
-
-pub add-requires-clause-passes : goal.add-requires-clause-passes
-add-requires-clause-passes c =
-    may-passes _ c.make_room.new.self.rows.items c.make_room.new.self.sums c.args.wanted.now c.args.offer.now c.make_room.new.self.same_server c.make_room.new.self.same_rows
-    (still-may c.args.self.now c.make_room.new.self c.args.wanted.now c.args.offer.now c.make_room.ensures.shape c.make_room.ensures.kept c.requires.may)
-
--- what is kept once the row is held
-kept : (c : After-add) → account c.make_room.new.self.clock c.make_room.new.self.queue c.push.new.self.items ≡ kept_after c.make_room.new.self.shape (kept_in c.make_room.new.self) (ask_for c.args.wanted.now) (Offer c.args.offer.now.level c.args.offer.now.reach)
-kept c =
-    ap (account c.make_room.new.self.clock c.make_room.new.self.queue) (ap (λ rows. rows.items) c.push.ensures)
-    ∙ reserve-kept c.make_room.new.self.shape c.make_room.new.self.clock c.make_room.new.self.queue c.args.wanted.now c.args.offer.now.level c.args.offer.now.reach c.make_room.new.self.rows.items c.in_ok-row.row c.in_ok-row.ensures
-
+-- the queue has more room, whether the table takes the row or not
 pub invariant_of-self : goal.invariant_of-self
 invariant_of-self c =
-    let may = still-may c.args.self.now c.make_room.new.self c.args.wanted.now c.args.offer.now c.make_room.ensures.shape c.make_room.ensures.kept c.requires.may in
-    let room = subst (λ n. n < length c.make_room.new.self.index.places.items) (ap (λ row. channel_number row.terms.chan) c.in_ok-row.ensures) c.in_ok-make_room.ensures.place_fits in
-    let held = sound-held c.make_room.new.self.shape c.make_room.new.self.queue.room (kept_in c.make_room.new.self) c.args.wanted.now c.args.offer.now c.in_ok-row.row c.requires.fits c.make_room.new.self.sound may c.in_ok-row.ensures c.in_ok-make_room.ensures.packets_fit in
+    let link = c.args.self.now in
+    let kept = c.reserve.ensures.kept in
     record {
-      admitted = c.add.ensures.admitted;
-      same_server = c.add.ensures.server ∙ c.make_room.new.self.same_server;
-      same_rows =
-          c.add.ensures.rows
-          ∙ summed-pushed c.make_room.new.self.rows.items c.in_ok-row.row c.args.wanted.now c.args.offer.now c.get.result c.make_room.new.self.sums.rows c.in_ok-row.ensures c.get.ensures.value c.make_room.new.self.same_rows
-          ∙ ap (map summed) (sym (ap (λ rows. rows.items) c.push.ensures));
-      within = subst (AreWithin _) (sym (ap (λ rows. rows.items) c.push.ensures)) (within-pushed _ c.make_room.new.self.rows.items c.in_ok-row.row c.make_room.new.self.within (within-reserved _ c.in_ok-row.row (held_terms c.args.wanted.now c.args.offer.now) c.in_ok-row.ensures may.level_most (may-reach c.make_room.new.self.shape (reservations_held c.make_room.new.self) c.args.wanted.now.chan c.args.wanted.now.contract c.args.wanted.now.delay c.args.wanted.now.up_reach c.args.offer.now.level c.args.offer.now.reach may)));
-      listed =
-          subst (λ rows. AreListed c.make_room.new.self.shape.bounds c.make_room.new.self.clock c.make_room.new.self.holds (map row_in rows)) (sym (ap (λ rows. rows.items) c.push.ensures))
-          (listed-pushed c.make_room.new.self.shape.bounds c.make_room.new.self.clock c.make_room.new.self.holds c.make_room.new.self.rows.items c.in_ok-row.row c.make_room.new.self.listed
-          (phase-listed c.make_room.new.self.shape.bounds c.make_room.new.self.clock c.make_room.new.self.holds.entries (row_in c.in_ok-row.row) (inl (ap (λ row. row.terms.phase) c.in_ok-row.ensures))) c.in_ok-make_room.ensures.hold_fits);
-      indexed =
-          subst (λ rows. IsIndex c.put.new.self.places.items (channels_in rows)) (sym (ap (λ rows. rows.items) c.push.ensures))
-          (subst (λ places. IsIndex places (channels_in (c.make_room.new.self.rows.items ++ c.in_ok-row.row ∷ []))) (sym (c.put.ensures ∙ ap (set c.make_room.new.self.index.places.items (channel_number c.args.wanted.now.chan)) c.len-place.ensures))
-          (row-pushed c.make_room.new.self.index.places.items c.make_room.new.self.rows.items c.args.wanted.now.chan c.in_ok-row.row c.make_room.new.self.indexed room (absent-new c.args.wanted.now.chan c.make_room.new.self.rows.items (terms-none c.args.wanted.now.chan c.make_room.new.self.rows.items may.new)) (ap (λ row. channel_number row.terms.chan) c.in_ok-row.ensures)));
-      keeps =
-          subst (λ rows. IsKeeping c.make_room.new.self.shape.buffer c.make_room.new.self.shape.bounds c.hold.new.self (map reservation_in rows)) (sym (ap (λ rows. rows.items) c.push.ensures))
-          (keeps-pushed c.make_room.new.self.shape.buffer c.make_room.new.self.shape.bounds c.make_room.new.self.keeping c.hold.new.self c.make_room.new.self.rows.items c.in_ok-row.row c.make_room.new.self.keeps
-          (fits-free c.make_room.new.self c.args.wanted.now c.args.offer.now c.in_ok-row.row may c.in_ok-row.ensures) c.hold.ensures.budget c.hold.ensures.places);
-      sound = subst (IsSound c.make_room.new.self.shape c.make_room.new.self.queue.room) (sym (kept (goal.at.invariant_of-self c).After-add)) held;
-      planned =
-          subst (λ rows. ArePlanned c.make_room.new.self.clock c.make_room.new.self.plans.calendar (map row_in rows)) (sym (ap (λ rows. rows.items) c.push.ensures))
-          (planned-pushed c.make_room.new.self.clock c.make_room.new.self.plans.calendar c.make_room.new.self.rows.items c.in_ok-row.row c.make_room.new.self.planned (told-none c.make_room.new.self.plans.calendar.entries (row_in c.in_ok-row.row) (ap (λ row. first_tick row.left) c.in_ok-row.ensures)) c.in_ok-make_room.ensures.plan_fits);
-      turns =
-          (let one : length c.push.new.self.items ≡ length c.make_room.new.self.rows.items + 1 = ap length (ap (λ rows. rows.items) c.push.ensures) ∙ length-append c.make_room.new.self.rows.items (c.in_ok-row.row ∷ []) in
-          omega (arith, one, c.in_ok-make_room.ensures.turn_fits));
-      few = c.make_room.new.self.few;
-      looked = c.make_room.new.self.looked;
-      stood = subst (IsStood c.make_room.new.self.shape) (sym (kept (goal.at.invariant_of-self c).After-add)) (stood-offered c.make_room.new.self.shape (kept_in c.make_room.new.self) c.args.wanted.now c.args.offer.now (rows-have c.make_room.new.self.rows.items) c.requires.fits may c.make_room.new.self.stood);
+      of_shape = link.of_shape;
+      looked = (link.looked.0, let was = link.looked.1 in let looked = ap (λ (queue : KeptQueue). queue.looked) kept in omega (arith, was, looked));
+      few = c.reserve.ensures.small link.few;
+      sound = subst (λ (queue : KeptQueue). IsSound link.shape c.reserve.new.self.room (account link.clock queue link.table.rows)) (sym kept) (sound-larger link.shape link.queue.room c.reserve.new.self.room (kept_in link) c.reserve.ensures.grows link.sound);
+      stood = subst (λ (queue : KeptQueue). IsStood link.shape (account link.clock queue link.table.rows)) (sym kept) link.stood;
+      rests = subst (λ (queue : KeptQueue). RestsFromClock link.shape link.due (account link.clock queue link.table.rows)) (sym kept) link.rests;
+    }
+
+-- what is kept once the row is held
+held : (c : In_ok-add) → account c.args.self.now.clock c.reserve.new.self c.add.new.self.rows ≡ kept_after c.args.self.now.shape (kept_in c.args.self.now) (ask_for c.args.wanted.now) (Offer c.args.offer.now.level c.args.offer.now.reach)
+held c =
+    let link = c.args.self.now in
+    ap (λ (queue : KeptQueue). account link.clock queue c.add.new.self.rows) c.reserve.ensures.kept
+    ∙ ap (λ (table : KeptTable). account link.clock link.queue table.rows) c.in_ok-add.ensures.added
+    ∙ reserve-kept link.shape (kept_in link) c.args.wanted.now c.args.offer.now.level c.args.offer.now.reach (row_in c.in_ok-row.row) c.in_ok-row.ensures
+
+pub invariant_of-self-2 : goal.invariant_of-self-2
+invariant_of-self-2 c =
+    let link = c.args.self.now in
+    let row = c.in_ok-row.row in
+    let added = c.in_ok-add.ensures.added in
+    let kept = c.reserve.ensures.kept in
+    let room = c.reserve.new.self.room in
+    let after = held (goal.at.invariant_of-self-2 c).In_ok-add in
+    let bounds = ap (λ (table : KeptTable). table.server.bounds) link.of_shape in
+    let places = ap (λ b. total (all_places_of b) link.table.rows) bounds in
+    let own = ap (λ b. slots_of b (reservation_in row)) bounds in
+    let all = most_places-are link.shape.bounds link.queue.here link.table.rows _ refl in
+    let free = c.in_ok-reserve.ensures.room in
+    let here = ap (λ (queue : KeptQueue). length queue.here) kept in
+    let enough : most_places link.shape.bounds link.queue.here link.table.rows + suc (slots_of link.shape.bounds (reservation_in row)) + suc link.shape.best ≤ room =
+    omega (arith, places, own, all, free, here, c.places_with.ensures.value, c.from.ensures) in
+    let larger = sound-larger link.shape link.queue.room room (kept_in link) c.reserve.ensures.grows link.sound in
+    record {
+      of_shape = still-of link c.add.new.self (ap (λ (table : KeptTable). table.server) added) (ap (λ (table : KeptTable). table.buffer) added);
+      looked = (
+        let was = link.looked.0 in let looked = ap (λ (table : KeptTable). table.looked) added in omega (arith, was, looked),
+        let was = link.looked.1 in let looked = ap (λ (queue : KeptQueue). queue.looked) kept in omega (arith, was, looked),
+      );
+      few = c.reserve.ensures.small link.few;
+      sound = subst (IsSound link.shape room) (sym after) (sound-held link.shape room (kept_in link) c.args.wanted.now c.args.offer.now (row_in row) c.requires.fits larger c.requires.may c.in_ok-row.ensures enough);
+      stood = subst (IsStood link.shape) (sym after) (stood-offered link.shape (kept_in link) c.args.wanted.now c.args.offer.now (rows-have link) c.requires.fits c.requires.may link.stood);
       rests = due-now _ _;
     }
 
 pub returns-clause-kept : goal.returns-clause-kept
-returns-clause-kept c =
-    kept (goal.at.returns-clause-kept c).After-add
-    ∙ ap (λ s. kept_after s (kept_in c.make_room.new.self) (ask_for c.args.wanted.now) (Offer c.args.offer.now.level c.args.offer.now.reach)) c.make_room.ensures.shape
-    ∙ ap (λ k. kept_after c.args.self.now.shape k (ask_for c.args.wanted.now) (Offer c.args.offer.now.level c.args.offer.now.reach)) c.make_room.ensures.kept
+returns-clause-kept c = held (goal.at.returns-clause-kept c).In_ok-add
+
+-- what is kept stays where memory is wanted
+on-err : {X E P : Type 0} (r : Result X E) → P → OnErr r P
+on-err (Ok x) fact = tt
+on-err (Err e) fact = fact
+
+pub returns-in_err-reserve-clause-memory : goal.returns-in_err-reserve-clause-memory
+returns-in_err-reserve-clause-memory c = on-err c.from_residual-in_err-reserve.result (ap (λ (queue : KeptQueue). account c.args.self.now.clock queue c.args.self.now.table.rows) c.reserve.ensures.kept)
+
+pub returns-in_err-add-clause-memory : goal.returns-in_err-add-clause-memory
+returns-in_err-add-clause-memory c =
+    on-err c.from_residual-in_err-add.result (ap (λ (queue : KeptQueue). account c.args.self.now.clock queue c.add.new.self.rows) c.reserve.ensures.kept
+    ∙ ap (λ (table : KeptTable). account c.args.self.now.clock c.args.self.now.queue table.rows) c.in_err-add.ensures.same)
+
+pub invariant_of-self-in-Break-branch-3 : goal.invariant_of-self-in-Break-branch-3
+invariant_of-self-in-Break-branch-3 c =
+    let link = c.args.self.now in
+    let kept = c.reserve.ensures.kept in
+    let same : c.add.new.self ≡ link.table = c.in_err-add.ensures.same in
+    let both = ap (λ (queue : KeptQueue). account link.clock queue c.add.new.self.rows) kept ∙ ap (λ (table : KeptTable). account link.clock link.queue table.rows) same in
+    record {
+      of_shape = still-of link c.add.new.self (ap (λ (table : KeptTable). table.server) same) (ap (λ (table : KeptTable). table.buffer) same);
+      looked = (
+        let was = link.looked.0 in let looked = ap (λ (table : KeptTable). table.looked) same in omega (arith, was, looked),
+        let was = link.looked.1 in let looked = ap (λ (queue : KeptQueue). queue.looked) kept in omega (arith, was, looked),
+      );
+      few = c.reserve.ensures.small link.few;
+      sound = subst (IsSound link.shape c.reserve.new.self.room) (sym both) (sound-larger link.shape link.queue.room c.reserve.new.self.room (kept_in link) c.reserve.ensures.grows link.sound);
+      stood = subst (IsStood link.shape) (sym both) link.stood;
+      rests = subst (RestsFromClock link.shape link.due) (sym both) link.rests;
+    }

@@ -1,5 +1,5 @@
 -- A refusal leaves the rows.
-use Rattle.link_server.proofs.AnswerFacts.{reserve-same}
+use Rattle.link_server.proofs.Replies.Setup.{reserve-same}
 use Rattle.link_server.proofs.link_state.LinkState.reserve.Goals as goal
 
 pub returns-in-Err-clause-kept : goal.returns-in-Err-clause-kept

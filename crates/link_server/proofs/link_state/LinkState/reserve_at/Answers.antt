@@ -1,14 +1,9 @@
 -- The offer goes on with what is kept, and so with every history that the link stands for.
 use Rattle.std.proofs.Common.{◌≡◌, sym, ap, ◌∙◌, subst}
-use Rattle.net_units.specs.Numbers.{level_number}
-use Rattle.net_units.specs.LevelBounds.{reach_of}
-use Rattle.link_steps.specs.Admissible.{MayOffer}
-use Rattle.link_steps.specs.Levels.{level_of}
-use Rattle.link_steps.specs.declared.replies.Reply.TheVariants.{Offer}
+use Rattle.link_server.proofs.Words.{level_number, reach_of, MayOffer, level_of, Offer, kept_in}
 use Rattle.link_steps.proofs.HopHolds.{hop-guarantee}
 use Rattle.link_steps.proofs.LevelFacts.{level_of-level}
 use Rattle.link_server.specs.Held.{reservations_held, reach_at, MayReserve}
-use Rattle.link_server.specs.State.{kept_in}
 use Rattle.link_server.proofs.ChosenFacts.{offer-admissible, offer-legal}
 use Rattle.link_server.proofs.StepFacts.{rows-have, step-entered}
 use Rattle.link_server.proofs.link_state.LinkState.reserve_at.Goals as goal
@@ -34,7 +29,7 @@ returns-clause-offered c = ap (Offer c.args.level) (reach (goal.at.returns-claus
 pub returns-clause-entered : goal.returns-clause-entered
 returns-clause-entered c =
     step-entered c.args.self.now.shape c.hold.new.self.shape (kept_in c.args.self.now) (kept_in c.hold.new.self) c.args.ask.now _ (Offer c.args.level c.reach_of-reach.result)
-    (rows-have c.args.self.now.rows.items) c.in-Reserve.is c.hold.ensures.shape c.in_ok-hold.ensures.kept
+    (rows-have c.args.self.now) c.in-Reserve.is c.hold.ensures.shape c.in_ok-hold.ensures.kept
 
 pub returns-clause-admissible : goal.returns-clause-admissible
 returns-clause-admissible c =
@@ -47,4 +42,4 @@ returns-clause-guaranteed c = λ h stands before.
 
 pub returns-clause-legal : goal.returns-clause-legal
 returns-clause-legal c =
-    offer-legal c.args.self.now.shape (kept_in c.args.self.now) c.args.ask.now c.args.level c.reach_of-reach.result (rows-have c.args.self.now.rows.items) c.requires.may (reach (goal.at.returns-clause-legal c).After-hold)
+    offer-legal c.args.self.now.shape (kept_in c.args.self.now) c.args.ask.now c.args.level c.reach_of-reach.result (rows-have c.args.self.now) c.requires.may (reach (goal.at.returns-clause-legal c).After-hold)

@@ -1,7 +1,7 @@
 -- The account is as it was, but for its clock.
 use Rattle.std.proofs.Common.{sym, ap, ◌∙◌, arith}
 use Rattle.link_steps.specs.Kept.{kept_reply, kept_after}
-use Rattle.link_server.specs.State.{kept_in}
+use Rattle.link_server.proofs.Words.{kept_in}
 use Rattle.link_steps.proofs.QuietFacts.{quiet-after, quiet-tick}
 use Rattle.link_server.proofs.link_state.LinkState.rest_once.Goals as goal
 

@@ -1,7 +1,7 @@
 -- Where the first isn't for this tick, none is, and where none are planned neither.
 use Rattle.std.proofs.Common.{arith}
 use Rattle.std.proofs.lemmas.Bool.{eqb-false}
-use Rattle.link_server.proofs.PlanFacts.{none-due, empty-due}
+use Rattle.link_server.proofs.Calendars.Planning.{none-due, empty-due}
 use Rattle.link_server.proofs.planned.Planned.is_for.Goals as goal
 
 pub returns-then-self-gt0 : goal.returns-then-self-gt0

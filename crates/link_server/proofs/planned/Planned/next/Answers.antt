@@ -1,5 +1,5 @@
 -- The first of the packets that are left is the next one.
-use Rattle.link_server.proofs.PlanFacts.{no-first, first-is}
+use Rattle.link_server.proofs.Calendars.Planning.{no-first, first-is}
 use Rattle.link_server.proofs.planned.Planned.next.Goals as goal
 
 pub returns-then-self-eq0 : goal.returns-then-self-eq0

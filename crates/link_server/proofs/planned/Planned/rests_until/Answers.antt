@@ -1,9 +1,9 @@
 -- The packets that are planned and left begin with the next one.
 use Rattle.std.proofs.Common.{sym, subst, arith}
-use Rattle.link_steps.specs.Lists.{Each}
+use Rattle.link_server.proofs.Words.{Each}
 use Rattle.link_steps.specs.Rows.{planned_from}
 use Rattle.link_server.specs.Planned.{IsPlannedFrom}
-use Rattle.link_server.proofs.QuietFacts.{planned-quiet}
+use Rattle.link_server.proofs.Calendars.Quiet.{planned-quiet}
 use Rattle.link_server.proofs.planned.Planned.rests_until.Goals as goal
 
 pub returns-then-self-eq0 : goal.returns-then-self-eq0

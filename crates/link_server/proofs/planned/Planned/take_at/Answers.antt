@@ -1,5 +1,5 @@
 -- The first of the packets that are left is for this tick, or none is.
-use Rattle.link_server.proofs.PlanFacts.{none-due-size, none-due-left, empty-due-size, empty-due-left, due-size, due-left}
+use Rattle.link_server.proofs.Calendars.Planning.{none-due-size, none-due-left, empty-due-size, empty-due-left, due-size, due-left}
 use Rattle.link_server.proofs.planned.Planned.take_at.Goals as goal
 use Rattle.link_server.proofs.planned.Planned.take_at.Goals.{then-self-eq0-via-then-self-eq0, then-self-eq0-via-else-self-eq0+then-self-clock}
 

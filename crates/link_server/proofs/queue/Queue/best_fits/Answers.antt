@@ -1,10 +1,9 @@
 -- Where none is planned it doesn't matter how many wait, and else it fits where fewer do than may.
 use Rattle.std.proofs.Common.{length, nat_lt, ap, ◌∙◌}
-use Rattle.std.specs.Prelude.{filter}
-use Rattle.link_steps.specs.Kept.{waits_here}
+use Rattle.link_server.proofs.Words.{filter, waits_here}
 use Rattle.link_server.specs.Packets.{here_in, on_in}
 use Rattle.link_server.specs.Planned.{left_in}
-use Rattle.link_server.proofs.PourFacts.{best-none, best-some}
+use Rattle.link_server.proofs.Replies.Pour.{best-none, best-some}
 use Rattle.link_server.proofs.queue.Queue.best_fits.Goals as goal
 
 pub returns-then-not-is_for-clause-step : goal.returns-then-not-is_for-clause-step

@@ -1,7 +1,7 @@
 -- As many are left as are counted.
 use Rattle.std.proofs.Common.{length, sym, ap, ◌∙◌}
-use Rattle.link_server.specs.KeptQueue.{KeptQueue}
-use Rattle.link_server.proofs.PlanFacts.{planned-length}
+use Rattle.link_server.proofs.Words.{KeptQueue}
+use Rattle.link_server.proofs.Calendars.Planning.{planned-length}
 use Rattle.link_server.proofs.queue.Queue.best_left.Goals as goal
 
 pub returns : goal.returns

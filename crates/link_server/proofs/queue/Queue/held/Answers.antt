@@ -1,8 +1,7 @@
 -- The counts are those of the packets here.
 use Rattle.std.proofs.Common.{sym, ap, ◌∙◌, subst}
-use Rattle.link_steps.specs.Buffer.{held_packets}
+use Rattle.link_server.proofs.Words.{held_packets, KeptQueue}
 use Rattle.link_server.specs.Counts.{AreByLead, counted}
-use Rattle.link_server.specs.KeptQueue.{KeptQueue}
 use Rattle.link_server.proofs.queue.Queue.held.Goals as goal
 
 pub count_of-requires : goal.count_of-requires

@@ -3,8 +3,8 @@ use Rattle.std.proofs.Common.{◌≡◌, length, refl, ap, arith}
 use Rattle.link_steps.specs.Rows.{planned_from}
 use Rattle.link_server.specs.KeyedList.{Listed}
 use Rattle.link_server.specs.Line.{ranks_in}
-use Rattle.link_server.specs.declared.queue.held_packet.HeldPacket.{HeldPacket}
-use Rattle.link_server.proofs.CountFacts.{none-counted}
+use Rattle.link_server.proofs.Words.{HeldPacket}
+use Rattle.link_server.proofs.Waiting.Counts.{none-counted}
 use Rattle.link_server.proofs.queue.Queue.new.Goals as goal
 
 pub invariant_of-result-2 : goal.invariant_of-result-2

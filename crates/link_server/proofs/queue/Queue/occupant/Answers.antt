@@ -1,11 +1,10 @@
 -- There is room for each rank, and the packets here stand in the order of their arrival numbers.
 use Rattle.std.proofs.Common.{◌≡◌, ℕ, false, List, [], ◌∷◌, length, Option, Some, None, is_some, refl, sym, ◌∙◌, true≢false, arith}
-use Rattle.link_steps.specs.Kept.{served}
+use Rattle.link_server.proofs.Words.{served, HeldPacket}
 use Rattle.link_steps.specs.Service.{Start, first_in_line}
 use Rattle.link_server.specs.Packets.{here_in, on_in}
-use Rattle.link_server.specs.declared.queue.held_packet.HeldPacket.{HeldPacket}
 use Rattle.link_server.specs.declared.queue.held_packet.Running.{Running}
-use Rattle.link_server.proofs.TurnFacts.{numbered-rising}
+use Rattle.link_server.proofs.Waiting.Turn.{numbered-rising}
 use Rattle.link_server.proofs.queue.Queue.occupant.Goals as goal
 
 pub start_next-requires-clause-room : goal.start_next-requires-clause-room

@@ -2,19 +2,17 @@
 use Rattle.std.proofs.Common.{◌≡◌, ◌+◌, ◌≤◌, ◌++◌, ◌∷◌, [], length, refl, sym, ap, ◌∙◌, subst, arith}
 use Rattle.std.proofs.lemmas.List.{map_push, length-append, length-map}
 use Rattle.std.proofs.lemmas.List.Sorted.{length_permutation}
-use Rattle.link_steps.specs.Buffer.{held_packets}
+use Rattle.link_server.proofs.Words.{held_packets, KeptQueue, HeldPacket}
 use Rattle.link_server.specs.Counts.{one_of}
 use Rattle.link_server.specs.InLine.{AreIn}
-use Rattle.link_server.specs.KeptQueue.{KeptQueue}
 use Rattle.link_server.specs.KeyedList.{Listed}
 use Rattle.link_server.specs.Line.{ranks_in}
 use Rattle.link_server.specs.Packets.{arrival_in, here_in, on_in}
 use Rattle.link_server.specs.Sound.{AreNumberedWithin}
-use Rattle.link_server.specs.declared.queue.held_packet.HeldPacket.{HeldPacket}
-use Rattle.link_server.proofs.AccountFacts.{queue-same}
-use Rattle.link_server.proofs.CountFacts.{held-pushed}
-use Rattle.link_server.proofs.NextFacts.{ranks-pushed, own-rank}
-use Rattle.link_server.proofs.SoundPackets.{numbered-append}
+use Rattle.link_server.proofs.Replies.Account.{queue-same}
+use Rattle.link_server.proofs.Waiting.Counts.{held-pushed}
+use Rattle.link_server.proofs.Waiting.Next.{ranks-pushed, own-rank}
+use Rattle.link_server.proofs.Sound.Packets.{numbered-append}
 use Rattle.link_server.proofs.queue.Queue.push.Goals as goal
 use Rattle.link_server.proofs.queue.Queue.push.Goals.{After-self, After-push-2}
 

@@ -1,7 +1,6 @@
 -- The lesser of two ticks is before each of them.
 use Rattle.std.proofs.Common.{ap, subst, arith}
-use Rattle.link_steps.specs.Lists.{Each}
-use Rattle.link_server.specs.KeptQueue.{KeptQueue}
+use Rattle.link_server.proofs.Words.{Each, KeptQueue}
 use Rattle.link_server.specs.Planned.{IsPlannedFrom}
 use Rattle.link_server.proofs.RestFacts.{plans-from, service-from}
 use Rattle.link_server.proofs.queue.Queue.rests_until.Goals as goal

@@ -1,18 +1,16 @@
 -- The packet that occupies the link can go on, so where it doesn't it departs.
 use Rattle.std.proofs.Common.{◌≡◌, ◌+◌, ◌≤◌, None, Some, length, sym, ap, ◌∙◌, subst, arith}
-use Rattle.std.specs.Prelude.{filter}
-use Rattle.link_steps.specs.Kept.{is_other}
+use Rattle.link_server.proofs.Words.{filter, is_other, KeptQueue}
 use Rattle.link_server.specs.InLine.{AreIn, count_on}
-use Rattle.link_server.specs.KeptQueue.{KeptQueue}
 use Rattle.link_server.specs.Line.{ranks_in}
 use Rattle.link_server.specs.Packets.{start_in, here_in, on_in}
 use Rattle.link_server.specs.Planned.{left_in}
 use Rattle.link_server.specs.Serving.{ServiceGoesOn}
 use Rattle.link_server.specs.Sound.{AreNumberedWithin}
-use Rattle.link_server.proofs.NextFacts.{ranks-departed}
-use Rattle.link_server.proofs.ServingFacts.{running-goes-on, departs-now, best-departs-now, none-served, goes-on-served, departs-served}
-use Rattle.link_server.proofs.SoundPackets.{numbered-filter}
-use Rattle.link_server.proofs.TurnFacts.{numbered-rising}
+use Rattle.link_server.proofs.Waiting.Next.{ranks-departed}
+use Rattle.link_server.proofs.Waiting.Serving.{running-goes-on, departs-now, best-departs-now, none-served, goes-on-served, departs-served}
+use Rattle.link_server.proofs.Sound.Packets.{numbered-filter}
+use Rattle.link_server.proofs.Waiting.Turn.{numbered-rising}
 use Rattle.link_server.proofs.queue.Queue.serve.Goals as goal
 use Rattle.link_server.proofs.queue.Queue.serve.Goals.{In-Some}
 

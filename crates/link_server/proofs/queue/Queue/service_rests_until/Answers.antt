@@ -4,7 +4,7 @@ use Rattle.link_steps.specs.Quiet.{ServiceRests}
 use Rattle.link_server.specs.InLine.{AreIn}
 use Rattle.link_server.specs.Line.{ranks_in}
 use Rattle.link_server.specs.Packets.{here_in, on_in}
-use Rattle.link_server.proofs.NextFacts.{none-before}
+use Rattle.link_server.proofs.Waiting.Next.{none-before}
 use Rattle.link_server.proofs.queue.Queue.service_rests_until.Goals as goal
 
 pub returns-else-len-eq0 : goal.returns-else-len-eq0

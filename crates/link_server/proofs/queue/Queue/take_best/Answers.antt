@@ -1,12 +1,10 @@
 -- The step of the plan is found, and what it makes of the queue is said.
 use Rattle.std.proofs.Common.{refl, ◌∙◌}
-use Rattle.std.specs.Prelude.{find}
-use Rattle.link_steps.specs.Rows.{is_for}
-use Rattle.link_steps.specs.Sources.{source_step}
+use Rattle.link_server.proofs.Words.{find, is_for, source_step}
 use Rattle.link_server.specs.Packets.{arrival_in}
 use Rattle.link_server.specs.Planned.{left_in}
 use Rattle.link_server.specs.QueueParts.{queue_seen}
-use Rattle.link_server.proofs.PourFacts.{best-rests, best-loses, best-brings, rests-queue, drops-queue, brings-queue}
+use Rattle.link_server.proofs.Replies.Pour.{best-rests, best-loses, best-brings, rests-queue, drops-queue, brings-queue}
 use Rattle.link_server.proofs.queue.Queue.take_best.Goals as goal
 
 pub returns-in_default-clause-lost : goal.returns-in_default-clause-lost

@@ -1,9 +1,7 @@
 -- It names channel 0, and its level is below all levels.
 use Rattle.std.proofs.Common.{◌≡◌, Option, Some, subst, arith}
-use Rattle.std.specs.Prelude.{IfSome}
-use Rattle.net_units.specs.Numbers.{channel_number}
-use Rattle.net_units.specs.declared.numbers.ChanNo.{ChanNo}
-use Rattle.link_server.proofs.PourFacts.{best-made}
+use Rattle.link_server.proofs.Words.{IfSome, channel_number, ChanNo}
+use Rattle.link_server.proofs.Replies.Pour.{best-made}
 use Rattle.link_server.proofs.queue.best_effort.best_packet.Goals as goal
 
 some-is : (found : Option ChanNo) (chan : ChanNo) → IfSome found (λ c. channel_number c ≡ 0) → found ≡ Some chan → channel_number chan ≡ 0

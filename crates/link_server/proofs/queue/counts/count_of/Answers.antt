@@ -1,7 +1,7 @@
 -- The count of the lead tells its packets, and where none stands there are none.
 use Rattle.std.proofs.Common.{get_or, sym}
 use Rattle.std.proofs.lemmas.Bool.{eqb-true}
-use Rattle.link_server.proofs.CountFacts.{gap-none, one-at}
+use Rattle.link_server.proofs.Waiting.Counts.{gap-none, one-at}
 use Rattle.link_server.proofs.queue.counts.count_of.Goals as goal
 
 pub returns-in-Ok : goal.returns-in-Ok

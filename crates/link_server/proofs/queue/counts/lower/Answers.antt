@@ -2,7 +2,7 @@
 use Rattle.std.proofs.Common.{◌≡◌, ◌+◌, ◌-◌, get_or, refl, sym, ap, ◌∙◌, subst, arith}
 use Rattle.std.proofs.lemmas.Bool.{eqb-true}
 use Rattle.link_server.specs.Counts.{counted, all_counted, one_of, AreByLead, IsCountAt, IsGapFor}
-use Rattle.link_server.proofs.CountFacts.{gap-none, sorted-remove, sorted-set, counted-lowered, all-lowered, counted-removed, all-removed}
+use Rattle.link_server.proofs.Waiting.Counts.{gap-none, sorted-remove, sorted-set, counted-lowered, all-lowered, counted-removed, all-removed}
 use Rattle.link_server.proofs.queue.counts.lower.Goals as goal
 
 pub unreachable-requires : goal.unreachable-requires

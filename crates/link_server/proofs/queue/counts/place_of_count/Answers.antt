@@ -3,8 +3,8 @@ use Rattle.std.proofs.Common.{◌≡◌, get_or, inl, inr, ap, ◌∙◌, arith,
 use Rattle.std.proofs.lemmas.Bool.{cases_lt, ltb-true, ltb-false}
 use Rattle.std.proofs.lemmas.List.{get_or_default}
 use Rattle.std.proofs.lemmas.List.Sorted.{IsPartitionPoint-from_clause}
-use Rattle.std.specs.Prelude.{nat_lt}
-use Rattle.link_server.proofs.CountFacts.{leads-part}
+use Rattle.link_server.proofs.Words.{nat_lt}
+use Rattle.link_server.proofs.Waiting.Counts.{leads-part}
 use Rattle.link_server.proofs.queue.counts.place_of_count.Goals as goal
 use Rattle.link_server.proofs.queue.counts.place_of_count.Goals.{else-place-counts-via-then-place-counts+else-counts-place, else-place-counts-via-else-place-counts}
 

@@ -1,10 +1,10 @@
 -- Where a count of the lead stands it has one packet more, and else a new one comes.
 use Rattle.std.proofs.Common.{◌≡◌, ℕ, ◌+◌, Bool, true, false, not, List, if◌then◌else◌, is_ok, get_or, refl, sym, ap, ◌∙◌, subst, arith}
 use Rattle.std.proofs.lemmas.Bool.{eqb-true, false≢true, true≢false}
-use Rattle.std.specs.List.{insert}
+use Rattle.link_server.proofs.Words.{insert}
 use Rattle.link_server.specs.declared.queue.lead_count.Count.{Count}
 use Rattle.link_server.specs.Counts.{counted, all_counted, packets_in, AreByLead, IsCountAt, IsGapFor}
-use Rattle.link_server.proofs.CountFacts.{total-at, counts-few, counted-raised, all-raised, counted-inserted, all-inserted, sorted-set, sorted-insert}
+use Rattle.link_server.proofs.Waiting.Counts.{total-at, counts-few, counted-raised, all-raised, counted-inserted, all-inserted, sorted-set, sorted-insert}
 use Rattle.link_server.proofs.queue.counts.raise.Goals as goal
 use Rattle.link_server.proofs.queue.counts.raise.Goals.{After-insert}
 

@@ -1,8 +1,8 @@
 -- The packet at each place is counted where its level is past the last.
 use Rattle.std.proofs.Common.{length, true, false, arith}
 use Rattle.std.proofs.lemmas.Bool.{lt-ltb, le-ltb}
-use Rattle.link_steps.specs.BestEffort.{is_best}
-use Rattle.link_server.proofs.LineFacts.{place-counted, past-last-counted}
+use Rattle.link_server.proofs.Words.{is_best}
+use Rattle.link_server.proofs.Waiting.Line.{place-counted, past-last-counted}
 use Rattle.link_server.proofs.queue.in_line.best_here.Goals as goal
 use Rattle.link_server.proofs.queue.in_line.best_here.Goals.{then-index-levels, else-index-levels}
 

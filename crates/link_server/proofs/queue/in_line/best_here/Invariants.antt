@@ -1,8 +1,8 @@
+-- What the loop has counted: the best-effort packets before the place that it looks at next.
 use Rattle.std.proofs.Common.{◌≤◌, length}
-use Rattle.std.specs.Prelude.{filter}
-use Rattle.link_steps.specs.BestEffort.{is_best}
+use Rattle.link_server.proofs.Words.{filter, is_best}
 use Rattle.link_server.specs.Packets.{here_in}
-use Rattle.link_server.proofs.LineFacts.{AreCounted}
+use Rattle.link_server.proofs.Waiting.Line.{AreCounted}
 use Rattle.link_server.proofs.queue.in_line.best_here.Given as goal
 
 -- the packets before the place are counted, at most one a place

@@ -1,9 +1,9 @@
 -- The packet at each place is counted where its level is past the last and it isn't the one on the link.
 use Rattle.std.proofs.Common.{length, Some, not, true, false, eq-eqb, ne_eqb, sym, refl, ap, arith}
 use Rattle.std.proofs.lemmas.Bool.{lt-ltb, le-ltb, and_right}
-use Rattle.link_steps.specs.Kept.{waits_here}
+use Rattle.link_server.proofs.Words.{waits_here}
 use Rattle.link_server.specs.Packets.{start_in}
-use Rattle.link_server.proofs.LineFacts.{place-counted, past-last-counted}
+use Rattle.link_server.proofs.Waiting.Line.{place-counted, past-last-counted}
 use Rattle.link_server.proofs.queue.in_line.best_here_but.Goals as goal
 use Rattle.link_server.proofs.queue.in_line.best_here_but.Goals.{then-packet-levels+then-packet-running, else-packet-levels, else-packet-levels-via-then-packet-levels+else-packet-running, else-packet-levels-via-else-packet-levels}
 

@@ -1,8 +1,8 @@
+-- What the loop has counted: the best-effort packets that wait, before the place that it looks at next.
 use Rattle.std.proofs.Common.{◌≤◌, Some, length}
-use Rattle.std.specs.Prelude.{filter}
-use Rattle.link_steps.specs.Kept.{waits_here}
+use Rattle.link_server.proofs.Words.{filter, waits_here}
 use Rattle.link_server.specs.Packets.{start_in, here_in}
-use Rattle.link_server.proofs.LineFacts.{AreCounted}
+use Rattle.link_server.proofs.Waiting.Line.{AreCounted}
 use Rattle.link_server.proofs.queue.in_line.best_here_but.Given as goal
 
 -- the packets before the place are counted, at most one a place

@@ -2,7 +2,7 @@
 use Rattle.std.proofs.Common.{ap, ◌∙◌, arith}
 use Rattle.std.proofs.lemmas.Bool.{leb-true}
 use Rattle.std.proofs.lemmas.List.{get_or_default}
-use Rattle.link_server.specs.declared.queue.held_packet.HeldPacket.{HeldPacket}
+use Rattle.link_server.proofs.Words.{HeldPacket}
 use Rattle.link_server.proofs.queue.in_line.is_first.Goals as goal
 
 pub returns-then-len-gt0 : goal.returns-then-len-gt0

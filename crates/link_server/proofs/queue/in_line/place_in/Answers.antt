@@ -1,9 +1,9 @@
 -- The numbers of the packets rise, so one lower than the place tells of all before it.
 use Rattle.std.proofs.Common.{◌≡◌, ap, ◌∙◌, subst, arith}
 use Rattle.std.proofs.lemmas.List.{get_or_default}
-use Rattle.link_server.specs.declared.queue.held_packet.HeldPacket.{HeldPacket}
+use Rattle.link_server.proofs.Words.{HeldPacket}
 use Rattle.link_server.specs.Parting.{PartsAt}
-use Rattle.link_server.proofs.TurnFacts.{lower-upto}
+use Rattle.link_server.proofs.Waiting.Turn.{lower-upto}
 use Rattle.link_server.proofs.queue.in_line.place_in.Goals as goal
 
 pub loop-low-init : goal.loop-low-init

@@ -1,5 +1,6 @@
+-- Where a binary search still has to look.
 use Rattle.std.proofs.Common.{ℕ, ◌-◌, ◌<◌, ◌≤◌, length, get_or}
-use Rattle.link_server.specs.declared.queue.held_packet.HeldPacket.{HeldPacket}
+use Rattle.link_server.proofs.Words.{HeldPacket}
 use Rattle.link_server.proofs.queue.in_line.place_in.Given as goal
 
 -- the packets below `low` have lower numbers, and the one at `high`, if there is one, hasn't

@@ -3,7 +3,7 @@ use Rattle.std.proofs.Common.{None, ◌∙◌, arith}
 use Rattle.std.proofs.lemmas.List.Sorted.{length_permutation}
 use Rattle.link_server.specs.Line.{ranks_in}
 use Rattle.link_server.specs.Packets.{arrival_in, here_in}
-use Rattle.link_server.proofs.NextFacts.{stale-passed, others-left, fewer-ranks, same-ranks, none-first, next-first}
+use Rattle.link_server.proofs.Waiting.Next.{stale-passed, others-left, fewer-ranks, same-ranks, none-first, next-first}
 use Rattle.link_server.proofs.queue.in_line.start_next.Goals as goal
 
 pub returns-in-Some-with_rank-clause-first : goal.returns-in-Some-with_rank-clause-first

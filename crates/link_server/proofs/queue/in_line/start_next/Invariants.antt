@@ -1,3 +1,4 @@
+-- The ranks that are left are those of the packets that wait.
 use Rattle.std.proofs.Common.{◌≡◌, ◌≤◌, None, length}
 use Rattle.link_server.specs.InLine.{AreIn}
 use Rattle.link_server.specs.Line.{ranks_in, room_in}

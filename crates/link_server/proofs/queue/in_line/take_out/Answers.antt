@@ -1,12 +1,12 @@
 -- The packet stands at its place, or isn't here.
 use Rattle.std.proofs.Common.{◌<◌, length, sym, ap, ◌∙◌, subst, arith}
 use Rattle.std.proofs.lemmas.List.{get_or_default}
-use Rattle.link_server.specs.declared.queue.held_packet.HeldPacket.{HeldPacket}
+use Rattle.link_server.proofs.Words.{HeldPacket}
 use Rattle.link_server.specs.Packets.{start_in, here_in}
 use Rattle.link_server.specs.Counts.{AreCounts}
 use Rattle.link_server.specs.KeyedList.{Listed}
-use Rattle.link_server.proofs.CountFacts.{counts-without, one-counted}
-use Rattle.link_server.proofs.TurnFacts.{removed-others, absent-others}
+use Rattle.link_server.proofs.Waiting.Counts.{counts-without, one-counted}
+use Rattle.link_server.proofs.Waiting.Turn.{removed-others, absent-others}
 use Rattle.link_server.proofs.queue.in_line.take_out.Goals as goal
 use Rattle.link_server.proofs.queue.in_line.take_out.Goals.{else-index-len-via-then-index-len+else-index-place, else-index-len-via-else-index-len}
 

@@ -3,7 +3,7 @@ use Rattle.std.proofs.Common.{sym, ap, ◌∙◌, arith}
 use Rattle.std.proofs.lemmas.List.{get_or_default}
 use Rattle.link_server.specs.InLine.{is_rank_of}
 use Rattle.link_server.specs.Packets.{arrival_in}
-use Rattle.link_server.proofs.TurnFacts.{stale-here, rank-here}
+use Rattle.link_server.proofs.Waiting.Turn.{stale-here, rank-here}
 use Rattle.link_server.proofs.queue.in_line.with_rank.Goals as goal
 use Rattle.link_server.proofs.queue.in_line.with_rank.Goals.{else-index-len-via-then-index-len+else-is_rank_of, else-index-len-via-else-index-len}
 

@@ -1,13 +1,11 @@
 -- The row of the channel is the one at its place, if there is one.
 use Rattle.std.proofs.Common.{map, sym, subst}
-use Rattle.std.specs.Prelude.{IfNone}
-use Rattle.link_steps.specs.Lists.{Each}
+use Rattle.link_server.proofs.Words.{IfNone, Each, row_in}
 use Rattle.link_server.specs.Planned.{IsPlannedAhead}
 use Rattle.link_server.specs.Plans.{RestsIfOf}
-use Rattle.link_server.specs.Rows.{row_in}
 use Rattle.link_server.specs.Sources.{IsReady}
-use Rattle.link_server.proofs.ExpiryFacts.{each-at}
-use Rattle.link_server.proofs.PlansRows.{absent-rests, place-rests}
+use Rattle.link_server.proofs.Calendars.Expiry.{each-at}
+use Rattle.link_server.proofs.Calendars.PlanRows.{absent-rests, place-rests}
 use Rattle.link_server.proofs.table.plans.planned_place.Goals as goal
 
 pub returns-in_err-place-clause-none : goal.returns-in_err-place-clause-none

@@ -1,6 +1,6 @@
 -- The channel has one row at most, which is at the hop or isn't.
 use Rattle.std.proofs.Common.{◌∙◌, sym}
-use Rattle.link_server.proofs.IndexFacts.{no-other-hop}
+use Rattle.link_server.proofs.RowFacts.Index.{no-other-hop}
 use Rattle.link_server.proofs.table.rows.place_at_hop.Goals as goal
 
 pub returns-clause-none : goal.returns-clause-none

@@ -1,8 +1,7 @@
 -- The index leads to the channel's row, if it has one.
 use Rattle.std.proofs.Common.{◌<◌, ◌≤◌, ◌∙◌, length, sym, subst}
-use Rattle.std.specs.Prelude.{IfNone}
-use Rattle.link_server.specs.Rows.{IsAbsent}
-use Rattle.link_server.proofs.IndexFacts.{absent-past, absent-beyond, absent-other, place-led, is-row-of}
+use Rattle.link_server.proofs.Words.{IfNone, IsAbsent}
+use Rattle.link_server.proofs.RowFacts.Index.{absent-past, absent-beyond, absent-other, place-led, is-row-of}
 use Rattle.link_server.proofs.table.rows.place_of.Goals as goal
 use Rattle.link_server.proofs.table.rows.place_of.Goals.{else-place-len-via-then-place-len+else-get, else-place-len-via-else-place-len}
 

@@ -1,7 +1,7 @@
 -- The bound of the offer is within the most, so a level is.
 use Rattle.std.proofs.Common.{Option, Some, None, refl, arith}
 use Rattle.std.specs.Prelude.{IsSome, IsNone}
-use Rattle.net_units.specs.Numbers.{level_number}
+use Rattle.link_server.proofs.Words.{level_number}
 use Rattle.net_units.proofs.BoundFacts.{bound_at-rising}
 use Rattle.link_server.proofs.table.rows.reach_of.Goals as goal
 

@@ -1,17 +1,23 @@
--- The least of three ticks is before each of them.
-use Rattle.std.proofs.Common.{arith}
-use Rattle.link_server.proofs.RestFacts.{all-from, plans-from, service-from}
+-- The least of two ticks is before each of them.
+use Rattle.std.proofs.Common.{◌≤◌, ℕ, List, arith}
+use Rattle.link_server.proofs.Words.{KeptRow, RowRests}
+use Rattle.link_steps.proofs.ListFacts.{Each-if}
+use Rattle.link_server.proofs.RestFacts.{plans-from, service-from}
 use Rattle.link_server.proofs.tick.resting.next_due.Goals as goal
 
-pub returns-clause-service : goal.returns-clause-service
-returns-clause-service c =
-    service-from c.args.shape.now.rate c.min-2.result c.rests_until-packets.result c.args.queue.now.here c.args.queue.now.on (omega (arith, c.min.ensures, c.min-2.ensures)) c.rests_until-packets.ensures.service
+row-from : (bounds : List ℕ) (clock until least : ℕ) (row : KeptRow) → until ≤ least → RowRests bounds clock least row → RowRests bounds clock until row
+row-from bounds clock until least row less rests = record {
+  plans = plans-from until least row.left less rests.plans;
+  stays = λ t from before. rests.stays t from (omega (arith, before, less));
+}
+
+pub returns-clause-rows : goal.returns-clause-rows
+returns-clause-rows c = λ clock looked.
+    let table = c.args.table.now in
+    Each-if (RowRests table.server.bounds clock c.rests_until-2.result) (RowRests table.server.bounds clock c.min.result) table.rows (λ row rests. row-from table.server.bounds clock c.min.result c.rests_until-2.result row (omega (arith, c.min.ensures)) rests) (c.rests_until-2.ensures clock looked)
 
 pub returns-clause-best : goal.returns-clause-best
-returns-clause-best c = plans-from c.min-2.result c.rests_until-packets.result c.args.queue.now.best (omega (arith, c.min.ensures, c.min-2.ensures)) c.rests_until-packets.ensures.best
+returns-clause-best c = plans-from c.min.result c.rests_until.result c.args.queue.now.best (omega (arith, c.min.ensures)) c.rests_until.ensures.best
 
-pub returns-clause-holds : goal.returns-clause-holds
-returns-clause-holds c = all-from c.min-2.result c.rests_until-held.result c.args.holds.now.entries (omega (arith, c.min.ensures, c.min-2.ensures)) c.rests_until-held.ensures
-
-pub returns-clause-plans : goal.returns-clause-plans
-returns-clause-plans c = all-from c.min-2.result c.rests_until-planned.result c.args.plans.now.entries (omega (arith, c.min-2.ensures)) c.rests_until-planned.ensures
+pub returns-clause-service : goal.returns-clause-service
+returns-clause-service c = service-from c.args.shape.now.rate c.min.result c.rests_until.result c.args.queue.now.here c.args.queue.now.on (omega (arith, c.min.ensures)) c.rests_until.ensures.service

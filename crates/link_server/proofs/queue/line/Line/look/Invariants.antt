@@ -1,5 +1,6 @@
+-- Each turn of the look takes one due rank over.
 use Rattle.std.proofs.Common.{◌≡◌, length}
-use Rattle.std.specs.List.Sorted.{IsPermutation}
+use Rattle.link_server.proofs.Words.{IsPermutation}
 use Rattle.link_server.specs.Line.{ranks_in, later_in, room_in}
 use Rattle.link_server.proofs.queue.line.Line.look.Given as goal
 

@@ -1,14 +1,14 @@
 -- The key that is due first goes from the calendar to the queue of its level.
 use Rattle.std.proofs.Common.{◌≡◌, ◌-◌, ◌<◌, ◌≤◌, ◌++◌, length, refl, sym, ap, ◌∙◌, subst, arith}
 use Rattle.std.proofs.lemmas.List.{length-append, length-map}
-use Rattle.std.specs.List.Sorted.{IsPermutation}
+use Rattle.link_server.proofs.Words.{IsPermutation}
 use Rattle.link_server.specs.Keys.{rank_told, rank_at, ranks_at, queues_at, keys_of, AreKeyed, AreInOrder}
 use Rattle.link_server.specs.Line.{AreAfter}
 use Rattle.link_server.specs.Queues.{joined}
 use Rattle.link_server.specs.Ready.{queues_of}
-use Rattle.link_server.proofs.KeyFacts.{is-held, long-ranks}
-use Rattle.link_server.proofs.DueFacts.{none-due, all-after, due-held, due-one, due-level, due-fewer, due-keyed, due-ranks, due-order}
-use Rattle.link_server.proofs.QueueFacts.{length-pushed}
+use Rattle.link_server.proofs.Waiting.Keys.{is-held, long-ranks}
+use Rattle.link_server.proofs.Waiting.Due.{none-due, all-after, due-held, due-one, due-level, due-fewer, due-keyed, due-ranks, due-order}
+use Rattle.link_server.proofs.Waiting.Queues.{length-pushed}
 use Rattle.link_server.proofs.queue.line.Line.move_due.Goals as goal
 use Rattle.link_server.proofs.queue.line.Line.move_due.Goals.{After-index, After-push}
 

@@ -4,9 +4,9 @@ use Rattle.link_server.specs.Keys.{rank_told, ranks_at, queues_at, keys_of, AreK
 use Rattle.link_server.specs.Line.{ranks_in, later_in, AreAfter, IsNext}
 use Rattle.link_server.specs.Queues.{joined}
 use Rattle.link_server.specs.Ready.{queues_of}
-use Rattle.link_server.proofs.KeyFacts.{first-held, is-held, keyed-left}
-use Rattle.link_server.proofs.FirstFacts.{none-next, left-order, left-next}
-use Rattle.link_server.proofs.QueueFacts.{after-none, length-after}
+use Rattle.link_server.proofs.Waiting.Keys.{first-held, is-held, keyed-left}
+use Rattle.link_server.proofs.Waiting.First.{none-next, left-order, left-next}
+use Rattle.link_server.proofs.Waiting.Queues.{after-none, length-after}
 use Rattle.link_server.proofs.queue.line.Line.next.Goals as goal
 
 pub invariant_of-self : goal.invariant_of-self

@@ -1,14 +1,13 @@
 -- The rank comes under a new key, which is put in the calendar.
 use Rattle.std.proofs.Common.{◌≡◌, ◌++◌, ◌∷◌, [], length, sym, ap, ◌∙◌, subst, arith}
 use Rattle.std.proofs.lemmas.List.{length-append}
-use Rattle.std.specs.List.Sorted.{IsPermutation}
-use Rattle.tick_calendar.specs.Calendar.{Schedule}
+use Rattle.link_server.proofs.Words.{IsPermutation, Schedule}
 use Rattle.link_server.specs.Keys.{keys_of, ranks_at, queues_at, AreKeyed, AreInOrder}
 use Rattle.link_server.specs.Queues.{joined}
 use Rattle.link_server.specs.Ready.{queues_of}
-use Rattle.link_server.proofs.KeyFacts.{keyed-came, ranks-came, long-ranks}
-use Rattle.link_server.proofs.QueueFacts.{comes-before}
-use Rattle.link_server.proofs.RankFacts.{order-came}
+use Rattle.link_server.proofs.Waiting.Keys.{keyed-came, ranks-came, long-ranks}
+use Rattle.link_server.proofs.Waiting.Queues.{comes-before}
+use Rattle.link_server.proofs.Waiting.Rank.{order-came}
 use Rattle.link_server.proofs.queue.line.Line.push_later.Goals as goal
 use Rattle.link_server.proofs.queue.line.Line.push_later.Goals.{After-put}
 

@@ -1,13 +1,13 @@
 -- The rank comes under a new key, at the end of the queue of its level: it is ahead of all that aren't ready, and the newest.
 use Rattle.std.proofs.Common.{◌≡◌, ◌-◌, ◌<◌, ◌++◌, ◌∷◌, length, sym, ap, ◌∙◌, subst, arith}
 use Rattle.std.proofs.lemmas.List.{length-append, length-map}
-use Rattle.std.specs.List.Sorted.{IsPermutation}
+use Rattle.link_server.proofs.Words.{IsPermutation}
 use Rattle.link_server.specs.Keys.{keys_of, ranks_at, queues_at, AreKeyed, AreInOrder}
 use Rattle.link_server.specs.Queues.{joined, pushed}
 use Rattle.link_server.specs.Ready.{queues_of}
-use Rattle.link_server.proofs.KeyFacts.{keyed-ready, ranks-ready, long-ranks}
-use Rattle.link_server.proofs.QueueFacts.{comes-into, length-pushed}
-use Rattle.link_server.proofs.RankFacts.{order-ready}
+use Rattle.link_server.proofs.Waiting.Keys.{keyed-ready, ranks-ready, long-ranks}
+use Rattle.link_server.proofs.Waiting.Queues.{comes-into, length-pushed}
+use Rattle.link_server.proofs.Waiting.Rank.{order-ready}
 use Rattle.link_server.proofs.queue.line.Line.push_ready.Goals as goal
 use Rattle.link_server.proofs.queue.line.Line.push_ready.Goals.{Start, After-push}
 

@@ -1,12 +1,12 @@
 -- Each rank is ready, or under its tick in the calendar.
 use Rattle.std.proofs.Common.{◌≡◌, List, [], ◌∷◌, ◌++◌, map, sym, ap, ◌∙◌, subst, append-nil, arith}
-use Rattle.link_server.specs.declared.queue.line.Rank.{Rank}
+use Rattle.link_server.proofs.Words.{Rank}
 use Rattle.link_server.specs.Keys.{rank_at, queues_at}
 use Rattle.link_server.specs.Line.{ranks_in, later_in, AreFrom}
 use Rattle.link_server.specs.Queues.{joined}
 use Rattle.link_server.specs.Ready.{queues_of}
-use Rattle.link_server.proofs.DueFacts.{all-from-tick}
-use Rattle.link_server.proofs.QueueFacts.{joined-map}
+use Rattle.link_server.proofs.Waiting.Due.{all-from-tick}
+use Rattle.link_server.proofs.Waiting.Queues.{joined-map}
 use Rattle.link_server.proofs.queue.line.Line.rests_until.Goals as goal
 
 all-from-zero : (ranks : List Rank) → AreFrom 0 ranks

@@ -1,7 +1,7 @@
 -- The first key of all is that of the eight queues, or else that of the ninth.
 use Rattle.std.proofs.Common.{◌≡◌, ◌+◌, ◌++◌, deque_len, ◌∷◌, [], ℕ, Option, Some, None, MatchOption, length, sym, ap, ◌∙◌, subst, arith}
 use Rattle.link_server.specs.Queues.{joined, first_of, after_first}
-use Rattle.link_server.proofs.QueueFacts.{head-some, head-none, left-after, joined-first, after-none, first-front, first-last, length-after, popped}
+use Rattle.link_server.proofs.Waiting.Queues.{head-some, head-none, left-after, joined-first, after-none, first-front, first-last, length-after, popped}
 use Rattle.link_server.proofs.queue.ready.Ready.pick.Goals as goal
 use Rattle.link_server.proofs.queue.ready.Ready.pick.Goals.{In-Some, In-None, After-pop_front}
 

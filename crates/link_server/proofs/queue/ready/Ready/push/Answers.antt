@@ -3,7 +3,7 @@ use Rattle.std.proofs.Common.{◌≡◌, ◌-◌, ◌<◌, ◌++◌, ◌∷◌, 
 use Rattle.std.proofs.lemmas.Bool.{cases_lt, false≢true}
 use Rattle.static_priority.specs.Queues.{Queues, with_pushed}
 use Rattle.link_server.specs.Queues.{joined, pushed}
-use Rattle.link_server.proofs.QueueFacts.{length-joined-last, length-joined-pushed, length-pushed, pushed-is, pushed-front, pushed-last}
+use Rattle.link_server.proofs.Waiting.Queues.{length-joined-last, length-joined-pushed, length-pushed, pushed-is, pushed-front, pushed-last}
 use Rattle.link_server.proofs.queue.ready.Ready.push.Goals as goal
 use Rattle.link_server.proofs.queue.ready.Ready.push.Goals.{In-Some, After-push}
 

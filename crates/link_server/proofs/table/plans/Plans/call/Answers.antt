@@ -2,8 +2,8 @@
 use Rattle.std.proofs.Common.{length, sym, ◌∙◌, subst, arith}
 use Rattle.std.specs.Vec.{vec_capacity}
 use Rattle.link_server.specs.Plans.{AreCalled}
-use Rattle.link_server.proofs.PlansRows.{none-called, called-more, called-rests}
-use Rattle.link_server.proofs.RisingFacts.{rising-wider}
+use Rattle.link_server.proofs.Calendars.PlanRows.{none-called, called-more, called-rests}
+use Rattle.link_server.proofs.Waiting.Rising.{rising-wider}
 use Rattle.link_server.proofs.table.plans.Plans.call.Goals as goal
 
 pub loop-key-init : goal.loop-key-init

@@ -1,3 +1,4 @@
+-- What holds while the rows of the due entries are called.
 use Rattle.std.proofs.Common.{◌≡◌, length}
 use Rattle.std.specs.Vec.{vec_capacity}
 use Rattle.link_server.specs.Plans.{AreCalled}

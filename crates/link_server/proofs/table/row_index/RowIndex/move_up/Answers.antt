@@ -3,7 +3,7 @@ use Rattle.std.proofs.Common.{◌≡◌, ◌+◌, ◌-◌, ◌<◌, length, get_
 use Rattle.std.proofs.lemmas.List.{length-map}
 use Rattle.std.proofs.lemmas.List.{get_or_default}
 use Rattle.link_server.specs.Index.{channel_in, channels_in, LeadsTo, IsAheadFrom}
-use Rattle.link_server.proofs.IndexFacts.{ahead-less, ahead-none, row-at}
+use Rattle.link_server.proofs.RowFacts.Index.{ahead-less, ahead-none, row-at}
 use Rattle.link_server.proofs.table.row_index.RowIndex.move_up.Goals as goal
 use Rattle.link_server.proofs.table.row_index.RowIndex.move_up.Goals.{After-get, After-index_mut}
 

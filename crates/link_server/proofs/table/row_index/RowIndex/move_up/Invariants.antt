@@ -1,3 +1,4 @@
+-- The rows before the next place are found, and the others are one place too far.
 use Rattle.link_server.specs.Index.{channels_in, IsAheadFrom}
 use Rattle.link_server.proofs.table.row_index.RowIndex.move_up.Given as goal
 

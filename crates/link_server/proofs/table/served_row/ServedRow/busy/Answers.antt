@@ -1,7 +1,7 @@
 -- As many packets are left as are counted.
 use Rattle.std.proofs.Common.{sym, ap, ◌∙◌}
-use Rattle.link_steps.specs.Refusals.{busy}
-use Rattle.link_server.proofs.PlanFacts.{planned-length}
+use Rattle.link_server.proofs.Words.{busy}
+use Rattle.link_server.proofs.Calendars.Planning.{planned-length}
 use Rattle.link_server.proofs.table.served_row.ServedRow.busy.Goals as goal
 
 pub returns : goal.returns

@@ -1,6 +1,6 @@
 -- As many packets are left as are counted.
 use Rattle.std.proofs.Common.{sym}
-use Rattle.link_server.proofs.PlanFacts.{planned-length}
+use Rattle.link_server.proofs.Calendars.Planning.{planned-length}
 use Rattle.link_server.proofs.table.served_row.ServedRow.cancelled_at_release.Goals as goal
 
 pub returns-in-None : goal.returns-in-None

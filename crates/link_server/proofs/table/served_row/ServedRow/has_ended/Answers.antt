@@ -1,7 +1,7 @@
 -- Only a closing row's hold ends, and that by what is left to wait for.
 use Rattle.std.proofs.Common.{◌∙◌}
-use Rattle.link_server.specs.Rows.{reservation_in}
-use Rattle.link_server.proofs.HoldFacts.{hold-open, hold-closing}
+use Rattle.link_server.proofs.Words.{reservation_in}
+use Rattle.link_server.proofs.Calendars.HoldEnds.{hold-open, hold-closing}
 use Rattle.link_server.proofs.table.served_row.ServedRow.has_ended.Goals as goal
 
 pub returns-in-Tentative : goal.returns-in-Tentative

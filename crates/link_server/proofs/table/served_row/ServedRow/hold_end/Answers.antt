@@ -1,7 +1,7 @@
 -- A closing row waits for no packet where it brings none, or where it has taken all.
 use Rattle.std.proofs.Common.{arith}
-use Rattle.link_server.specs.Rows.{row_in}
-use Rattle.link_server.proofs.CalendarFacts.{ends-at-once, ends-after}
+use Rattle.link_server.proofs.Words.{row_in}
+use Rattle.link_server.proofs.Calendars.Holds.{ends-at-once, ends-after}
 use Rattle.link_server.proofs.table.served_row.ServedRow.hold_end.Goals as goal
 
 pub returns-in-Closing-clause-some : goal.returns-in-Closing-clause-some

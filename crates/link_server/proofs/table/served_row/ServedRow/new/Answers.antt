@@ -1,7 +1,6 @@
 -- The regulator has answered no tick, and no packet is planned.
 use Rattle.std.proofs.Common.{ℕ, List, [], ap}
-use Rattle.link_steps.specs.Kept.{KeptRow}
-use Rattle.link_steps.specs.Reservation.{Reservation, tentative}
+use Rattle.link_server.proofs.Words.{KeptRow, Reservation, tentative}
 use Rattle.link_steps.specs.Rows.{planned_from}
 use Rattle.link_server.proofs.table.served_row.ServedRow.new.Goals as goal
 

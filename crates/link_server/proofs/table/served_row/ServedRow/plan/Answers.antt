@@ -1,11 +1,8 @@
 -- No packets were left, so what is planned is all.
 use Rattle.std.proofs.Common.{List, ap}
-use Rattle.link_steps.specs.Kept.{KeptRow}
-use Rattle.link_steps.specs.Rows.{SourcePacket, planned_from}
-use Rattle.link_server.specs.declared.table.served_row.ServedRow.{ServedRow}
+use Rattle.link_server.proofs.Words.{KeptRow, SourcePacket, planned_from, ServedRow, row_in}
 use Rattle.link_server.specs.Planned.{left_in}
-use Rattle.link_server.specs.Rows.{row_in}
-use Rattle.link_server.proofs.PlanFacts.{after-none}
+use Rattle.link_server.proofs.Calendars.Planning.{after-none}
 use Rattle.link_server.proofs.table.served_row.ServedRow.plan.Goals as goal
 
 -- the row with other packets planned

@@ -1,6 +1,6 @@
 -- The slots are for the window of its stay: those that it keeps, where that is the stay that it keeps.
 use Rattle.std.proofs.Common.{ap, sym, ◌∙◌}
-use Rattle.traffic_contract.specs.Contract.{most_in}
+use Rattle.link_server.proofs.Words.{most_in}
 use Rattle.link_steps.specs.Buffer.{slots_of}
 use Rattle.link_server.proofs.table.served_row.ServedRow.slots.Goals as goal
 

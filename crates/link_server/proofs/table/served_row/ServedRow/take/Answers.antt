@@ -1,7 +1,7 @@
 -- The regulator answers the eligible tick; the packet and the row are those of the account.
 use Rattle.link_server.specs.Planned.{left_in}
-use Rattle.link_server.specs.Rows.{reservation_in}
-use Rattle.link_server.proofs.TakeFacts.{tick-answered, packet-taken, row-taken}
+use Rattle.link_server.proofs.Words.{reservation_in}
+use Rattle.link_server.proofs.Sourcing.Take.{tick-answered, packet-taken, row-taken}
 use Rattle.link_server.proofs.table.served_row.ServedRow.take.Goals as goal
 
 pub returns-clause-packet : goal.returns-clause-packet

@@ -1,0 +1,116 @@
+-- The key that falls due first goes on to the queue of its level.
+use Rattle.std.proofs.Common.{◌≡◌, ℕ, suc, ◌+◌, ◌-◌, ◌<◌, ◌≤◌, Bool, true, false, if◌then◌else◌, nat_eq, List, [], ◌∷◌, ◌++◌, Option, Some, None, is_some, get_or, length, refl, sym, ap, ◌∙◌, subst, arith}
+use Rattle.std.proofs.lemmas.Bool.{eq-eqb}
+use Rattle.std.proofs.lemmas.List.{map-append, length-append, length-map}
+use Rattle.std.specs.List.{All}
+use Rattle.link_server.proofs.Words.{IsPermutation, Each, Rank}
+use Rattle.tick_calendar.specs.Calendar.{Entry, TakesDue, key_at, without_place}
+use Rattle.link_server.specs.Keys.{rank_at, ranks_at, queues_at, key_of, keys_of, times, held_at, IsUnderTick, AreKeyed, AreInOrder}
+use Rattle.link_server.specs.Line.{AreAfter, AreFrom}
+use Rattle.link_server.specs.Queues.{joined, pushed}
+use Rattle.link_server.specs.Rank.{HasLevel}
+use Rattle.link_server.proofs.Waiting.Keys.{keyed-moved, times-append, under-tick}
+use Rattle.link_server.proofs.Waiting.Queues.{Each-parts, moved-between, pushed-map}
+use Rattle.link_server.proofs.Waiting.Rank.{order-moved}
+
+each-of : (P : Entry → Type 0) (entries : List Entry) → All P entries → Each P entries
+each-of P [] all = tt
+each-of P (entry ∷ entries) all = (all 0 entry (omega arith), each-of P entries (λ k d inside. all (suc k) d (omega (arith, inside))))
+
+-- ---- where none is due
+
+-- the entries stay
+pub none-due : (entries : List Entry) (place : Option ℕ) → None ≡ key_at entries place → without_place entries place ≡ entries
+none-due entries None none = refl
+none-due entries (Some place) none = absurd (cc)
+
+pub all-after : (slots : List (Option Rank)) (entries : List Entry) (tick : ℕ) → Each (IsUnderTick slots) entries → All (λ entry. tick < entry.0) entries → AreAfter tick (ranks_at slots (keys_of entries))
+all-after slots entries tick under after = under-tick slots (λ t. tick < t) entries under (each-of (λ entry. tick < entry.0) entries after)
+
+pub all-from-tick : (slots : List (Option Rank)) (entries : List Entry) (tick : ℕ) → Each (IsUnderTick slots) entries → All (λ entry. tick ≤ entry.0) entries → AreFrom tick (ranks_at slots (keys_of entries))
+all-from-tick slots entries tick under from = under-tick slots (λ t. tick ≤ t) entries under (each-of (λ entry. tick ≤ entry.0) entries from)
+
+-- ---- where one is
+
+module _ (slots : List (Option Rank)) (old new : List Entry) (queues : List (List ℕ)) (until newest key : ℕ) (rank : Rank) (taken : TakesDue old new until key) (keyed : AreKeyed slots old queues) (order : AreInOrder (ranks_at slots (keys_of old)) (queues_at slots queues) until newest) (told : rank_at slots key ≡ rank) where
+  parted : AreKeyed slots (taken.before ++ (taken.tick, key) ∷ taken.after) queues
+  parted = subst (λ entries. AreKeyed slots entries queues) taken.was keyed
+
+  ranks-were : ranks_at slots (keys_of old) ≡ ranks_at slots (keys_of taken.before) ++ rank ∷ ranks_at slots (keys_of taken.after)
+  ranks-were =
+      ap (λ entries. ranks_at slots (keys_of entries)) taken.was
+      ∙ ap (ranks_at slots) (map-append key_of taken.before ((taken.tick, key) ∷ taken.after))
+      ∙ map-append (rank_at slots) (keys_of taken.before) (key ∷ keys_of taken.after)
+      ∙ ap (λ r. ranks_at slots (keys_of taken.before) ++ r ∷ ranks_at slots (keys_of taken.after)) told
+
+  ranks-are : ranks_at slots (keys_of new) ≡ ranks_at slots (keys_of taken.before) ++ ranks_at slots (keys_of taken.after)
+  ranks-are =
+      ap (λ entries. ranks_at slots (keys_of entries)) taken.left
+      ∙ ap (ranks_at slots) (map-append key_of taken.before taken.after)
+      ∙ map-append (rank_at slots) (keys_of taken.before) (keys_of taken.after)
+
+  queues-are : (place : ℕ) → queues_at slots (pushed queues place key) ≡ pushed (queues_at slots queues) place rank
+  queues-are place = pushed-map (rank_at slots) queues place key ∙ ap (pushed (queues_at slots queues) place) told
+
+  order-were : AreInOrder (ranks_at slots (keys_of taken.before) ++ rank ∷ ranks_at slots (keys_of taken.after)) (queues_at slots queues) until newest
+  order-were = subst (λ later. AreInOrder later (queues_at slots queues) until newest) ranks-were order
+
+  -- the key has its rank, which is of a level
+  pub due-level : HasLevel rank
+  due-level = (Each-parts HasLevel (ranks_at slots (keys_of taken.before)) (rank ∷ ranks_at slots (keys_of taken.after)) order-were.placed).1.0
+
+  pub due-fewer : length (ranks_at slots (keys_of new)) < length (ranks_at slots (keys_of old))
+  due-fewer =
+      let were = ap length ranks-were ∙ length-append (ranks_at slots (keys_of taken.before)) (rank ∷ ranks_at slots (keys_of taken.after)) in
+      let are = ap length ranks-are ∙ length-append (ranks_at slots (keys_of taken.before)) (ranks_at slots (keys_of taken.after)) in
+      omega (arith, were, are)
+
+  module _ (inside : rank.level - 1 < length queues) where
+    pub due-keyed : AreKeyed slots new (pushed queues (rank.level - 1) key)
+    due-keyed =
+        subst (λ entries. AreKeyed slots entries (pushed queues (rank.level - 1) key)) (sym taken.left)
+        (keyed-moved slots taken.before taken.after queues taken.tick key (rank.level - 1) inside parted)
+
+    pub due-ranks : IsPermutation (ranks_at slots (keys_of old) ++ joined (queues_at slots queues)) (ranks_at slots (keys_of new) ++ joined (queues_at slots (pushed queues (rank.level - 1) key)))
+    due-ranks =
+        let before = ranks_at slots (keys_of taken.before) in
+        let after = ranks_at slots (keys_of taken.after) in
+        let long = length-map queues (ranks_at slots) in
+        subst (λ later. IsPermutation (later ++ joined (queues_at slots queues)) (ranks_at slots (keys_of new) ++ joined (queues_at slots (pushed queues (rank.level - 1) key)))) (sym ranks-were)
+        (subst (λ later. IsPermutation ((before ++ rank ∷ after) ++ joined (queues_at slots queues)) (later ++ joined (queues_at slots (pushed queues (rank.level - 1) key)))) (sym ranks-are)
+        (subst (λ ready. IsPermutation ((before ++ rank ∷ after) ++ joined (queues_at slots queues)) ((before ++ after) ++ joined ready)) (sym (queues-are (rank.level - 1)))
+        (moved-between before after (queues_at slots queues) (rank.level - 1) rank (omega (arith, long, inside)))))
+
+  pub due-order : AreInOrder (ranks_at slots (keys_of new)) (queues_at slots (pushed queues (rank.level - 1) key)) until newest
+  due-order =
+      let before = ranks_at slots (keys_of taken.before) in
+      let after = ranks_at slots (keys_of taken.after) in
+      let under = Each-parts (IsUnderTick slots) taken.before ((taken.tick, key) ∷ taken.after) parted.under in
+      let own : taken.tick ≡ rank.eligible = under.1.0 ∙ ap (λ (r : Rank). r.eligible) told in
+      let due = taken.due in
+      subst (λ later. AreInOrder later (queues_at slots (pushed queues (rank.level - 1) key)) until newest) (sym ranks-are)
+      (subst (λ ready. AreInOrder (before ++ after) ready until newest) (sym (queues-are (rank.level - 1)))
+      (order-moved before after (queues_at slots queues) until newest rank order-were
+      (subst (λ tick. Each (λ s. tick < s.eligible) before) own (under-tick slots (λ t. taken.tick < t) taken.before under.0 (each-of (λ entry. taken.tick < entry.0) taken.before taken.earliest)))
+      (subst (λ tick. Each (λ s. tick ≤ s.eligible) after) own (under-tick slots (λ t. taken.tick ≤ t) taken.after under.1.1 (each-of (λ entry. taken.tick ≤ entry.0) taken.after taken.least)))
+      (omega (arith, own, due))))
+
+-- the key that is taken out is held
+pub due-held : (slots : List (Option Rank)) (old new : List Entry) (queues : List (List ℕ)) (until key : ℕ) → TakesDue old new until key → AreKeyed slots old queues → held_at slots key ≡ 1
+due-held slots old new queues until key taken keyed =
+    let once = keyed.once key in
+    let parts = times-append key (keys_of old) (joined queues) in
+    let were = ap (λ entries. times key (keys_of entries)) taken.was ∙ ap (times key) (map-append key_of taken.before ((taken.tick, key) ∷ taken.after)) ∙ times-append key (keys_of taken.before) (key ∷ keys_of taken.after) in
+    let one : ◌≡◌ {A = ℕ} (if nat_eq key key then 1 else 0) 1 = rw (eq-eqb key key refl) refl in
+    let most = held-most (is_some (get_or slots key None)) in
+    omega (arith, once, parts, were, one, most) where
+      held-most : (b : Bool) → (if b then 1 else 0) ≤ 1
+      held-most true = omega arith
+      held-most false = omega arith
+
+-- one entry less is left
+pub due-one : {old new : List Entry} {until key : ℕ} → TakesDue old new until key → length new + 1 ≡ length old
+due-one taken =
+    let were = ap length taken.was ∙ length-append taken.before ((taken.tick, _) ∷ taken.after) in
+    let are = ap length taken.left ∙ length-append taken.before taken.after in
+    omega (arith, were, are)

@@ -1,0 +1,149 @@
+-- There is room in each part, and the row comes to the end of each.
+use Rattle.std.proofs.Common.{inl, true, None, ◌≡◌, ◌-◌, ◌≤◌, ◌++◌, ◌∷◌, [], length, map, set, refl, sym, ap, ◌∙◌, subst, arith}
+use Rattle.std.proofs.lemmas.List.{length-append, map_push}
+use Rattle.link_server.proofs.Words.{find, whole_of, channel_number, level_number, Sums, kept_units, is_kept_of, kept_terms, admitted, KeptTable, ServedRow}
+use Rattle.traffic_contract.specs.Admission.{admits, total}
+use Rattle.link_server.specs.Holds.{AreListed}
+use Rattle.link_server.specs.Index.{channels_in, IsIndex}
+use Rattle.link_server.specs.Keeping.{IsKeeping}
+use Rattle.link_server.specs.KeyedList.{Listed}
+use Rattle.link_server.specs.Planned.{first_tick}
+use Rattle.link_server.specs.Plans.{ArePlanned}
+use Rattle.link_server.specs.Rows.{reservation_in, row_in, summed, AreWithin, IsWithinLevels}
+use Rattle.link_server.proofs.Calendars.Holds.{phase-listed}
+use Rattle.link_server.proofs.Calendars.HoldRows.{listed-pushed, listed-reserved}
+use Rattle.link_server.proofs.Replies.Holding.{key-new, sums-pass, summed-pushed, within-pushed}
+use Rattle.link_server.proofs.RowFacts.Index.{row-pushed}
+use Rattle.link_server.proofs.RowFacts.Keeping.{keeping-free, keeps-pushed, own-whole, places-few, slots-units}
+use Rattle.link_server.proofs.RowFacts.Places.{kept-none}
+use Rattle.link_server.proofs.Calendars.Plans.{told-none}
+use Rattle.link_server.proofs.Calendars.PlanRows.{planned-pushed, planned-reserved}
+use Rattle.link_server.proofs.RowFacts.Sums.{absent-new}
+use Rattle.link_server.proofs.RowFacts.Parts.{as-many, bounds-seen, table-same}
+use Rattle.link_server.proofs.table.Table.add.Goals as goal
+use Rattle.link_server.proofs.table.Table.add.Goals.{After-self, After-push}
+
+-- the memory that is taken changes no row
+pub invariant_of-self : goal.invariant_of-self
+invariant_of-self c =
+    let t = c.self.inside in
+    let is = c.self.invariant in
+    let room = c.make_room.ensures in
+    let turns = is.turns in
+    let seen = map row_in c.make_room.new.rows.items in
+    record {
+      same_bounds = ap (λ (sums : Sums). sums.server.bounds) room.sums ∙ is.same_bounds;
+      parts = record {
+        same = ap (λ (sums : Sums). sums.rows) room.sums ∙ is.parts.same ∙ ap (map summed) (sym room.rows);
+        within = subst (AreWithin (length t.bounds)) (sym room.rows) is.parts.within;
+        indexed = subst (λ rows. IsIndex c.make_room.new.index.places.items (channels_in rows)) (sym room.rows) (room.leads (channels_in t.rows.items) is.parts.indexed);
+        keeps = subst (λ rows. IsKeeping (whole_of t.keeping.budget) t.bounds t.keeping (map reservation_in rows)) (sym room.rows) is.parts.keeps;
+      };
+      listed = listed-reserved t.bounds t.looked t.holds c.make_room.new.holds seen room.holds.same room.holds.wider (subst (λ rows. AreListed t.bounds t.looked t.holds (map row_in rows)) (sym room.rows) is.listed);
+      small = is.small;
+      planned = planned-reserved t.looked t.plans.calendar c.make_room.new.plans.calendar seen room.plans.same room.plans.wider (subst (λ rows. ArePlanned t.looked t.plans.calendar (map row_in rows)) (sym room.rows) is.planned);
+      turns = omega (arith, turns, room.turns, ap length room.rows);
+    }
+
+-- its units are free, and its places can be counted
+free : (c : After-self) → kept_units c.self.inside.bounds (reservation_in c.args.row) ≤ c.self.inside.keeping.budget.free
+free c =
+    let t = c.self.inside in
+    let own = reservation_in c.args.row in
+    let seen = subst (λ (table : KeptTable). kept_units table.server.bounds own ≤ table.buffer - total (kept_units table.server.bounds) (map kept_terms table.rows)) (sym c.self.view_is) c.requires.may.free in
+    let fits = subst (λ bounds. kept_units bounds own ≤ whole_of t.keeping.budget - total (kept_units bounds) (map kept_terms (map row_in t.rows.items))) c.self.invariant.same_bounds seen in
+    let left = keeping-free (whole_of t.keeping.budget) t.bounds t.keeping t.rows.items c.self.invariant.parts.keeps in
+    omega (arith, fits, left)
+
+pub hold-requires-clause-free : goal.hold-requires-clause-free
+hold-requires-clause-free c = free (goal.at.hold-requires-clause-free c).After-self
+
+pub hold-requires-clause-few : goal.hold-requires-clause-few
+hold-requires-clause-few c =
+    let t = c.self.inside in
+    let is = c.self.invariant in
+    let at = (goal.at.hold-requires-clause-few c).After-self in
+    let fits = free at in
+    let many = as-many t c.args.self.now c.self.view_is in
+    let slots = slots-units t.bounds (reservation_in c.args.row) c.args.row.is_contract in
+    let few = places-few (whole_of t.keeping.budget) t.bounds t.keeping t.rows.items is.parts.keeps is.small (omega (arith, many, c.requires.few)) in
+    let small = is.small in
+    omega (arith, fits, slots, few, small)
+
+-- its channel is new, and the rows pass with it
+pub add-requires-clause-new : goal.add-requires-clause-new
+add-requires-clause-new c =
+    let t = c.self.inside in
+    key-new t.rows.items c.make_room.new.sums c.args.row c.get.result (ap (λ (sums : Sums). sums.rows) c.make_room.ensures.sums ∙ c.self.invariant.parts.same) c.get.ensures.value
+    (subst (λ (table : KeptTable). find (is_kept_of c.args.row.chan) table.rows ≡ None) (sym c.self.view_is) c.requires.may.new)
+
+pub add-requires-clause-passes : goal.add-requires-clause-passes
+add-requires-clause-passes c =
+    let t = c.self.inside in
+    let server = ap (λ (sums : Sums). sums.server) c.make_room.ensures.sums in
+    let seen = subst (λ (table : KeptTable). admits table.server (map admitted (map kept_terms table.rows)) c.args.row.contract (level_number c.args.row.level) ≡ true) (sym c.self.view_is) c.requires.may.passes in
+    sums-pass t.rows.items c.make_room.new.sums c.args.row (ap (λ (sums : Sums). sums.rows) c.make_room.ensures.sums ∙ c.self.invariant.parts.same)
+    (ap (λ s. admits s (map admitted (map kept_terms (map row_in t.rows.items))) c.args.row.contract (level_number c.args.row.level)) server ∙ seen)
+
+-- the rows then, and what they keep
+pushed : (c : After-push) → c.push.new.self.items ≡ c.self.inside.rows.items ++ c.args.row ∷ []
+pushed c = ap (λ (list : Listed ServedRow). list.items) c.push.ensures ∙ ap (λ rows. rows ++ c.args.row ∷ []) c.make_room.ensures.rows
+
+keeps : (c : After-push) → kept_units c.self.inside.bounds (reservation_in c.args.row) ≤ c.self.inside.keeping.budget.free → IsKeeping (whole_of c.self.inside.keeping.budget) c.self.inside.bounds c.hold.new.self (map reservation_in (c.self.inside.rows.items ++ c.args.row ∷ []))
+keeps c fits =
+    let t = c.self.inside in
+    keeps-pushed (whole_of t.keeping.budget) t.bounds t.keeping c.hold.new.self t.rows.items c.args.row c.self.invariant.parts.keeps fits c.hold.ensures.budget c.hold.ensures.places
+
+pub invariant_of-self-2 : goal.invariant_of-self-2
+invariant_of-self-2 c =
+    let t = c.self.inside in
+    let is = c.self.invariant in
+    let at = goal.at.invariant_of-self-2 c in
+    let row = c.args.row in
+    let may = c.requires.may in
+    let room = c.make_room.ensures in
+    let fits = c.in_ok-make_room.ensures.fits in
+    let new = pushed at.After-push in
+    let kept = keeps at.After-push (free at.After-self) in
+    let whole = kept.whole in
+    let small = is.small in
+    let bounds = ap (λ b. length b) (bounds-seen t c.args.self.now is c.self.view_is) in
+    let near = may.level in
+    let far = may.reach in
+    let levels : IsWithinLevels (length t.bounds) row = record { level = omega (arith, bounds, near); reach = omega (arith, bounds, far) } in
+    let absent = subst (λ (table : KeptTable). find (is_kept_of row.chan) table.rows ≡ None) (sym c.self.view_is) may.new in
+    let as_long = ap length room.rows in
+    let one = ap length new ∙ length-append t.rows.items (row ∷ []) in
+    record {
+      same_bounds = ap (λ server. server.bounds) c.add.ensures.server ∙ ap (λ (sums : Sums). sums.server.bounds) room.sums ∙ is.same_bounds;
+      parts = record {
+        same =
+            c.add.ensures.rows
+            ∙ summed-pushed t.rows.items row c.get.result c.make_room.new.sums.rows c.get.ensures.value (ap (λ (sums : Sums). sums.rows) room.sums ∙ is.parts.same)
+            ∙ ap (map summed) (sym new);
+        within = subst (AreWithin (length t.bounds)) (sym new) (within-pushed _ t.rows.items row is.parts.within levels);
+        indexed =
+            subst (λ rows. IsIndex c.put.new.self.places.items (channels_in rows)) (sym new)
+            (subst (λ places. IsIndex places (channels_in (t.rows.items ++ row ∷ []))) (sym (c.put.ensures ∙ ap (set c.make_room.new.index.places.items (channel_number row.chan)) (c.len-place.ensures ∙ as_long)))
+            (row-pushed c.make_room.new.index.places.items t.rows.items row.chan row (room.leads (channels_in t.rows.items) is.parts.indexed) fits.place (absent-new row.chan t.rows.items (kept-none row.chan t.rows.items absent)) refl));
+        keeps = own-whole (whole_of t.keeping.budget) t.bounds c.hold.new.self _ (subst (λ rows. IsKeeping (whole_of t.keeping.budget) t.bounds c.hold.new.self (map reservation_in rows)) (sym new) kept);
+      };
+      listed =
+          subst (λ rows. AreListed t.bounds t.looked c.make_room.new.holds (map row_in rows)) (sym new)
+          (listed-pushed t.bounds t.looked c.make_room.new.holds t.rows.items row (listed-reserved t.bounds t.looked t.holds c.make_room.new.holds (map row_in t.rows.items) room.holds.same room.holds.wider is.listed)
+          (phase-listed t.bounds t.looked c.make_room.new.holds.entries (row_in row) (inl may.phase)) (omega (arith, as_long, fits.hold)));
+      small = omega (arith, whole, small);
+      planned =
+          subst (λ rows. ArePlanned t.looked c.make_room.new.plans.calendar (map row_in rows)) (sym new)
+          (planned-pushed t.looked c.make_room.new.plans.calendar t.rows.items row (planned-reserved t.looked t.plans.calendar c.make_room.new.plans.calendar (map row_in t.rows.items) room.plans.same room.plans.wider is.planned)
+          (told-none c.make_room.new.plans.calendar.entries (row_in row) (ap first_tick may.none_left)) (omega (arith, as_long, fits.planned)));
+      turns = omega (arith, one, as_long, fits.turn);
+    }
+
+pub returns-clause-added : goal.returns-clause-added
+returns-clause-added c =
+    let at = goal.at.returns-clause-added c in
+    let kept = keeps at.After-push (free at.After-self) in
+    rw (← c.self.view_is)
+    (table-same _ _ (ap (map row_in) (pushed at.After-push) ∙ map_push row_in c.self.inside.rows.items c.args.row)
+    (c.add.ensures.server ∙ ap (λ (sums : Sums). sums.server) c.make_room.ensures.sums) kept.whole refl)

@@ -1,0 +1,81 @@
+-- The row at the place plans its packets, and the first of them comes on the calendar.
+use Rattle.std.proofs.Common.{inr, ◌≡◌, get_or, refl, set, sym, ap, ◌∙◌, subst, arith}
+use Rattle.std.proofs.lemmas.List.{length-set}
+use Rattle.std.proofs.Math.Seq.{map-set_same}
+use Rattle.link_server.proofs.Words.{whole_of, Committed, Closing, kept_planned, Each, is_phase, KeptTable, reservation_in, row_in, ServedRow}
+use Rattle.link_server.specs.Changes.{MayPlan}
+use Rattle.link_server.specs.Keeping.{IsKeeping}
+use Rattle.link_server.specs.Planned.{IsPlannedFrom}
+use Rattle.link_server.specs.Plans.{idle_count}
+use Rattle.link_server.proofs.Calendars.Holds.{in-phase, phase-listed, phase-open}
+use Rattle.link_server.proofs.Calendars.HoldRows.{listed-set}
+use Rattle.link_server.proofs.RowFacts.Placed.{changed-mapped}
+use Rattle.link_server.proofs.Calendars.PlanRows.{idle-one, idle-room, plan-ahead, planned-put}
+use Rattle.link_server.proofs.RowFacts.Parts.{IsRowAt, fixed, fixed_in, parts-still, row-at, table-same}
+use Rattle.link_server.proofs.table.Table.plan.Goals as goal
+use Rattle.link_server.proofs.table.Table.plan.Goals.{After-index_mut-row, After-plan}
+
+-- the row at the place, which is idle
+abbrev was : After-index_mut-row → ServedRow
+was c = get_or c.self.inside.rows.items c.args.place c.index_mut-row.result.now
+
+may : (c : After-index_mut-row) → IsRowAt MayPlan c.self.inside c.args.place c.index_mut-row.result.now
+may c = row-at MayPlan c.self.inside c.args.self.now c.args.place c.index_mut-row.result.now c.self.view_is c.requires.may
+
+idle : (c : After-index_mut-row) → idle_count (row_in (was c)) ≡ 1
+idle c = (let is = (may c).is in idle-one (row_in (was c)) is.none_left (ap (λ phase. is_phase phase Closing) (in-phase Committed (row_in (was c)) is.phase)))
+
+-- as it is changed
+same : (c : After-plan) → row_in c.plan.new.self ≡ kept_planned c.args.planned.tick c.args.planned.count c.args.planned.gap c.args.planned.size (row_in (get_or c.self.inside.rows.items c.args.place c.index_mut-row.result.now))
+same c = c.plan.ensures ∙ ap (λ row. kept_planned c.args.planned.tick c.args.planned.count c.args.planned.gap c.args.planned.size (row_in row)) c.index_mut-row.ensures.value
+
+pub put_plan-requires-clause-ahead : goal.put_plan-requires-clause-ahead
+put_plan-requires-clause-ahead c =
+    let t = c.self.inside in
+    let at = goal.at.put_plan-requires-clause-ahead c in
+    let begun = c.self.invariant.planned.begun in
+    let looked = ap (λ (table : KeptTable). table.looked) c.self.view_is in
+    subst (Each (IsPlannedFrom t.plans.calendar.clock)) (sym (ap (λ row. row.left) (same at.After-plan)))
+    (plan-ahead t.plans.calendar.clock c.args.planned.tick c.args.planned.gap c.args.planned.size c.args.planned.count (row_in (was at.After-index_mut-row)).left (may at.After-index_mut-row).is.none_left (omega (arith, begun, looked, c.requires.looked)))
+
+pub put_plan-requires-clause-room : goal.put_plan-requires-clause-room
+put_plan-requires-clause-room c =
+    let at = (goal.at.put_plan-requires-clause-room c).After-index_mut-row in
+    idle-room c.self.inside.looked c.self.inside.plans.calendar c.self.inside.rows.items c.args.place c.index_mut-row.result.now c.self.invariant.planned (may at).inside (idle at)
+
+pub invariant_of-self : goal.invariant_of-self
+invariant_of-self c =
+    let t = c.self.inside in
+    let is = c.self.invariant in
+    let at = goal.at.invariant_of-self c in
+    let row = may at.After-index_mut-row in
+    let changed = same at.After-plan in
+    let items = t.rows.items in
+    let i = c.args.place in
+    let new = c.plan.new.self in
+    let d = c.index_mut-row.result.now in
+    let terms = ap (λ row. row.terms) changed in
+    let committed = in-phase Committed (row_in (get_or items i d)) row.is.phase in
+    let turns = is.turns in
+    let long = length-set items i new in
+    record {
+      same_bounds = is.same_bounds;
+      parts =
+          parts-still (whole_of t.keeping.budget) t.bounds (set items i new) items t.index.places.items t.sums t.keeping is.parts (map-set_same fixed_in items i new d (ap fixed terms))
+          (subst (IsKeeping (whole_of t.keeping.budget) t.bounds t.keeping) (sym (map-set_same reservation_in items i new d terms)) is.parts.keeps);
+      listed =
+          listed-set t.bounds t.looked t.holds items i new d is.listed row.inside
+          (phase-listed t.bounds t.looked t.holds.entries (row_in new) (inr (ap (λ row. row.terms.phase) changed ∙ committed)))
+          (phase-open (row_in (get_or items i d)) (inr committed));
+      small = is.small;
+      planned =
+          planned-put t.looked t.plans.calendar c.put_plan.new.calendar items i new d is.planned row.inside (idle at.After-index_mut-row) c.put_plan.ensures.clock c.put_plan.ensures.others
+          c.put_plan.ensures.own c.put_plan.ensures.room;
+      turns = omega (arith, turns, long);
+    }
+
+pub returns : goal.returns
+returns c =
+    let at = goal.at.returns c in
+    rw (← c.self.view_is)
+    (table-same _ _ (changed-mapped (kept_planned c.args.planned.tick c.args.planned.count c.args.planned.gap c.args.planned.size) c.self.inside.rows.items c.args.place c.plan.new.self c.index_mut-row.result.now (may at.After-index_mut-row).inside (same at.After-plan)) refl refl refl)

@@ -1,0 +1,100 @@
+-- The row at the place takes the packet, and where that was the last one the tick by which its hold ends comes on the calendar.
+use Rattle.std.proofs.Common.{suc, true, ◌≡◌, ◌^◌, ◌<◌, ◌≤◌, get_or, map, refl, set, sym, ap, ◌∙◌, subst, arith}
+use Rattle.std.proofs.lemmas.List.{length-set, get_or_default}
+use Rattle.std.proofs.Math.Seq.{map-set_same}
+use Rattle.link_server.proofs.Words.{IfSome, slice_get, whole_of, channel_number, newest, Closing, KeptRow, kept_arrived, kept_arrived_row, is_phase, arrival_at, KeptTable, reservation_in, row_in, ServedRow}
+use Rattle.link_steps.specs.Regulator.{eligible_next}
+use Rattle.link_server.specs.Changes.{MayTake}
+use Rattle.link_server.specs.Holds.{is_open, IsListed, PlansNone}
+use Rattle.link_server.specs.Keeping.{IsKeeping}
+use Rattle.link_server.specs.Packets.{arrival_in}
+use Rattle.link_server.specs.Plans.{IsTold}
+use Rattle.link_server.proofs.Replies.Arrive.{next-number}
+use Rattle.link_server.proofs.Calendars.HoldRows.{listed-put, open-room}
+use Rattle.link_server.proofs.Calendars.HoldSteps.{stray-open}
+use Rattle.link_server.proofs.Calendars.Expiry.{each-at}
+use Rattle.link_server.proofs.RowFacts.Placed.{changed-mapped, row-seen}
+use Rattle.link_server.proofs.Calendars.Plans.{told-same}
+use Rattle.link_server.proofs.Calendars.PlanRows.{planned-set, planned-later, same-idle}
+use Rattle.link_server.proofs.RestFacts.{listed-later}
+use Rattle.link_server.proofs.RowFacts.Parts.{IsRowAt, fixed, fixed_in, parts-still, row-at, table-same}
+use Rattle.link_server.proofs.table.Table.take.Goals as goal
+use Rattle.link_server.proofs.table.Table.take.Goals.{After-index_mut-row, After-take-taken}
+
+-- the row at the place, which is open
+abbrev was : After-index_mut-row → ServedRow
+was c = get_or c.self.inside.rows.items c.args.place c.index_mut-row.result.now
+
+may : (c : After-index_mut-row) → IsRowAt (MayTake c.args.clock c.args.number c.args.packet.now) c.self.inside c.args.place c.index_mut-row.result.now
+may c = row-at (MayTake c.args.clock c.args.number c.args.packet.now) c.self.inside c.args.self.now c.args.place c.index_mut-row.result.now c.self.view_is c.requires.may
+
+opened : (c : After-index_mut-row) → is_open (row_in (was c)) ≡ true
+opened c = stray-open c.args.packet.now (row_in (was c)) (may c).is.placed
+
+-- as it is changed
+same : (c : After-take-taken) → row_in c.take-taken.new.self ≡ kept_arrived_row c.args.clock c.args.number c.args.packet.now (row_in (get_or c.self.inside.rows.items c.args.place c.index_mut-row.result.now))
+same c = c.take-taken.ensures.row ∙ ap (λ row. kept_arrived_row c.args.clock c.args.number c.args.packet.now (row_in row)) c.index_mut-row.ensures.value
+
+pub put_hold-requires-clause-room : goal.put_hold-requires-clause-room
+put_hold-requires-clause-room c =
+    let at = (goal.at.put_hold-requires-clause-room c).After-index_mut-row in
+    open-room c.self.inside.bounds c.self.inside.looked c.self.inside.holds c.self.inside.rows.items c.args.place c.index_mut-row.result.now c.self.invariant.listed (may at).inside (opened at)
+
+pub put_hold-requires-clause-last : goal.put_hold-requires-clause-last
+put_hold-requires-clause-last c =
+    let at = goal.at.put_hold-requires-clause-last c in
+    subst (λ n. n < 2 ^ 63) (sym (c.take-taken.new.self.newest ∙ ap (λ row. newest row.recent) (same at.After-take-taken))) (may at.After-index_mut-row).is.soon
+
+pub invariant_of-self : goal.invariant_of-self
+invariant_of-self c =
+    let t = c.self.inside in
+    let is = c.self.invariant in
+    let at = goal.at.invariant_of-self c in
+    let row = may at.After-index_mut-row in
+    let changed = same at.After-take-taken in
+    let items = t.rows.items in
+    let i = c.args.place in
+    let new = c.take-taken.new.self in
+    let d = c.index_mut-row.result.now in
+    let terms = ap (λ row. row.terms) changed in
+    let seen = ap (λ (table : KeptTable). table.looked) c.self.view_is in
+    let later : t.looked ≤ c.args.clock = omega (arith, seen, c.requires.looked) in
+    let turns = is.turns in
+    let long = length-set items i new in
+    record {
+      same_bounds = is.same_bounds;
+      parts =
+          parts-still (whole_of t.keeping.budget) t.bounds (set items i new) items t.index.places.items t.sums t.keeping is.parts (map-set_same fixed_in items i new d (ap fixed terms))
+          (subst (IsKeeping (whole_of t.keeping.budget) t.bounds t.keeping) (sym (map-set_same reservation_in items i new d terms)) is.parts.keeps);
+      listed =
+          listed-put t.bounds c.args.clock t.holds c.put_hold.new.holds items i new d (listed-later t.bounds t.looked c.args.clock t.holds (map row_in items) later is.listed) row.inside (opened at.After-index_mut-row)
+          c.put_hold.ensures.clock c.put_hold.ensures.others
+          (c.put_hold.ensures.own (subst PlansNone (sym changed) (each-at (IsListed t.bounds t.looked t.holds.entries) items i d row.inside is.listed.listed).plans_none)) c.put_hold.ensures.room;
+      small = is.small;
+      planned =
+          planned-later t.looked c.args.clock t.plans.calendar _ later
+          (planned-set t.looked t.plans.calendar items i new d is.planned row.inside
+          (told-same t.plans.calendar.entries (row_in new) (row_in (get_or items i d)) (ap (λ row. row.left) changed) (ap (λ row. channel_number row.terms.chan) changed) (each-at (IsTold t.plans.calendar.entries) items i d row.inside is.planned.told))
+          (same-idle (row_in new) (row_in (get_or items i d)) (ap (λ row. row.left) changed) (ap (λ row. is_phase row.terms.phase Closing) changed)));
+      turns = omega (arith, turns, long);
+    }
+
+pub returns-clause-table : goal.returns-clause-table
+returns-clause-table c =
+    let at = goal.at.returns-clause-table c in
+    rw (← c.self.view_is) (table-same _ _ (changed-mapped (kept_arrived_row c.args.clock c.args.number c.args.packet.now) c.self.inside.rows.items c.args.place c.take-taken.new.self c.index_mut-row.result.now (may at.After-index_mut-row).inside (same at.After-take-taken)) refl refl refl)
+
+-- the packet is the account's
+pub returns-clause-packet : goal.returns-clause-packet
+returns-clause-packet c =
+    let row = may (goal.at.returns-clause-packet c).After-index_mut-row in
+    let was = get_or c.self.inside.rows.items c.args.place c.index_mut-row.result.now in
+    let packet = c.args.packet.now in
+    let tick = λ (row : ServedRow). eligible_next (reservation_in row) (row_in row).recent c.args.clock packet.due in
+    let arrived =
+    c.take-taken.ensures.packet
+    ∙ ap (λ (row : ServedRow). arrival_at (reservation_in row) row.lead c.args.number (suc row.taken) packet.size c.args.clock (tick row)) c.index_mut-row.ensures.value
+    ∙ ap (λ n. arrival_at (reservation_in was) was.lead c.args.number n packet.size c.args.clock (tick was)) (sym (next-number packet (reservation_in was) was.taken row.is.placed)) in
+    subst (λ (table : KeptTable). IfSome (slice_get table.rows c.args.place) (λ row. arrival_in c.take-taken.result ≡ kept_arrived c.args.clock c.args.number packet row)) c.self.view_is
+    (subst (λ o. IfSome o (λ (row : KeptRow). arrival_in c.take-taken.result ≡ kept_arrived c.args.clock c.args.number packet row))
+    (sym (row-seen c.self.inside.rows.items c.args.place was (get_or_default c.self.inside.rows.items c.args.place c.index_mut-row.result.now was row.inside) row.inside)) arrived)

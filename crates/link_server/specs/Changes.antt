@@ -1,0 +1,60 @@
+-- A row of a table is changed at its place. What a change asks of the row there.
+use Rattle.std.specs.Prelude.{◌≡◌, ℕ, zero, suc, ◌+◌, ◌-◌, ◌<◌, ◌≤◌, ◌^◌, true, None, IfSome, List, [], ◌∷◌, find, length, map, slice_get}
+use Rattle.net_units.specs.Numbers.{level_number}
+use Rattle.net_units.specs.declared.numbers.Level.{Level}
+use Rattle.traffic_contract.specs.Admission.{total, admits}
+use Rattle.traffic_contract.specs.Eligible.{newest}
+use Rattle.link_steps.specs.declared.replies.Phase.TheVariants.{Tentative, Committed}
+use Rattle.link_steps.specs.Buffer.{slots_of, kept_units}
+use Rattle.link_steps.specs.Kept.{KeptRow, is_kept_of, kept_terms, kept_arrived_row}
+use Rattle.link_steps.specs.declared.asks.Packet.{Packet}
+use Rattle.link_steps.specs.Refusals.{not_in_phase}
+use Rattle.link_steps.specs.Reservation.{admitted, committed}
+use Rattle.link_server.specs.KeptTable.{KeptTable}
+use Rattle.link_server.specs.Strays.{stray}
+
+-- the rows with the one at a place changed
+unfoldable pub changed_at : {X : Type 0} → (X → X) → List X → ℕ → List X
+changed_at change [] i = []
+changed_at change (x ∷ xs) zero = change x ∷ xs
+changed_at change (x ∷ xs) (suc i) = x ∷ changed_at change xs i
+
+-- P holds of the row at the place, and there is one
+pub record HasAt (P : KeptRow → Type 0) (rows : List KeptRow) (i : ℕ) : Type 0 where
+  pub inside : i < length rows
+  pub holds : IfSome (slice_get rows i) P
+
+-- the row is tentative, and may be committed at the level with that bound before: it has no more slots then
+pub record MayCommit (bounds : List ℕ) (level : Level) (up_bound : ℕ) (row : KeptRow) : Type 0 where
+  pub tentative : None ≡ not_in_phase Tentative row.terms
+  pub upto : level_number row.terms.level ≤ level_number level
+  pub fewer : slots_of bounds (committed level up_bound row.terms) ≤ slots_of bounds row.terms
+
+-- the row is committed, and no packet of it is planned and left
+pub record MayPlan (row : KeptRow) : Type 0 where
+  pub phase : None ≡ not_in_phase Committed row.terms
+  pub none_left : length row.left ≡ 0
+
+-- the row is committed, and its newest eligible tick is soon
+pub record MayClose (row : KeptRow) : Type 0 where
+  pub phase : None ≡ not_in_phase Committed row.terms
+  pub soon : newest row.recent < 2 ^ 63
+
+-- the row takes the packet, which isn't stray and has this arrival number, in the tick of the clock, and its newest eligible ticks
+-- are soon, before and after
+pub record MayTake (clock number : ℕ) (packet : Packet) (row : KeptRow) : Type 0 where
+  pub placed : None ≡ stray packet row.terms row.taken
+  pub last : newest row.recent < 2 ^ 63
+  pub soon : newest (kept_arrived_row clock number packet row).recent < 2 ^ 63
+  pub few : row.taken + 1 < 2 ^ 64
+
+-- the row may be added to the table: it is tentative and plans nothing, its channel has no row, its levels are the link's, the
+-- rows pass with it, and its units are free
+pub record MayAdd (table : KeptTable) (row : KeptRow) : Type 0 where
+  pub phase : row.terms.phase ≡ Tentative
+  pub none_left : row.left ≡ []
+  pub new : find (is_kept_of row.terms.chan) table.rows ≡ None
+  pub level : level_number row.terms.level ≤ length table.server.bounds
+  pub reach : level_number row.terms.reach ≤ length table.server.bounds
+  pub passes : admits table.server (map admitted (map kept_terms table.rows)) row.terms.contract (level_number row.terms.level) ≡ true
+  pub free : kept_units table.server.bounds row.terms ≤ table.buffer - total (kept_units table.server.bounds) (map kept_terms table.rows)
