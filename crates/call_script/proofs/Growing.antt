@@ -1,5 +1,5 @@
 -- Parts that grow a line at a time keep the rules: each law of `specs/Growing.antt`.
-use Rattle.std.proofs.Common.{◌≡◌, ℕ, suc, ◌+◌, ◌<◌, ◌≤◌, Bool, true, false, not, Option, None, List, [], ◌∷◌, ◌++◌, length, map, refl, sym, ap, ◌∙◌, subst, inl, inr, append_assoc, arith}
+use Rattle.std.proofs.Common.{◌≡◌, ℕ, suc, ◌+◌, ◌<◌, ◌≤◌, Bool, true, false, not, Option, Some, None, List, [], ◌∷◌, ◌++◌, length, map, refl, sym, ap, ◌∙◌, subst, inl, inr, append_assoc, option_map, arith}
 use Rattle.std.proofs.lemmas.Bool.{and_from, and_parts, le-leb, leb-true}
 use Rattle.std.proofs.lemmas.List.{length-append, map-append}
 use Rattle.std.proofs.lemmas.Option.{slice_get_within}
@@ -13,9 +13,10 @@ use Rattle.link_steps.specs.Lists.{Each}
 use Rattle.call_script.specs.Broken.{unless_broken, use_rule_broken, range_rule_broken, name_rule_broken, rule_broken}
 use Rattle.call_script.specs.Groups.{groups_have_version, groups_have_names, groups_are_there, quotas_are_in_range, groups_are_few, quotas_are_fit}
 use Rattle.call_script.specs.Growing.{nothing_of, new_caller, add_op, last_ops, with_link, with_caller, with_open, with_op, with_rounds, with_tail, MayAddLink, MayAddCaller, MayOpen, IsOpenedThere, IsWithinLoad, MaySend, MayPour, MayMove, KeepSoFar, AreEnough}
+use Rattle.call_script.specs.Operations.{attributes_of}
 use Rattle.call_script.specs.Parts.{PlanParts, parts_with, Opening, opened_by, openings_of, opening_of, FollowsLink, LeavesUnused, ArePlanned}
 use Rattle.call_script.specs.Plans.{HasTerms, IsPlan}
-use Rattle.call_script.specs.Rules.{each_after, link_has_version, request_has_version, op_has_version, have_version, have_links, is_new, are_distinct, link_names, caller_names, request_names, have_names, route_is_there, pour_is_there, is_in, is_after, is_apart, all_after, are_there, request_in_range, op_in_range, rounds_in_range, are_in_range, are_few, is_joined, are_joined, are_unclosed, load_in, ops_load, ops_over, are_within_load, pour_is_taken, pours_are_taken, move_is_fit, moves_are_fit}
+use Rattle.call_script.specs.Rules.{each_after, link_has_version, request_has_version, op_has_version, have_version, have_links, is_new, are_distinct, link_names, caller_names, request_names, have_names, route_is_there, pour_is_there, is_in, is_after, is_apart, all_after, are_there, request_in_range, op_in_range, rounds_in_range, are_in_range, are_few, is_joined, are_joined, are_unclosed, misses, load_of, load_in, loads_in, ops_load, ops_over, are_within_load, pour_is_taken, pours_are_taken, fits_between, move_is_fit, moves_are_fit}
 use Rattle.call_script.specs.declared.entries.CallerEntry.{CallerEntry}
 use Rattle.call_script.specs.declared.entries.LinkEntry.{LinkEntry}
 use Rattle.call_script.specs.declared.entries.RequestEntry.{RequestEntry}
@@ -27,7 +28,8 @@ use Rattle.link_steps.proofs.ListParts.{Each-by_place}
 use Rattle.call_script.proofs.GrowthFacts.{all-more, after-more, get-before, get-more, added-all, added-after, added-names, added-length, added-openings, added-opens-none, new-opens-none}
 use Rattle.call_script.proofs.GroupFacts.{no-groups, none-unused, groups-with-link, groups-with-caller, groups-with-op, groups-from}
 use Rattle.call_script.proofs.OpeningFacts.{opened-has}
-use Rattle.call_script.proofs.LoadFacts.{HasHops, load-more, added-load, new-over}
+use Rattle.call_script.proofs.LoadFacts.{load-more, added-load, new-over}
+use Rattle.call_script.proofs.OperationFacts.{IsThere, HasHops, leaves-there}
 use Rattle.call_script.proofs.OwnerFacts.{any-later, twice-not}
 use Rattle.call_script.proofs.RuleFacts.{HasUsed, used-in, used-from, unclosed-in, unclosed-from, moves-in, moves-from}
 
@@ -316,7 +318,7 @@ close-keeps parts chan keep may = op-keeps parts (Close chan) keep (record {
   fit = refl;
   unused = refl;
   unjoined = refl;
-  load = omega (arith, keep.load);
+  load = (let none : load_of parts.requests (loads_in parts.callers) (Close chan) ≡ 0 = refl in omega (arith, keep.load, none));
   taken = refl;
   opens_none = λ n. refl;
 })
@@ -361,21 +363,18 @@ move-keeps parts old new keep may = op-keeps parts (Move old new) keep (record {
 abbrev pub HaveRequests : List RequestEntry → List Op → Type 0
 HaveRequests requests ops = (c : ℕ) → list_any (is_in role.Opens c) ops ≡ true → c < length requests
 
--- so has each that they send on or move
+-- so has each that they use or join
 ops-have : (requests : List RequestEntry) (above ops : List Op) → each_after (is_after role.Uses role.Opens) above ops ≡ true → each_after (is_after role.Joins role.Opens) above ops ≡ true → HaveRequests requests (above ++ ops) → Each (HasHops requests) ops
 unfolding each_after
 ops-have requests above [] opened onto have = tt
 ops-have requests above (op ∷ ops) opened onto have =
     let uses = and_parts (is_after role.Uses role.Opens above op) (each_after (is_after role.Uses role.Opens) (above ++ op ∷ []) ops) opened in
     let joins = and_parts (is_after role.Joins role.Opens above op) (each_after (is_after role.Joins role.Opens) (above ++ op ∷ []) ops) onto in
-    (one op uses.0 joins.0 (λ c any. have c (any-later (is_in role.Opens c) above (op ∷ ops) any)), ops-have requests (above ++ op ∷ []) ops uses.1 joins.1 (λ c any. have c (subst (λ os. list_any (is_in role.Opens c) os ≡ true) (append_assoc above (op ∷ []) ops) any)))
+    ((there (attributes_of op).uses uses.0, there (attributes_of op).joins joins.0), ops-have requests (above ++ op ∷ []) ops uses.1 joins.1 (λ c any. have c (subst (λ os. list_any (is_in role.Opens c) os ≡ true) (append_assoc above (op ∷ []) ops) any)))
   where
-    one : (o : Op) → is_after role.Uses role.Opens above o ≡ true → is_after role.Joins role.Opens above o ≡ true → HaveRequests requests above → HasHops requests o
-    one (Open chan) used joined all = tt
-    one (Send chan count gap size) used joined all = all (channel_number chan) (twice-not (list_any (is_in role.Opens (channel_number chan)) above) used)
-    one (Close chan) used joined all = tt
-    one (Pour link count gap size) used joined all = tt
-    one (Move old new) used joined all = (all (channel_number old) (twice-not (list_any (is_in role.Opens (channel_number old)) above) used), all (channel_number new) (twice-not (list_any (is_in role.Opens (channel_number new)) above) joined))
+    there : (found : Option ChanNo) → not (misses (λ chan. list_any (is_in role.Opens chan) above) (option_map channel_number found)) ≡ true → IsThere requests found
+    there None after = tt
+    there (Some chan) after = have (channel_number chan) (any-later (is_in role.Opens (channel_number chan)) above (op ∷ ops) (twice-not (list_any (is_in role.Opens (channel_number chan)) above) after))
 
 callers-have : (requests : List RequestEntry) (callers : List CallerEntry) → all_after role.Uses role.Opens callers ≡ true → all_after role.Joins role.Opens callers ≡ true → Each (λ (c : CallerEntry). HaveRequests requests c.ops) callers → Each (λ (c : CallerEntry). Each (HasHops requests) c.ops) callers
 callers-have requests [] opened onto have = tt
@@ -402,12 +401,13 @@ callers-load parts entry used planned = load-more parts.requests entry [] (ops_o
 -- nor which moves fit
 moves-more : (parts : PlanParts) (entry : RequestEntry) → HasUsed parts → ArePlanned parts → list_all (λ (c : CallerEntry). list_all (move_is_fit parts.links parts.requests) c.ops) parts.callers ≡ true → list_all (λ (c : CallerEntry). list_all (move_is_fit parts.links (parts.requests ++ entry ∷ [])) c.ops) parts.callers ≡ true
 moves-more parts entry used planned fit = by parts.callers (callers-have parts.requests parts.callers used.opened used.onto_opened (all-have parts planned)) fit where
+  between : (leaves joins : Option ChanNo) → IsThere parts.requests leaves → IsThere parts.requests joins → fits_between parts.links parts.requests leaves joins ≡ true → fits_between parts.links (parts.requests ++ entry ∷ []) leaves joins ≡ true
+  between None joins old_there new_there fits = refl
+  between (Some old) None old_there new_there fits = refl
+  between (Some old) (Some new) old_there new_there fits = rw (get-before parts.requests (entry ∷ []) (channel_number old) old_there, get-before parts.requests (entry ∷ []) (channel_number new) new_there) fits
+
   one : (o : Op) → HasHops parts.requests o → move_is_fit parts.links parts.requests o ≡ true → move_is_fit parts.links (parts.requests ++ entry ∷ []) o ≡ true
-  one (Open chan) there fits = refl
-  one (Send chan count gap size) there fits = refl
-  one (Close chan) there fits = refl
-  one (Pour link count gap size) there fits = refl
-  one (Move old new) there fits = rw (get-before parts.requests (entry ∷ []) (channel_number old) there.0, get-before parts.requests (entry ∷ []) (channel_number new) there.1) fits
+  one o there = between (attributes_of o).leaves (attributes_of o).joins (leaves-there parts.requests o there) there.1
 
   ops : (os : List Op) → Each (HasHops parts.requests) os → list_all (move_is_fit parts.links parts.requests) os ≡ true → list_all (move_is_fit parts.links (parts.requests ++ entry ∷ [])) os ≡ true
   ops [] have all = refl
@@ -438,6 +438,7 @@ open-keeps parts entry keep may =
     let version = version-in parts keep.version in
     let same = callers-load parts entry used keep.planned in
     let load = added-load requests op parts.callers in
+    let none : load_of requests (loads_in parts.callers) op ≡ 0 = refl in
     let unclosed = unclosed-in parts keep.unclosed in
     let moves = moves-in parts keep.moves in
     let longer = length-more parts.requests entry in
@@ -458,7 +459,7 @@ open-keeps parts entry keep may =
       few = few-from (with_open entry parts) (record { links = few.links; callers = omega (arith, few.callers, added-length op parts.callers); requests = omega (arith, may.few, longer) });
       joined = all-more (λ (e : RequestEntry). is_joined parts.links e.request.route) parts.requests entry keep.joined may.joined;
       unclosed = unclosed-from (with_open entry parts) (record { closed = added-after (is_apart role.Uses role.Closes) op parts.callers unclosed.closed refl; left = added-after (is_apart role.Keeps role.Leaves) op parts.callers unclosed.left refl });
-      load = omega (arith, load, same, keep.load);
+      load = omega (arith, load, none, same, keep.load);
       pours = added-all (pour_is_taken parts.links) op parts.callers keep.pours refl;
       moves = moves-from (with_open entry parts) (record { fit = added-all (move_is_fit parts.links requests) op parts.callers (moves-more parts entry used keep.planned moves.fit) refl; unused = added-after (is_apart role.Joins role.Uses) op parts.callers moves.unused refl; unjoined = added-after (is_apart role.Joins role.Joins) op parts.callers moves.unjoined refl });
       groups = groups-with-op parts.version parts.groups parts.links parts.callers op keep.groups;

@@ -8,6 +8,7 @@ pub mod RuleFacts
 pub mod SplitFits
 pub mod FitFacts
 pub mod OpeningFacts
+pub mod OperationFacts
 pub mod LoadFacts
 pub mod OwnerFacts
 pub mod OneLinkFacts

@@ -14,12 +14,15 @@ use Rattle.link_steps.specs.Lists.{Each}
 use Rattle.net_units.specs.Numbers.{channel_number}
 use Rattle.std.specs.List.{slice_get}
 use Rattle.call_script.specs.Growing.{add_op, new_caller, with_its_op}
-use Rattle.call_script.specs.Rules.{hops_of, load_of, loads_with, loads_after, ops_load, ops_over, load_in, loads_in}
+use Rattle.call_script.specs.Operations.{attributes_of}
+use Rattle.call_script.specs.Rules.{hops_of, amount_in, load_over, load_of, loads_with, loads_after, ops_load, ops_over, load_in, loads_in}
+use Rattle.call_script.specs.declared.attributes.Way.{Way}
+use Rattle.call_script.specs.declared.attributes.Way.TheVariants.{Nowhere, OverRoute, OverLink}
 use Rattle.call_script.specs.declared.entries.CallerEntry.{CallerEntry}
 use Rattle.call_script.specs.declared.entries.RequestEntry.{RequestEntry}
 use Rattle.call_script.specs.declared.operations.Op.{Op}
-use Rattle.call_script.specs.declared.operations.Op.TheVariants.{Open, Send, Close, Pour, Move}
 use Rattle.call_script.proofs.GrowthFacts.{get-before}
+use Rattle.call_script.proofs.OperationFacts.{HasHops, WayIsThere, way-there}
 
 -- ---- one list of operations after the other
 
@@ -130,23 +133,14 @@ added-loads op caller callers = ap (loads_after []) (added-over op caller caller
 
 -- ---- one request more
 
--- the requests whose hops an operation's packets may cross are there
-abbrev pub HasHops : List RequestEntry → Op → Type 0
-HasHops requests (Open chan) = Unit {0}
-HasHops requests (Send chan count gap size) = channel_number chan < length requests
-HasHops requests (Close chan) = Unit {0}
-HasHops requests (Pour link count gap size) = Unit {0}
-HasHops requests (Move old new) = (channel_number old < length requests) × (channel_number new < length requests)
-
 pub load-more : (requests : List RequestEntry) (entry : RequestEntry) (loads : List ℕ) (ops : List Op) → Each (HasHops requests) ops → ops_load (requests ++ entry ∷ []) loads ops ≡ ops_load requests loads ops
 unfolding ops_load
 load-more requests entry loads [] have = refl
 load-more requests entry loads (op ∷ ops) have =
-    ap (λ (n : ℕ). n + ops_load (requests ++ entry ∷ []) (loads_with loads op) ops) (one op have.0) ∙ ap (λ (n : ℕ). load_of requests loads op + n) (load-more requests entry (loads_with loads op) ops have.1)
+    ap (λ (n : ℕ). n + ops_load (requests ++ entry ∷ []) (loads_with loads op) ops) (over (attributes_of op).way (amount_in loads (attributes_of op).amount) (way-there requests op have.0))
+    ∙ ap (λ (n : ℕ). load_of requests loads op + n) (load-more requests entry (loads_with loads op) ops have.1)
   where
-    one : (o : Op) → HasHops requests o → load_of (requests ++ entry ∷ []) loads o ≡ load_of requests loads o
-    one (Open chan) there = refl
-    one (Send chan count gap size) there = ap (λ found. count * hops_of found) (get-before requests (entry ∷ []) (channel_number chan) there)
-    one (Close chan) there = refl
-    one (Pour link count gap size) there = refl
-    one (Move old new) there = ap (λ found. get_or loads (channel_number old) 0 * hops_of found) (get-before requests (entry ∷ []) (channel_number new) there.1)
+    over : (way : Way) (n : ℕ) → WayIsThere requests way → load_over (requests ++ entry ∷ []) way n ≡ load_over requests way n
+    over Nowhere n there = refl
+    over (OverRoute chan) n there = ap (λ found. n * hops_of found) (get-before requests (entry ∷ []) (channel_number chan) there)
+    over (OverLink link) n there = refl

@@ -1,17 +1,19 @@
 -- What the callers of a plan open: each request once, by its caller, in the order of the requests. So a caller's openings have
 -- numbers one after the other, and a channel that is opened has a request of the caller that opens it.
-use Rattle.std.proofs.Common.{◌≡◌, ℕ, zero, suc, ◌+◌, ◌<◌, ◌⊎◌, true, Some, List, [], ◌∷◌, ◌++◌, length, map, refl, sym, ap, ◌∙◌, subst, inl, inr, nat_eq, arith}
+use Rattle.std.proofs.Common.{◌≡◌, ℕ, zero, suc, ◌+◌, ◌<◌, ◌⊎◌, true, Option, Some, None, List, [], ◌∷◌, ◌++◌, length, map, refl, sym, ap, ◌∙◌, subst, inl, inr, nat_eq, option_map, arith}
 use Rattle.std.proofs.lemmas.Bool.{cases_Bool, eqb-true}
 use Rattle.std.proofs.lemmas.Option.{same_Some}
 use Rattle.std.specs.List.{list_any, slice_get}
+use Rattle.std.specs.Prelude.{◌||◌}
 use Rattle.net_units.specs.Numbers.{actor_number, channel_number}
+use Rattle.net_units.specs.declared.numbers.ChanNo.{ChanNo}
 use Rattle.link_steps.proofs.ListFacts.{Among}
-use Rattle.call_script.specs.Parts.{PlanParts, Opening, openings_in, openings_of, opening_of, ArePlanned}
-use Rattle.call_script.specs.Rules.{is_in}
+use Rattle.call_script.specs.Operations.{attributes_of}
+use Rattle.call_script.specs.Parts.{PlanParts, Opening, opening_by, openings_in, openings_of, opening_of, ArePlanned}
+use Rattle.call_script.specs.Rules.{hits, is_in}
 use Rattle.call_script.specs.declared.entries.CallerEntry.{CallerEntry}
 use Rattle.call_script.specs.declared.entries.RequestEntry.{RequestEntry}
 use Rattle.call_script.specs.declared.operations.Op.{Op}
-use Rattle.call_script.specs.declared.operations.Op.TheVariants.{Open, Send, Close, Pour, Move}
 use Rattle.call_script.specs.declared.roles.Role.TheVariants as role
 use Rattle.link_steps.proofs.ListParts.{Among-left, Among-right}
 
@@ -57,15 +59,15 @@ caller-numbered parts n caller planned found =
 opens-among : (n c : ℕ) (ops : List Op) → list_any (is_in role.Opens c) ops ≡ true → Among (record { caller = n; chan = c }) (openings_in n ops)
 unfolding openings_in
 opens-among n c [] any = cc
-opens-among n c (Open chan ∷ ops) any =
-    elim (cases_Bool (nat_eq (channel_number chan) c)) [
-      | inl same ↦ inl (ap (λ (k : ℕ). record { caller = n; chan = k }) (sym (eqb-true (channel_number chan) c same)))
-      | inr other ↦ inr (opens-among n c ops (rw other at any))
-    ]
-opens-among n c (Send chan count gap size ∷ ops) any = opens-among n c ops any
-opens-among n c (Close chan ∷ ops) any = opens-among n c ops any
-opens-among n c (Pour link count gap size ∷ ops) any = opens-among n c ops any
-opens-among n c (Move old new ∷ ops) any = opens-among n c ops any
+opens-among n c (op ∷ ops) any = by (attributes_of op).opens any (opens-among n c ops) where
+  by : (opens : Option ChanNo) → (hits (λ own. nat_eq own c) (option_map channel_number opens) || list_any (is_in role.Opens c) ops) ≡ true → (list_any (is_in role.Opens c) ops ≡ true → Among (record { caller = n; chan = c }) (openings_in n ops))
+      → Among (record { caller = n; chan = c }) (opening_by n opens ++ openings_in n ops)
+  by None among rest = rest among
+  by (Some chan) among rest =
+      elim (cases_Bool (nat_eq (channel_number chan) c)) [
+        | inl same ↦ inl (ap (λ (k : ℕ). record { caller = n; chan = k }) (sym (eqb-true (channel_number chan) c same)))
+        | inr other ↦ inr (rest (rw other at among))
+      ]
 
 caller-among : (first : ℕ) (callers : List CallerEntry) (n at : ℕ) (caller : CallerEntry) (opening : Opening) → slice_get callers n ≡ Some caller → first + n ≡ at → Among opening (openings_in at caller.ops) → Among opening (openings_of first callers)
 unfolding openings_of
@@ -107,12 +109,11 @@ opened-has parts n c caller planned found any =
 own-caller : (n : ℕ) (ops : List Op) (opening : Opening) → Among opening (openings_in n ops) → opening.caller ≡ n
 unfolding openings_in
 own-caller n [] opening among = absurd among
-own-caller n (Open chan ∷ ops) opening (inl same) = ap (λ (o : Opening). o.caller) same
-own-caller n (Open chan ∷ ops) opening (inr among) = own-caller n ops opening among
-own-caller n (Send chan count gap size ∷ ops) opening among = own-caller n ops opening among
-own-caller n (Close chan ∷ ops) opening among = own-caller n ops opening among
-own-caller n (Pour link count gap size ∷ ops) opening among = own-caller n ops opening among
-own-caller n (Move old new ∷ ops) opening among = own-caller n ops opening among
+own-caller n (op ∷ ops) opening among = by (attributes_of op).opens among (own-caller n ops opening) where
+  by : (opens : Option ChanNo) → Among opening (opening_by n opens ++ openings_in n ops) → (Among opening (openings_in n ops) → opening.caller ≡ n) → opening.caller ≡ n
+  by None own rest = rest own
+  by (Some chan) (inl same) rest = ap (λ (o : Opening). o.caller) same
+  by (Some chan) (inr own) rest = rest own
 
 -- an opening among two lists is among the first or the second
 parted : {X : Type 0} (x : X) (xs ys : List X) → Among x (xs ++ ys) → Among x xs ⊎ Among x ys

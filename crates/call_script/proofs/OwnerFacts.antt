@@ -12,73 +12,28 @@ use Rattle.net_units.specs.declared.numbers.ChanNo.{ChanNo}
 use Rattle.hop_reservation.specs.declared.route.Hop.{Hop}
 use Rattle.link_steps.specs.Lists.{Each}
 use Rattle.setup_protocol.specs.declared.request.Request.{Request}
-use Rattle.call_script.specs.Owners.{TaskOff, IsSendOn, IsMoveFrom, IsMoveOnto, ClosesOnce, SendsOnce, UsedOnce, FullScript, OwnedFully, IsOwned, IsUnnamed, AllOwned}
-use Rattle.call_script.specs.Parts.{PlanParts, openings_in, ArePlanned}
+use Rattle.call_script.specs.Operations.{attributes_of}
+use Rattle.call_script.specs.Owners.{PacketsOff, TaskOff, IsSendOn, IsMoveFrom, IsMoveOnto, ClosesOnce, SendsOnce, UsedOnce, FullScript, OwnedFully, IsOwned, IsUnnamed, AllOwned}
+use Rattle.call_script.specs.Parts.{PlanParts, opening_by, openings_in, ArePlanned}
 use Rattle.call_script.specs.Plans.{IsPlan}
-use Rattle.call_script.specs.Rules.{each_after, named, is_in, is_after, is_apart, may_move, move_is_fit}
+use Rattle.call_script.specs.Rules.{each_after, named, hits, is_in, is_after, is_apart, may_move, fits_between, move_is_fit}
 use Rattle.call_script.specs.Tasks.{request_of, send_on, task_for, move_for, task_of, with_task, tasks_of, script_of, network_of}
 use Rattle.call_script.specs.declared.entries.CallerEntry.{CallerEntry}
 use Rattle.call_script.specs.declared.entries.LinkEntry.{LinkEntry}
 use Rattle.call_script.specs.declared.entries.RequestEntry.{RequestEntry}
 use Rattle.call_script.specs.declared.operations.Op.{Op}
-use Rattle.call_script.specs.declared.operations.Op.TheVariants.{Open, Send, Close, Pour, Move}
 use Rattle.call_script.specs.declared.roles.Role.{Role}
 use Rattle.call_script.specs.declared.roles.Role.TheVariants as role
 use Rattle.call_script.specs.declared.tasks.Task.{Task}
 use Rattle.call_script.specs.declared.tasks.Task.TheVariants.{Opens, Sends, Closes, Moves}
 use Rattle.link_steps.proofs.ListParts.{Each-at, comes-from}
 use Rattle.call_script.proofs.FitFacts.{request-fits}
+use Rattle.call_script.proofs.OperationFacts.{AreInOrder, OffIf, OpOff, task-off, AreApart, IsApartMove, IsTo, OpIs, IsOff, Opening, Sending, Closing, Leaving, Joining, op-is}
 use Rattle.call_script.proofs.OpeningFacts.{AreNumbered, caller-numbered, IsOpenedBy, opened-has, owner-inside}
 use Rattle.call_script.proofs.RuleFacts.{both, not-true, each-of, keeps-rules, used-in, unclosed-in, moves-in}
 use Rattle.std.proofs.Math.Bool.{or-true}
 
--- ---- operations of another channel
-
--- the operation names another channel, or none
-OpOff : ℕ → Op → Type 0
-OpOff c (Open chan) = channel_number chan ≢ c
-OpOff c (Send chan count gap size) = channel_number chan ≢ c
-OpOff c (Close chan) = channel_number chan ≢ c
-OpOff c (Pour link count gap size) = Unit {0}
-OpOff c (Move old new) = (channel_number old ≢ c) × (channel_number new ≢ c)
-
--- so does a task, if there is one
-OffIf : ℕ → Option Task → Type 0
-OffIf c None = Unit {0}
-OffIf c (Some task) = TaskOff c task
-
--- each request has the number of its place
-abbrev AreInOrder : List Request → Type 0
-AreInOrder requests = (n : ℕ) (request : Request) → slice_get requests n ≡ Some request → channel_number request.chan ≡ n
-
-found-off : (c n : ℕ) (requests : List Request) (own : Request → Task) → AreInOrder requests → ((request : Request) → channel_number request.chan ≢ c → TaskOff c (own request)) → n ≢ c → (found : Option Request) → slice_get requests n ≡ found → OffIf c (option_map own found)
-unfolding OffIf
-found-off c n requests own ordered off other None is = tt
-found-off c n requests own ordered off other (Some request) is = off request (λ same. other (sym (ordered n request is) ∙ same))
-
-send-off : (c : ℕ) (request : Request) (count gap size : ℕ) (hop : Option Hop) → channel_number request.chan ≢ c → OffIf c (option_map (λ (h : Hop). Sends h.link (Some request.chan) count gap size) hop)
-unfolding OffIf
-send-off c request count gap size None other = tt
-send-off c request count gap size (Some hop) other = other
-
-sends-off : (c n : ℕ) (requests : List Request) (count gap size : ℕ) → AreInOrder requests → n ≢ c → (found : Option Request) → slice_get requests n ≡ found → OffIf c (task_for (send_on count gap size) found)
-unfolding OffIf
-sends-off c n requests count gap size ordered other None is = tt
-sends-off c n requests count gap size ordered other (Some request) is = send-off c request count gap size (slice_get request.route 0) (λ same. other (sym (ordered n request is) ∙ same))
-
-moves-off : (c : ℕ) (requests : List Request) (o n : ℕ) → AreInOrder requests → o ≢ c → n ≢ c → (old new : Option Request) → slice_get requests o ≡ old → slice_get requests n ≡ new → OffIf c (move_for old new)
-unfolding OffIf
-moves-off c requests o n ordered old_other new_other None new is to = tt
-moves-off c requests o n ordered old_other new_other (Some old) None is to = tt
-moves-off c requests o n ordered old_other new_other (Some old) (Some new) is to = (λ same. old_other (sym (ordered o old is) ∙ same), λ same. new_other (sym (ordered n new to) ∙ same))
-
-task-off : (c : ℕ) (requests : List Request) (op : Op) → AreInOrder requests → OpOff c op → OffIf c (task_of requests op)
-unfolding OpOff OffIf
-task-off c requests (Open chan) ordered off = found-off c (channel_number chan) requests _ ordered (λ request other. other) off (slice_get requests (channel_number chan)) refl
-task-off c requests (Send chan count gap size) ordered off = sends-off c (channel_number chan) requests count gap size ordered off (slice_get requests (channel_number chan)) refl
-task-off c requests (Close chan) ordered off = found-off c (channel_number chan) requests _ ordered (λ request other. other) off (slice_get requests (channel_number chan)) refl
-task-off c requests (Pour link count gap size) ordered off = tt
-task-off c requests (Move old new) ordered off = moves-off c requests (channel_number old) (channel_number new) ordered off.0 off.1 (slice_get requests (channel_number old)) (slice_get requests (channel_number new)) refl refl
+-- ---- tasks of another channel
 
 each-with : (c : ℕ) (task : Option Task) (tasks : List Task) → OffIf c task → Each (TaskOff c) tasks → Each (TaskOff c) (with_task task tasks)
 unfolding OffIf
@@ -149,14 +104,6 @@ now-has role c above op is = any-here (is_in role c) above op [] (in-own role c 
 
 -- ---- what a script keeps
 
--- a move is between two channels
-abbrev pub IsApartMove : Op → Type 0
-IsApartMove (Open chan) = Unit {0}
-IsApartMove (Send chan count gap size) = Unit {0}
-IsApartMove (Close chan) = Unit {0}
-IsApartMove (Pour link count gap size) = Unit {0}
-IsApartMove (Move old new) = channel_number old ≢ channel_number new
-
 -- an operation keeps the rules, after those above
 record OpKeeps (above : List Op) (op : Op) : Type 0 where
   opened : is_after role.Uses role.Opens above op ≡ true
@@ -204,43 +151,6 @@ order-rest above op ops keeps = record {
   apart = keeps.apart.1;
 }
 
--- ---- what an operation is to one channel
-
-data OpIs (c : ℕ) (op : Op) : Type 0 where
-  IsOff : OpOff c op → OpIs c op
-  AnOpen : (chan : ChanNo) → op ≡ Open chan → channel_number chan ≡ c → OpIs c op
-  ASend : (chan : ChanNo) (count gap size : ℕ) → op ≡ Send chan count gap size → channel_number chan ≡ c → OpIs c op
-  AClose : (chan : ChanNo) → op ≡ Close chan → channel_number chan ≡ c → OpIs c op
-  From : (old new : ChanNo) → op ≡ Move old new → channel_number old ≡ c → channel_number new ≢ c → OpIs c op
-  Onto : (old new : ChanNo) → op ≡ Move old new → channel_number old ≢ c → channel_number new ≡ c → OpIs c op
-
-op-is : (c : ℕ) (op : Op) → IsApartMove op → OpIs c op
-unfolding OpOff
-op-is c (Open chan) apart = elim (cases_Bool (nat_eq (channel_number chan) c)) [
-  | inl same ↦ AnOpen chan refl (eqb-true (channel_number chan) c same)
-  | inr other ↦ IsOff (eqb-false (channel_number chan) c other)
-]
-op-is c (Send chan count gap size) apart = elim (cases_Bool (nat_eq (channel_number chan) c)) [
-  | inl same ↦ ASend chan count gap size refl (eqb-true (channel_number chan) c same)
-  | inr other ↦ IsOff (eqb-false (channel_number chan) c other)
-]
-op-is c (Close chan) apart = elim (cases_Bool (nat_eq (channel_number chan) c)) [
-  | inl same ↦ AClose chan refl (eqb-true (channel_number chan) c same)
-  | inr other ↦ IsOff (eqb-false (channel_number chan) c other)
-]
-op-is c (Pour link count gap size) apart = IsOff tt
-op-is c (Move old new) apart = elim (cases_Bool (nat_eq (channel_number old) c)) [
-  | inl same ↦ (let is = eqb-true (channel_number old) c same in From old new refl is (λ also. apart (is ∙ sym also)))
-  | inr other ↦ elim (cases_Bool (nat_eq (channel_number new) c)) [
-    | inl same ↦ Onto old new refl (eqb-false (channel_number old) c other) (eqb-true (channel_number new) c same)
-    | inr apart' ↦ IsOff (eqb-false (channel_number old) c other, eqb-false (channel_number new) c apart')
-  ]
-]
-
--- what it is then named
-role-is : (role : Role) (op own : Op) (c n : ℕ) → op ≡ own → named role own ≡ Some n → n ≡ c → named role op ≡ Some c
-role-is role op own c n is own-named same = ap (named role) is ∙ own-named ∙ ap Some same
-
 -- true isn't false
 clash : (b : Bool) → b ≡ true → b ≡ false → ⊥
 clash b holds fails = (let same : true ≡ false = sym holds ∙ fails in cc)
@@ -265,11 +175,11 @@ ops-off c requests above (op ∷ ops) ordered keeps others =
 
       off : OpIs c op → OpOff c op
       off (IsOff other) = other
-      off (AnOpen chan is same) = absurd (others c (any-here (is_in role.Opens c) above op ops (in-own role.Opens c op (role-is role.Opens op (Open chan) c (channel_number chan) is refl same))) refl)
-      off (ASend chan count gap size is same) = absurd (used (role-is role.Uses op (Send chan count gap size) c (channel_number chan) is refl same))
-      off (AClose chan is same) = absurd (used (role-is role.Uses op (Close chan) c (channel_number chan) is refl same))
-      off (From old new is same other) = absurd (used (role-is role.Uses op (Move old new) c (channel_number old) is refl same))
-      off (Onto old new is other same) = absurd (opened-above (after-has role.Joins role.Opens above op c (role-is role.Joins op (Move old new) c (channel_number new) is refl same) first.onto_opened))
+      off (Opening opens task) = absurd (others c (any-here (is_in role.Opens c) above op ops (in-own role.Opens c op opens)) refl)
+      off (Sending count gap size uses kept task) = absurd (used uses)
+      off (Closing uses closes task) = absurd (used uses)
+      off (Leaving n other uses kept leaves task) = absurd (used uses)
+      off (Joining o other joins task) = absurd (opened-above (after-has role.Joins role.Opens above op c joins first.onto_opened))
 
 -- ---- the owner
 
@@ -282,29 +192,29 @@ abbrev number_of : Request → ℕ
 number_of request = channel_number request.chan
 
 -- a task of that request
-own-task : (requests : List Request) (request : Request) (own : Request → Task) (n : ℕ) → IsAt requests request → n ≡ channel_number request.chan → option_map own (slice_get requests n) ≡ Some (own request)
-own-task requests request own n at same = ap (λ k. option_map own (slice_get requests k)) same ∙ ap (option_map own) at.found
+own-task : (requests : List Request) (request : Request) (own : Request → Task) → IsAt requests request → option_map own (slice_get requests (number_of request)) ≡ Some (own request)
+own-task requests request own at = ap (option_map own) at.found
 
 -- a send on that request is one at the first hop of its route, if that is there
-own-send : (P : Request → List Task → Type 0) (requests : List Request) (request : Request) (count gap size n : ℕ) (tasks : List Task) → IsAt requests request → n ≡ channel_number request.chan → P request tasks → ((task : Task) → IsSendOn request task → P request (task ∷ tasks)) → P request (with_task (task_for (send_on count gap size) (slice_get requests n)) tasks)
-own-send P requests request count gap size n tasks at same rest sent =
-    subst (λ found. P request (with_task (task_for (send_on count gap size) found) tasks)) (sym (ap (slice_get requests) same ∙ at.found)) (by (slice_get request.route 0) refl) where
+own-send : (P : Request → List Task → Type 0) (requests : List Request) (request : Request) (count gap size : ℕ) (tasks : List Task) → IsAt requests request → P request tasks → ((task : Task) → IsSendOn request task → P request (task ∷ tasks)) → P request (with_task (task_for (send_on count gap size) (slice_get requests (number_of request))) tasks)
+own-send P requests request count gap size tasks at rest sent =
+    subst (λ found. P request (with_task (task_for (send_on count gap size) found) tasks)) (sym at.found) (by (slice_get request.route 0) refl) where
       by : (hop : Option Hop) → slice_get request.route 0 ≡ hop → P request (with_task (option_map (λ (h : Hop). Sends h.link (Some request.chan) count gap size) hop) tasks)
       by None is = rest
       by (Some hop) is = sent (Sends hop.link (Some request.chan) count gap size) (record { hop = hop; count = count; gap = gap; size = size; stands = is; is = refl })
 
 -- a move from that request
-own-from : (P : Request → List Task → Type 0) (requests : List Request) (request : Request) (o n : ℕ) (tasks : List Task) → IsAt requests request → o ≡ channel_number request.chan → n ≢ channel_number request.chan → P request tasks → ((task : Task) → IsMoveFrom request task → P request (task ∷ tasks)) → P request (with_task (move_for (slice_get requests o) (slice_get requests n)) tasks)
-own-from P requests request o n tasks at same other rest moved =
-    subst (λ found. P request (with_task (move_for found (slice_get requests n)) tasks)) (sym (ap (slice_get requests) same ∙ at.found)) (by (slice_get requests n) refl) where
+own-from : (P : Request → List Task → Type 0) (requests : List Request) (request : Request) (n : ℕ) (tasks : List Task) → IsAt requests request → n ≢ number_of request → P request tasks → ((task : Task) → IsMoveFrom request task → P request (task ∷ tasks)) → P request (with_task (move_for (slice_get requests (number_of request)) (slice_get requests n)) tasks)
+own-from P requests request n tasks at other rest moved =
+    subst (λ found. P request (with_task (move_for found (slice_get requests n)) tasks)) (sym at.found) (by (slice_get requests n) refl) where
       by : (new : Option Request) → slice_get requests n ≡ new → P request (with_task (move_for (Some request) new) tasks)
       by None is = rest
       by (Some new) is = moved (Moves request new 1 1) (record { new = new; gap = 1; size = 1; is = refl; other = λ also. other (sym (at.ordered n new is) ∙ also) })
 
 -- and one onto it
-own-onto : (P : Request → List Task → Type 0) (requests : List Request) (request : Request) (o n : ℕ) (tasks : List Task) → IsAt requests request → o ≢ channel_number request.chan → n ≡ channel_number request.chan → P request tasks → ((task : Task) → IsMoveOnto request task → P request (task ∷ tasks)) → P request (with_task (move_for (slice_get requests o) (slice_get requests n)) tasks)
-own-onto P requests request o n tasks at other same rest moved =
-    subst (λ found. P request (with_task (move_for (slice_get requests o) found) tasks)) (sym (ap (slice_get requests) same ∙ at.found)) (by (slice_get requests o) refl) where
+own-onto : (P : Request → List Task → Type 0) (requests : List Request) (request : Request) (o : ℕ) (tasks : List Task) → IsAt requests request → o ≢ number_of request → P request tasks → ((task : Task) → IsMoveOnto request task → P request (task ∷ tasks)) → P request (with_task (move_for (slice_get requests o) (slice_get requests (number_of request))) tasks)
+own-onto P requests request o tasks at other rest moved =
+    subst (λ found. P request (with_task (move_for (slice_get requests o) found) tasks)) (sym at.found) (by (slice_get requests o) refl) where
       by : (old : Option Request) → slice_get requests o ≡ old → P request (with_task (move_for old (Some request)) tasks)
       by None is = rest
       by (Some old) is = moved (Moves old request 1 1) (record { old = old; gap = 1; size = 1; is = refl; other = λ also. other (sym (at.ordered o old is) ∙ also) })
@@ -313,20 +223,21 @@ own-onto P requests request o n tasks at other same rest moved =
 
 -- an operation opens another channel, or none
 abbrev OpenOff : ℕ → Op → Type 0
-OpenOff c (Open chan) = channel_number chan ≢ c
-OpenOff c (Send chan count gap size) = Unit {0}
-OpenOff c (Close chan) = Unit {0}
-OpenOff c (Pour link count gap size) = Unit {0}
-OpenOff c (Move old new) = Unit {0}
+OpenOff c op = PacketsOff c (attributes_of op).opens
+
+opens-off : (c : ℕ) (op : Op) → OpenOff c op → IsTo role.Opens c op → ⊥
+opens-off c op off is = by (attributes_of op).opens off is where
+  by : (opens : Option ChanNo) → PacketsOff c opens → option_map channel_number opens ≡ Some c → ⊥
+  by None other same = (let clash' : None ≡ Some c = same in cc)
+  by (Some chan) other same = other (same_Some (channel_number chan) c same)
 
 numbered-off : (n c m : ℕ) (ops : List Op) → c < m → AreNumbered m (openings_in n ops) → Each (OpenOff c) ops
 unfolding openings_in
 numbered-off n c m [] below are = tt
-numbered-off n c m (Open chan ∷ ops) below are = (let number : channel_number chan ≡ m = are.0 in (λ same. absurd (omega (arith, number, same, below)), numbered-off n c (suc m) ops (omega (arith, below)) are.1))
-numbered-off n c m (Send chan count gap size ∷ ops) below are = (tt, numbered-off n c m ops below are)
-numbered-off n c m (Close chan ∷ ops) below are = (tt, numbered-off n c m ops below are)
-numbered-off n c m (Pour link count gap size ∷ ops) below are = (tt, numbered-off n c m ops below are)
-numbered-off n c m (Move old new ∷ ops) below are = (tt, numbered-off n c m ops below are)
+numbered-off n c m (op ∷ ops) below are = by (attributes_of op).opens are (λ from less. numbered-off n c from ops less) where
+  by : (opens : Option ChanNo) → AreNumbered m (opening_by n opens ++ openings_in n ops) → ((from : ℕ) → c < from → AreNumbered from (openings_in n ops) → Each (OpenOff c) ops) → PacketsOff c opens × Each (OpenOff c) ops
+  by None own rest = (tt, rest m below own)
+  by (Some chan) own rest = (let number : channel_number chan ≡ m = own.0 in (λ same. absurd (omega (arith, number, same, below)), rest (suc m) (omega (arith, below)) own.1))
 
 -- once the channel is closed, no operation names it
 closed-off : (c : ℕ) (requests : List Request) (above ops : List Op) → AreInOrder requests → Each (OpenOff c) ops → list_any (is_in role.Closes c) above ≡ true → list_any (is_in role.Uses c) above ≡ true → KeepsOrder above ops → Each (TaskOff c) (tasks_of requests ops)
@@ -338,27 +249,25 @@ closed-off c requests above (op ∷ ops) ordered unopened closed used keeps =
       first : OpKeeps above op
       first = order-first above op ops keeps
 
-      uses : named role.Uses op ≡ Some c → ⊥
-      uses is = clash (list_any (is_in role.Closes c) above) closed (apart-none role.Uses role.Closes above op c is first.unclosed)
+      uses-not : IsTo role.Uses c op → ⊥
+      uses-not is = clash (list_any (is_in role.Closes c) above) closed (apart-none role.Uses role.Closes above op c is first.unclosed)
 
       off : OpIs c op → OpOff c op
       off (IsOff other) = other
-      off (AnOpen chan is same) = absurd (subst (OpenOff c) is unopened.0 same)
-      off (ASend chan count gap size is same) = absurd (uses (role-is role.Uses op (Send chan count gap size) c (channel_number chan) is refl same))
-      off (AClose chan is same) = absurd (uses (role-is role.Uses op (Close chan) c (channel_number chan) is refl same))
-      off (From old new is same other) = absurd (uses (role-is role.Uses op (Move old new) c (channel_number old) is refl same))
-      off (Onto old new is other same) = absurd (clash (list_any (is_in role.Uses c) above) used (apart-none role.Joins role.Uses above op c (role-is role.Joins op (Move old new) c (channel_number new) is refl same) first.unused))
+      off (Opening opens task) = absurd (opens-off c op unopened.0 opens)
+      off (Sending count gap size uses kept task) = absurd (uses-not uses)
+      off (Closing uses closes task) = absurd (uses-not uses)
+      off (Leaving n other uses kept leaves task) = absurd (uses-not uses)
+      off (Joining o other joins task) = absurd (clash (list_any (is_in role.Uses c) above) used (apart-none role.Joins role.Uses above op c joins first.unused))
 
 -- a closing of the request, after which no operation names it
-own-close : (requests : List Request) (request : Request) (above ops : List Op) (op : Op) (chan : ChanNo) → IsAt requests request → Each (OpenOff (number_of request)) ops → op ≡ Close chan → channel_number chan ≡ number_of request → KeepsOrder (above ++ op ∷ []) ops → Each (TaskOff (number_of request)) (tasks_of requests ops)
-own-close requests request above ops op chan at unopened is same keeps =
-    closed-off (number_of request) requests (above ++ op ∷ []) ops at.ordered unopened
-    (now-has role.Closes (number_of request) above op (role-is role.Closes op (Close chan) (number_of request) (channel_number chan) is refl same))
-    (now-has role.Uses (number_of request) above op (role-is role.Uses op (Close chan) (number_of request) (channel_number chan) is refl same)) keeps
+own-close : (requests : List Request) (request : Request) (above ops : List Op) (op : Op) → IsAt requests request → Each (OpenOff (number_of request)) ops → IsTo role.Uses (number_of request) op → IsTo role.Closes (number_of request) op → KeepsOrder (above ++ op ∷ []) ops → Each (TaskOff (number_of request)) (tasks_of requests ops)
+own-close requests request above ops op at unopened uses closes keeps =
+    closed-off (number_of request) requests (above ++ op ∷ []) ops at.ordered unopened (now-has role.Closes (number_of request) above op closes) (now-has role.Uses (number_of request) above op uses) keeps
 
 -- the task of a closing
-close-task : (requests : List Request) (request : Request) (op : Op) (chan : ChanNo) → IsAt requests request → op ≡ Close chan → channel_number chan ≡ number_of request → task_of requests op ≡ Some (Closes request)
-close-task requests request op chan at is same = ap (task_of requests) is ∙ own-task requests request (λ r. Closes r) (channel_number chan) at same
+close-task : (requests : List Request) (request : Request) (op : Op) → IsAt requests request → task_of requests op ≡ option_map (λ (r : Request). Closes r) (slice_get requests (number_of request)) → task_of requests op ≡ Some (Closes request)
+close-task requests request op at task = task ∙ own-task requests request (λ r. Closes r) at
 
 -- once a move has left it, it may be closed alone
 left-closes : (requests : List Request) (request : Request) (above ops : List Op) → IsAt requests request → Each (OpenOff (number_of request)) ops → list_any (is_in role.Leaves (number_of request)) above ≡ true → list_any (is_in role.Uses (number_of request)) above ≡ true → KeepsOrder above ops → ClosesOnce request (tasks_of requests ops)
@@ -370,23 +279,21 @@ left-closes requests request above (op ∷ ops) at unopened left used keeps =
       first : OpKeeps above op
       first = order-first above op ops keeps
 
-      keeps-not : named role.Keeps op ≡ Some (number_of request) → ⊥
+      keeps-not : IsTo role.Keeps (number_of request) op → ⊥
       keeps-not is = clash (list_any (is_in role.Leaves (number_of request)) above) left (apart-none role.Keeps role.Leaves above op (number_of request) is first.unleft)
 
       by : ClosesOnce request (tasks_of requests ops) → OpIs (number_of request) op → ClosesOnce request (with_task (task_of requests op) (tasks_of requests ops))
       by rest (IsOff other) = closes-with request (task_of requests op) (tasks_of requests ops) (task-off (number_of request) requests op at.ordered other) rest
-      by rest (AnOpen chan is same) = absurd (subst (OpenOff (number_of request)) is unopened.0 same)
-      by rest (ASend chan count gap size is same) = absurd (keeps-not (role-is role.Keeps op (Send chan count gap size) (number_of request) (channel_number chan) is refl same))
-      by rest (AClose chan is same) = subst (λ t. ClosesOnce request (with_task t (tasks_of requests ops))) (sym (close-task requests request op chan at is same)) (inr (refl, own-close requests request above ops op chan at unopened.1 is same (order-rest above op ops keeps)))
-      by rest (From old new is same other) = absurd (keeps-not (role-is role.Keeps op (Move old new) (number_of request) (channel_number old) is refl same))
-      by rest (Onto old new is other same) = absurd (clash (list_any (is_in role.Uses (number_of request)) above) used (apart-none role.Joins role.Uses above op (number_of request) (role-is role.Joins op (Move old new) (number_of request) (channel_number new) is refl same) first.unused))
+      by rest (Opening opens task) = absurd (opens-off (number_of request) op unopened.0 opens)
+      by rest (Sending count gap size uses kept task) = absurd (keeps-not kept)
+      by rest (Closing uses closes task) = subst (λ t. ClosesOnce request (with_task t (tasks_of requests ops))) (sym (close-task requests request op at (task requests))) (inr (refl, own-close requests request above ops op at unopened.1 uses closes (order-rest above op ops keeps)))
+      by rest (Leaving n other uses kept leaves task) = absurd (keeps-not kept)
+      by rest (Joining o other joins task) = absurd (clash (list_any (is_in role.Uses (number_of request)) above) used (apart-none role.Joins role.Uses above op (number_of request) joins first.unused))
 
 -- a move from the request, after which it may be closed alone
-own-left : (requests : List Request) (request : Request) (above ops : List Op) (op : Op) (old new : ChanNo) → IsAt requests request → Each (OpenOff (number_of request)) ops → op ≡ Move old new → channel_number old ≡ number_of request → KeepsOrder (above ++ op ∷ []) ops → ClosesOnce request (tasks_of requests ops)
-own-left requests request above ops op old new at unopened is same keeps =
-    left-closes requests request (above ++ op ∷ []) ops at unopened
-    (now-has role.Leaves (number_of request) above op (role-is role.Leaves op (Move old new) (number_of request) (channel_number old) is refl same))
-    (now-has role.Uses (number_of request) above op (role-is role.Uses op (Move old new) (number_of request) (channel_number old) is refl same)) keeps
+own-left : (requests : List Request) (request : Request) (above ops : List Op) (op : Op) → IsAt requests request → Each (OpenOff (number_of request)) ops → IsTo role.Uses (number_of request) op → IsTo role.Leaves (number_of request) op → KeepsOrder (above ++ op ∷ []) ops → ClosesOnce request (tasks_of requests ops)
+own-left requests request above ops op at unopened uses leaves keeps =
+    left-closes requests request (above ++ op ∷ []) ops at unopened (now-has role.Leaves (number_of request) above op leaves) (now-has role.Uses (number_of request) above op uses) keeps
 
 -- what is used or joined stays so
 named-later : (c : ℕ) (above : List Op) (op : Op) → (list_any (is_in role.Uses c) above ≡ true) ⊎ (list_any (is_in role.Joins c) above ≡ true) → (list_any (is_in role.Uses c) (above ++ op ∷ []) ≡ true) ⊎ (list_any (is_in role.Joins c) (above ++ op ∷ []) ≡ true)
@@ -402,20 +309,21 @@ used-sends requests request above (op ∷ ops) at unopened used keeps =
       first : OpKeeps above op
       first = order-first above op ops keeps
 
-      joins-not : named role.Joins op ≡ Some (number_of request) → (list_any (is_in role.Uses (number_of request)) above ≡ true) ⊎ (list_any (is_in role.Joins (number_of request)) above ≡ true) → ⊥
+      joins-not : IsTo role.Joins (number_of request) op → (list_any (is_in role.Uses (number_of request)) above ≡ true) ⊎ (list_any (is_in role.Joins (number_of request)) above ≡ true) → ⊥
       joins-not is (inl any) = clash (list_any (is_in role.Uses (number_of request)) above) any (apart-none role.Joins role.Uses above op (number_of request) is first.unused)
       joins-not is (inr any) = clash (list_any (is_in role.Joins (number_of request)) above) any (apart-none role.Joins role.Joins above op (number_of request) is first.unjoined)
 
       by : SendsOnce request (tasks_of requests ops) → OpIs (number_of request) op → SendsOnce request (with_task (task_of requests op) (tasks_of requests ops))
       by rest (IsOff other) = sends-with request (task_of requests op) (tasks_of requests ops) (task-off (number_of request) requests op at.ordered other) rest
-      by rest (AnOpen chan is same) = absurd (subst (OpenOff (number_of request)) is unopened.0 same)
-      by rest (ASend chan count gap size is same) = subst (λ o. SendsOnce request (with_task (task_of requests o) (tasks_of requests ops))) (sym is) (own-send SendsOnce requests request count gap size (channel_number chan) (tasks_of requests ops) at same rest (λ task send. inr (inl (send, rest))))
-      by rest (AClose chan is same) = subst (λ t. SendsOnce request (with_task t (tasks_of requests ops))) (sym (close-task requests request op chan at is same)) (inr (inr (inl (refl, own-close requests request above ops op chan at unopened.1 is same (order-rest above op ops keeps)))))
-      by rest (From old new is same other) =
-          (let closes = own-left requests request above ops op old new at unopened.1 is same (order-rest above op ops keeps) in
-          subst (λ o. SendsOnce request (with_task (task_of requests o) (tasks_of requests ops))) (sym is)
-          (own-from SendsOnce requests request (channel_number old) (channel_number new) (tasks_of requests ops) at same other rest (λ task move. inr (inr (inr (move, closes))))))
-      by rest (Onto old new is other same) = absurd (joins-not (role-is role.Joins op (Move old new) (number_of request) (channel_number new) is refl same) used)
+      by rest (Opening opens task) = absurd (opens-off (number_of request) op unopened.0 opens)
+      by rest (Sending count gap size uses kept task) =
+          subst (λ t. SendsOnce request (with_task t (tasks_of requests ops))) (sym (task requests)) (own-send SendsOnce requests request count gap size (tasks_of requests ops) at rest (λ t send. inr (inl (send, rest))))
+      by rest (Closing uses closes task) =
+          subst (λ t. SendsOnce request (with_task t (tasks_of requests ops))) (sym (close-task requests request op at (task requests))) (inr (inr (inl (refl, own-close requests request above ops op at unopened.1 uses closes (order-rest above op ops keeps)))))
+      by rest (Leaving n other uses kept leaves task) =
+          (let closes = own-left requests request above ops op at unopened.1 uses leaves (order-rest above op ops keeps) in
+          subst (λ t. SendsOnce request (with_task t (tasks_of requests ops))) (sym (task requests)) (own-from SendsOnce requests request n (tasks_of requests ops) at other rest (λ t move. inr (inr (inr (move, closes))))))
+      by rest (Joining o other joins task) = absurd (joins-not joins used)
 
 -- once it is opened, it may be joined before it is used
 opened-used : (requests : List Request) (request : Request) (above ops : List Op) → IsAt requests request → Each (OpenOff (number_of request)) ops → KeepsOrder above ops → UsedOnce request (tasks_of requests ops)
@@ -428,19 +336,18 @@ opened-used requests request above (op ∷ ops) at unopened keeps =
 
       by : UsedOnce request (tasks_of requests ops) → OpIs (number_of request) op → UsedOnce request (with_task (task_of requests op) (tasks_of requests ops))
       by rest (IsOff other) = used-with request (task_of requests op) (tasks_of requests ops) (task-off (number_of request) requests op at.ordered other) rest
-      by rest (AnOpen chan is same) = absurd (subst (OpenOff (number_of request)) is unopened.0 same)
-      by rest (ASend chan count gap size is same) =
-          (let sends = sends-by (inl (now-has role.Uses (number_of request) above op (role-is role.Uses op (Send chan count gap size) (number_of request) (channel_number chan) is refl same))) in
-          subst (λ o. UsedOnce request (with_task (task_of requests o) (tasks_of requests ops))) (sym is) (own-send UsedOnce requests request count gap size (channel_number chan) (tasks_of requests ops) at same rest (λ task send. inr (inr (inl (send, sends))))))
-      by rest (AClose chan is same) = subst (λ t. UsedOnce request (with_task t (tasks_of requests ops))) (sym (close-task requests request op chan at is same)) (inr (inr (inr (inl (refl, own-close requests request above ops op chan at unopened.1 is same (order-rest above op ops keeps))))))
-      by rest (From old new is same other) =
-          (let closes = own-left requests request above ops op old new at unopened.1 is same (order-rest above op ops keeps) in
-          subst (λ o. UsedOnce request (with_task (task_of requests o) (tasks_of requests ops))) (sym is)
-          (own-from UsedOnce requests request (channel_number old) (channel_number new) (tasks_of requests ops) at same other rest (λ task move. inr (inr (inr (inr (move, closes)))))))
-      by rest (Onto old new is other same) =
-          (let sends = sends-by (inr (now-has role.Joins (number_of request) above op (role-is role.Joins op (Move old new) (number_of request) (channel_number new) is refl same))) in
-          subst (λ o. UsedOnce request (with_task (task_of requests o) (tasks_of requests ops))) (sym is)
-          (own-onto UsedOnce requests request (channel_number old) (channel_number new) (tasks_of requests ops) at other same rest (λ task move. inr (inl (move, sends)))))
+      by rest (Opening opens task) = absurd (opens-off (number_of request) op unopened.0 opens)
+      by rest (Sending count gap size uses kept task) =
+          (let sends = sends-by (inl (now-has role.Uses (number_of request) above op uses)) in
+          subst (λ t. UsedOnce request (with_task t (tasks_of requests ops))) (sym (task requests)) (own-send UsedOnce requests request count gap size (tasks_of requests ops) at rest (λ t send. inr (inr (inl (send, sends))))))
+      by rest (Closing uses closes task) =
+          subst (λ t. UsedOnce request (with_task t (tasks_of requests ops))) (sym (close-task requests request op at (task requests))) (inr (inr (inr (inl (refl, own-close requests request above ops op at unopened.1 uses closes (order-rest above op ops keeps))))))
+      by rest (Leaving n other uses kept leaves task) =
+          (let closes = own-left requests request above ops op at unopened.1 uses leaves (order-rest above op ops keeps) in
+          subst (λ t. UsedOnce request (with_task t (tasks_of requests ops))) (sym (task requests)) (own-from UsedOnce requests request n (tasks_of requests ops) at other rest (λ t move. inr (inr (inr (inr (move, closes)))))))
+      by rest (Joining o other joins task) =
+          (let sends = sends-by (inr (now-has role.Joins (number_of request) above op joins)) in
+          subst (λ t. UsedOnce request (with_task t (tasks_of requests ops))) (sym (task requests)) (own-onto UsedOnce requests request o (tasks_of requests ops) at other rest (λ t move. inr (inl (move, sends)))))
 
 -- it isn't opened by an operation that doesn't open it
 same-opened : (c : ℕ) (above : List Op) (op : Op) → is_in role.Opens c op ≡ false → list_any (is_in role.Opens c) above ≡ false → list_any (is_in role.Opens c) (above ++ op ∷ []) ≡ false
@@ -448,25 +355,25 @@ same-opened c above op other was = any-end (is_in role.Opens c) above op ∙ ap 
 
 -- an operation that is none of the channel's opens another one or none
 opens-other : (c : ℕ) (op : Op) → OpOff c op → is_in role.Opens c op ≡ false
-unfolding OpOff
-opens-other c (Open chan) off = ne_eqb (channel_number chan) c off
-opens-other c (Send chan count gap size) off = refl
-opens-other c (Close chan) off = refl
-opens-other c (Pour link count gap size) off = refl
-opens-other c (Move old new) off = refl
+opens-other c op off = by (attributes_of op).opens off.opens where
+  by : (opens : Option ChanNo) → PacketsOff c opens → hits (λ own. nat_eq own c) (option_map channel_number opens) ≡ false
+  by None other = refl
+  by (Some chan) other = ne_eqb (channel_number chan) c other
 
 -- the openings after an operation are numbered
 after-numbered : (n m : ℕ) (op : Op) (ops : List Op) → AreNumbered m (openings_in n (op ∷ ops)) → (from : ℕ) × AreNumbered from (openings_in n ops)
 unfolding openings_in
-after-numbered n m (Open chan) ops are = (suc m, are.1)
-after-numbered n m (Send chan count gap size) ops are = (m, are)
-after-numbered n m (Close chan) ops are = (m, are)
-after-numbered n m (Pour link count gap size) ops are = (m, are)
-after-numbered n m (Move old new) ops are = (m, are)
+after-numbered n m op ops are = by (attributes_of op).opens are where
+  by : (opens : Option ChanNo) → AreNumbered m (opening_by n opens ++ openings_in n ops) → (from : ℕ) × AreNumbered from (openings_in n ops)
+  by None own = (m, own)
+  by (Some chan) own = (suc m, own.1)
 
-open-numbered : (n m : ℕ) (chan : ChanNo) (ops : List Op) → AreNumbered m (openings_in n (Open chan ∷ ops)) → (channel_number chan ≡ m) × AreNumbered (suc m) (openings_in n ops)
+open-numbered : (n m c : ℕ) (op : Op) (ops : List Op) → IsTo role.Opens c op → AreNumbered m (openings_in n (op ∷ ops)) → (c ≡ m) × AreNumbered (suc m) (openings_in n ops)
 unfolding openings_in
-open-numbered n m chan ops are = are
+open-numbered n m c op ops is are = by (attributes_of op).opens is are where
+  by : (opens : Option ChanNo) → option_map channel_number opens ≡ Some c → AreNumbered m (opening_by n opens ++ openings_in n ops) → (c ≡ m) × AreNumbered (suc m) (openings_in n ops)
+  by None same own = absurd (let clash' : None ≡ Some c = same in cc)
+  by (Some chan) same own = (sym (same_Some (channel_number chan) c same) ∙ own.0, own.1)
 
 -- before it is opened, no operation names it
 early-full : (n m : ℕ) (requests : List Request) (request : Request) (above ops : List Op) → IsAt requests request → AreNumbered m (openings_in n ops) → list_any (is_in role.Opens (number_of request)) above ≡ false → KeepsOrder above ops → FullScript request (tasks_of requests ops)
@@ -480,24 +387,24 @@ early-full n m requests request above (op ∷ ops) at are none keeps =
       unopened : list_any (is_in role.Opens (number_of request)) above ≡ true → ⊥
       unopened any = clash (list_any (is_in role.Opens (number_of request)) above) any none
 
-      uses : named role.Uses op ≡ Some (number_of request) → ⊥
-      uses is = unopened (after-has role.Uses role.Opens above op (number_of request) is first.opened)
+      uses-not : IsTo role.Uses (number_of request) op → ⊥
+      uses-not is = unopened (after-has role.Uses role.Opens above op (number_of request) is first.opened)
 
       by : ((from : ℕ) → AreNumbered from (openings_in n ops) → list_any (is_in role.Opens (number_of request)) (above ++ op ∷ []) ≡ false → FullScript request (tasks_of requests ops)) → OpIs (number_of request) op → FullScript request (with_task (task_of requests op) (tasks_of requests ops))
       by more (IsOff other) =
           (let rest = after-numbered n m op ops are in
           full-with request (task_of requests op) (tasks_of requests ops) (task-off (number_of request) requests op at.ordered other)
           (more rest.0 rest.1 (same-opened (number_of request) above op (opens-other (number_of request) op other) none)))
-      by more (AnOpen chan is same) =
-          (let now = open-numbered n m chan ops (subst (λ o. AreNumbered m (openings_in n (o ∷ ops))) is are) in
-          let own = ap (task_of requests) is ∙ own-task requests request (λ r. Opens r) (channel_number chan) at same in
+      by more (Opening opens task) =
+          (let now = open-numbered n m (number_of request) op ops opens are in
+          let own = task requests ∙ own-task requests request (λ r. Opens r) at in
           let number = now.0 in
           subst (λ t. FullScript request (with_task t (tasks_of requests ops))) (sym own)
-          (inr (refl, opened-used requests request (above ++ op ∷ []) ops at (numbered-off n (number_of request) (suc m) ops (omega (arith, number, same)) now.1) (order-rest above op ops keeps))))
-      by more (ASend chan count gap size is same) = absurd (uses (role-is role.Uses op (Send chan count gap size) (number_of request) (channel_number chan) is refl same))
-      by more (AClose chan is same) = absurd (uses (role-is role.Uses op (Close chan) (number_of request) (channel_number chan) is refl same))
-      by more (From old new is same other) = absurd (uses (role-is role.Uses op (Move old new) (number_of request) (channel_number old) is refl same))
-      by more (Onto old new is other same) = absurd (unopened (after-has role.Joins role.Opens above op (number_of request) (role-is role.Joins op (Move old new) (number_of request) (channel_number new) is refl same) first.onto_opened))
+          (inr (refl, opened-used requests request (above ++ op ∷ []) ops at (numbered-off n (number_of request) (suc m) ops (omega (arith, number)) now.1) (order-rest above op ops keeps))))
+      by more (Sending count gap size uses kept task) = absurd (uses-not uses)
+      by more (Closing uses closes task) = absurd (uses-not uses)
+      by more (Leaving k other uses kept leaves task) = absurd (uses-not uses)
+      by more (Joining o other joins task) = absurd (unopened (after-has role.Joins role.Opens above op (number_of request) joins first.onto_opened))
 
 -- ---- plans
 
@@ -509,13 +416,12 @@ in-order parts planned n request found =
 -- a move that fits is between two channels
 fit-apart : (links : List LinkEntry) (requests : List RequestEntry) (ops : List Op) → list_all (move_is_fit links requests) ops ≡ true → Each IsApartMove ops
 fit-apart links requests [] all = tt
-fit-apart links requests (op ∷ ops) all = (let split = both (move_is_fit links requests op) (list_all (move_is_fit links requests) ops) all in (one op split.0, fit-apart links requests ops split.1)) where
-  one : (o : Op) → move_is_fit links requests o ≡ true → IsApartMove o
-  one (Open chan) fit = tt
-  one (Send chan count gap size) fit = tt
-  one (Close chan) fit = tt
-  one (Pour link count gap size) fit = tt
-  one (Move old new) fit = eqb-false (channel_number old) (channel_number new) (not-true (nat_eq (channel_number old) (channel_number new)) (both (may_move links (slice_get requests (channel_number old)) (slice_get requests (channel_number new))) _ fit).1)
+fit-apart links requests (op ∷ ops) all =
+    (let split = both (move_is_fit links requests op) (list_all (move_is_fit links requests) ops) all in (between (attributes_of op).leaves (attributes_of op).joins split.0, fit-apart links requests ops split.1)) where
+      between : (leaves joins : Option ChanNo) → fits_between links requests leaves joins ≡ true → AreApart leaves joins
+      between None joins fit = tt
+      between (Some old) None fit = tt
+      between (Some old) (Some new) fit = eqb-false (channel_number old) (channel_number new) (not-true (nat_eq (channel_number old) (channel_number new)) (both (may_move links (slice_get requests (channel_number old)) (slice_get requests (channel_number new))) _ fit).1)
 
 -- the script of a caller keeps the rules on its operations
 keeps-order : (parts : PlanParts) (n : ℕ) (caller : CallerEntry) → IsPlan parts → slice_get parts.callers n ≡ Some caller → KeepsOrder [] caller.ops

@@ -1,4 +1,5 @@
 pub mod Versions
+pub mod Operations
 pub mod Parts
 pub mod Draft
 pub mod Rules

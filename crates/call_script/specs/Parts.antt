@@ -3,17 +3,18 @@
 -- stand in the order of their numbers, and groups have numbers from 1 on; a link has a quota for each group that has a share
 -- of it. The requests stand in the order in which the callers open them, each opened once, by its
 -- caller; and a hop of a route has the bounds and the propagation of its link.
-use Rattle.std.specs.Prelude.{◌≡◌, ◌≤◌, ℕ, suc, Some, List, [], ◌∷◌, ◌++◌, length, map, slice_index}
+use Rattle.std.specs.Prelude.{◌≡◌, ◌≤◌, ℕ, suc, Option, Some, None, List, [], ◌∷◌, ◌++◌, length, map, slice_index}
 use Rattle.std.specs.List.{All, slice_get}
 use Rattle.net_units.specs.Numbers.{link_number, actor_number, channel_number}
+use Rattle.net_units.specs.declared.numbers.ChanNo.{ChanNo}
 use Rattle.hop_reservation.specs.declared.route.Hop.{Hop}
 use Rattle.link_steps.specs.Lists.{Each}
 use Rattle.link_steps.specs.declared.quota.Quota.{Quota}
+use Rattle.call_script.specs.Operations.{attributes_of}
 use Rattle.call_script.specs.declared.entries.LinkEntry.{LinkEntry}
 use Rattle.call_script.specs.declared.entries.RequestEntry.{RequestEntry}
 use Rattle.call_script.specs.declared.entries.CallerEntry.{CallerEntry}
 use Rattle.call_script.specs.declared.operations.Op.{Op}
-use Rattle.call_script.specs.declared.operations.Op.TheVariants.{Open, Send, Close, Pour, Move}
 use Rattle.call_script.specs.declared.version.Version.{Version}
 
 pub record PlanParts : Type 0 where
@@ -41,13 +42,14 @@ pub record Opening : Type 0 where
   pub caller : ℕ
   pub chan : ℕ
 
+-- the opening of a channel by the caller of this number, where one is opened
+abbrev pub opening_by : ℕ → Option ChanNo → List Opening
+opening_by n None = []
+opening_by n (Some chan) = record { caller = n; chan = channel_number chan } ∷ []
+
 -- what the caller of this number opens, in the order of its operations
 abbrev pub opened_by : ℕ → Op → List Opening
-opened_by n (Open chan) = record { caller = n; chan = channel_number chan } ∷ []
-opened_by n (Send chan count gap size) = []
-opened_by n (Close chan) = []
-opened_by n (Pour link count gap size) = []
-opened_by n (Move old new) = []
+opened_by n op = opening_by n (attributes_of op).opens
 
 unfoldable pub openings_in : ℕ → List Op → List Opening
 openings_in n [] = []

@@ -16,7 +16,7 @@
 --  19 a pour is at a link that takes best-effort packets
 --  24 a move is between two requests of one contract whose routes begin and end at the same nodes; and no send, close or move
 --     above names the one that is joined
-use Rattle.std.specs.Prelude.{ℕ, ◌+◌, ◌-◌, ◌*◌, Bool, true, false, not, nat_eq, nat_le, nat_lt, ◌&&◌, ◌||◌, if◌then◌else◌, Option, Some, None, is_none, List, [], ◌∷◌, ◌++◌, length, map, max, set, get_or}
+use Rattle.std.specs.Prelude.{ℕ, ◌+◌, ◌-◌, ◌*◌, Bool, true, false, not, nat_eq, nat_le, nat_lt, ◌&&◌, ◌||◌, if◌then◌else◌, Option, Some, None, is_none, option_map, List, [], ◌∷◌, ◌++◌, length, map, max, set, get_or}
 use Rattle.std.specs.List.{list_any, list_all, slice_get}
 use Rattle.std.specs.Cmp.Lexicographic.{pointwise}
 use Rattle.net_units.specs.Numbers.{link_number, channel_number}
@@ -27,13 +27,17 @@ use Rattle.traffic_contract.specs.Contract.{Traffic}
 use Rattle.hop_reservation.specs.declared.route.Hop.{Hop}
 use Rattle.setup_protocol.specs.declared.request.Control.{Control}
 use Rattle.setup_protocol.specs.declared.request.Control.TheVariants.{Rate, Jitter}
+use Rattle.call_script.specs.Operations.{attributes_of, channel_of}
 use Rattle.call_script.specs.Parts.{PlanParts}
-use Rattle.call_script.specs.Versions.{test_of, has_best_effort, has_found_routes, has_moves, is_test}
+use Rattle.call_script.specs.Versions.{test_of, has_best_effort, has_found_routes, has_feature, is_test}
+use Rattle.call_script.specs.declared.attributes.Amount.{Amount}
+use Rattle.call_script.specs.declared.attributes.Amount.TheVariants.{Nothing, Fresh, Carried}
+use Rattle.call_script.specs.declared.attributes.Way.{Way}
+use Rattle.call_script.specs.declared.attributes.Way.TheVariants.{Nowhere, OverRoute, OverLink}
 use Rattle.call_script.specs.declared.entries.LinkEntry.{LinkEntry}
 use Rattle.call_script.specs.declared.entries.RequestEntry.{RequestEntry}
 use Rattle.call_script.specs.declared.entries.CallerEntry.{CallerEntry}
 use Rattle.call_script.specs.declared.operations.Op.{Op}
-use Rattle.call_script.specs.declared.operations.Op.TheVariants.{Open, Send, Close, Pour, Move}
 use Rattle.call_script.specs.declared.roles.Role.{Role}
 use Rattle.call_script.specs.declared.roles.Role.TheVariants as role
 use Rattle.call_script.specs.declared.version.Version.{Version}
@@ -58,11 +62,7 @@ abbrev pub request_has_version : Version → RequestEntry → Bool
 request_has_version version entry = has_found_routes version || is_none entry.found
 
 abbrev pub op_has_version : Version → Op → Bool
-op_has_version version (Open chan) = true
-op_has_version version (Send chan count gap size) = true
-op_has_version version (Close chan) = true
-op_has_version version (Pour link count gap size) = has_best_effort version
-op_has_version version (Move old new) = has_moves version
+op_has_version version op = has_feature version (attributes_of op).needs
 
 unfoldable pub have_version : PlanParts → Bool
 have_version parts = list_all (link_has_version parts.version) parts.links && list_all (request_has_version parts.version) parts.requests && all_ops (op_has_version parts.version) parts.callers
@@ -104,66 +104,20 @@ has_link links link = nat_lt (link_number link) (length links)
 abbrev pub route_is_there : List LinkEntry → RequestEntry → Bool
 route_is_there links entry = list_all (λ hop. has_link links hop.link) entry.request.route
 
+-- so is the one link over which packets go
+abbrev pub way_is_there : List LinkEntry → Way → Bool
+way_is_there links Nowhere = true
+way_is_there links (OverRoute chan) = true
+way_is_there links (OverLink link) = has_link links link
+
 abbrev pub pour_is_there : List LinkEntry → Op → Bool
-pour_is_there links (Open chan) = true
-pour_is_there links (Send chan count gap size) = true
-pour_is_there links (Close chan) = true
-pour_is_there links (Pour link count gap size) = has_link links link
-pour_is_there links (Move old new) = true
+pour_is_there links op = way_is_there links (attributes_of op).way
 
 -- ---- what an operation is to a channel
 
--- the channel that it opens; that it uses, as a send, a close and a move from the channel do; that it closes; that it leaves, as a
--- move from it does; that it keeps in use, as a send and a move from it do; and that it joins, as a move onto it does
-abbrev pub opened_in : Op → Option ℕ
-opened_in (Open chan) = Some (channel_number chan)
-opened_in (Send chan count gap size) = None
-opened_in (Close chan) = None
-opened_in (Pour link count gap size) = None
-opened_in (Move old new) = None
-
-abbrev pub used_in : Op → Option ℕ
-used_in (Open chan) = None
-used_in (Send chan count gap size) = Some (channel_number chan)
-used_in (Close chan) = Some (channel_number chan)
-used_in (Pour link count gap size) = None
-used_in (Move old new) = Some (channel_number old)
-
-abbrev pub closed_in : Op → Option ℕ
-closed_in (Open chan) = None
-closed_in (Send chan count gap size) = None
-closed_in (Close chan) = Some (channel_number chan)
-closed_in (Pour link count gap size) = None
-closed_in (Move old new) = None
-
-abbrev pub left_in : Op → Option ℕ
-left_in (Open chan) = None
-left_in (Send chan count gap size) = None
-left_in (Close chan) = None
-left_in (Pour link count gap size) = None
-left_in (Move old new) = Some (channel_number old)
-
-abbrev pub kept_in : Op → Option ℕ
-kept_in (Open chan) = None
-kept_in (Send chan count gap size) = Some (channel_number chan)
-kept_in (Close chan) = None
-kept_in (Pour link count gap size) = None
-kept_in (Move old new) = Some (channel_number old)
-
-abbrev pub joined_in : Op → Option ℕ
-joined_in (Open chan) = None
-joined_in (Send chan count gap size) = None
-joined_in (Close chan) = None
-joined_in (Pour link count gap size) = None
-joined_in (Move old new) = Some (channel_number new)
-
+-- the number of the channel to which it is this
 abbrev pub named : Role → Op → Option ℕ
-named role.Opens op = opened_in op
-named role.Uses op = used_in op
-named role.Closes op = closed_in op
-named role.Leaves op = left_in op
-named role.Keeps op = kept_in op
-named role.Joins op = joined_in op
+named role op = option_map channel_number (channel_of role (attributes_of op))
 
 -- a channel, if there is one, is in a set, or isn't
 abbrev pub hits : (ℕ → Bool) → Option ℕ → Bool
@@ -209,12 +163,13 @@ request_in_range entry = is_within 1 most_delay entry.request.delay && control_i
 abbrev pub packets_in_range : ℕ → ℕ → ℕ → Bool
 packets_in_range count gap size = is_within 1 most_packets count && is_within 1 most_gap gap && is_within 1 most_size size
 
+abbrev pub amount_in_range : Amount → Bool
+amount_in_range Nothing = true
+amount_in_range (Fresh count gap size) = packets_in_range count gap size
+amount_in_range (Carried chan) = true
+
 abbrev pub op_in_range : Op → Bool
-op_in_range (Open chan) = true
-op_in_range (Send chan count gap size) = packets_in_range count gap size
-op_in_range (Close chan) = true
-op_in_range (Pour link count gap size) = packets_in_range count gap size
-op_in_range (Move old new) = true
+op_in_range op = amount_in_range (attributes_of op).amount
 
 abbrev pub rounds_in_range : ℕ → ℕ → Bool
 rounds_in_range rounds tail = nat_le rounds most_rounds && nat_le tail most_rounds
@@ -273,24 +228,38 @@ load_at loads chan = get_or loads (channel_number chan) 0
 abbrev pub raised : ChanNo → ℕ → List ℕ → List ℕ
 raised chan n loads = set loads (channel_number chan) (max n (load_at loads chan))
 
+-- the packets of an operation
+abbrev pub amount_in : List ℕ → Amount → ℕ
+amount_in loads Nothing = 0
+amount_in loads (Fresh count gap size) = count
+amount_in loads (Carried chan) = load_at loads chan
+
+-- a request that is opened has nothing to carry yet
+abbrev pub with_opened : Option ChanNo → List ℕ → List ℕ
+with_opened None loads = loads
+with_opened (Some chan) loads = loads ++ 0 ∷ []
+
+-- the one over whose hops packets go has to carry so many at least
+abbrev pub raised_over : Way → ℕ → List ℕ → List ℕ
+raised_over Nowhere n loads = loads
+raised_over (OverRoute chan) n loads = raised chan n loads
+raised_over (OverLink link) n loads = loads
+
 abbrev pub loads_with : List ℕ → Op → List ℕ
-loads_with loads (Open chan) = loads ++ 0 ∷ []
-loads_with loads (Send chan count gap size) = raised chan count loads
-loads_with loads (Close chan) = loads
-loads_with loads (Pour link count gap size) = loads
-loads_with loads (Move old new) = raised new (load_at loads old) loads
+loads_with loads op = raised_over (attributes_of op).way (amount_in loads (attributes_of op).amount) (with_opened (attributes_of op).opens loads)
 
 unfoldable pub loads_after : List ℕ → List Op → List ℕ
 loads_after loads [] = loads
 loads_after loads (op ∷ ops) = loads_after (loads_with loads op) ops
 
--- the packets of an operation, once for each hop
+-- so many packets, once for each hop
+abbrev pub load_over : List RequestEntry → Way → ℕ → ℕ
+load_over requests Nowhere n = 0
+load_over requests (OverRoute chan) n = n * hops_of (slice_get requests (channel_number chan))
+load_over requests (OverLink link) n = n
+
 abbrev pub load_of : List RequestEntry → List ℕ → Op → ℕ
-load_of requests loads (Open chan) = 0
-load_of requests loads (Send chan count gap size) = count * hops_of (slice_get requests (channel_number chan))
-load_of requests loads (Close chan) = 0
-load_of requests loads (Pour link count gap size) = count
-load_of requests loads (Move old new) = load_at loads old * hops_of (slice_get requests (channel_number new))
+load_of requests loads op = load_over requests (attributes_of op).way (amount_in loads (attributes_of op).amount)
 
 unfoldable pub ops_load : List RequestEntry → List ℕ → List Op → ℕ
 ops_load requests loads [] = 0
@@ -317,12 +286,13 @@ abbrev pub takes_best_effort : Option LinkEntry → Bool
 takes_best_effort None = false
 takes_best_effort (Some entry) = nat_le 1 entry.shape.best
 
+abbrev pub way_is_taken : List LinkEntry → Way → Bool
+way_is_taken links Nowhere = true
+way_is_taken links (OverRoute chan) = true
+way_is_taken links (OverLink link) = takes_best_effort (slice_get links (link_number link))
+
 abbrev pub pour_is_taken : List LinkEntry → Op → Bool
-pour_is_taken links (Open chan) = true
-pour_is_taken links (Send chan count gap size) = true
-pour_is_taken links (Close chan) = true
-pour_is_taken links (Pour link count gap size) = takes_best_effort (slice_get links (link_number link))
-pour_is_taken links (Move old new) = true
+pour_is_taken links op = way_is_taken links (attributes_of op).way
 
 unfoldable pub pours_are_taken : PlanParts → Bool
 pours_are_taken parts = all_ops (pour_is_taken parts.links) parts.callers
@@ -356,12 +326,14 @@ may_move links None new = false
 may_move links (Some old) None = false
 may_move links (Some old) (Some new) = same_contract old.request.contract new.request.contract && same_ends links old.request.route new.request.route
 
+-- they may move from the channel that is left to the one that is joined, which is another
+abbrev pub fits_between : List LinkEntry → List RequestEntry → Option ChanNo → Option ChanNo → Bool
+fits_between links requests None joins = true
+fits_between links requests (Some old) None = true
+fits_between links requests (Some old) (Some new) = may_move links (slice_get requests (channel_number old)) (slice_get requests (channel_number new)) && not (nat_eq (channel_number old) (channel_number new))
+
 abbrev pub move_is_fit : List LinkEntry → List RequestEntry → Op → Bool
-move_is_fit links requests (Open chan) = true
-move_is_fit links requests (Send chan count gap size) = true
-move_is_fit links requests (Close chan) = true
-move_is_fit links requests (Pour link count gap size) = true
-move_is_fit links requests (Move old new) = may_move links (slice_get requests (channel_number old)) (slice_get requests (channel_number new)) && not (nat_eq (channel_number old) (channel_number new))
+move_is_fit links requests op = fits_between links requests (attributes_of op).leaves (attributes_of op).joins
 
 unfoldable pub moves_are_fit : PlanParts → Bool
 moves_are_fit parts = all_ops (move_is_fit parts.links parts.requests) parts.callers && all_apart role.Joins role.Uses parts.callers && all_apart role.Joins role.Joins parts.callers

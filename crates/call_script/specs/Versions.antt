@@ -6,6 +6,8 @@
 use Rattle.std.specs.Prelude.{Bool, true, false}
 use Rattle.traffic_contract.specs.declared.admission.Test.{Test}
 use Rattle.traffic_contract.specs.declared.admission.Test.TheVariants.{Whole, Least}
+use Rattle.call_script.specs.declared.attributes.Feature.{Feature}
+use Rattle.call_script.specs.declared.attributes.Feature.TheVariants as feature
 use Rattle.call_script.specs.declared.version.Version.{Version}
 use Rattle.call_script.specs.declared.version.Version.TheVariants.{One, Two, Three, Four, Five, Six}
 
@@ -53,6 +55,12 @@ has_moves Three = false
 has_moves Four = false
 has_moves Five = false
 has_moves Six = true
+
+-- whether a version has what an operation needs
+abbrev pub has_feature : Version → Feature → Bool
+has_feature version feature.Always = true
+has_feature version feature.BestEffort = has_best_effort version
+has_feature version feature.Moves = has_moves version
 
 -- whether two tests are the same
 abbrev pub is_test : Test → Test → Bool

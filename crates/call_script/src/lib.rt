@@ -8,6 +8,7 @@
 
 pub(crate) mod accounts;
 pub mod actor;
+pub(crate) mod attributes;
 pub mod entries;
 pub mod laws;
 pub mod moves;

@@ -5,8 +5,9 @@ ghost use Rattle.link_steps.specs.Lists.{Each};
 ghost use Rattle.net_units.specs.Numbers.{link_number, channel_number};
 ghost use Rattle.net_units.specs.Limits.{most_packets};
 ghost use Rattle.call_script.specs.Loads.{IsFew, within_load};
-ghost use Rattle.call_script.specs.Rules.{all_ops, pour_is_there, op_in_range, hops_of, load_at, raised, loads_with, loads_after, load_of, ops_load, load_in, takes_best_effort, pour_is_taken};
+ghost use Rattle.call_script.specs.Rules.{all_ops, pour_is_there, amount_in_range, op_in_range, hops_of, load_at, raised, amount_in, with_opened, raised_over, loads_with, loads_after, load_over, load_of, ops_load, load_in, takes_best_effort, pour_is_taken};
 
+use crate::attributes::{Amount, Way, attributes_of};
 use crate::entries::{CallerEntry, LinkEntry, RequestEntry};
 use crate::operations::Op;
 use crate::rules::routes::has_link;
@@ -66,11 +67,35 @@ fn load_of(requests: &[RequestEntry], loads: &[u64], op: &Op) -> u64
     ensures value { result ≡ load_of requests.now loads.now op.now }
     ensures most { result ≤ 4194304 }
 {
-    match op {
-        Op::Send { chan, count, .. } => count * hops_of(requests, *chan),
-        Op::Pour { count, .. } => *count,
-        Op::Move { old, new } => load_at(loads, *old) * hops_of(requests, *new),
-        Op::Open(_) | Op::Close(_) => 0,
+    let own = attributes_of(op);
+    let packets = amount_in(loads, &own.amount);
+    load_over(requests, &own.way, packets)
+}
+
+// The packets of an operation.
+fn amount_in(loads: &[u64], amount: &Amount) -> u64
+    requires range { IsTrue (amount_in_range amount.now) }
+    requires few { Each IsFew loads.now }
+    ensures value { result ≡ amount_in loads.now amount.now }
+    ensures most { IsFew result }
+{
+    match amount {
+        Amount::Nothing => 0,
+        Amount::Fresh { count, .. } => *count,
+        Amount::Carried(chan) => load_at(loads, *chan),
+    }
+}
+
+// So many packets, once for each hop.
+fn load_over(requests: &[RequestEntry], way: &Way, packets: u64) -> u64
+    requires { IsFew packets }
+    ensures value { result ≡ load_over requests.now way.now packets }
+    ensures most { result ≤ 4194304 }
+{
+    match way {
+        Way::Nowhere => 0,
+        Way::OverRoute(chan) => packets * hops_of(requests, *chan),
+        Way::OverLink(_) => packets,
     }
 }
 
@@ -104,16 +129,37 @@ fn put_load(loads: &mut Vec<u64>, op: &Op) -> Result<(), OutOfMemory>
     ensures loads { OnOk result (loads.new.items ≡ loads_with loads.old.items op.now) }
     ensures few { OnOk result (Each IsFew loads.new.items) }
 {
-    match op {
-        Op::Open(_) => loads.push(0)?,
-        Op::Send { chan, count, .. } => raise(loads, *chan, *count),
-        Op::Move { old, new } => {
-            let load = load_at(loads, *old);
-            raise(loads, *new, load);
-        }
-        Op::Close(_) | Op::Pour { .. } => {}
+    let own = attributes_of(op);
+    let packets = amount_in(loads, &own.amount);
+    put_opened(loads, own.opens)?;
+    raise_over(loads, &own.way, packets);
+    Ok(())
+}
+
+// A request that is opened has nothing to carry yet.
+fn put_opened(loads: &mut Vec<u64>, opens: Option<ChanNo>) -> Result<(), OutOfMemory>
+    requires { Each IsFew loads.old.items }
+    ensures loads { OnOk result (loads.new.items ≡ with_opened opens loads.old.items) }
+    ensures few { OnOk result (Each IsFew loads.new.items) }
+{
+    match opens {
+        Some(_) => loads.push(0)?,
+        None => {}
     }
     Ok(())
+}
+
+// The request over whose hops packets go has to carry so many at least.
+fn raise_over(loads: &mut Vec<u64>, way: &Way, packets: u64)
+    requires load { IsFew packets }
+    requires few { Each IsFew loads.old.items }
+    ensures value { loads.new.items ≡ raised_over way.now packets loads.old.items }
+    ensures few { Each IsFew loads.new.items }
+{
+    match way {
+        Way::OverRoute(chan) => raise(loads, *chan, packets),
+        Way::Nowhere | Way::OverLink(_) => {}
+    }
 }
 
 // A request has to carry so many packets at least.
@@ -140,10 +186,16 @@ pub(crate) fn pours_are_there(links: &[LinkEntry], callers: &[CallerEntry]) -> b
 fn ops_are_there(links: &[LinkEntry], ops: &[Op]) -> bool
     ensures { result ≡ list_all (pour_is_there links.now) ops.now }
 {
-    ops.iter().all(|op| match op {
-        Op::Pour { link, .. } => has_link(links, *link),
-        Op::Open(_) | Op::Send { .. } | Op::Close(_) | Op::Move { .. } => true,
-    })
+    ops.iter().all(|op| pour_is_there(links, op))
+}
+
+fn pour_is_there(links: &[LinkEntry], op: &Op) -> bool
+    ensures { result ≡ pour_is_there links.now op.now }
+{
+    match attributes_of(op).way {
+        Way::OverLink(link) => has_link(links, link),
+        Way::Nowhere | Way::OverRoute(_) => true,
+    }
 }
 
 pub(crate) fn pours_are_taken(links: &[LinkEntry], callers: &[CallerEntry]) -> bool
@@ -157,10 +209,16 @@ pub(crate) fn pours_are_taken(links: &[LinkEntry], callers: &[CallerEntry]) -> b
 fn ops_are_taken(links: &[LinkEntry], ops: &[Op]) -> bool
     ensures { result ≡ list_all (pour_is_taken links.now) ops.now }
 {
-    ops.iter().all(|op| match op {
-        Op::Pour { link, .. } => takes_best_effort(links, *link),
-        Op::Open(_) | Op::Send { .. } | Op::Close(_) | Op::Move { .. } => true,
-    })
+    ops.iter().all(|op| pour_is_taken(links, op))
+}
+
+fn pour_is_taken(links: &[LinkEntry], op: &Op) -> bool
+    ensures { result ≡ pour_is_taken links.now op.now }
+{
+    match attributes_of(op).way {
+        Way::OverLink(link) => takes_best_effort(links, link),
+        Way::Nowhere | Way::OverRoute(_) => true,
+    }
 }
 
 fn takes_best_effort(links: &[LinkEntry], link: LinkNo) -> bool

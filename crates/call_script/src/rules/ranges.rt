@@ -3,8 +3,9 @@ ghost use Rattle.std.specs.Prelude.{◌≡◌, IsTrue};
 ghost use Rattle.std.specs.List.{list_all};
 ghost use Rattle.link_steps.specs.Lists.{Each};
 ghost use Rattle.call_script.specs.Plans.{HasTerms};
-ghost use Rattle.call_script.specs.Rules.{all_ops, request_in_range, packets_in_range, op_in_range};
+ghost use Rattle.call_script.specs.Rules.{all_ops, request_in_range, packets_in_range, amount_in_range, op_in_range};
 
+use crate::attributes::{Amount, attributes_of};
 use crate::entries::{CallerEntry, RequestEntry};
 use crate::operations::Op;
 use net_units::limits::{MOST_DELAY, MOST_GAP, MOST_PACKETS, MOST_SIZE};
@@ -53,20 +54,16 @@ fn ops_in_range(ops: &[Op]) -> bool
 fn op_in_range(op: &Op) -> bool
     ensures { result ≡ op_in_range op.now }
 {
-    match op {
-        Op::Send {
-            count,
-            gap,
-            size,
-            ..
-        } => packets_in_range(*count, *gap, *size),
-        Op::Pour {
-            count,
-            gap,
-            size,
-            ..
-        } => packets_in_range(*count, *gap, *size),
-        Op::Open(_) | Op::Close(_) | Op::Move { .. } => true,
+    let own = attributes_of(op);
+    amount_in_range(&own.amount)
+}
+
+fn amount_in_range(amount: &Amount) -> bool
+    ensures { result ≡ amount_in_range amount.now }
+{
+    match amount {
+        Amount::Fresh { count, gap, size } => packets_in_range(*count, *gap, *size),
+        Amount::Nothing | Amount::Carried(_) => true,
     }
 }
 

@@ -2,7 +2,9 @@
 ghost use Rattle.std.specs.Prelude.{◌≡◌};
 ghost use Rattle.std.specs.List.{list_all};
 ghost use Rattle.call_script.specs.Rules.{all_ops, link_has_version, request_has_version, op_has_version};
+ghost use Rattle.call_script.specs.Versions.{has_feature};
 
+use crate::attributes::{Feature, attributes_of};
 use crate::entries::{CallerEntry, LinkEntry, RequestEntry};
 use crate::operations::Op;
 use crate::version::Version;
@@ -50,9 +52,16 @@ fn ops_have_version(version: Version, ops: &[Op]) -> bool
 fn op_has_version(version: Version, op: &Op) -> bool
     ensures { result ≡ op_has_version version op.now }
 {
-    match op {
-        Op::Pour { .. } => version.has_best_effort(),
-        Op::Move { .. } => version.has_moves(),
-        Op::Open(_) | Op::Send { .. } | Op::Close(_) => true,
+    let own = attributes_of(op);
+    has_feature(version, own.needs)
+}
+
+fn has_feature(version: Version, needed: Feature) -> bool
+    ensures { result ≡ has_feature version needed }
+{
+    match needed {
+        Feature::Always => true,
+        Feature::BestEffort => version.has_best_effort(),
+        Feature::Moves => version.has_moves(),
     }
 }
