@@ -12,9 +12,9 @@ use Rattle.link_steps.proofs.ListFacts.{Each-append}
 use Rattle.link_steps.specs.Lists.{Each}
 use Rattle.call_script.specs.Broken.{unless_broken, use_rule_broken, range_rule_broken, name_rule_broken, rule_broken}
 use Rattle.call_script.specs.Groups.{groups_have_version, groups_have_names, groups_are_there, quotas_are_in_range, groups_are_few, quotas_are_fit}
-use Rattle.call_script.specs.Growing.{nothing_of, new_caller, add_op, last_ops, with_link, with_caller, with_open, with_op, with_rounds, with_tail, MayAddLink, MayAddCaller, MayOpen, IsOpenedThere, IsWithinLoad, MaySend, MayPour, MayMove, KeepSoFar, AreEnough}
+use Rattle.call_script.specs.Growing.{nothing_of, new_caller, add_op, last_ops, with_link, with_caller, with_open, with_op, with_rounds, with_tail, MayAddLink, MayAddCaller, MayOpen, IsOpenedThere, IsWithinLoad, MayFollow, MaySend, MayPour, MayMove, KeepSoFar, AreEnough}
 use Rattle.call_script.specs.Operations.{attributes_of}
-use Rattle.call_script.specs.Parts.{PlanParts, parts_with, Opening, opened_by, openings_of, opening_of, FollowsLink, LeavesUnused, ArePlanned}
+use Rattle.call_script.specs.Parts.{PlanParts, parts_with, Opening, opening_by, openings_of, opening_of, FollowsLink, LeavesUnused, ArePlanned}
 use Rattle.call_script.specs.Plans.{HasTerms, IsPlan}
 use Rattle.call_script.specs.Rules.{each_after, link_has_version, request_has_version, op_has_version, have_version, have_links, is_new, are_distinct, link_names, caller_names, request_names, have_names, route_is_there, pour_is_there, is_in, is_after, is_apart, all_after, are_there, request_in_range, op_in_range, rounds_in_range, are_in_range, are_few, is_joined, are_joined, are_unclosed, misses, load_of, load_in, loads_in, ops_load, ops_over, are_within_load, pour_is_taken, pours_are_taken, fits_between, move_is_fit, moves_are_fit}
 use Rattle.call_script.specs.declared.entries.CallerEntry.{CallerEntry}
@@ -238,23 +238,8 @@ caller-keeps parts name group keep may =
 
 -- ---- an operation
 
--- what an operation other than an open has to pass
-record MayFollow (parts : PlanParts) (op : Op) : Type 0 where
-  version : op_has_version parts.version op ≡ true
-  there : pour_is_there parts.links op ≡ true
-  opened : is_after role.Uses role.Opens (last_ops parts.callers) op ≡ true
-  onto_opened : is_after role.Joins role.Opens (last_ops parts.callers) op ≡ true
-  range : op_in_range op ≡ true
-  unclosed : is_apart role.Uses role.Closes (last_ops parts.callers) op ≡ true
-  unleft : is_apart role.Keeps role.Leaves (last_ops parts.callers) op ≡ true
-  fit : move_is_fit parts.links parts.requests op ≡ true
-  unused : is_apart role.Joins role.Uses (last_ops parts.callers) op ≡ true
-  unjoined : is_apart role.Joins role.Joins (last_ops parts.callers) op ≡ true
-  load : IsWithinLoad parts op
-  taken : pour_is_taken parts.links op ≡ true
-  opens_none : (n : ℕ) → opened_by n op ≡ []
-
-op-keeps : (parts : PlanParts) (op : Op) → KeepSoFar parts → MayFollow parts op → KeepSoFar (with_op op parts)
+-- one that opens nothing
+pub op-keeps : (parts : PlanParts) (op : Op) → KeepSoFar parts → MayFollow parts op → KeepSoFar (with_op op parts)
 unfolding have_version are_joined pours_are_taken
 op-keeps parts op keep may =
     let names = names-in parts keep.names in
@@ -277,7 +262,7 @@ op-keeps parts op keep may =
       pours = added-all (pour_is_taken parts.links) op parts.callers keep.pours may.taken;
       moves = moves-from (with_op op parts) (record { fit = added-all (move_is_fit parts.links parts.requests) op parts.callers moves.fit may.fit; unused = added-after (is_apart role.Joins role.Uses) op parts.callers moves.unused may.unused; unjoined = added-after (is_apart role.Joins role.Joins) op parts.callers moves.unjoined may.unjoined });
       groups = groups-with-op parts.version parts.groups parts.links parts.callers op keep.groups;
-      planned = record { links = keep.planned.links; requests = keep.planned.requests; openings = added-opens-none op parts.callers may.opens_none ∙ keep.planned.openings; hops = keep.planned.hops; unused = keep.planned.unused };
+      planned = record { links = keep.planned.links; requests = keep.planned.requests; openings = added-opens-none op parts.callers (λ n. ap (opening_by n) may.opens_none) ∙ keep.planned.openings; hops = keep.planned.hops; unused = keep.planned.unused };
       terms = keep.terms;
     }
 
@@ -303,7 +288,7 @@ send-keeps parts chan count gap size keep may = op-keeps parts (Send chan count 
   unjoined = refl;
   load = may.load;
   taken = refl;
-  opens_none = λ n. refl;
+  opens_none = refl;
 })
 
 pub close-keeps : (parts : PlanParts) (chan : ChanNo) → KeepSoFar parts → IsOpenedThere parts chan → KeepSoFar (with_op (Close chan) parts)
@@ -320,7 +305,7 @@ close-keeps parts chan keep may = op-keeps parts (Close chan) keep (record {
   unjoined = refl;
   load = (let none : load_of parts.requests (loads_in parts.callers) (Close chan) ≡ 0 = refl in omega (arith, keep.load, none));
   taken = refl;
-  opens_none = λ n. refl;
+  opens_none = refl;
 })
 
 pub pour-keeps : (parts : PlanParts) (link : LinkNo) (count gap size : ℕ) → KeepSoFar parts → MayPour parts link count gap size → KeepSoFar (with_op (Pour link count gap size) parts)
@@ -337,7 +322,7 @@ pour-keeps parts link count gap size keep may = op-keeps parts (Pour link count 
   unjoined = refl;
   load = may.load;
   taken = may.taken;
-  opens_none = λ n. refl;
+  opens_none = refl;
 })
 
 pub move-keeps : (parts : PlanParts) (old new : ChanNo) → KeepSoFar parts → MayMove parts old new → KeepSoFar (with_op (Move old new) parts)
@@ -354,7 +339,7 @@ move-keeps parts old new keep may = op-keeps parts (Move old new) keep (record {
   unjoined = not-hit (list_any (is_in role.Joins (channel_number new)) (last_ops parts.callers)) may.unjoined;
   load = may.load;
   taken = refl;
-  opens_none = λ n. refl;
+  opens_none = refl;
 })
 
 -- ---- an open

@@ -15,6 +15,6 @@ pub mod OneLinkFacts
 pub mod Growing
 pub mod QuotaGrowth
 pub mod ReadyFacts
-pub mod AccountFacts
+pub mod ChannelFacts
 pub mod WithinFacts
 mod WorkedRules

@@ -1,16 +1,18 @@
 -- What the table says of each operation: which task it makes, and what it is to one channel. The proofs that go by the five operations
 -- stand here, so that a line more of the table wants a line more of each; what follows from them goes by the roles.
-use Rattle.std.proofs.Common.{◌≡◌, ◌≢◌, ℕ, ◌<◌, Option, Some, None, List, length, refl, sym, ap, ◌∙◌, inl, inr, nat_eq, option_map}
+use Rattle.std.proofs.Common.{◌≡◌, ◌≢◌, ℕ, ◌<◌, Option, Some, None, List, [], ◌∷◌, length, refl, sym, ap, ◌∙◌, inl, inr, nat_eq, option_map}
 use Rattle.std.proofs.lemmas.Bool.{cases_Bool, eqb-true, eqb-false}
 use Rattle.std.specs.List.{slice_get}
 use Rattle.net_units.specs.Numbers.{channel_number}
 use Rattle.net_units.specs.declared.numbers.ChanNo.{ChanNo}
+use Rattle.net_units.specs.declared.numbers.LinkNo.{LinkNo}
 use Rattle.hop_reservation.specs.declared.route.Hop.{Hop}
+use Rattle.link_steps.specs.Lists.{Each}
 use Rattle.setup_protocol.specs.declared.request.Request.{Request}
 use Rattle.call_script.specs.Operations.{attributes_of}
 use Rattle.call_script.specs.Owners.{PacketsOff, TaskOff}
 use Rattle.call_script.specs.Rules.{named}
-use Rattle.call_script.specs.Tasks.{send_on, task_for, move_for, task_of}
+use Rattle.call_script.specs.Tasks.{send_on, task_for, move_for, task_of, with_task, tasks_of}
 use Rattle.call_script.specs.declared.attributes.Way.{Way}
 use Rattle.call_script.specs.declared.attributes.Way.TheVariants.{Nowhere, OverRoute, OverLink}
 use Rattle.call_script.specs.declared.entries.RequestEntry.{RequestEntry}
@@ -146,3 +148,50 @@ leaves-there requests (Send chan count gap size) there = tt
 leaves-there requests (Close chan) there = tt
 leaves-there requests (Pour link count gap size) there = tt
 leaves-there requests (Move old new) there = there.0
+
+-- ---- what holds of all tasks
+
+-- it holds of each task that requests which are there may make
+pub record HoldsOf (P : Task → Type 0) (requests : List Request) : Type 0 where
+  pub opens : (n : ℕ) (request : Request) → slice_get requests n ≡ Some request → P (Opens request)
+  pub sends : (n : ℕ) (request : Request) (link : LinkNo) (count gap size : ℕ) → slice_get requests n ≡ Some request → P (Sends link (Some request.chan) count gap size)
+  pub closes : (n : ℕ) (request : Request) → slice_get requests n ≡ Some request → P (Closes request)
+  pub pours : (link : LinkNo) (count gap size : ℕ) → P (Sends link None count gap size)
+  pub moves : (o n : ℕ) (old new : Request) → slice_get requests o ≡ Some old → slice_get requests n ≡ Some new → P (Moves old new 1 1)
+
+abbrev HoldsIf : (Task → Type 0) → Option Task → Type 0
+HoldsIf P None = Unit {0}
+HoldsIf P (Some task) = P task
+
+task-holds : (P : Task → Type 0) (requests : List Request) → HoldsOf P requests → (op : Op) → HoldsIf P (task_of requests op)
+task-holds P requests holds (Open chan) = by (slice_get requests (channel_number chan)) refl where
+  by : (found : Option Request) → slice_get requests (channel_number chan) ≡ found → HoldsIf P (option_map (λ (r : Request). Opens r) found)
+  by None is = tt
+  by (Some request) is = holds.opens (channel_number chan) request is
+task-holds P requests holds (Send chan count gap size) = by (slice_get requests (channel_number chan)) refl where
+  at-first : (request : Request) → slice_get requests (channel_number chan) ≡ Some request → (hop : Option Hop) → HoldsIf P (option_map (λ (h : Hop). Sends h.link (Some request.chan) count gap size) hop)
+  at-first request is None = tt
+  at-first request is (Some hop) = holds.sends (channel_number chan) request hop.link count gap size is
+
+  by : (found : Option Request) → slice_get requests (channel_number chan) ≡ found → HoldsIf P (task_for (send_on count gap size) found)
+  by None is = tt
+  by (Some request) is = at-first request is (slice_get request.route 0)
+task-holds P requests holds (Close chan) = by (slice_get requests (channel_number chan)) refl where
+  by : (found : Option Request) → slice_get requests (channel_number chan) ≡ found → HoldsIf P (option_map (λ (r : Request). Closes r) found)
+  by None is = tt
+  by (Some request) is = holds.closes (channel_number chan) request is
+task-holds P requests holds (Pour link count gap size) = holds.pours link count gap size
+task-holds P requests holds (Move old new) = by (slice_get requests (channel_number old)) (slice_get requests (channel_number new)) refl refl where
+  by : (from to : Option Request) → slice_get requests (channel_number old) ≡ from → slice_get requests (channel_number new) ≡ to → HoldsIf P (move_for from to)
+  by None to was is = tt
+  by (Some one) None was is = tt
+  by (Some one) (Some other) was is = holds.moves (channel_number old) (channel_number new) one other was is
+
+-- so it holds of those of any operations
+pub tasks-hold : (P : Task → Type 0) (requests : List Request) → HoldsOf P requests → (ops : List Op) → Each P (tasks_of requests ops)
+unfolding tasks_of
+tasks-hold P requests holds [] = tt
+tasks-hold P requests holds (op ∷ ops) = by (task_of requests op) (task-holds P requests holds op) (tasks-hold P requests holds ops) where
+  by : (task : Option Task) → HoldsIf P task → Each P (tasks_of requests ops) → Each P (with_task task (tasks_of requests ops))
+  by None one rest = rest
+  by (Some task) one rest = (one, rest)

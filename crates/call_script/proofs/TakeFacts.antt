@@ -11,13 +11,13 @@ use Rattle.link_steps.specs.Lists.{Each}
 use Rattle.link_steps.specs.declared.asks.Ask.{Ask}
 use Rattle.link_steps.specs.declared.replies.Reply.{Reply}
 use Rattle.setup_protocol.specs.declared.request.Request.{Request}
-use Rattle.call_script.specs.Accounts.{AreAccounts, IsWithin}
+use Rattle.call_script.specs.Channels.{AreTold, IsWithin}
 use Rattle.call_script.specs.Parts.{PlanParts, ArePlanned}
 use Rattle.call_script.specs.Scripts.{Learnt, Standing, begun, continued, resumed, standing, task_ask}
 use Rattle.call_script.specs.Standing.{requests_of, StandsAt, CallerStands}
 use Rattle.call_script.specs.Tasks.{request_of, script_of, tasks_of}
 use Rattle.call_script.specs.Work.{WorkStands, TurnStands, IsFinished, learnt_of}
-use Rattle.call_script.specs.declared.accounts.Account.{Account}
+use Rattle.call_script.specs.declared.channels.Channel.{Channel}
 use Rattle.call_script.specs.declared.actor.Actor.{Actor}
 use Rattle.call_script.specs.declared.entries.CallerEntry.{CallerEntry}
 use Rattle.call_script.specs.declared.entries.RequestEntry.{RequestEntry}
@@ -58,7 +58,7 @@ goes-on requests ops actor w outcomes (task ∷ tasks) replies reply was on =
       rest = was.rest;
       within = was.within;
       outcomes = was.outcomes;
-      accounts = was.accounts;
+      channels = was.channels;
     })
 
 -- it is over, with these outcomes
@@ -117,51 +117,51 @@ begins-here parts requests caller ops new outcomes next same own begins =
     subst (λ os. StandsAt (requests_of parts) os new (begun outcomes (tasks_of (requests_of parts) (drop next os)))) (sym own)
     (subst (λ rs. StandsAt (map request_of rs) ops new (begun outcomes (tasks_of (map request_of rs) (drop next ops)))) same begins)
 
--- what the beginning of the next task promises, of all outcomes that the accounts say
-abbrev pub Begins : List RequestEntry → List Op → List Account → ℕ → Actor → Type 0
-Begins requests ops accounts next new =
-    (outcomes : List Learnt) → AreAccounts accounts outcomes → length accounts ≡ length requests
+-- what the beginning of the next task promises, of all outcomes that are told
+abbrev pub Begins : List RequestEntry → List Op → List Channel → ℕ → Actor → Type 0
+Begins requests ops channels next new =
+    (outcomes : List Learnt) → AreTold channels outcomes → length channels ≡ length requests
     → StandsAt (map request_of requests) ops new (begun outcomes (tasks_of (map request_of requests) (drop next ops)))
 
 -- as many as requests
-counted : (parts : PlanParts) (requests : List RequestEntry) (accounts : List Account) → requests ≡ parts.requests → length accounts ≡ length (requests_of parts) → length accounts ≡ length requests
-counted parts requests accounts same counts = counts ∙ length-map parts.requests request_of ∙ ap length (sym same)
+counted : (parts : PlanParts) (requests : List RequestEntry) (channels : List Channel) → requests ≡ parts.requests → length channels ≡ length (requests_of parts) → length channels ≡ length requests
+counted parts requests channels same counts = counts ∙ length-map parts.requests request_of ∙ ap length (sym same)
 
 pub turned-over : (parts : PlanParts) (actor new : Actor) (w : Work) (took : Turn) (ops : List Op) (requests : List RequestEntry) (replies : List Reply) (reply : Reply) → CallerStands parts actor replies → took ≡ turn.Over
     → ((tasks : List Task) (rs : List Reply) → WorkStands actor.work tasks rs → TurnStands took w tasks (rs ++ reply ∷ [])) → option_map (λ (entry : CallerEntry). entry.ops) (slice_get parts.callers (actor_number actor.caller)) ≡ Some ops
-    → requests ≡ parts.requests → new.caller ≡ actor.caller → Begins requests ops actor.accounts.by_channel.items actor.next new → CallerStands parts new (reply ∷ replies)
+    → requests ≡ parts.requests → new.caller ≡ actor.caller → Begins requests ops actor.channels.by_number.items actor.next new → CallerStands parts new (reply ∷ replies)
 turned-over parts actor new w took ops requests replies reply stands is turns told same kept begins =
     let at : Standing = standing (script_of (requests_of parts) stands.caller) replies in
     more-stands parts actor new replies reply stands kept
     (over-none (requests_of parts) stands.caller.ops actor new w at.outcomes at.tasks at.replies reply stands.at (subst (λ t. TurnStands t w at.tasks (at.replies ++ reply ∷ [])) is (turns at.tasks at.replies stands.at.under_way))
     (begins-here parts requests stands.caller ops new at.outcomes actor.next same (ops-are _ stands.caller ops told stands.found)
-    (begins at.outcomes stands.at.outcomes (counted parts requests actor.accounts.by_channel.items same stands.at.accounts))))
+    (begins at.outcomes stands.at.outcomes (counted parts requests actor.channels.by_number.items same stands.at.channels))))
 
-pub turned-settled : (parts : PlanParts) (actor new : Actor) (w : Work) (took : Turn) (one : Known) (accounts : List Account) (ops : List Op) (requests : List RequestEntry) (replies : List Reply) (reply : Reply) → CallerStands parts actor replies → took ≡ turn.Settled one
+pub turned-settled : (parts : PlanParts) (actor new : Actor) (w : Work) (took : Turn) (one : Known) (channels : List Channel) (ops : List Op) (requests : List RequestEntry) (replies : List Reply) (reply : Reply) → CallerStands parts actor replies → took ≡ turn.Settled one
     → ((tasks : List Task) (rs : List Reply) → WorkStands actor.work tasks rs → TurnStands took w tasks (rs ++ reply ∷ [])) → option_map (λ (entry : CallerEntry). entry.ops) (slice_get parts.callers (actor_number actor.caller)) ≡ Some ops
-    → requests ≡ parts.requests → new.caller ≡ actor.caller → length accounts ≡ length actor.accounts.by_channel.items
-    → ((outcomes : List Learnt) → AreAccounts actor.accounts.by_channel.items outcomes → AreAccounts accounts (learnt_of one ∷ outcomes)) → Begins requests ops accounts actor.next new → CallerStands parts new (reply ∷ replies)
-turned-settled parts actor new w took one accounts ops requests replies reply stands is turns told same kept counts noted begins =
+    → requests ≡ parts.requests → new.caller ≡ actor.caller → length channels ≡ length actor.channels.by_number.items
+    → ((outcomes : List Learnt) → AreTold actor.channels.by_number.items outcomes → AreTold channels (learnt_of one ∷ outcomes)) → Begins requests ops channels actor.next new → CallerStands parts new (reply ∷ replies)
+turned-settled parts actor new w took one channels ops requests replies reply stands is turns told same kept counts noted begins =
     let at : Standing = standing (script_of (requests_of parts) stands.caller) replies in
     more-stands parts actor new replies reply stands kept
     (over-one (requests_of parts) stands.caller.ops actor new w one at.outcomes at.tasks at.replies reply stands.at (subst (λ t. TurnStands t w at.tasks (at.replies ++ reply ∷ [])) is (turns at.tasks at.replies stands.at.under_way))
     (begins-here parts requests stands.caller ops new (learnt_of one ∷ at.outcomes) actor.next same (ops-are _ stands.caller ops told stands.found)
-    (begins (learnt_of one ∷ at.outcomes) (noted at.outcomes stands.at.outcomes) (counted parts requests accounts same (counts ∙ stands.at.accounts)))))
+    (begins (learnt_of one ∷ at.outcomes) (noted at.outcomes stands.at.outcomes) (counted parts requests channels same (counts ∙ stands.at.channels)))))
 
--- what it has learnt then is of a channel that has an account
+-- what it has learnt then is of a channel that is kept
 pub learnt-within : (parts : PlanParts) (actor : Actor) (w : Work) (took : Turn) (one : Known) (replies : List Reply) (reply : Reply) → ArePlanned parts → CallerStands parts actor replies → took ≡ turn.Settled one
-    → ((tasks : List Task) (rs : List Reply) → WorkStands actor.work tasks rs → TurnStands took w tasks (rs ++ reply ∷ [])) → IsWithin (length actor.accounts.by_channel.items) (learnt_of one)
+    → ((tasks : List Task) (rs : List Reply) → WorkStands actor.work tasks rs → TurnStands took w tasks (rs ++ reply ∷ [])) → IsWithin (length actor.channels.by_number.items) (learnt_of one)
 learnt-within parts actor w took one replies reply planned stands is turns =
     let at : Standing = standing (script_of (requests_of parts) stands.caller) replies in
-    subst (λ n. IsWithin n (learnt_of one)) (sym stands.at.accounts)
+    subst (λ n. IsWithin n (learnt_of one)) (sym stands.at.channels)
     (one-within (length (requests_of parts)) w one at.tasks (at.replies ++ reply ∷ []) (script-within parts stands.caller.ops replies planned)
     (subst (λ t. TurnStands t w at.tasks (at.replies ++ reply ∷ [])) is (turns at.tasks at.replies stands.at.under_way)))
 
 -- an actor that begins stands for no replies
-pub fresh-stands : (parts : PlanParts) (actor : Actor) (caller : ActorNo) (ops : List Op) (requests : List RequestEntry) (accounts : List Account) → option_map (λ (entry : CallerEntry). entry.ops) (slice_get parts.callers (actor_number caller)) ≡ Some ops
-    → requests ≡ parts.requests → actor.caller ≡ caller → AreAccounts accounts [] → length accounts ≡ length requests → Begins requests ops accounts 0 actor → CallerStands parts actor []
+pub fresh-stands : (parts : PlanParts) (actor : Actor) (caller : ActorNo) (ops : List Op) (requests : List RequestEntry) (channels : List Channel) → option_map (λ (entry : CallerEntry). entry.ops) (slice_get parts.callers (actor_number caller)) ≡ Some ops
+    → requests ≡ parts.requests → actor.caller ≡ caller → AreTold channels [] → length channels ≡ length requests → Begins requests ops channels 0 actor → CallerStands parts actor []
 unfolding standing
-fresh-stands parts actor caller ops requests accounts told same own none counts begins = by (slice_get parts.callers (actor_number caller)) refl told where
+fresh-stands parts actor caller ops requests channels told same own none counts begins = by (slice_get parts.callers (actor_number caller)) refl told where
   by : (found : Option CallerEntry) → slice_get parts.callers (actor_number caller) ≡ found → option_map (λ (entry : CallerEntry). entry.ops) found ≡ Some ops → CallerStands parts actor []
   by None is none = cc
   by (Some entry) is some = record {

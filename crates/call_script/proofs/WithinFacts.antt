@@ -6,7 +6,6 @@ use Rattle.std.specs.List.{slice_get}
 use Rattle.net_units.specs.Numbers.{channel_number}
 use Rattle.net_units.specs.declared.numbers.ChanNo.{ChanNo}
 use Rattle.net_units.specs.declared.numbers.LinkNo.{LinkNo}
-use Rattle.hop_reservation.specs.declared.route.Hop.{Hop}
 use Rattle.channel_move.specs.Moving.{first_told}
 use Rattle.channel_move.specs.declared.shifted.Shifted.{Shifted}
 use Rattle.link_steps.specs.Lists.{Each}
@@ -15,17 +14,17 @@ use Rattle.link_steps.specs.declared.replies.Reply.{Reply}
 use Rattle.link_steps.specs.declared.replies.Reply.TheVariants as Is
 use Rattle.setup_protocol.specs.Setup.{Outcome, verdict_of}
 use Rattle.setup_protocol.specs.declared.request.Request.{Request}
-use Rattle.call_script.specs.Accounts.{IsWithin}
+use Rattle.call_script.specs.Channels.{IsWithin}
 use Rattle.call_script.specs.Parts.{PlanParts, ArePlanned}
 use Rattle.call_script.specs.Scripts.{Learnt, Standing, takes_step, ready, from_step, settled_as, planned_as, moved_as, outcome_by, continued, resumed, standing, task_ask}
 use Rattle.call_script.specs.Standing.{requests_of}
-use Rattle.call_script.specs.Tasks.{request_of, send_on, move_for, task_for, task_of, with_task, tasks_of}
+use Rattle.call_script.specs.Tasks.{request_of, tasks_of}
 use Rattle.call_script.specs.Work.{IsFinished}
 use Rattle.call_script.specs.declared.entries.RequestEntry.{RequestEntry}
 use Rattle.call_script.specs.declared.operations.Op.{Op}
-use Rattle.call_script.specs.declared.operations.Op.TheVariants.{Open, Send, Close, Pour, Move}
 use Rattle.call_script.specs.declared.tasks.Task.{Task}
 use Rattle.call_script.specs.declared.tasks.Task.TheVariants.{Opens, Sends, Closes, Moves}
+use Rattle.call_script.proofs.OperationFacts.{tasks-hold}
 use Rattle.call_script.proofs.ReadyFacts.{ready-keeps}
 
 -- the channels that a task names
@@ -45,47 +44,17 @@ TaskWithin count (Moves old new gap size) = (channel_number old.chan < count) ×
 abbrev pub AreNumbered : List Request → Type 0
 AreNumbered requests = (n : ℕ) (request : Request) → slice_get requests n ≡ Some request → channel_number request.chan ≡ n
 
-abbrev OptionWithin : ℕ → Option Task → Type 0
-OptionWithin count None = Unit {0}
-OptionWithin count (Some task) = TaskWithin count task
-
 found-within : (requests : List Request) (n : ℕ) (request : Request) → AreNumbered requests → slice_get requests n ≡ Some request → channel_number request.chan < length requests
 found-within requests n request numbered found = subst (λ k. k < length requests) (sym (numbered n request found)) (slice_get_within requests n request found)
 
-send-within : (count number gap size : ℕ) (request : Request) → channel_number request.chan < count → OptionWithin count (send_on number gap size request)
-send-within count number gap size request within = by (slice_get request.route 0) where
-  by : (hop : Option Hop) → OptionWithin count (option_map (λ (hop : Hop). Sends hop.link (Some request.chan) number gap size) hop)
-  by None = tt
-  by (Some hop) = within
-
-task-within : (requests : List Request) (op : Op) → AreNumbered requests → OptionWithin (length requests) (task_of requests op)
-task-within requests (Open chan) numbered = by (slice_get requests (channel_number chan)) refl where
-  by : (found : Option Request) → slice_get requests (channel_number chan) ≡ found → OptionWithin (length requests) (option_map (λ request. Opens request) found)
-  by None is = tt
-  by (Some request) is = found-within requests (channel_number chan) request numbered is
-task-within requests (Send chan number gap size) numbered = by (slice_get requests (channel_number chan)) refl where
-  by : (found : Option Request) → slice_get requests (channel_number chan) ≡ found → OptionWithin (length requests) (task_for (send_on number gap size) found)
-  by None is = tt
-  by (Some request) is = send-within (length requests) number gap size request (found-within requests (channel_number chan) request numbered is)
-task-within requests (Close chan) numbered = by (slice_get requests (channel_number chan)) refl where
-  by : (found : Option Request) → slice_get requests (channel_number chan) ≡ found → OptionWithin (length requests) (option_map (λ request. Closes request) found)
-  by None is = tt
-  by (Some request) is = found-within requests (channel_number chan) request numbered is
-task-within requests (Pour link number gap size) numbered = tt
-task-within requests (Move old new) numbered = by (slice_get requests (channel_number old)) (slice_get requests (channel_number new)) refl refl where
-  by : (from to : Option Request) → slice_get requests (channel_number old) ≡ from → slice_get requests (channel_number new) ≡ to → OptionWithin (length requests) (move_for from to)
-  by None to was is = tt
-  by (Some one) None was is = tt
-  by (Some one) (Some other) was is = (found-within requests (channel_number old) one numbered was, found-within requests (channel_number new) other numbered is)
-
-with-within : (count : ℕ) (task : Option Task) (tasks : List Task) → OptionWithin count task → Each (TaskWithin count) tasks → Each (TaskWithin count) (with_task task tasks)
-with-within count None tasks one rest = rest
-with-within count (Some task) tasks one rest = (one, rest)
-
 tasks-within : (requests : List Request) (ops : List Op) → AreNumbered requests → Each (TaskWithin (length requests)) (tasks_of requests ops)
-unfolding tasks_of
-tasks-within requests [] numbered = tt
-tasks-within requests (op ∷ ops) numbered = with-within (length requests) (task_of requests op) (tasks_of requests ops) (task-within requests op numbered) (tasks-within requests ops numbered)
+tasks-within requests ops numbered = tasks-hold (TaskWithin (length requests)) requests (record {
+  opens = λ n request found. found-within requests n request numbered found;
+  sends = λ n request link count gap size found. found-within requests n request numbered found;
+  closes = λ n request found. found-within requests n request numbered found;
+  pours = λ link count gap size. tt;
+  moves = λ o n old new leaves joins. (found-within requests o old numbered leaves, found-within requests n new numbered joins);
+}) ops
 
 -- ---- where a caller stands
 

@@ -1,8 +1,8 @@
 -- How the parts of a plan grow, a line at a time. Links without quotas, groups, and quotas of the links that are there are added
--- while there is no caller; then callers, each first without operations; after the operations of the last caller an open, with its request, or a send, a close, a pour or a move; and at last
--- the numbers of rounds. Each addition has what a reader judges of its line. Parts that grew so keep all rules but two, that
+-- while there is no caller; then callers, each first without operations; after the operations of the last caller an open, with its
+-- request, or another operation, which is judged by its attributes; and at last the numbers of rounds. Each addition has what a reader judges of its line. Parts that grew so keep all rules but two, that
 -- there is a link and that the ticks of all links are within the limit; with these they are those of a plan.
-use Rattle.std.specs.Prelude.{◌≡◌, ℕ, zero, suc, Some, ◌+◌, ◌*◌, ◌<◌, ◌≤◌, true, false, List, [], ◌∷◌, ◌++◌, length}
+use Rattle.std.specs.Prelude.{◌≡◌, ℕ, zero, suc, Some, None, ◌+◌, ◌*◌, ◌<◌, ◌≤◌, true, false, List, [], ◌∷◌, ◌++◌, length}
 use Rattle.std.specs.List.{list_any}
 use Rattle.net_units.specs.Numbers.{link_number, actor_number, channel_number}
 use Rattle.net_units.specs.declared.numbers.ChanNo.{ChanNo}
@@ -12,9 +12,10 @@ use Rattle.net_units.specs.Limits.{most_links, most_callers, most_requests, most
 use Rattle.link_steps.specs.Lists.{Each}
 use Rattle.link_steps.specs.declared.quota.Quota.{Quota}
 use Rattle.call_script.specs.Groups.{most_groups, group_has_version, group_is_there, is_of_new_group, quota_is_there, quota_in_range, quotas_fit, KeepGroups}
+use Rattle.call_script.specs.Operations.{attributes_of}
 use Rattle.call_script.specs.Parts.{PlanParts, parts_of, FollowsLink, LeavesUnused, ArePlanned}
 use Rattle.call_script.specs.Plans.{HasTerms, IsPlan}
-use Rattle.call_script.specs.Rules.{have_version, have_names, are_there, are_in_range, are_few, are_joined, are_unclosed, pours_are_taken, moves_are_fit, link_names, caller_names, request_names, is_new, link_has_version, request_has_version, has_link, route_is_there, is_in, request_in_range, packets_in_range, is_joined, load_of, load_in, loads_in, takes_best_effort, move_is_fit}
+use Rattle.call_script.specs.Rules.{have_version, have_names, are_there, are_in_range, are_few, are_joined, are_unclosed, pours_are_taken, moves_are_fit, link_names, caller_names, request_names, is_new, link_has_version, request_has_version, op_has_version, has_link, route_is_there, pour_is_there, is_in, is_after, is_apart, op_in_range, pour_is_taken, request_in_range, packets_in_range, is_joined, load_of, load_in, loads_in, takes_best_effort, move_is_fit}
 use Rattle.call_script.specs.Versions.{has_best_effort, has_groups, has_moves}
 use Rattle.call_script.specs.declared.entries.CallerEntry.{CallerEntry}
 use Rattle.call_script.specs.declared.entries.LinkEntry.{LinkEntry}
@@ -150,6 +151,23 @@ pub record IsOpenedThere (parts : PlanParts) (chan : ChanNo) : Type 0 where
 abbrev pub IsWithinLoad : PlanParts → Op → Type 0
 IsWithinLoad parts op = load_in parts.requests parts.callers + load_of parts.requests (loads_in parts.callers) op ≤ most_packets
 
+-- what an operation that opens nothing has to pass
+pub record MayFollow (parts : PlanParts) (op : Op) : Type 0 where
+  pub opens_none : (attributes_of op).opens ≡ None
+  pub version : op_has_version parts.version op ≡ true
+  pub there : pour_is_there parts.links op ≡ true
+  pub opened : is_after role.Uses role.Opens (last_ops parts.callers) op ≡ true
+  pub onto_opened : is_after role.Joins role.Opens (last_ops parts.callers) op ≡ true
+  pub range : op_in_range op ≡ true
+  pub unclosed : is_apart role.Uses role.Closes (last_ops parts.callers) op ≡ true
+  pub unleft : is_apart role.Keeps role.Leaves (last_ops parts.callers) op ≡ true
+  pub load : IsWithinLoad parts op
+  pub taken : pour_is_taken parts.links op ≡ true
+  pub fit : move_is_fit parts.links parts.requests op ≡ true
+  pub unused : is_apart role.Joins role.Uses (last_ops parts.callers) op ≡ true
+  pub unjoined : is_apart role.Joins role.Joins (last_ops parts.callers) op ≡ true
+
+-- so it is of a send, a pour and a move where this is told
 pub record MaySend (parts : PlanParts) (chan : ChanNo) (count gap size : ℕ) : Type 0 where
   pub channel : IsOpenedThere parts chan
   pub unleft : HasNotDone role.Leaves parts chan
@@ -218,17 +236,8 @@ CallersKeep = (parts : PlanParts) (name : List ℕ) (group : ℕ) → KeepSoFar 
 abbrev pub OpensKeep : Type 0
 OpensKeep = (parts : PlanParts) (entry : RequestEntry) → KeepSoFar parts → MayOpen parts entry → KeepSoFar (with_open entry parts)
 
-abbrev pub SendsKeep : Type 0
-SendsKeep = (parts : PlanParts) (chan : ChanNo) (count gap size : ℕ) → KeepSoFar parts → MaySend parts chan count gap size → KeepSoFar (with_op (Send chan count gap size) parts)
-
-abbrev pub ClosesKeep : Type 0
-ClosesKeep = (parts : PlanParts) (chan : ChanNo) → KeepSoFar parts → IsOpenedThere parts chan → KeepSoFar (with_op (Close chan) parts)
-
-abbrev pub PoursKeep : Type 0
-PoursKeep = (parts : PlanParts) (link : LinkNo) (count gap size : ℕ) → KeepSoFar parts → MayPour parts link count gap size → KeepSoFar (with_op (Pour link count gap size) parts)
-
-abbrev pub MovesKeep : Type 0
-MovesKeep = (parts : PlanParts) (old new : ChanNo) → KeepSoFar parts → MayMove parts old new → KeepSoFar (with_op (Move old new) parts)
+abbrev pub OpsKeep : Type 0
+OpsKeep = (parts : PlanParts) (op : Op) → KeepSoFar parts → MayFollow parts op → KeepSoFar (with_op op parts)
 
 abbrev pub RoundsKeep : Type 0
 RoundsKeep = (parts : PlanParts) (rounds : ℕ) → KeepSoFar parts → rounds ≤ most_rounds → KeepSoFar (with_rounds rounds parts)

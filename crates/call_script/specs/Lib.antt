@@ -14,7 +14,7 @@ pub mod Owners
 pub mod Plans
 pub mod Growing
 pub mod Work
-pub mod Accounts
+pub mod Channels
 pub mod Standing
 pub mod OneLink
 pub mod ActorNames

@@ -1,11 +1,11 @@
 -- A caller as it is kept: the task under way, the next operation, and what its requests came to. It stands for the replies
--- after which the rules say that a caller stands so. Each request has an account.
+-- after which the rules say that a caller stands so. Of each request something is kept.
 use Rattle.std.specs.Prelude.{◌≡◌, ◌≤◌, ℕ, if◌then◌else◌, Option, Some, None, IsSome, List, length, map, drop}
 use Rattle.std.specs.List.{slice_get}
 use Rattle.net_units.specs.Numbers.{actor_number}
 use Rattle.link_steps.specs.declared.replies.Reply.{Reply}
 use Rattle.setup_protocol.specs.declared.request.Request.{Request}
-use Rattle.call_script.specs.Accounts.{AreAccounts}
+use Rattle.call_script.specs.Channels.{AreTold}
 use Rattle.call_script.specs.Parts.{PlanParts}
 use Rattle.call_script.specs.Scripts.{Learnt, Standing, ask_at, standing, standing_of, takes_step, ready}
 use Rattle.call_script.specs.Tasks.{request_of, script_of, network_of, tasks_of}
@@ -24,8 +24,8 @@ pub record StandsAt (requests : List Request) (ops : List Op) (actor : Actor) (a
   pub under_way : WorkStands actor.work at.tasks at.replies
   pub rest : drop 1 at.tasks ≡ tasks_of requests (drop actor.next ops)
   pub within : actor.next ≤ length ops
-  pub outcomes : AreAccounts actor.accounts.by_channel.items at.outcomes
-  pub accounts : length actor.accounts.by_channel.items ≡ length requests
+  pub outcomes : AreTold actor.channels.by_number.items at.outcomes
+  pub channels : length actor.channels.by_number.items ≡ length requests
 
 -- the actor stands for the replies that its caller has got, newest first
 pub record CallerStands (parts : PlanParts) (actor : Actor) (replies : List Reply) : Type 0 where

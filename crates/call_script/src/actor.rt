@@ -6,14 +6,14 @@ ghost use Rattle.hop_reservation.specs.Routes.{IsRoute};
 ghost use Rattle.link_steps.specs.Lists.{Each};
 ghost use Rattle.link_steps.specs.declared.replies.Reply.{Reply as Replied};
 ghost use Rattle.setup_protocol.specs.State.{outcome_of};
-ghost use Rattle.call_script.specs.Accounts.{AreAccounts};
+ghost use Rattle.call_script.specs.Channels.{AreTold};
 ghost use Rattle.call_script.specs.Parts.{PlanParts};
 ghost use Rattle.call_script.specs.Plans.{HasTerms};
 ghost use Rattle.call_script.specs.Scripts.{Learnt, ask_at, begun, expects, from_step, is_established, is_ready, moved_off, outcome_in, ready, takes_step};
 ghost use Rattle.call_script.specs.Tasks.{request_of, send_on, task_of, tasks_of};
 ghost use Rattle.call_script.specs.Work.{HasRoute};
 
-use crate::accounts::Accounts;
+use crate::channels::Channels;
 use crate::entries::RequestEntry;
 use crate::operations::Op;
 use crate::plan::Plan;
@@ -35,7 +35,7 @@ pub struct Actor {
     pub(crate) next: usize,
     pub(crate) work: Work,
     // What was learnt so far.
-    pub(crate) accounts: Accounts,
+    pub(crate) channels: Channels,
 }
 
 impl Actor {
@@ -49,12 +49,12 @@ impl Actor {
         ensures stands { IfOk result (λ actor. CallerStands plan.now actor []) }
     {
         let requests = plan.requests();
-        let accounts = Accounts::new(alloc, requests.len())?;
+        let channels = Channels::new(alloc, requests.len())?;
         let mut actor = Actor {
             caller,
             next: 0,
             work: Work::Idle,
-            accounts,
+            channels,
         };
         actor.begin(requests, ops_of(plan, caller));
         Ok(actor)
@@ -74,14 +74,14 @@ impl Actor {
     pub fn verdict(&self, chan: ChanNo) -> Option<Verdict>
         ensures verdict { (parts : PlanParts) (replies : List Replied) → CallerStands parts self.now replies → option_map outcome_of result ≡ outcome_in chan (standing_in parts (actor_number self.now.caller) replies).outcomes }
     {
-        self.accounts.of(chan).verdict
+        self.channels.of(chan).verdict
     }
 
     /// What the move from this channel has come to by the replies taken: None where none was made, or one is under way.
     pub fn moved(&self, chan: ChanNo) -> Option<Shifted>
         ensures moved { (parts : PlanParts) (replies : List Replied) → CallerStands parts self.now replies → result ≡ moved_off chan (standing_in parts (actor_number self.now.caller) replies).outcomes }
     {
-        self.accounts.of(chan).moved
+        self.channels.of(chan).moved
     }
 
     /// Takes the reply to the next ask. One that isn't a reply to it changes nothing. An ask has to be left. It takes no
@@ -105,7 +105,7 @@ impl Actor {
                     Ok(())
                 }
                 Turn::Settled(known) => {
-                    self.accounts.note(known);
+                    self.channels.note(known);
                     self.begin(requests, ops);
                     Ok(())
                 }
@@ -118,7 +118,7 @@ impl Actor {
         requires terms { Each HasTerms requests.now }
         requires within { self.old.next ≤ length ops.now }
         ensures caller { self.new.caller ≡ self.old.caller }
-        ensures stands { (outcomes : List Learnt) → AreAccounts self.old.accounts.by_channel.items outcomes → length self.old.accounts.by_channel.items ≡ length requests.now → StandsAt (map request_of requests.now) ops.now self.new (begun outcomes (tasks_of (map request_of requests.now) (drop self.old.next ops.now))) }
+        ensures stands { (outcomes : List Learnt) → AreTold self.old.channels.by_number.items outcomes → length self.old.channels.by_number.items ≡ length requests.now → StandsAt (map request_of requests.now) ops.now self.new (begun outcomes (tasks_of (map request_of requests.now) (drop self.old.next ops.now))) }
     {
         match self.first_step(requests, ops) {
             Some(step) => {
@@ -138,8 +138,8 @@ impl Actor {
         requires within { self.now.next ≤ length ops.now }
         ensures within { IfSome result (λ step. (self.now.next ≤ step.index) × (step.index < length ops.now)) }
         ensures route { IfSome result (λ step. HasRoute step.task) }
-        ensures some { IfSome result (λ step. (outcomes : List Learnt) → AreAccounts self.now.accounts.by_channel.items outcomes → from_step outcomes (tasks_of (map request_of requests.now) (drop self.now.next ops.now)) ≡ step.task ∷ tasks_of (map request_of requests.now) (drop (step.index + 1) ops.now)) }
-        ensures none { IfNone result ((outcomes : List Learnt) → AreAccounts self.now.accounts.by_channel.items outcomes → from_step outcomes (tasks_of (map request_of requests.now) (drop self.now.next ops.now)) ≡ []) }
+        ensures some { IfSome result (λ step. (outcomes : List Learnt) → AreTold self.now.channels.by_number.items outcomes → from_step outcomes (tasks_of (map request_of requests.now) (drop self.now.next ops.now)) ≡ step.task ∷ tasks_of (map request_of requests.now) (drop (step.index + 1) ops.now)) }
+        ensures none { IfNone result ((outcomes : List Learnt) → AreTold self.now.channels.by_number.items outcomes → from_step outcomes (tasks_of (map request_of requests.now) (drop self.now.next ops.now)) ≡ []) }
     {
         for index in self.next..ops.len() {
             if let Some(task) = self.step_of(requests, &ops[index]) {
@@ -152,7 +152,7 @@ impl Actor {
     // The task of an operation, if it takes a step.
     fn step_of(&self, requests: &[RequestEntry], op: &Op) -> Option<Task>
         requires { Each HasTerms requests.now }
-        ensures task { (outcomes : List Learnt) → AreAccounts self.now.accounts.by_channel.items outcomes → result ≡ if_step outcomes (task_of (map request_of requests.now) op.now) }
+        ensures task { (outcomes : List Learnt) → AreTold self.now.channels.by_number.items outcomes → result ≡ if_step outcomes (task_of (map request_of requests.now) op.now) }
         ensures route { IfSome result HasRoute }
     {
         match task_of(requests, op) {
@@ -163,7 +163,7 @@ impl Actor {
 
     // Whether a task takes a step.
     fn takes_step(&self, task: &Task) -> bool
-        ensures { (outcomes : List Learnt) → AreAccounts self.now.accounts.by_channel.items outcomes → result ≡ takes_step outcomes task.now }
+        ensures { (outcomes : List Learnt) → AreTold self.now.channels.by_number.items outcomes → result ≡ takes_step outcomes task.now }
     {
         match task {
             Task::Opens(_) => true,
@@ -177,7 +177,7 @@ impl Actor {
 
     // Whether the packets of this channel may be sent; best-effort ones, which have none, always may.
     fn is_ready(&self, chan: Option<ChanNo>) -> bool
-        ensures { (outcomes : List Learnt) → AreAccounts self.now.accounts.by_channel.items outcomes → result ≡ is_ready chan outcomes }
+        ensures { (outcomes : List Learnt) → AreTold self.now.channels.by_number.items outcomes → result ≡ is_ready chan outcomes }
     {
         match chan {
             Some(chan) => self.is_established(chan),
@@ -188,17 +188,17 @@ impl Actor {
     // A task as it begins.
     fn ready(&self, task: Task) -> Task
         requires { HasRoute task }
-        ensures ready { (outcomes : List Learnt) → AreAccounts self.now.accounts.by_channel.items outcomes → result ≡ ready outcomes task }
+        ensures ready { (outcomes : List Learnt) → AreTold self.now.channels.by_number.items outcomes → result ≡ ready outcomes task }
         ensures route { HasRoute result }
     {
         match task {
             Task::Moves { old, new, .. } => {
-                let account = self.accounts.of(old.chan);
+                let last = self.channels.of(old.chan);
                 Task::Moves {
                     old,
                     new,
-                    gap: account.gap,
-                    size: account.size,
+                    gap: last.gap,
+                    size: last.size,
                 }
             }
             other => other,
@@ -207,9 +207,9 @@ impl Actor {
 
     // Whether the request of this channel was accepted, and no move has left it.
     fn is_established(&self, chan: ChanNo) -> bool
-        ensures { (outcomes : List Learnt) → AreAccounts self.now.accounts.by_channel.items outcomes → result ≡ is_established chan outcomes }
+        ensures { (outcomes : List Learnt) → AreTold self.now.channels.by_number.items outcomes → result ≡ is_established chan outcomes }
     {
-        self.accounts.of(chan).established
+        self.channels.of(chan).established
     }
 }
 

@@ -6,9 +6,9 @@
 //! has got so far. Times are in ticks, sizes in units.
 #![tactic(auto)]
 
-pub(crate) mod accounts;
 pub mod actor;
 pub(crate) mod attributes;
+pub mod channels;
 pub mod entries;
 pub mod laws;
 pub mod moves;
@@ -24,6 +24,7 @@ pub mod version;
 pub(crate) mod work;
 
 pub use actor::Actor;
+pub use channels::{Channel, Channels};
 pub use entries::{CallerEntry, LinkEntry, RequestEntry, push_request};
 pub use moves::may_move;
 pub use operations::{Op, Ops};

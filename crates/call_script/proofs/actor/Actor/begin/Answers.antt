@@ -13,5 +13,5 @@ returns-in-None-clause-stands c = λ outcomes are counts. record {
   rest = ap (drop 1) (c.in-None.ensures.none outcomes are) ∙ sym (none-left (map request_of c.args.requests.now) c.args.ops.now);
   within = omega arith;
   outcomes = are;
-  accounts = counts ∙ sym (length-map c.args.requests.now request_of);
+  channels = counts ∙ sym (length-map c.args.requests.now request_of);
 }

@@ -47,7 +47,7 @@ returns-in-Over-clause-taken c = λ replies stands.
     turned-over c.args.plan.now c.args.self.now c.begin.new.self c.take.new.self c.in-Ok.turn c.ops_of-ops.result.now c.requests-requests.result.now replies c.args.reply stands c.in-Over.is c.in-Ok.ensures.taken
     c.ops_of-ops.ensures c.requests-requests.ensures.value c.begin.ensures.caller c.begin.ensures.stands
 
--- what it has learnt is of a channel that has an account
+-- what it has learnt is of a channel that is kept
 pub note-requires : goal.note-requires
 note-requires c =
     learnt-within c.args.plan.now c.args.self.now c.take.new.self c.in-Ok.turn c.in-Settled.known c.requires.0 c.args.reply c.requests-requests.ensures.valid.planned c.requires.1.stands c.in-Settled.is c.in-Ok.ensures.taken
@@ -59,5 +59,5 @@ returns-in-Settled-clause-expected c = λ replies stands.
 
 pub returns-in-Settled-clause-taken : goal.returns-in-Settled-clause-taken
 returns-in-Settled-clause-taken c = λ replies stands.
-    turned-settled c.args.plan.now c.args.self.now c.begin-in-Settled.new.self c.take.new.self c.in-Ok.turn c.in-Settled.known c.note.new.self.by_channel.items c.ops_of-ops.result.now c.requests-requests.result.now replies c.args.reply
+    turned-settled c.args.plan.now c.args.self.now c.begin-in-Settled.new.self c.take.new.self c.in-Ok.turn c.in-Settled.known c.note.new.self.by_number.items c.ops_of-ops.result.now c.requests-requests.result.now replies c.args.reply
     stands c.in-Settled.is c.in-Ok.ensures.taken c.ops_of-ops.ensures c.requests-requests.ensures.value c.begin-in-Settled.ensures.caller c.note.ensures.count c.note.ensures.noted c.begin-in-Settled.ensures.stands
