@@ -1,4 +1,4 @@
--- Parts that grow a line at a time keep the rules: each law of `specs/Growing.antt`.
+-- Parts that grow a line at a time keep the rules, whichever way they grow.
 use Rattle.std.proofs.Common.{◌≡◌, ℕ, suc, ◌+◌, ◌<◌, ◌≤◌, Bool, true, false, not, Option, Some, None, List, [], ◌∷◌, ◌++◌, length, map, refl, sym, ap, ◌∙◌, subst, inl, inr, append_assoc, option_map, arith}
 use Rattle.std.proofs.lemmas.Bool.{and_from, and_parts, le-leb, leb-true}
 use Rattle.std.proofs.lemmas.List.{length-append, map-append}
@@ -12,7 +12,7 @@ use Rattle.link_steps.proofs.ListFacts.{Each-append}
 use Rattle.link_steps.specs.Lists.{Each}
 use Rattle.call_script.specs.Broken.{unless_broken, use_rule_broken, range_rule_broken, name_rule_broken, rule_broken}
 use Rattle.call_script.specs.Groups.{groups_have_version, groups_have_names, groups_are_there, quotas_are_in_range, groups_are_few, quotas_are_fit}
-use Rattle.call_script.specs.Growing.{nothing_of, new_caller, add_op, last_ops, with_link, with_caller, with_open, with_op, with_rounds, with_tail, MayAddLink, MayAddCaller, MayOpen, IsOpenedThere, IsWithinLoad, MayFollow, MaySend, MayPour, MayMove, KeepSoFar, AreEnough}
+use Rattle.call_script.specs.Growing.{nothing_of, new_caller, add_op, last_ops, with_link, with_caller, with_open, with_op, with_rounds, with_tail, MayAddLink, MayAddCaller, MayOpen, IsOpenedThere, MayFollow, MaySend, MayPour, MayMove, KeepSoFar, AreEnough}
 use Rattle.call_script.specs.Operations.{attributes_of}
 use Rattle.call_script.specs.Parts.{PlanParts, parts_with, Opening, opening_by, openings_of, opening_of, FollowsLink, LeavesUnused, ArePlanned}
 use Rattle.call_script.specs.Plans.{HasTerms, IsPlan}

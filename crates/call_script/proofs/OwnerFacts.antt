@@ -1,7 +1,7 @@
 -- Each channel of a plan has one owner: one caller opens its request, may move packets onto it, sends on it, and then may close
 -- it or move packets from it; and no other caller names it.
 use Rattle.std.proofs.Common.{◌≡◌, ◌≢◌, ℕ, suc, ◌<◌, ◌⊎◌, Bool, true, false, not, Option, Some, None, List, [], ◌∷◌, ◌++◌, map, refl, sym, ap, ◌∙◌, subst, inl, inr, nat_eq, option_map, arith}
-use Rattle.std.proofs.lemmas.Bool.{cases_Bool, eqb-true, eqb-false, eq-eqb, ne_eqb}
+use Rattle.std.proofs.lemmas.Bool.{eqb-false, eq-eqb, ne_eqb}
 use Rattle.std.proofs.lemmas.List.{append_assoc, length-map}
 use Rattle.std.proofs.lemmas.List.Folds.{list_any-append}
 use Rattle.std.proofs.lemmas.Option.{slice_get-map, same_Some}
@@ -13,7 +13,7 @@ use Rattle.hop_reservation.specs.declared.route.Hop.{Hop}
 use Rattle.link_steps.specs.Lists.{Each}
 use Rattle.setup_protocol.specs.declared.request.Request.{Request}
 use Rattle.call_script.specs.Operations.{attributes_of}
-use Rattle.call_script.specs.Owners.{PacketsOff, TaskOff, IsSendOn, IsMoveFrom, IsMoveOnto, ClosesOnce, SendsOnce, UsedOnce, FullScript, OwnedFully, IsOwned, IsUnnamed, AllOwned}
+use Rattle.call_script.specs.Owners.{TaskOff, IsSendOn, IsMoveFrom, IsMoveOnto, ClosesOnce, SendsOnce, UsedOnce, FullScript, OwnedFully, IsOwned, IsUnnamed, AllOwned}
 use Rattle.call_script.specs.Parts.{PlanParts, opening_by, openings_in, ArePlanned}
 use Rattle.call_script.specs.Plans.{IsPlan}
 use Rattle.call_script.specs.Rules.{each_after, named, hits, is_in, is_after, is_apart, may_move, fits_between, move_is_fit}
@@ -28,37 +28,12 @@ use Rattle.call_script.specs.declared.tasks.Task.{Task}
 use Rattle.call_script.specs.declared.tasks.Task.TheVariants.{Opens, Sends, Closes, Moves}
 use Rattle.link_steps.proofs.ListParts.{Each-at, comes-from}
 use Rattle.call_script.proofs.FitFacts.{request-fits}
-use Rattle.call_script.proofs.OperationFacts.{AreInOrder, OffIf, OpOff, task-off, AreApart, IsApartMove, IsTo, OpIs, IsOff, Opening, Sending, Closing, Leaving, Joining, op-is}
+use Rattle.call_script.proofs.OperationFacts.{ChannelIf, TaskIf, with-task, AreInOrder, OpOff, task-off, AreApart, IsApartMove, IsTo, OpIs, IsOff, Opening, Sending, Closing, Leaving, Joining, op-is}
 use Rattle.call_script.proofs.OpeningFacts.{AreNumbered, caller-numbered, IsOpenedBy, opened-has, owner-inside}
 use Rattle.call_script.proofs.RuleFacts.{both, not-true, each-of, keeps-rules, used-in, unclosed-in, moves-in}
 use Rattle.std.proofs.Math.Bool.{or-true}
 
--- ---- tasks of another channel
-
-each-with : (c : ℕ) (task : Option Task) (tasks : List Task) → OffIf c task → Each (TaskOff c) tasks → Each (TaskOff c) (with_task task tasks)
-unfolding OffIf
-each-with c None tasks off each = each
-each-with c (Some task) tasks off each = (off, each)
-
-sends-with : (request : Request) (task : Option Task) (tasks : List Task) → OffIf (channel_number request.chan) task → SendsOnce request tasks → SendsOnce request (with_task task tasks)
-unfolding OffIf
-sends-with request None tasks off sends = sends
-sends-with request (Some task) tasks off sends = inl (off, sends)
-
-full-with : (request : Request) (task : Option Task) (tasks : List Task) → OffIf (channel_number request.chan) task → FullScript request tasks → FullScript request (with_task task tasks)
-unfolding OffIf
-full-with request None tasks off full = full
-full-with request (Some task) tasks off full = inl (off, full)
-
-closes-with : (request : Request) (task : Option Task) (tasks : List Task) → OffIf (channel_number request.chan) task → ClosesOnce request tasks → ClosesOnce request (with_task task tasks)
-unfolding OffIf
-closes-with request None tasks off closes = closes
-closes-with request (Some task) tasks off closes = inl (off, closes)
-
-used-with : (request : Request) (task : Option Task) (tasks : List Task) → OffIf (channel_number request.chan) task → UsedOnce request tasks → UsedOnce request (with_task task tasks)
-unfolding OffIf
-used-with request None tasks off used = used
-used-with request (Some task) tasks off used = inl (off, used)
+-- ---- weaker scripts
 
 -- where a request was left by a move, its closing alone is left; and where it may be moved onto, it may be sent on
 pub closes-sends : (request : Request) (tasks : List Task) → ClosesOnce request tasks → SendsOnce request tasks
@@ -157,12 +132,15 @@ clash b holds fails = (let same : true ≡ false = sym holds ∙ fails in cc)
 
 -- ---- other callers
 
+each-off : (c : ℕ) (task : Option Task) (tasks : List Task) → TaskIf (TaskOff c) task → Each (TaskOff c) tasks → Each (TaskOff c) (with_task task tasks)
+each-off c task tasks off each = with-task (TaskOff c) (Each (TaskOff c)) task tasks off (λ own one. (one, each)) each
+
 -- a script whose channels are all others names another channel in each operation
 ops-off : (c : ℕ) (requests : List Request) (above ops : List Op) → AreInOrder requests → KeepsOrder above ops → ((chan : ℕ) → list_any (is_in role.Opens chan) (above ++ ops) ≡ true → chan ≢ c) → Each (TaskOff c) (tasks_of requests ops)
 unfolding tasks_of
 ops-off c requests above [] ordered keeps others = tt
 ops-off c requests above (op ∷ ops) ordered keeps others =
-    each-with c (task_of requests op) (tasks_of requests ops) (task-off c requests op ordered (off (op-is c op keeps.apart.0)))
+    each-off c (task_of requests op) (tasks_of requests ops) (task-off c requests op ordered (off (op-is c op keeps.apart.0)))
     (ops-off c requests (above ++ op ∷ []) ops ordered (order-rest above op ops keeps) (λ chan any. others chan (subst (λ os. list_any (is_in role.Opens chan) os ≡ true) (append_assoc above (op ∷ []) ops) any))) where
       first : OpKeeps above op
       first = order-first above op ops keeps
@@ -223,11 +201,11 @@ own-onto P requests request o tasks at other rest moved =
 
 -- an operation opens another channel, or none
 abbrev OpenOff : ℕ → Op → Type 0
-OpenOff c op = PacketsOff c (attributes_of op).opens
+OpenOff c op = ChannelIf (λ n. n ≢ c) (attributes_of op).opens
 
 opens-off : (c : ℕ) (op : Op) → OpenOff c op → IsTo role.Opens c op → ⊥
 opens-off c op off is = by (attributes_of op).opens off is where
-  by : (opens : Option ChanNo) → PacketsOff c opens → option_map channel_number opens ≡ Some c → ⊥
+  by : (opens : Option ChanNo) → ChannelIf (λ n. n ≢ c) opens → option_map channel_number opens ≡ Some c → ⊥
   by None other same = (let clash' : None ≡ Some c = same in cc)
   by (Some chan) other same = other (same_Some (channel_number chan) c same)
 
@@ -235,7 +213,7 @@ numbered-off : (n c m : ℕ) (ops : List Op) → c < m → AreNumbered m (openin
 unfolding openings_in
 numbered-off n c m [] below are = tt
 numbered-off n c m (op ∷ ops) below are = by (attributes_of op).opens are (λ from less. numbered-off n c from ops less) where
-  by : (opens : Option ChanNo) → AreNumbered m (opening_by n opens ++ openings_in n ops) → ((from : ℕ) → c < from → AreNumbered from (openings_in n ops) → Each (OpenOff c) ops) → PacketsOff c opens × Each (OpenOff c) ops
+  by : (opens : Option ChanNo) → AreNumbered m (opening_by n opens ++ openings_in n ops) → ((from : ℕ) → c < from → AreNumbered from (openings_in n ops) → Each (OpenOff c) ops) → ChannelIf (λ n. n ≢ c) opens × Each (OpenOff c) ops
   by None own rest = (tt, rest m below own)
   by (Some chan) own rest = (let number : channel_number chan ≡ m = own.0 in (λ same. absurd (omega (arith, number, same, below)), rest (suc m) (omega (arith, below)) own.1))
 
@@ -244,7 +222,7 @@ closed-off : (c : ℕ) (requests : List Request) (above ops : List Op) → AreIn
 unfolding tasks_of
 closed-off c requests above [] ordered unopened closed used keeps = tt
 closed-off c requests above (op ∷ ops) ordered unopened closed used keeps =
-    each-with c (task_of requests op) (tasks_of requests ops) (task-off c requests op ordered (off (op-is c op keeps.apart.0)))
+    each-off c (task_of requests op) (tasks_of requests ops) (task-off c requests op ordered (off (op-is c op keeps.apart.0)))
     (closed-off c requests (above ++ op ∷ []) ops ordered unopened.1 (any-later (is_in role.Closes c) above (op ∷ []) closed) (any-later (is_in role.Uses c) above (op ∷ []) used) (order-rest above op ops keeps)) where
       first : OpKeeps above op
       first = order-first above op ops keeps
@@ -283,7 +261,7 @@ left-closes requests request above (op ∷ ops) at unopened left used keeps =
       keeps-not is = clash (list_any (is_in role.Leaves (number_of request)) above) left (apart-none role.Keeps role.Leaves above op (number_of request) is first.unleft)
 
       by : ClosesOnce request (tasks_of requests ops) → OpIs (number_of request) op → ClosesOnce request (with_task (task_of requests op) (tasks_of requests ops))
-      by rest (IsOff other) = closes-with request (task_of requests op) (tasks_of requests ops) (task-off (number_of request) requests op at.ordered other) rest
+      by rest (IsOff other) = with-task (TaskOff (number_of request)) (ClosesOnce request) (task_of requests op) (tasks_of requests ops) (task-off (number_of request) requests op at.ordered other) (λ own off. inl (off, rest)) rest
       by rest (Opening opens task) = absurd (opens-off (number_of request) op unopened.0 opens)
       by rest (Sending count gap size uses kept task) = absurd (keeps-not kept)
       by rest (Closing uses closes task) = subst (λ t. ClosesOnce request (with_task t (tasks_of requests ops))) (sym (close-task requests request op at (task requests))) (inr (refl, own-close requests request above ops op at unopened.1 uses closes (order-rest above op ops keeps)))
@@ -314,7 +292,7 @@ used-sends requests request above (op ∷ ops) at unopened used keeps =
       joins-not is (inr any) = clash (list_any (is_in role.Joins (number_of request)) above) any (apart-none role.Joins role.Joins above op (number_of request) is first.unjoined)
 
       by : SendsOnce request (tasks_of requests ops) → OpIs (number_of request) op → SendsOnce request (with_task (task_of requests op) (tasks_of requests ops))
-      by rest (IsOff other) = sends-with request (task_of requests op) (tasks_of requests ops) (task-off (number_of request) requests op at.ordered other) rest
+      by rest (IsOff other) = with-task (TaskOff (number_of request)) (SendsOnce request) (task_of requests op) (tasks_of requests ops) (task-off (number_of request) requests op at.ordered other) (λ own off. inl (off, rest)) rest
       by rest (Opening opens task) = absurd (opens-off (number_of request) op unopened.0 opens)
       by rest (Sending count gap size uses kept task) =
           subst (λ t. SendsOnce request (with_task t (tasks_of requests ops))) (sym (task requests)) (own-send SendsOnce requests request count gap size (tasks_of requests ops) at rest (λ t send. inr (inl (send, rest))))
@@ -335,7 +313,7 @@ opened-used requests request above (op ∷ ops) at unopened keeps =
       sends-by used = used-sends requests request (above ++ op ∷ []) ops at unopened.1 used (order-rest above op ops keeps)
 
       by : UsedOnce request (tasks_of requests ops) → OpIs (number_of request) op → UsedOnce request (with_task (task_of requests op) (tasks_of requests ops))
-      by rest (IsOff other) = used-with request (task_of requests op) (tasks_of requests ops) (task-off (number_of request) requests op at.ordered other) rest
+      by rest (IsOff other) = with-task (TaskOff (number_of request)) (UsedOnce request) (task_of requests op) (tasks_of requests ops) (task-off (number_of request) requests op at.ordered other) (λ own off. inl (off, rest)) rest
       by rest (Opening opens task) = absurd (opens-off (number_of request) op unopened.0 opens)
       by rest (Sending count gap size uses kept task) =
           (let sends = sends-by (inl (now-has role.Uses (number_of request) above op uses)) in
@@ -356,7 +334,7 @@ same-opened c above op other was = any-end (is_in role.Opens c) above op ∙ ap 
 -- an operation that is none of the channel's opens another one or none
 opens-other : (c : ℕ) (op : Op) → OpOff c op → is_in role.Opens c op ≡ false
 opens-other c op off = by (attributes_of op).opens off.opens where
-  by : (opens : Option ChanNo) → PacketsOff c opens → hits (λ own. nat_eq own c) (option_map channel_number opens) ≡ false
+  by : (opens : Option ChanNo) → ChannelIf (λ n. n ≢ c) opens → hits (λ own. nat_eq own c) (option_map channel_number opens) ≡ false
   by None other = refl
   by (Some chan) other = ne_eqb (channel_number chan) c other
 
@@ -393,8 +371,8 @@ early-full n m requests request above (op ∷ ops) at are none keeps =
       by : ((from : ℕ) → AreNumbered from (openings_in n ops) → list_any (is_in role.Opens (number_of request)) (above ++ op ∷ []) ≡ false → FullScript request (tasks_of requests ops)) → OpIs (number_of request) op → FullScript request (with_task (task_of requests op) (tasks_of requests ops))
       by more (IsOff other) =
           (let rest = after-numbered n m op ops are in
-          full-with request (task_of requests op) (tasks_of requests ops) (task-off (number_of request) requests op at.ordered other)
-          (more rest.0 rest.1 (same-opened (number_of request) above op (opens-other (number_of request) op other) none)))
+          let full = more rest.0 rest.1 (same-opened (number_of request) above op (opens-other (number_of request) op other) none) in
+          with-task (TaskOff (number_of request)) (FullScript request) (task_of requests op) (tasks_of requests ops) (task-off (number_of request) requests op at.ordered other) (λ own off. inl (off, full)) full)
       by more (Opening opens task) =
           (let now = open-numbered n m (number_of request) op ops opens are in
           let own = task requests ∙ own-task requests request (λ r. Opens r) at in

@@ -8,8 +8,10 @@ use Rattle.std.specs.List.{list_all, list_any, slice_get}
 use Rattle.std.specs.Prelude.{cond, not, ◌||◌}
 use Rattle.hop_reservation.specs.declared.route.Hop.{Hop}
 use Rattle.traffic_contract.specs.Admission.{total}
-use Rattle.call_script.specs.Rules.{each_after, hits, misses, meets, is_joined}
+use Rattle.call_script.specs.Rules.{each_after, may_stand, meets, is_joined}
 use Rattle.call_script.specs.declared.entries.LinkEntry.{LinkEntry}
+use Rattle.call_script.specs.declared.roles.Place.{Place}
+use Rattle.call_script.specs.declared.roles.Place.TheVariants as place
 
 -- the elements that are left begin with the one at hand
 pub left-at : {X : Type 0} (xs : List X) (i : ℕ) (x : X) → i < length xs → x ≡ get_or xs i x → drop i xs ≡ x ∷ drop (i + 1) xs
@@ -61,13 +63,11 @@ pub any-same : {X : Type 0} (test : X → Bool) (xs : List X) (i : ℕ) (x : X) 
 any-same test xs i x was within is before fails = any-more test xs i x was was within is before (rw fails refl)
 
 -- a set that has what the test tells decides as the test does
-pub hits-same : (has other : ℕ → Bool) (chan : Option ℕ) → ((q : ℕ) → has q ≡ other q) → hits has chan ≡ hits other chan
-hits-same has other None same = refl
-hits-same has other (Some chan) same = same chan
-
-pub misses-same : (has other : ℕ → Bool) (chan : Option ℕ) → ((q : ℕ) → has q ≡ other q) → misses has chan ≡ misses other chan
-misses-same has other None same = refl
-misses-same has other (Some chan) same = ap not (same chan)
+pub stands-same : (at : Place) (has other : ℕ → Bool) (chan : Option ℕ) → ((q : ℕ) → has q ≡ other q) → may_stand at has chan ≡ may_stand at other chan
+stands-same place.After has other None same = refl
+stands-same place.After has other (Some chan) same = ap (λ b. not (not b)) (same chan)
+stands-same place.Apart has other None same = refl
+stands-same place.Apart has other (Some chan) same = ap not (same chan)
 
 -- ---- by the element at an index
 

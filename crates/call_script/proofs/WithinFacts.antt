@@ -49,11 +49,11 @@ found-within requests n request numbered found = subst (λ k. k < length request
 
 tasks-within : (requests : List Request) (ops : List Op) → AreNumbered requests → Each (TaskWithin (length requests)) (tasks_of requests ops)
 tasks-within requests ops numbered = tasks-hold (TaskWithin (length requests)) requests (record {
-  opens = λ n request found. found-within requests n request numbered found;
-  sends = λ n request link count gap size found. found-within requests n request numbered found;
-  closes = λ n request found. found-within requests n request numbered found;
+  opens = λ n request such found. found-within requests n request numbered found;
+  sends = λ n request link count gap size such found. found-within requests n request numbered found;
+  closes = λ n request such found. found-within requests n request numbered found;
   pours = λ link count gap size. tt;
-  moves = λ o n old new leaves joins. (found-within requests o old numbered leaves, found-within requests n new numbered joins);
+  moves = λ o n old new such also leaves joins. (found-within requests o old numbered leaves, found-within requests n new numbered joins);
 }) ops
 
 -- ---- where a caller stands

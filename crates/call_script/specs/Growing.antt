@@ -14,14 +14,14 @@ use Rattle.link_steps.specs.declared.quota.Quota.{Quota}
 use Rattle.call_script.specs.Groups.{most_groups, group_has_version, group_is_there, is_of_new_group, quota_is_there, quota_in_range, quotas_fit, KeepGroups}
 use Rattle.call_script.specs.Operations.{attributes_of}
 use Rattle.call_script.specs.Parts.{PlanParts, parts_of, FollowsLink, LeavesUnused, ArePlanned}
-use Rattle.call_script.specs.Plans.{HasTerms, IsPlan}
+use Rattle.call_script.specs.Plans.{HasTerms}
 use Rattle.call_script.specs.Rules.{have_version, have_names, are_there, are_in_range, are_few, are_joined, are_unclosed, pours_are_taken, moves_are_fit, link_names, caller_names, request_names, is_new, link_has_version, request_has_version, op_has_version, has_link, route_is_there, pour_is_there, is_in, is_after, is_apart, op_in_range, pour_is_taken, request_in_range, packets_in_range, is_joined, load_of, load_in, loads_in, takes_best_effort, move_is_fit}
 use Rattle.call_script.specs.Versions.{has_best_effort, has_groups, has_moves}
 use Rattle.call_script.specs.declared.entries.CallerEntry.{CallerEntry}
 use Rattle.call_script.specs.declared.entries.LinkEntry.{LinkEntry}
 use Rattle.call_script.specs.declared.entries.RequestEntry.{RequestEntry}
 use Rattle.call_script.specs.declared.operations.Op.{Op}
-use Rattle.call_script.specs.declared.operations.Op.TheVariants.{Open, Send, Close, Pour, Move}
+use Rattle.call_script.specs.declared.operations.Op.TheVariants.{Open, Send, Pour, Move}
 use Rattle.call_script.specs.declared.roles.Role.TheVariants as role
 use Rattle.call_script.specs.declared.roles.Role.{Role}
 use Rattle.call_script.specs.declared.version.Version.{Version}
@@ -215,35 +215,3 @@ pub record KeepSoFar (parts : PlanParts) : Type 0 where
 pub record AreEnough (parts : PlanParts) : Type 0 where
   pub links : 1 ≤ length parts.links
   pub ticks : (parts.rounds + parts.tail) * length parts.links ≤ most_rounds
-
--- ---- the laws, whose proofs are in `proofs/Growing.antt` and `proofs/QuotaGrowth.antt`
-
-abbrev pub NothingKeeps : Type 0
-NothingKeeps = (version : Version) → KeepSoFar (nothing_of version)
-
-abbrev pub LinksKeep : Type 0
-LinksKeep = (parts : PlanParts) (entry : LinkEntry) → KeepSoFar parts → MayAddLink parts entry → KeepSoFar (with_link entry parts)
-
-abbrev pub GroupsKeep : Type 0
-GroupsKeep = (parts : PlanParts) (name : List ℕ) → KeepSoFar parts → MayAddGroup parts name → KeepSoFar (with_group name parts)
-
-abbrev pub QuotasKeep : Type 0
-QuotasKeep = (parts : PlanParts) (place : ℕ) (quota : Quota) → KeepSoFar parts → MayAddQuota parts place quota → KeepSoFar (with_quota place quota parts)
-
-abbrev pub CallersKeep : Type 0
-CallersKeep = (parts : PlanParts) (name : List ℕ) (group : ℕ) → KeepSoFar parts → MayAddCaller parts name group → KeepSoFar (with_caller name group parts)
-
-abbrev pub OpensKeep : Type 0
-OpensKeep = (parts : PlanParts) (entry : RequestEntry) → KeepSoFar parts → MayOpen parts entry → KeepSoFar (with_open entry parts)
-
-abbrev pub OpsKeep : Type 0
-OpsKeep = (parts : PlanParts) (op : Op) → KeepSoFar parts → MayFollow parts op → KeepSoFar (with_op op parts)
-
-abbrev pub RoundsKeep : Type 0
-RoundsKeep = (parts : PlanParts) (rounds : ℕ) → KeepSoFar parts → rounds ≤ most_rounds → KeepSoFar (with_rounds rounds parts)
-
-abbrev pub TailsKeep : Type 0
-TailsKeep = (parts : PlanParts) (tail : ℕ) → KeepSoFar parts → tail ≤ most_rounds → KeepSoFar (with_tail tail parts)
-
-abbrev pub GrownPartsArePlans : Type 0
-GrownPartsArePlans = (parts : PlanParts) → KeepSoFar parts → AreEnough parts → IsPlan parts

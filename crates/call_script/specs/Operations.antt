@@ -16,14 +16,18 @@ use Rattle.call_script.specs.declared.roles.Role.TheVariants as role
 
 -- nothing to any channel, and no packets
 abbrev pub plain : Attributes
-plain = record { opens = None; uses = None; closes = None; leaves = None; keeps = None; joins = None; amount = Nothing; way = Nowhere; needs = feature.Always }
+plain =
+    record { opens = None; uses = None; closes = None; leaves = None; keeps = None; joins = None; amount = Nothing; way = Nowhere; needs = feature.Always }
 
 abbrev pub attributes_of : Op → Attributes
 attributes_of (Open chan) = record plain { opens = Some chan }
-attributes_of (Send chan count gap size) = record plain { uses = Some chan; keeps = Some chan; amount = Fresh count gap size; way = OverRoute chan }
+attributes_of (Send chan count gap size) =
+    record plain { uses = Some chan; keeps = Some chan; amount = Fresh count gap size; way = OverRoute chan }
 attributes_of (Close chan) = record plain { uses = Some chan; closes = Some chan }
-attributes_of (Pour link count gap size) = record plain { amount = Fresh count gap size; way = OverLink link; needs = feature.BestEffort }
-attributes_of (Move old new) = record plain { uses = Some old; keeps = Some old; leaves = Some old; joins = Some new; amount = Carried old; way = OverRoute new; needs = feature.Moves }
+attributes_of (Pour link count gap size) =
+    record plain { amount = Fresh count gap size; way = OverLink link; needs = feature.BestEffort }
+attributes_of (Move old new) =
+    record plain { uses = Some old; keeps = Some old; leaves = Some old; joins = Some new; amount = Carried old; way = OverRoute new; needs = feature.Moves }
 
 -- the channel to which an operation is this
 abbrev pub channel_of : Role → Attributes → Option ChanNo

@@ -40,6 +40,8 @@ use Rattle.call_script.specs.declared.entries.CallerEntry.{CallerEntry}
 use Rattle.call_script.specs.declared.operations.Op.{Op}
 use Rattle.call_script.specs.declared.roles.Role.{Role}
 use Rattle.call_script.specs.declared.roles.Role.TheVariants as role
+use Rattle.call_script.specs.declared.roles.Place.{Place}
+use Rattle.call_script.specs.declared.roles.Place.TheVariants as place
 use Rattle.call_script.specs.declared.version.Version.{Version}
 
 -- ---- words on lists
@@ -104,14 +106,14 @@ has_link links link = nat_lt (link_number link) (length links)
 abbrev pub route_is_there : List LinkEntry → RequestEntry → Bool
 route_is_there links entry = list_all (λ hop. has_link links hop.link) entry.request.route
 
--- so is the one link over which packets go
-abbrev pub way_is_there : List LinkEntry → Way → Bool
-way_is_there links Nowhere = true
-way_is_there links (OverRoute chan) = true
-way_is_there links (OverLink link) = has_link links link
+-- a test on the one link over which packets go, where they go over one
+abbrev pub of_link : (LinkNo → Bool) → Way → Bool
+of_link test Nowhere = true
+of_link test (OverRoute chan) = true
+of_link test (OverLink link) = test link
 
 abbrev pub pour_is_there : List LinkEntry → Op → Bool
-pour_is_there links op = way_is_there links (attributes_of op).way
+pour_is_there links op = of_link (has_link links) (attributes_of op).way
 
 -- ---- what an operation is to a channel
 
@@ -132,12 +134,23 @@ misses has (Some chan) = not (has chan)
 abbrev pub is_in : Role → ℕ → Op → Bool
 is_in role chan op = hits (λ own. nat_eq own chan) (named role op)
 
+-- it has to be in the set, or mustn't be
+abbrev pub may_stand : Place → (ℕ → Bool) → Option ℕ → Bool
+may_stand place.After has chan = not (misses has chan)
+may_stand place.Apart has chan = not (hits has chan)
+
 -- the channel to which it is `asks` is one to which an operation above is `adds`; or it is none
+abbrev pub stands : Place → Role → Role → List Op → Op → Bool
+stands at asks adds above op = may_stand at (λ chan. list_any (is_in adds chan) above) (named asks op)
+
 abbrev pub is_after : Role → Role → List Op → Op → Bool
-is_after asks adds above op = not (misses (λ chan. list_any (is_in adds chan) above) (named asks op))
+is_after asks adds above op = stands place.After asks adds above op
 
 abbrev pub is_apart : Role → Role → List Op → Op → Bool
-is_apart asks adds above op = not (hits (λ chan. list_any (is_in adds chan) above) (named asks op))
+is_apart asks adds above op = stands place.Apart asks adds above op
+
+abbrev pub all_stand : Place → Role → Role → List CallerEntry → Bool
+all_stand at asks adds callers = list_all (λ caller. each_after (stands at asks adds) [] caller.ops) callers
 
 abbrev pub all_after : Role → Role → List CallerEntry → Bool
 all_after asks adds callers = list_all (λ caller. each_after (is_after asks adds) [] caller.ops) callers
@@ -286,13 +299,8 @@ abbrev pub takes_best_effort : Option LinkEntry → Bool
 takes_best_effort None = false
 takes_best_effort (Some entry) = nat_le 1 entry.shape.best
 
-abbrev pub way_is_taken : List LinkEntry → Way → Bool
-way_is_taken links Nowhere = true
-way_is_taken links (OverRoute chan) = true
-way_is_taken links (OverLink link) = takes_best_effort (slice_get links (link_number link))
-
 abbrev pub pour_is_taken : List LinkEntry → Op → Bool
-pour_is_taken links op = way_is_taken links (attributes_of op).way
+pour_is_taken links op = of_link (λ link. takes_best_effort (slice_get links (link_number link))) (attributes_of op).way
 
 unfoldable pub pours_are_taken : PlanParts → Bool
 pours_are_taken parts = all_ops (pour_is_taken parts.links) parts.callers

@@ -29,11 +29,7 @@ pub(crate) enum Amount {
     // None.
     Nothing,
     // So many, one each gap, of this size.
-    Fresh {
-        count: u64,
-        gap: u64,
-        size: u32,
-    },
+    Fresh { count: u64, gap: u64, size: u32 },
     // As many as the request of a channel has to carry.
     Carried(ChanNo),
 }
@@ -61,9 +57,9 @@ pub(crate) enum Feature {
 pub(crate) fn attributes_of(op: &Op) -> Attributes
     ensures { result ≡ attributes_of op.now }
 {
-    match op {
+    match *op {
         Op::Open(chan) => Attributes {
-            opens: Some(*chan),
+            opens: Some(chan),
             ..plain()
         },
         Op::Send {
@@ -72,19 +68,15 @@ pub(crate) fn attributes_of(op: &Op) -> Attributes
             gap,
             size,
         } => Attributes {
-            uses: Some(*chan),
-            keeps: Some(*chan),
-            amount: Amount::Fresh {
-                count: *count,
-                gap: *gap,
-                size: *size,
-            },
-            way: Way::OverRoute(*chan),
+            uses: Some(chan),
+            keeps: Some(chan),
+            amount: Amount::Fresh { count, gap, size },
+            way: Way::OverRoute(chan),
             ..plain()
         },
         Op::Close(chan) => Attributes {
-            uses: Some(*chan),
-            closes: Some(*chan),
+            uses: Some(chan),
+            closes: Some(chan),
             ..plain()
         },
         Op::Pour {
@@ -93,22 +85,18 @@ pub(crate) fn attributes_of(op: &Op) -> Attributes
             gap,
             size,
         } => Attributes {
-            amount: Amount::Fresh {
-                count: *count,
-                gap: *gap,
-                size: *size,
-            },
-            way: Way::OverLink(*link),
+            amount: Amount::Fresh { count, gap, size },
+            way: Way::OverLink(link),
             needs: Feature::BestEffort,
             ..plain()
         },
         Op::Move { old, new } => Attributes {
-            uses: Some(*old),
-            keeps: Some(*old),
-            leaves: Some(*old),
-            joins: Some(*new),
-            amount: Amount::Carried(*old),
-            way: Way::OverRoute(*new),
+            uses: Some(old),
+            keeps: Some(old),
+            leaves: Some(old),
+            joins: Some(new),
+            amount: Amount::Carried(old),
+            way: Way::OverRoute(new),
             needs: Feature::Moves,
             ..plain()
         },

@@ -169,10 +169,7 @@ fn blank() -> Channel
 fn is_accepted(verdict: &Verdict) -> bool
     ensures { result ≡ is_accepted (outcome_of verdict.now) }
 {
-    match verdict {
-        Verdict::Accepted { .. } => true,
-        Verdict::Denied(_) => false,
-    }
+    matches!(verdict, Verdict::Accepted { .. })
 }
 
 // Whether a reply plans the packets of its submit.

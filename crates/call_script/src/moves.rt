@@ -1,6 +1,8 @@
 //! Between which requests packets may move.
 ghost use Rattle.std.specs.Prelude.{◌≡◌, Some};
-ghost use Rattle.call_script.specs.Rules.{may_move, same_contract, same_ends, begin_together, end_together};
+ghost use Rattle.call_script.specs.Rules.{may_move, same_contract, same_ends, start_of, end_of};
+ghost use Rattle.std.specs.List.{slice_get};
+ghost use Rattle.net_units.specs.Numbers.{link_number};
 
 use crate::entries::{LinkEntry, RequestEntry};
 use hop_reservation::Route;
@@ -31,34 +33,25 @@ fn same_ends(links: &[LinkEntry], route: &Route, other: &Route) -> bool
 {
     let count = route.len();
     let others = other.len();
-    begin_together(links, route.hop(1).link, other.hop(1).link)
-        && end_together(links, route.hop(count).link, other.hop(others).link)
+    start_of(links, route.hop(1).link) == start_of(links, other.hop(1).link)
+        && end_of(links, route.hop(count).link) == end_of(links, other.hop(others).link)
 }
 
-fn begin_together(links: &[LinkEntry], link: LinkNo, other: LinkNo) -> bool
-    ensures { result ≡ begin_together links.now link other }
+// The node where a link begins, and the one where it ends; no name where it isn't there.
+pub(crate) fn start_of(links: &[LinkEntry], link: LinkNo) -> &[u8]
+    ensures { result.now ≡ start_of (slice_get links.now (link_number link)) }
 {
-    let start = match links.get(usize::from(link.get())) {
+    match links.get(usize::from(link.get())) {
         Some(entry) => entry.from.as_bytes(),
         None => &[],
-    };
-    let other = match links.get(usize::from(other.get())) {
-        Some(entry) => entry.from.as_bytes(),
-        None => &[],
-    };
-    start == other
+    }
 }
 
-fn end_together(links: &[LinkEntry], link: LinkNo, other: LinkNo) -> bool
-    ensures { result ≡ end_together links.now link other }
+pub(crate) fn end_of(links: &[LinkEntry], link: LinkNo) -> &[u8]
+    ensures { result.now ≡ end_of (slice_get links.now (link_number link)) }
 {
-    let end = match links.get(usize::from(link.get())) {
+    match links.get(usize::from(link.get())) {
         Some(entry) => entry.to.as_bytes(),
         None => &[],
-    };
-    let other = match links.get(usize::from(other.get())) {
-        Some(entry) => entry.to.as_bytes(),
-        None => &[],
-    };
-    end == other
+    }
 }

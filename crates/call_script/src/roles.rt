@@ -22,6 +22,15 @@ pub enum Role {
     Joins,
 }
 
+// Where an operation may stand that asks for a channel.
+#[derive(Clone, Copy)]
+pub(crate) enum Place {
+    // After one that adds it.
+    After,
+    // After none that does.
+    Apart,
+}
+
 // The number of the channel to which an operation is this, if there is one.
 pub(crate) fn named(role: Role, op: &Op) -> Option<u32>
     ensures { result ≡ named role op.now }

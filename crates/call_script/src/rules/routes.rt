@@ -5,6 +5,7 @@ ghost use Rattle.call_script.specs.Rules.{has_link, route_is_there, meets, is_jo
 ghost use Rattle.call_script.specs.declared.entries.RequestEntry.{RequestEntry as Asked};
 
 use crate::entries::{LinkEntry, RequestEntry};
+use crate::moves::{end_of, start_of};
 use hop_reservation::Route;
 use net_units::LinkNo;
 
@@ -57,13 +58,5 @@ fn is_joined(links: &[LinkEntry], route: &Route) -> bool
 fn meets(links: &[LinkEntry], link: LinkNo, next: LinkNo) -> bool
     ensures { result ≡ meets links.now link next }
 {
-    let end = match links.get(usize::from(link.get())) {
-        Some(entry) => entry.to.as_bytes(),
-        None => &[],
-    };
-    let start = match links.get(usize::from(next.get())) {
-        Some(entry) => entry.from.as_bytes(),
-        None => &[],
-    };
-    end == start
+    end_of(links, link) == start_of(links, next)
 }

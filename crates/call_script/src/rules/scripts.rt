@@ -1,11 +1,11 @@
 //! Operations of a script that need one above them, or that need none.
 ghost use Rattle.std.specs.Prelude.{◌≡◌, [], IfOk, nat_eq};
 ghost use Rattle.std.specs.HashSet.{contains};
-ghost use Rattle.call_script.specs.Rules.{each_after, hits, misses, is_after, is_apart, all_after, all_apart, are_opened};
+ghost use Rattle.call_script.specs.Rules.{each_after, hits, misses, may_stand, stands, all_stand, are_opened};
 
 use crate::entries::CallerEntry;
 use crate::operations::Op;
-use crate::roles::{Role, named};
+use crate::roles::{Place, Role, named};
 use net_units::OutOfMemory;
 use std::alloc::Global;
 use std::collections::HashSet;
@@ -15,34 +15,41 @@ pub(crate) fn are_opened(alloc: Global, callers: &[CallerEntry]) -> Result<bool,
     ensures { IfOk result (λ kept. kept ≡ are_opened callers.now) }
 {
     Ok(
-        all_after(alloc, Role::Uses, Role::Opens, callers)?
-            && all_after(alloc, Role::Joins, Role::Opens, callers)?,
+        all_stand(alloc, Place::After, Role::Uses, Role::Opens, callers)?
+            && all_stand(alloc, Place::After, Role::Joins, Role::Opens, callers)?,
     )
 }
 
-// Whether each channel to which an operation is `asks` is one to which an operation above is `adds`.
-pub(crate) fn all_after(
+// Whether each operation that is `asks` to a channel stands after one that is `adds` to it, or none does.
+pub(crate) fn all_stand(
     alloc: Global,
+    place: Place,
     asks: Role,
     adds: Role,
     callers: &[CallerEntry],
 ) -> Result<bool, OutOfMemory>
-    ensures { IfOk result (λ kept. kept ≡ all_after asks adds callers.now) }
+    ensures { IfOk result (λ kept. kept ≡ all_stand place asks adds callers.now) }
 {
     for caller in callers {
-        if !ops_are_after(alloc, asks, adds, caller.ops.as_slice())? {
+        if !ops_stand(alloc, place, asks, adds, caller.ops.as_slice())? {
             return Ok(false);
         }
     }
     Ok(true)
 }
 
-fn ops_are_after(alloc: Global, asks: Role, adds: Role, ops: &[Op]) -> Result<bool, OutOfMemory>
-    ensures { IfOk result (λ kept. kept ≡ each_after (is_after asks adds) [] ops.now) }
+fn ops_stand(
+    alloc: Global,
+    place: Place,
+    asks: Role,
+    adds: Role,
+    ops: &[Op],
+) -> Result<bool, OutOfMemory>
+    ensures { IfOk result (λ kept. kept ≡ each_after (stands place asks adds) [] ops.now) }
 {
     let mut above = HashSet::new(alloc);
     for op in ops {
-        if misses(&above, named(asks, op)) {
+        if !may_stand(place, &above, named(asks, op)) {
             return Ok(false);
         }
         if let Some(chan) = named(adds, op) {
@@ -52,39 +59,16 @@ fn ops_are_after(alloc: Global, asks: Role, adds: Role, ops: &[Op]) -> Result<bo
     Ok(true)
 }
 
-// Whether none of them is.
-pub(crate) fn all_apart(
-    alloc: Global,
-    asks: Role,
-    adds: Role,
-    callers: &[CallerEntry],
-) -> Result<bool, OutOfMemory>
-    ensures { IfOk result (λ kept. kept ≡ all_apart asks adds callers.now) }
+// Whether a channel, if there is one, is in the set, or isn't.
+fn may_stand(place: Place, channels: &HashSet<u32>, chan: Option<u32>) -> bool
+    ensures { result ≡ may_stand place (contains nat_eq channels.now) chan }
 {
-    for caller in callers {
-        if !ops_are_apart(alloc, asks, adds, caller.ops.as_slice())? {
-            return Ok(false);
-        }
+    match place {
+        Place::After => !misses(channels, chan),
+        Place::Apart => !hits(channels, chan),
     }
-    Ok(true)
 }
 
-fn ops_are_apart(alloc: Global, asks: Role, adds: Role, ops: &[Op]) -> Result<bool, OutOfMemory>
-    ensures { IfOk result (λ kept. kept ≡ each_after (is_apart asks adds) [] ops.now) }
-{
-    let mut above = HashSet::new(alloc);
-    for op in ops {
-        if hits(&above, named(asks, op)) {
-            return Ok(false);
-        }
-        if let Some(chan) = named(adds, op) {
-            above.insert(chan)?;
-        }
-    }
-    Ok(true)
-}
-
-// Whether a channel, if there is one, is in the set.
 fn hits(channels: &HashSet<u32>, chan: Option<u32>) -> bool
     ensures { result ≡ hits (contains nat_eq channels.now) chan }
 {
@@ -94,7 +78,6 @@ fn hits(channels: &HashSet<u32>, chan: Option<u32>) -> bool
     }
 }
 
-// Whether a channel, if there is one, isn't in the set.
 fn misses(channels: &HashSet<u32>, chan: Option<u32>) -> bool
     ensures { result ≡ misses (contains nat_eq channels.now) chan }
 {
