@@ -7,7 +7,7 @@ use Rattle.link_steps.proofs.ListFacts.{Each-append}
 use Rattle.net_units.specs.Numbers.{link_number}
 use Rattle.net_units.specs.declared.numbers.LinkNo.{LinkNo}
 use Rattle.link_steps.specs.declared.quota.Quota.{Quota}
-use Rattle.call_script.specs.Growing.{KeepSoFar, with_op, add_quota}
+use Rattle.call_script.specs.Growing.{KeepSoFar, new_caller, with_op, add_quota, add_op}
 use Rattle.call_script.specs.Parts.{PlanParts}
 use Rattle.call_script.specs.Plans.{IsPlan}
 use Rattle.call_script.specs.Broken.{rule_broken}
@@ -22,7 +22,17 @@ use Rattle.call_script.specs.declared.version.Version.TheVariants.{One}
 use Rattle.call_script.proofs.Growing.{nothing-keeps, link-keeps, caller-keeps, open-keeps, send-keeps, close-keeps, pour-keeps, move-keeps, rounds-keep, tail-keeps, grown-is-plan}
 use Rattle.call_script.proofs.QuotaGrowth.{group-keeps, quota-keeps}
 use Rattle.scenario_reader.specs.Drafts.{Said, nothing_said, with_item, is_complete, rounds_of, parts_said, schedule_said}
-use Rattle.scenario_reader.specs.Kept.{IsDo, IsScheduleOf, IsDraft, MayDo, MayPutLink, MayPutGroup, MayPutQuota, MayPutCaller, MayPutOpen, MayPutOp, MayPutRounds, MayPutTail, MayPutSchedule, MayPutDo, MayAdd}
+use Rattle.scenario_reader.specs.line.Before.{HasALink}
+use Rattle.scenario_reader.specs.Kept.{IsDo, IsScheduleOf, IsDraft}
+use Rattle.scenario_reader.specs.line.Operation.{MayDo, MayPutOp}
+use Rattle.scenario_reader.specs.line.Link.{MayPutLink}
+use Rattle.scenario_reader.specs.line.Group.{MayPutGroup}
+use Rattle.scenario_reader.specs.line.Quota.{MayPutQuota}
+use Rattle.scenario_reader.specs.line.Caller.{MayPutCaller}
+use Rattle.scenario_reader.specs.line.Request.{MayPutOpen}
+use Rattle.scenario_reader.specs.line.Rounds.{MayPutRounds, MayPutTail}
+use Rattle.scenario_reader.specs.line.Schedule.{MayPutSchedule, MayPutDo}
+use Rattle.scenario_reader.specs.line.Table.{MayAdd}
 use Rattle.scenario_reader.specs.declared.item.Item.{Item}
 use Rattle.scenario_reader.specs.declared.item.Item.TheVariants as item
 
@@ -101,29 +111,27 @@ draft_quota said link quota d may = record {
   schedule = d.schedule;
 }
 
-draft_caller : (said : Said) (name : List ℕ) (group : ℕ) → IsDraft said → MayPutCaller said name group → IsDraft (with_item (item.Caller name group) said)
-draft_caller said name group d may = record {
-  keeps = caller-keeps (parts_said said) name group d.keeps may.caller;
-  unheaded = λ e. absurd (may.before.before.headed e);
-  unlinked_callers = λ e. absurd (may.before.linked e);
+-- callers more, or with more, and their requests
+draft_calls : (said : Said) (requests : List RequestEntry) (callers : List CallerEntry) → IsDraft said → HasALink said → KeepSoFar (parts_said (record said { requests = requests; callers = callers }))
+    → IsDraft (record said { requests = requests; callers = callers })
+draft_calls said requests callers d before keeps = record {
+  keeps = keeps;
+  unheaded = λ e. absurd (before.before.headed e);
+  unlinked_callers = λ e. absurd (before.linked e);
   unlinked_rounds = d.unlinked_rounds;
   unrounded = d.unrounded;
   untailed = d.untailed;
   ticks = d.ticks;
-  schedule = empty_schedule said _ d may.before.before.unrounded;
+  schedule = empty_schedule said callers d before.before.unrounded;
 }
 
+draft_caller : (said : Said) (name : List ℕ) (group : ℕ) → IsDraft said → MayPutCaller said name group → IsDraft (with_item (item.Caller name group) said)
+draft_caller said name group d may =
+    draft_calls said said.requests (said.callers ++ new_caller name group ∷ []) d may.before (caller-keeps (parts_said said) name group d.keeps may.caller)
+
 draft_open : (said : Said) (entry : RequestEntry) → IsDraft said → MayPutOpen said entry → IsDraft (with_item (item.Open entry) said)
-draft_open said entry d may = record {
-  keeps = open-keeps (parts_said said) entry d.keeps may.request;
-  unheaded = λ e. absurd (may.before.before.headed e);
-  unlinked_callers = λ e. absurd (may.before.linked e);
-  unlinked_rounds = d.unlinked_rounds;
-  unrounded = d.unrounded;
-  untailed = d.untailed;
-  ticks = d.ticks;
-  schedule = empty_schedule said _ d may.before.before.unrounded;
-}
+draft_open said entry d may =
+    draft_calls said (said.requests ++ entry ∷ []) (add_op (op.Open entry.request.chan) said.callers) d may.before (open-keeps (parts_said said) entry d.keeps may.request)
 
 op_keeps : (said : Said) (what : Op) → IsDraft said → MayDo (parts_said said) what → KeepSoFar (with_op what (parts_said said))
 op_keeps said (op.Open chan) d may = absurd may
@@ -133,16 +141,8 @@ op_keeps said (op.Pour link count gap size) d may = pour-keeps (parts_said said)
 op_keeps said (op.Move old new) d may = move-keeps (parts_said said) old new d.keeps may
 
 draft_op : (said : Said) (what : Op) → IsDraft said → MayPutOp said what → IsDraft (with_item (item.Op what) said)
-draft_op said what d may = record {
-  keeps = op_keeps said what d may.op;
-  unheaded = λ e. absurd (may.before.before.headed e);
-  unlinked_callers = λ e. absurd (may.before.linked e);
-  unlinked_rounds = d.unlinked_rounds;
-  unrounded = d.unrounded;
-  untailed = d.untailed;
-  ticks = d.ticks;
-  schedule = empty_schedule said _ d may.before.before.unrounded;
-}
+draft_op said what d may =
+    draft_calls said said.requests (add_op what said.callers) d may.before (op_keeps said what d may.op)
 
 draft_rounds : (said : Said) (count : ℕ) → IsDraft said → MayPutRounds said count → IsDraft (with_item (item.Rounds count) said)
 draft_rounds said count d may = record {

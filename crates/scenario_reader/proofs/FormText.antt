@@ -1,5 +1,5 @@
 -- The fields of a line that has a form: the fixed words of the form, and what stands at its other places.
-use Rattle.std.proofs.Common.{◌≡◌, ℕ, ◌+◌, ◌≤◌, Bool, true, false, cond, ◌&&◌, nat_eq, nat_le, List, [], ◌∷◌, ◌++◌, length, get_or, take, drop, Some, None, refl, sym, ◌∙◌, ap, subst, arith, get_or-drop, drop-drop, take-append-drop}
+use Rattle.std.proofs.Common.{ℕ, ◌≡◌, ◌+◌, ◌≤◌, Bool, true, false, cond, ◌&&◌, nat_eq, nat_le, List, [], ◌∷◌, ◌++◌, length, get_or, take, drop, Some, None, refl, sym, ◌∙◌, ap, subst, arith, get_or-drop, drop-drop, take-append-drop}
 use Rattle.std.proofs.lemmas.Bool.{leb-true, and_parts}
 use Rattle.std.proofs.lemmas.Slice.Eq.{bytes_eq-Decides}
 use Rattle.std.specs.Cmp.Lexicographic.{pointwise}
@@ -123,3 +123,6 @@ pub word_at : (keyword : Keyword) (parts : List Part) (fields : List (List ℕ))
     → field_at fields place ≡ text_of keyword
 word_at keyword parts fields place e =
     ap (λ n. get_or fields n []) (omega arith) ∙ sym (get_or-drop place fields 0 []) ∙ ap (λ fs. get_or fs 0 []) (after_word keyword parts (drop place fields) e).0
+
+pub few_at : (fields : List (List ℕ)) (place : ℕ) → has_form (part.Bounds ∷ []) (drop place fields) ≡ true → length (drop place fields) ≤ 8
+few_at fields place e = (few_taken 8 (length (drop place fields)) (λ count. has_form [] (drop count (drop place fields))) e).1

@@ -1,5 +1,5 @@
 -- What is kept beside a draft, with each line more.
-use Rattle.std.proofs.Common.{◌≡◌, ℕ, zero, suc, ◌+◌, ◌-◌, ◌<◌, ◌≤◌, Bool, true, false, ◌||◌, nat_eq, Option, None, List, [], ◌∷◌, ◌++◌, length, Some, Result, Ok, Err, OnOk, refl, sym, ◌∙◌, ap, subst, arith, inl, inr, set, get_or, append_assoc}
+use Rattle.std.proofs.Common.{◌≡◌, ℕ, zero, suc, ◌+◌, ◌-◌, ◌<◌, ◌≤◌, Bool, true, false, ◌||◌, nat_eq, Option, None, List, [], ◌∷◌, ◌++◌, length, Some, Result, Ok, Err, OnOk, refl, sym, ◌∙◌, ap, subst, arith, inl, inr, set, get_or, append_assoc, IfSome}
 use Rattle.std.proofs.Math.Bool.{or-false}
 use Rattle.std.proofs.lemmas.Bool.{cases_Bool, eqb-true, and_parts, or_cases}
 use Rattle.std.proofs.lemmas.List.{length-append, map-append, get_or_past}
@@ -29,7 +29,11 @@ use Rattle.call_script.proofs.OpeningFacts.{owner-inside}
 use Rattle.call_script.proofs.QuotaGrowth.{quota-names, quota-length}
 use Rattle.call_script.proofs.RuleFacts.{used-in}
 use Rattle.scenario_reader.specs.Drafts.{Said, nothing_said, with_item, parts_said, uses_said}
-use Rattle.scenario_reader.specs.Kept.{IsDraft, IsKeptBeside, MayPutLink, MayPutCaller, MayPutOpen, MayPutOp, MayDo}
+use Rattle.scenario_reader.specs.Kept.{IsDraft, IsKeptBeside}
+use Rattle.scenario_reader.specs.line.Link.{MayPutLink}
+use Rattle.scenario_reader.specs.line.Caller.{MayPutCaller}
+use Rattle.scenario_reader.specs.line.Request.{MayPutOpen}
+use Rattle.scenario_reader.specs.line.Operation.{MayPutOp, MayDo}
 use Rattle.scenario_reader.specs.Uses.{IsLight, blank, used_by}
 use Rattle.scenario_reader.specs.declared.item.Item.TheVariants as item
 use Rattle.scenario_reader.specs.declared.uses.Uses.{Uses}
@@ -53,6 +57,24 @@ kept_begins = record {
   few_rounds = tt;
 }
 
+-- links, requests and callers alone matter of what was read, and that the rounds are few
+kept_with : (said : Said) (links requests callers : List (List ℕ)) (uses : List Uses) (load : ℕ) (version : Option Version) (groups : List (List ℕ)) (rounds tail : Option ℕ) → IsKeptBeside said links requests callers uses load → IfSome rounds (λ count. count ≤ 524288)
+    → IsKeptBeside (record said { version = version; groups = groups; rounds = rounds; tail = tail }) links requests callers uses load
+kept_with said links requests callers uses load version groups rounds tail k few = record {
+  same_links = k.same_links;
+  same_requests = k.same_requests;
+  same_callers = k.same_callers;
+  all_used = k.all_used;
+  same_uses = k.same_uses;
+  light = k.light;
+  same_load = k.same_load;
+  few_links = k.few_links;
+  few_requests = k.few_requests;
+  few_callers = k.few_callers;
+  small_load = k.small_load;
+  few_rounds = few;
+}
+
 -- a link more
 pub kept_link : (said : Said) (links requests callers : List (List ℕ)) (uses : List Uses) (load : ℕ) (entry : LinkEntry) → IsKeptBeside said links requests callers uses load → MayPutLink said entry
     → IsKeptBeside (with_item (item.Link entry) said) (links ++ entry.name ∷ []) requests callers uses load
@@ -74,20 +96,7 @@ kept_link said links requests callers uses load entry k may = record {
 -- a group more
 pub kept_group : (said : Said) (links requests callers : List (List ℕ)) (uses : List Uses) (load : ℕ) (name : List ℕ) → IsKeptBeside said links requests callers uses load
     → IsKeptBeside (with_item (item.Group name) said) links requests callers uses load
-kept_group said links requests callers uses load name k = record {
-  same_links = k.same_links;
-  same_requests = k.same_requests;
-  same_callers = k.same_callers;
-  all_used = k.all_used;
-  same_uses = k.same_uses;
-  light = k.light;
-  same_load = k.same_load;
-  few_links = k.few_links;
-  few_requests = k.few_requests;
-  few_callers = k.few_callers;
-  small_load = k.small_load;
-  few_rounds = k.few_rounds;
-}
+kept_group said links requests callers uses load name k = kept_with said links requests callers uses load said.version (said.groups ++ name ∷ []) said.rounds said.tail k k.few_rounds
 
 -- a quota more
 pub kept_quota : (said : Said) (links requests callers : List (List ℕ)) (uses : List Uses) (load : ℕ) (link : LinkNo) (quota : Quota) → IsKeptBeside said links requests callers uses load
@@ -292,56 +301,17 @@ kept_op said links requests callers uses load packets what d k may of =
 -- rounds
 pub kept_rounds : (said : Said) (links requests callers : List (List ℕ)) (uses : List Uses) (load count : ℕ) → IsKeptBeside said links requests callers uses load → count ≤ 524288
     → IsKeptBeside (with_item (item.Rounds count) said) links requests callers uses load
-kept_rounds said links requests callers uses load count k few = record {
-  same_links = k.same_links;
-  same_requests = k.same_requests;
-  same_callers = k.same_callers;
-  all_used = k.all_used;
-  same_uses = k.same_uses;
-  light = k.light;
-  same_load = k.same_load;
-  few_links = k.few_links;
-  few_requests = k.few_requests;
-  few_callers = k.few_callers;
-  small_load = k.small_load;
-  few_rounds = few;
-}
+kept_rounds said links requests callers uses load count k few = kept_with said links requests callers uses load said.version said.groups (Some count) said.tail k few
 
 -- the header
 pub kept_header : (said : Said) (links requests callers : List (List ℕ)) (uses : List Uses) (load : ℕ) (version : Version) → IsKeptBeside said links requests callers uses load
     → IsKeptBeside (with_item (item.Header version) said) links requests callers uses load
-kept_header said links requests callers uses load version k = record {
-  same_links = k.same_links;
-  same_requests = k.same_requests;
-  same_callers = k.same_callers;
-  all_used = k.all_used;
-  same_uses = k.same_uses;
-  light = k.light;
-  same_load = k.same_load;
-  few_links = k.few_links;
-  few_requests = k.few_requests;
-  few_callers = k.few_callers;
-  small_load = k.small_load;
-  few_rounds = k.few_rounds;
-}
+kept_header said links requests callers uses load version k = kept_with said links requests callers uses load (Some version) said.groups said.rounds said.tail k k.few_rounds
 
 -- the tail
 pub kept_tail : (said : Said) (links requests callers : List (List ℕ)) (uses : List Uses) (load : ℕ) (count : ℕ) → IsKeptBeside said links requests callers uses load
     → IsKeptBeside (with_item (item.Tail count) said) links requests callers uses load
-kept_tail said links requests callers uses load count k = record {
-  same_links = k.same_links;
-  same_requests = k.same_requests;
-  same_callers = k.same_callers;
-  all_used = k.all_used;
-  same_uses = k.same_uses;
-  light = k.light;
-  same_load = k.same_load;
-  few_links = k.few_links;
-  few_requests = k.few_requests;
-  few_callers = k.few_callers;
-  small_load = k.small_load;
-  few_rounds = k.few_rounds;
-}
+kept_tail said links requests callers uses load count k = kept_with said links requests callers uses load said.version said.groups said.rounds (Some count) k k.few_rounds
 
 -- ---- cells of links and callers
 

@@ -11,7 +11,11 @@ use Rattle.link_steps.specs.declared.quota.Quota.{Quota}
 use Rattle.call_script.specs.declared.entries.LinkEntry.{LinkEntry}
 use Rattle.call_script.specs.declared.entries.RequestEntry.{RequestEntry}
 use Rattle.scenario_reader.specs.Fields.{line_of, ended_line}
-use Rattle.scenario_reader.specs.PlanText.{best_fields, bounds_fields, route_names, way_fields, with_name, contract_fields, delay_fields, open_fields, link_text, group_name, quota_text, spaced, link_line_front}
+use Rattle.scenario_reader.specs.line.Link.{best_fields, bounds_fields, link_text, link_line_front}
+use Rattle.scenario_reader.specs.line.Request.{route_names, way_fields, with_name, contract_fields, delay_fields, open_fields}
+use Rattle.scenario_reader.specs.line.Group.{group_name}
+use Rattle.scenario_reader.specs.line.Quota.{quota_text}
+use Rattle.scenario_reader.specs.Fields.{spaced}
 
 -- the bounds from one on: that bound, and those after it
 pub bounds-next : (bounds : List ℕ) (i j : ℕ) (before after all : List ℕ) → i < length bounds → j ≡ i + 1 → after ≡ before ++ 32 ∷ decimal (get_or bounds i 0) → before ++ spaced (map decimal (drop i bounds)) ≡ all → after ++ spaced (map decimal (drop j bounds)) ≡ all

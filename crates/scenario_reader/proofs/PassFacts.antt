@@ -11,7 +11,7 @@ use Rattle.traffic_contract.specs.declared.contract.ContractField.TheVariants.{X
 use Rattle.scenario_reader.specs.Causes.{Rule, unless, or_else, first_cause, judged, stated}
 use Rattle.scenario_reader.specs.Decimal.{is_number, value_of}
 use Rattle.scenario_reader.specs.Forms.{is_among, name_rule, new_name_rule, used_name_rule, number_rule}
-use Rattle.scenario_reader.specs.OpenLine.{contract_of}
+use Rattle.scenario_reader.specs.line.Request.{contract_of}
 use Rattle.scenario_reader.specs.declared.cause.Cause.{Cause}
 use Rattle.scenario_reader.specs.declared.cause.Cause.TheVariants as cause
 

@@ -21,9 +21,14 @@ use Rattle.call_script.proofs.GrowthFacts.{added-last}
 use Rattle.call_script.proofs.LoadFacts.{load-append, load-push, loads-append, loads-push, over-push, new-over}
 use Rattle.call_script.proofs.Growing.{caller-keeps, length-more}
 use Rattle.scenario_reader.specs.BothWays.{HasNames}
-use Rattle.scenario_reader.specs.PlanText.{link_fields, op_lines, caller_fields, caller_lines}
-use Rattle.scenario_reader.proofs.GroupBack.{GroupsStand}
-use Rattle.scenario_reader.proofs.ReadsBack.{front, link_read, caller_read}
+use Rattle.scenario_reader.specs.line.Link.{link_fields}
+use Rattle.scenario_reader.specs.line.Operation.{op_lines}
+use Rattle.scenario_reader.specs.line.Caller.{caller_fields}
+use Rattle.scenario_reader.specs.PlanText.{caller_lines}
+use Rattle.scenario_reader.proofs.kind.GroupBack.{GroupsStand}
+use Rattle.scenario_reader.proofs.SaysBack.{front}
+use Rattle.scenario_reader.proofs.kind.LinkBack.{link_read}
+use Rattle.scenario_reader.proofs.kind.CallerBack.{caller_read}
 use Rattle.scenario_reader.proofs.SaysBack.{Reads, reads_none, reads_on}
 use Rattle.scenario_reader.proofs.WalkBack.{LinksStand, RestStands, Stands, OpSound, op_step}
 

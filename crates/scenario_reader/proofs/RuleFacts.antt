@@ -7,9 +7,9 @@ use Rattle.std.proofs.Math.ListN.{set}
 use Rattle.scenario_reader.specs.Decimal.{value_of}
 use Rattle.scenario_reader.specs.Causes.{Rule, or_else, first_cause, Judges}
 use Rattle.scenario_reader.specs.Forms.{is_word, route_length}
-use Rattle.scenario_reader.specs.LinkLine.{bound_start, bound_fields}
-use Rattle.scenario_reader.specs.OpenLine.{route_hops, route_fields}
-use Rattle.scenario_reader.specs.QuotaLine.{load_fields}
+use Rattle.scenario_reader.specs.line.Link.{bound_start, bound_fields}
+use Rattle.scenario_reader.specs.line.Request.{route_hops, route_fields}
+use Rattle.scenario_reader.specs.line.Quota.{load_fields}
 use Rattle.scenario_reader.specs.declared.cause.Cause.{Cause}
 use Rattle.scenario_reader.specs.declared.form.Keyword.TheVariants as word
 

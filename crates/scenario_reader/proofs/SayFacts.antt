@@ -1,91 +1,45 @@
 -- What a line says that is let pass may be added to what was read.
-use Rattle.std.proofs.Common.{◌≡◌, ℕ, ◌+◌, ◌*◌, ◌≤◌, Bool, true, false, not, ◌&&◌, nat_eq, List, [], ◌∷◌, length, Option, Some, None, Result, Ok, Err, is_some, is_none, option_map, cond, if◌then◌else◌, refl, sym, ap, subst, arith, IfOk}
-use Rattle.std.proofs.lemmas.Bool.{leb-true, and_parts, not-true}
-use Rattle.std.proofs.lemmas.List.{length-map}
-use Rattle.std.proofs.lemmas.List.Quantifiers.{position-Some}
-use Rattle.net_units.specs.Numbers.{actor_number, actor_at}
-use Rattle.call_script.specs.Rules.{is_named, caller_names}
-use Rattle.call_script.specs.declared.entries.CallerEntry.{CallerEntry}
+use Rattle.std.proofs.Common.{ℕ, ◌≡◌, Bool, true, false, not, List, Option, Some, None, Result, Ok, Err, option_map, cond, if◌then◌else◌, refl, subst, IfOk}
 use Rattle.call_script.specs.declared.schedule.Do.{Do}
 use Rattle.call_script.specs.declared.version.Version.{Version}
 use Rattle.scenario_reader.specs.Causes.{AnswersWithRoom}
 use Rattle.scenario_reader.specs.declared.cause.LineFault.{LineFault}
-use Rattle.scenario_reader.specs.Causes.{unless}
 use Rattle.scenario_reader.specs.Decimal.{value_of}
-use Rattle.scenario_reader.specs.Drafts.{Said, rounds_of, caller_named}
+use Rattle.scenario_reader.specs.Drafts.{Said}
 use Rattle.scenario_reader.specs.Fields.{fields_of, are_fields, field_at}
-use Rattle.scenario_reader.specs.Forms.{has_form, number_rule}
-use Rattle.scenario_reader.specs.Grammar.{header_version, header_said, send_rule, send_said, close_rule, close_said, move_rule, move_said, pour_rule, pour_said, rounds_form, rounds_rule, are_few_ticks, tail_form, tail_rule, schedule_rule, do_form, is_plane, actor_rule, actor_named, actor_said, do_rule, do_by, do_said, may_stand, line_word, judge_as, judge_word, judge_after, judge_fields, is_passed_over, judge}
-use Rattle.scenario_reader.specs.GroupLines.{group_rule, group_in, caller_rule}
-use Rattle.scenario_reader.specs.QuotaLine.{quota_rule, quota_said}
-use Rattle.scenario_reader.specs.Kept.{IsDraft, MayPutRounds, MayPutTail, MayPutSchedule, MayPutDo, MayAdd}
-use Rattle.scenario_reader.specs.LinkLine.{link_rule, link_said}
-use Rattle.scenario_reader.specs.OpenLine.{open_rule, request_said}
+use Rattle.scenario_reader.specs.line.Header.{header_version, header_said}
+use Rattle.scenario_reader.specs.line.Send.{send_rule, send_said}
+use Rattle.scenario_reader.specs.line.Close.{close_rule, close_said}
+use Rattle.scenario_reader.specs.line.Move.{move_rule, move_said}
+use Rattle.scenario_reader.specs.line.Pour.{pour_rule, pour_said}
+use Rattle.scenario_reader.specs.line.Rounds.{rounds_rule, tail_rule}
+use Rattle.scenario_reader.specs.line.Schedule.{schedule_rule, do_rule, do_said}
+use Rattle.scenario_reader.specs.line.Table.{may_stand, line_word, judge_as, MayAdd}
+use Rattle.scenario_reader.specs.Grammar.{judge_word, judge_after, judge_fields, is_passed_over, judge}
+use Rattle.scenario_reader.specs.line.Group.{group_rule}
+use Rattle.scenario_reader.specs.line.Caller.{group_in, caller_rule}
+use Rattle.scenario_reader.specs.line.Quota.{quota_rule, quota_said}
+use Rattle.scenario_reader.specs.Kept.{IsDraft}
+use Rattle.scenario_reader.specs.line.Link.{link_rule, link_said}
+use Rattle.scenario_reader.specs.line.Request.{open_rule, request_said}
 use Rattle.scenario_reader.specs.declared.cause.Cause.{Cause}
-use Rattle.scenario_reader.specs.declared.cause.Cause.TheVariants as cause
 use Rattle.scenario_reader.specs.declared.form.Keyword.{Keyword}
-use Rattle.scenario_reader.specs.declared.form.Keyword.TheVariants as word
 use Rattle.scenario_reader.specs.declared.item.Item.{Item}
+use Rattle.scenario_reader.proofs.kind.GroupMay.{group_may}
+use Rattle.scenario_reader.proofs.kind.CallerMay.{caller_may}
+use Rattle.scenario_reader.proofs.kind.LinkMay.{link_may}
+use Rattle.scenario_reader.proofs.kind.QuotaMay.{quota_may}
+use Rattle.scenario_reader.proofs.kind.SendMay.{send_may}
+use Rattle.scenario_reader.proofs.kind.CloseMay.{close_may}
+use Rattle.scenario_reader.proofs.kind.MoveMay.{move_may}
+use Rattle.scenario_reader.proofs.kind.PourMay.{pour_may}
+use Rattle.scenario_reader.proofs.kind.RequestMay.{open_may}
+use Rattle.scenario_reader.proofs.PassFacts.{judged_ok, stated_ok, made_some}
+use Rattle.scenario_reader.proofs.kind.RoundsMay.{rounds_may, tail_may}
+use Rattle.scenario_reader.proofs.kind.ScheduleMay.{schedule_may, do_may}
+use Rattle.scenario_reader.specs.declared.cause.Cause.TheVariants as cause
+use Rattle.scenario_reader.specs.declared.form.Keyword.TheVariants as word
 use Rattle.scenario_reader.specs.declared.item.Item.TheVariants as item
-use Rattle.scenario_reader.proofs.GroupMay.{group_may, caller_may}
-use Rattle.scenario_reader.proofs.LinkMay.{headed_is, some_items, is_some_said, link_may}
-use Rattle.scenario_reader.proofs.QuotaMay.{quota_may}
-use Rattle.scenario_reader.proofs.OpMay.{send_may, close_may, move_may, pour_may}
-use Rattle.scenario_reader.proofs.OpenMay.{open_may}
-use Rattle.scenario_reader.proofs.PassFacts.{judged_ok, stated_ok, made_some, unless_passes, all_pass, number_passes, not_said}
-
--- ---- the lines after the callers
-
-rounds_may : (version : Version) (said : Said) (fields : List (List ℕ)) → said.version ≡ Some version → (not (nat_eq (length said.links) 0) && is_none said.rounds) ≡ true
-    → rounds_rule fields ≡ None → MayPutRounds said (value_of (field_at fields 1))
-rounds_may version said fields v stands rule =
-    let p = all_pass (unless (has_form rounds_form fields) cause.Shape ∷ number_rule 0 524288 (field_at fields 1) ∷ []) rule in
-    let may = and_parts (not (nat_eq (length said.links) 0)) (is_none said.rounds) stands in
-    record {
-      before = record { before = record { headed = headed_is said version v; unrounded = not_said said.rounds may.1 }; linked = some_items said.links may.0 };
-      most = (number_passes 0 524288 (field_at fields 1) p.1.0).most;
-    }
-
-tail_may : (version : Version) (said : Said) (fields : List (List ℕ)) → said.version ≡ Some version → (is_some said.rounds && is_none said.tail) ≡ true
-    → tail_rule said fields ≡ None → MayPutTail said (value_of (field_at fields 1))
-tail_may version said fields v stands rule =
-    let p = all_pass (unless (has_form tail_form fields) cause.Shape ∷ number_rule 0 524288 (field_at fields 1)
-    ∷ unless (are_few_ticks said (value_of (field_at fields 1))) cause.Load ∷ []) rule in
-    let may = and_parts (is_some said.rounds) (is_none said.tail) stands in
-    record {
-      headed = headed_is said version v;
-      rounded = is_some_said said.rounds may.0;
-      most = (number_passes 0 524288 (field_at fields 1) p.1.0).most;
-      ticks = leb-true ((rounds_of said + value_of (field_at fields 1)) * length said.links) 524288 (unless_passes (are_few_ticks said (value_of (field_at fields 1))) cause.Load p.1.1.0);
-    }
-
-schedule_may : (version : Version) (said : Said) → said.version ≡ Some version → (is_some said.tail && not said.written) ≡ true → MayPutSchedule said
-schedule_may version said v stands =
-    let may = and_parts (is_some said.tail) (not said.written) stands in
-    record { headed = headed_is said version v; tailed = is_some_said said.tail may.0; unwritten = not-true said.written may.1 }
-
--- the actor that a field names is a caller or the plane
-named_within : (said : Said) (field : List ℕ) (number : ℕ) → actor_named said field ≡ Some number → number ≤ length said.callers
-named_within said field number e = by (is_plane field) e where
-  by : (plane : Bool) → (if plane then Some (length said.callers) else caller_named said.callers field) ≡ Some number → number ≤ length said.callers
-  by true e = (let same : length said.callers ≡ number = cc in omega (arith, same))
-  by false e =
-      let within = (position-Some (is_named field) (caller_names said.callers) number [] e).0 in
-      omega (arith, within, length-map said.callers (λ (c : CallerEntry). c.name))
-
-do_may : (version : Version) (said : Said) (number : ℕ) (fields : List (List ℕ)) (what : Do) → said.version ≡ Some version → said.written ≡ true
-    → do_rule said fields ≡ None → do_said said number fields ≡ Some what → MayPutDo said what
-do_may version said number fields what v written rule says =
-    let p = all_pass (unless (has_form do_form fields) cause.Shape ∷ actor_rule said (field_at fields 1) ∷ number_rule 1 1048576 (field_at fields 2) ∷ []) rule in
-    let count = number_passes 1 1048576 (field_at fields 2) p.1.1.0 in
-    let made = made_some (do_by number fields) (actor_said said (field_at fields 1)) what says in
-    let named = made_some actor_at (actor_named said (field_at fields 1)) made.0 made.1 in
-    let within = named_within said (field_at fields 1) named.0 named.1 in
-    subst (MayPutDo said) made.2 (record {
-      headed = headed_is said version v;
-      written = written;
-      is = record { actor = omega (arith, within, ap actor_number named.2); least = count.least; most = count.most };
-    })
 
 -- ---- each line
 

@@ -1,17 +1,21 @@
 -- Lines that say what they are of, one after another.
-use Rattle.std.proofs.Common.{◌≡◌, ℕ, suc, true, false, not, List, [], ◌∷◌, ◌++◌, map, Option, Some, Ok, Result, refl, sym, ◌∙◌, ap, subst}
-use Rattle.std.proofs.lemmas.Bool.{cond-false}
+use Rattle.std.proofs.Common.{ℕ, ◌≡◌, suc, true, false, not, List, [], ◌∷◌, ◌++◌, map, Option, Some, Ok, Result, refl, sym, ◌∙◌, ap, subst, ◌≤◌, nat_eq, length, None, arith}
+use Rattle.std.proofs.lemmas.Bool.{cond-false, ne_eqb, not_from_false}
 use Rattle.byte_ends.specs.WholeLines.{all_given}
 use Rattle.call_script.specs.declared.version.Version.{Version}
 use Rattle.scenario_reader.specs.Drafts.{Said, with_item}
 use Rattle.scenario_reader.specs.Fields.{fields_of, line_of, are_fields, field_at}
-use Rattle.scenario_reader.specs.Grammar.{may_stand, line_word, judge_as, judge_word, judge_after, judge_fields, is_passed_over, judge}
+use Rattle.scenario_reader.specs.line.Table.{may_stand, line_word, judge_as}
+use Rattle.scenario_reader.specs.Grammar.{judge_word, judge_after, judge_fields, is_passed_over, judge}
 use Rattle.scenario_reader.specs.Reading.{at_end, on_judged, reading_of}
 use Rattle.scenario_reader.specs.declared.cause.Cause.{Cause}
 use Rattle.scenario_reader.specs.declared.form.Keyword.{Keyword}
 use Rattle.scenario_reader.specs.declared.item.Item.{Item}
 use Rattle.scenario_reader.proofs.FieldText.{fields_back}
 use Rattle.scenario_reader.proofs.LineText.{AreLines}
+use Rattle.call_script.specs.declared.entries.CallerEntry.{CallerEntry}
+use Rattle.call_script.specs.declared.entries.LinkEntry.{LinkEntry}
+use Rattle.call_script.specs.declared.entries.RequestEntry.{RequestEntry}
 
 -- ---- one line
 
@@ -88,3 +92,15 @@ pub leads_lines : (lines : List (List (List ℕ))) (count end : ℕ) (said after
 unfolding Leads
 leads_lines [] count end said after leads = tt
 leads_lines (fields ∷ lines) count end said after leads = (leads.1, leads_lines lines (suc count) end (with_item leads.0 said) after leads.3)
+
+-- what was read up to the operations
+abbrev pub front : Version → List LinkEntry → List (List ℕ) → List RequestEntry → List CallerEntry → Said
+front version links groups requests callers = record { version = Some version; links = links; groups = groups; requests = requests; callers = callers; rounds = None; tail = None; written = false; items = [] }
+
+-- some of a list
+pub not_none : {X : Type 0} (xs : List X) → 1 ≤ length xs → not (nat_eq (length xs) 0) ≡ true
+not_none xs some = not_from_false (nat_eq (length xs) 0) (ne_eqb (length xs) 0 (λ e. omega (arith, e)))
+
+-- what was read up to `tail`
+abbrev pub whole : Version → List LinkEntry → List (List ℕ) → List RequestEntry → List CallerEntry → ℕ → ℕ → Said
+whole version links groups requests callers rounds tail = record { version = Some version; links = links; groups = groups; requests = requests; callers = callers; rounds = Some rounds; tail = Some tail; written = false; items = [] }

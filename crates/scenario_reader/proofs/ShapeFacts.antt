@@ -18,10 +18,10 @@ use Rattle.link_steps.specs.declared.shape.ShapeField.TheVariants.{Bounds}
 use Rattle.std.proofs.lemmas.Option.{cond_some}
 use Rattle.net_units.specs.Limits.{is_within}
 use Rattle.scenario_reader.specs.Causes.{unless}
-use Rattle.scenario_reader.specs.LinkFields.{AreFigures, numbers_with}
-use Rattle.scenario_reader.specs.LinkLine.{bounds_of}
+use Rattle.scenario_reader.specs.line.LinkFields.{AreFigures, numbers_with}
+use Rattle.scenario_reader.specs.line.Link.{bounds_of}
 use Rattle.scenario_reader.specs.declared.cause.Cause.TheVariants.{Levels}
-use Rattle.scenario_reader.specs.declared.link_line.LinkFields.{LinkFields}
+use Rattle.scenario_reader.specs.declared.line.link.LinkFields.{LinkFields}
 use Rattle.scenario_reader.specs.Entries.{LinkNumbers, has_rate, has_room, has_bounds, shape_with, shape_where, shape_of}
 use Rattle.net_units.proofs.NumberFacts.{same-link, same-actor, same-channel}
 

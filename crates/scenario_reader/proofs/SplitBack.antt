@@ -26,15 +26,17 @@ use Rattle.call_script.proofs.Growing.{length-more}
 use Rattle.scenario_reader.specs.BothWays.{HasNames, HasEightLoads}
 use Rattle.scenario_reader.specs.Drafts.{Said, has_quotas, link_named}
 use Rattle.scenario_reader.specs.Forms.{is_among}
-use Rattle.scenario_reader.specs.GroupLines.{group_rule}
-use Rattle.scenario_reader.specs.PlanText.{link_fields, group_fields, quota_fields, quota_lines}
-use Rattle.scenario_reader.specs.QuotaLine.{quota_rule, quota_said}
+use Rattle.scenario_reader.specs.line.Group.{group_rule}
+use Rattle.scenario_reader.specs.line.Link.{link_fields}
+use Rattle.scenario_reader.specs.line.Group.{group_fields}
+use Rattle.scenario_reader.specs.line.Quota.{quota_fields, quota_lines}
+use Rattle.scenario_reader.specs.line.Quota.{quota_rule, quota_said}
 use Rattle.scenario_reader.specs.declared.form.Keyword.TheVariants as word
 use Rattle.scenario_reader.specs.declared.item.Item.TheVariants as item
-use Rattle.scenario_reader.proofs.GroupBack.{GroupsStand, group_here, group_is_line, group_back}
+use Rattle.scenario_reader.proofs.kind.GroupBack.{GroupsStand, group_here, group_is_line, group_back}
 use Rattle.scenario_reader.proofs.NamedBack.{find_back}
-use Rattle.scenario_reader.proofs.QuotaBack.{IsNextQuota, quota_is_line, quota_says, quota_back}
-use Rattle.scenario_reader.proofs.ReadsBack.{front, not_none}
+use Rattle.scenario_reader.proofs.kind.QuotaBack.{IsNextQuota, quota_is_line, quota_says, quota_back}
+use Rattle.scenario_reader.proofs.SaysBack.{front, not_none}
 use Rattle.scenario_reader.proofs.RulesBack.{judged_back, stated_back}
 use Rattle.scenario_reader.proofs.SaysBack.{judged_as, Reads, reads_none, reads_one, reads_on}
 use Rattle.scenario_reader.proofs.WalkBack.{at_seam}

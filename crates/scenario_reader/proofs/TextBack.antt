@@ -25,17 +25,26 @@ use Rattle.call_script.proofs.RuleFacts.{each-of, keeps-rules, used-in, unclosed
 use Rattle.scenario_reader.specs.BothWays.{AreNamed, unnumbered, APlansTextIsRead, ATextIsOfOnePlan}
 use Rattle.scenario_reader.specs.Drafts.{Said, nothing_said, is_complete, parts_said, schedule_said}
 use Rattle.scenario_reader.specs.Kept.{IsScheduleOf}
-use Rattle.scenario_reader.specs.PlanText.{header_fields, link_fields, group_fields, quota_lines, caller_lines, rounds_fields, tail_fields, schedule_lines, plan_lines, plan_text}
+use Rattle.scenario_reader.specs.line.Header.{header_fields}
+use Rattle.scenario_reader.specs.line.Link.{link_fields}
+use Rattle.scenario_reader.specs.line.Group.{group_fields}
+use Rattle.scenario_reader.specs.line.Quota.{quota_lines}
+use Rattle.scenario_reader.specs.PlanText.{caller_lines, plan_lines, plan_text}
+use Rattle.scenario_reader.specs.line.Rounds.{rounds_fields, tail_fields}
+use Rattle.scenario_reader.specs.line.Schedule.{schedule_lines}
 use Rattle.scenario_reader.specs.Reading.{PlanRead, BadLine, reading_on, reading}
 use Rattle.scenario_reader.specs.declared.cause.Cause.TheVariants as cause
 use Rattle.scenario_reader.specs.declared.item.Item.TheVariants as item
 use Rattle.scenario_reader.specs.Drafts.{with_item}
-use Rattle.scenario_reader.proofs.GroupBack.{GroupsStand, has_of}
+use Rattle.scenario_reader.proofs.kind.GroupBack.{GroupsStand}
+use Rattle.scenario_reader.proofs.kind.CallerBack.{has_of}
 use Rattle.scenario_reader.proofs.LineText.{lines_of_text}
 use Rattle.scenario_reader.proofs.PlanBack.{links_read, callers_read}
-use Rattle.scenario_reader.proofs.ReadsBack.{front, whole, header_read, rounds_read, tail_read}
+use Rattle.scenario_reader.proofs.SaysBack.{front, whole}
+use Rattle.scenario_reader.proofs.kind.HeaderBack.{header_read}
+use Rattle.scenario_reader.proofs.kind.RoundsBack.{rounds_read, tail_read}
 use Rattle.scenario_reader.proofs.SaysBack.{Reads, leads_reading, leads_lines}
-use Rattle.scenario_reader.proofs.ScheduleBack.{SomeLead, then_some, IsWhole, schedule_back}
+use Rattle.scenario_reader.proofs.kind.ScheduleBack.{SomeLead, then_some, IsWhole, schedule_back}
 use Rattle.scenario_reader.proofs.SplitBack.{bare, bare_names, bare_lines, bare_unsplit, bare_named, bare_kept, bare_numbers, bare_each, groups_read, QuotasLeft, shares_read}
 use Rattle.scenario_reader.proofs.WalkBack.{LinksStand, IsSound, OpSound}
 

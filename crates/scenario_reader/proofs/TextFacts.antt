@@ -13,7 +13,16 @@ use Rattle.call_script.specs.declared.operations.Op.{Op}
 use Rattle.call_script.specs.declared.schedule.Do.{Do}
 use Rattle.call_script.specs.declared.schedule.Schedule.{Schedule}
 use Rattle.scenario_reader.specs.Fields.{ended_line}
-use Rattle.scenario_reader.specs.PlanText.{header_fields, link_fields, group_fields, quota_fields, quota_lines, caller_fields, op_fields, op_lines, caller_lines, lines_if, text_if, rounds_fields, tail_fields, do_fields, schedule_fields, schedule_lines, plan_text, link_text, group_text, quota_text, quotas_text, split_text, rest_text, op_text, caller_text, do_text, schedule_text, head_text, rounds_text, end_text}
+use Rattle.scenario_reader.specs.line.Header.{header_fields}
+use Rattle.scenario_reader.specs.line.Link.{link_fields, link_text}
+use Rattle.scenario_reader.specs.line.Group.{group_fields, group_text}
+use Rattle.scenario_reader.specs.line.Quota.{quota_fields, quota_lines, quota_text, quotas_text}
+use Rattle.scenario_reader.specs.line.Caller.{caller_fields}
+use Rattle.scenario_reader.specs.line.Operation.{op_fields, op_lines, op_text}
+use Rattle.scenario_reader.specs.PlanText.{caller_lines, plan_text, split_text, rest_text, caller_text, head_text, end_text}
+use Rattle.scenario_reader.specs.Fields.{lines_if, text_if}
+use Rattle.scenario_reader.specs.line.Rounds.{rounds_fields, tail_fields, rounds_text}
+use Rattle.scenario_reader.specs.line.Schedule.{do_fields, schedule_fields, schedule_lines, do_text, schedule_text}
 use Rattle.scenario_reader.proofs.WrittenFacts.{text-of-lists}
 
 -- a caller's line, and those of its operations

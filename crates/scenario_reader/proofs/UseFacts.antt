@@ -24,7 +24,8 @@ use Rattle.call_script.proofs.LoadFacts.{loads-append, load-push, added-over, ad
 use Rattle.call_script.proofs.OpeningFacts.{opened-has}
 use Rattle.call_script.proofs.RuleFacts.{packets-fit}
 use Rattle.scenario_reader.specs.Drafts.{Said, parts_said, own_request, uses_said}
-use Rattle.scenario_reader.specs.Kept.{IsDraft, IsKeptBeside, MayDo, MayPutOp}
+use Rattle.scenario_reader.specs.Kept.{IsDraft, IsKeptBeside}
+use Rattle.scenario_reader.specs.line.Operation.{MayDo, MayPutOp}
 use Rattle.scenario_reader.specs.Uses.{IsLight, blank, use_at, with_use, sent, shut, left, joined, used_by}
 use Rattle.scenario_reader.specs.declared.uses.Uses.{Uses}
 use Rattle.scenario_reader.proofs.NamedFacts.{own_is}

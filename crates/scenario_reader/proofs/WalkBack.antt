@@ -34,13 +34,24 @@ use Rattle.call_script.specs.Rules.{request_has_version}
 use Rattle.scenario_reader.specs.BothWays.{AreNodesNamed, IsFoundRoute}
 use Rattle.scenario_reader.specs.BothWays.{HasNames}
 use Rattle.scenario_reader.specs.Drafts.{Said, link_named, if_own, is_used, is_joined_to}
-use Rattle.scenario_reader.specs.Grammar.{may_join}
+use Rattle.scenario_reader.specs.line.Move.{may_join}
 use Rattle.scenario_reader.proofs.KeptFacts.{use_of, closing_uses}
-use Rattle.scenario_reader.specs.PlanText.{op_fields, lines_if, op_lines, open_fields, send_fields, close_fields, move_fields, fields_between, pour_fields}
-use Rattle.scenario_reader.proofs.LinesBack.{are_packets, IsOpenHere, IsUnleft}
+use Rattle.scenario_reader.specs.line.Operation.{op_fields, op_lines}
+use Rattle.scenario_reader.specs.Fields.{lines_if}
+use Rattle.scenario_reader.specs.line.Request.{open_fields}
+use Rattle.scenario_reader.specs.line.Send.{send_fields}
+use Rattle.scenario_reader.specs.line.Close.{close_fields}
+use Rattle.scenario_reader.specs.line.Move.{move_fields, fields_between}
+use Rattle.scenario_reader.specs.line.Pour.{pour_fields}
+use Rattle.scenario_reader.proofs.kind.UsingBack.{are_packets, IsOpenHere, IsUnleft}
 use Rattle.scenario_reader.proofs.NamedBack.{find_back}
-use Rattle.scenario_reader.proofs.OpenBack.{IsHopHere}
-use Rattle.scenario_reader.proofs.ReadsBack.{front, open_read, send_read, close_read, move_read, pour_read}
+use Rattle.scenario_reader.proofs.kind.RequestBack.{IsHopHere}
+use Rattle.scenario_reader.proofs.SaysBack.{front}
+use Rattle.scenario_reader.proofs.kind.RequestBack.{open_read}
+use Rattle.scenario_reader.proofs.kind.SendBack.{send_read}
+use Rattle.scenario_reader.proofs.kind.CloseBack.{close_read}
+use Rattle.scenario_reader.proofs.kind.MoveBack.{move_read}
+use Rattle.scenario_reader.proofs.kind.PourBack.{pour_read}
 use Rattle.scenario_reader.proofs.SaysBack.{Reads}
 use Rattle.net_units.proofs.NumberFacts.{same-link, same-channel}
 

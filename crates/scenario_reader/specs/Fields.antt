@@ -1,8 +1,8 @@
 -- A line of a scenario is made of fields, with exactly one space between two of them and none at either end. A
 -- field is one or more bytes from 0x21 to 0x7E. So a line with two spaces in a row, with a tab or with a carriage
 -- return has a part that isn't a field.
-use Rattle.std.specs.Prelude.{ℕ, Bool, nat_eq, nat_le, not, ◌&&◌, List, [], ◌∷◌, ◌++◌, length, slice_index_or}
-use Rattle.std.specs.List.{list_all, slice_split, join_with_byte}
+use Rattle.std.specs.Prelude.{ℕ, Bool, nat_eq, nat_le, not, ◌&&◌, List, [], ◌∷◌, ◌++◌, length, slice_index_or, Option, Some, None}
+use Rattle.std.specs.List.{list_all, slice_split, join_with_byte, flat_map}
 
 abbrev pub is_space : ℕ → Bool
 is_space b = nat_eq b 32
@@ -33,3 +33,17 @@ are_fields fields = list_all is_field fields
 -- the field at a place, from 0, or no bytes where there is none
 abbrev pub field_at : List (List ℕ) → ℕ → List ℕ
 field_at fields place = slice_index_or fields place []
+
+-- the line, if there is one
+abbrev pub lines_if : Option (List (List ℕ)) → List (List (List ℕ))
+lines_if None = []
+lines_if (Some fields) = fields ∷ []
+
+-- fields after others of a line, each after a space
+abbrev pub spaced : List (List ℕ) → List ℕ
+spaced fields = flat_map (λ field. 32 ∷ field) fields
+
+-- the line, if there is one
+abbrev pub text_if : Option (List (List ℕ)) → List ℕ
+text_if None = []
+text_if (Some fields) = ended_line fields

@@ -1,27 +1,19 @@
 -- What was read of a scenario so far, where no line was refused, keeps the rules of a plan, as far as it has come. Its parts
 -- come in order: the header; the links; the groups, and the quotas of the links; the callers with their operations; `rounds`; `tail`; and the schedule. Behind a part
 -- that wasn't read nothing was read, but that a scenario needs no groups, no quotas, no callers and no schedule.
-use Rattle.std.specs.Prelude.{◌≡◌, ℕ, ◌+◌, ◌*◌, ◌≤◌, true, false, None, Some, IfSome, List, [], length, get_or}
+use Rattle.std.specs.Prelude.{ℕ, ◌≡◌, ◌+◌, ◌*◌, ◌≤◌, false, None, Some, IfSome, List, [], length, get_or}
 use Rattle.std.specs.List.{slice_get}
-use Rattle.net_units.specs.Numbers.{link_number, actor_number}
-use Rattle.net_units.specs.declared.numbers.LinkNo.{LinkNo}
+use Rattle.net_units.specs.Numbers.{actor_number}
 use Rattle.net_units.specs.Limits.{most_steps, most_links, most_callers, most_requests, most_packets, most_rounds}
 use Rattle.link_steps.specs.Lists.{Each}
-use Rattle.link_steps.specs.declared.quota.Quota.{Quota}
-use Rattle.call_script.specs.Growing.{KeepSoFar, MayAddLink, MayAddGroup, MayAddQuota, MayAddCaller, MayOpen, IsOpenedThere, MaySend, MayPour, MayMove}
-use Rattle.call_script.specs.Parts.{PlanParts}
+use Rattle.call_script.specs.Growing.{KeepSoFar}
 use Rattle.call_script.specs.Rules.{link_names, request_names, caller_names, load_in}
 use Rattle.call_script.specs.declared.entries.CallerEntry.{CallerEntry}
-use Rattle.call_script.specs.declared.entries.LinkEntry.{LinkEntry}
 use Rattle.call_script.specs.declared.entries.RequestEntry.{RequestEntry}
-use Rattle.call_script.specs.declared.operations.Op.{Op}
-use Rattle.call_script.specs.declared.operations.Op.TheVariants as op
 use Rattle.call_script.specs.declared.schedule.Do.{Do}
 use Rattle.call_script.specs.declared.schedule.Schedule.{Schedule}
 use Rattle.scenario_reader.specs.Drafts.{Said, nothing_said, rounds_of, parts_said, schedule_said, last_caller, uses_said}
 use Rattle.scenario_reader.specs.Uses.{IsLight, blank}
-use Rattle.scenario_reader.specs.declared.item.Item.{Item}
-use Rattle.scenario_reader.specs.declared.item.Item.TheVariants as item
 use Rattle.scenario_reader.specs.declared.uses.Uses.{Uses}
 
 -- an item of a schedule: the actor is a caller or the plane, and the steps are within the limit
@@ -62,83 +54,3 @@ pub record IsKeptBeside (said : Said) (links requests callers : List (List ℕ))
   pub few_callers : length said.callers ≤ most_callers
   pub small_load : load ≤ most_packets
   pub few_rounds : IfSome said.rounds (λ rounds. rounds ≤ most_rounds)
-
--- ---- what a line may add
-
--- the header was read, and no rounds were
-pub record IsBefore (said : Said) : Type 0 where
-  pub headed : said.version ≡ None → ⊥
-  pub unrounded : said.rounds ≡ None
-
--- a link was read, too
-pub record HasALink (said : Said) : Type 0 where
-  pub before : IsBefore said
-  pub linked : said.links ≡ [] → ⊥
-
-pub record MayPutLink (said : Said) (entry : LinkEntry) : Type 0 where
-  pub before : IsBefore said
-  pub link : MayAddLink (parts_said said) entry
-
-pub record MayPutGroup (said : Said) (name : List ℕ) : Type 0 where
-  pub before : HasALink said
-  pub group : MayAddGroup (parts_said said) name
-
-pub record MayPutQuota (said : Said) (link : LinkNo) (quota : Quota) : Type 0 where
-  pub before : HasALink said
-  pub share : MayAddQuota (parts_said said) (link_number link) quota
-
-pub record MayPutCaller (said : Said) (name : List ℕ) (group : ℕ) : Type 0 where
-  pub before : HasALink said
-  pub caller : MayAddCaller (parts_said said) name group
-
-pub record MayPutOpen (said : Said) (entry : RequestEntry) : Type 0 where
-  pub before : HasALink said
-  pub request : MayOpen (parts_said said) entry
-
--- what a send, a close, a pour and a move have to pass
-abbrev pub MayDo : PlanParts → Op → Type 0
-MayDo parts (op.Open chan) = ⊥
-MayDo parts (op.Send chan count gap size) = MaySend parts chan count gap size
-MayDo parts (op.Close chan) = IsOpenedThere parts chan
-MayDo parts (op.Pour link count gap size) = MayPour parts link count gap size
-MayDo parts (op.Move old new) = MayMove parts old new
-
-pub record MayPutOp (said : Said) (what : Op) : Type 0 where
-  pub before : HasALink said
-  pub some : 1 ≤ length said.callers
-  pub op : MayDo (parts_said said) what
-
-pub record MayPutRounds (said : Said) (count : ℕ) : Type 0 where
-  pub before : HasALink said
-  pub most : count ≤ most_rounds
-
-pub record MayPutTail (said : Said) (count : ℕ) : Type 0 where
-  pub headed : said.version ≡ None → ⊥
-  pub rounded : said.rounds ≡ None → ⊥
-  pub most : count ≤ most_rounds
-  pub ticks : (rounds_of said + count) * length said.links ≤ most_rounds
-
-pub record MayPutSchedule (said : Said) : Type 0 where
-  pub headed : said.version ≡ None → ⊥
-  pub tailed : said.tail ≡ None → ⊥
-  pub unwritten : said.written ≡ false
-
-pub record MayPutDo (said : Said) (what : Do) : Type 0 where
-  pub headed : said.version ≡ None → ⊥
-  pub written : said.written ≡ true
-  pub is : IsDo said.callers what
-
--- what a line says that is let pass has these
-abbrev pub MayAdd : Said → Item → Type 0
-MayAdd said item.Nothing = Unit {0}
-MayAdd said (item.Header version) = said.version ≡ None
-MayAdd said (item.Link entry) = MayPutLink said entry
-MayAdd said (item.Group name) = MayPutGroup said name
-MayAdd said (item.Quota link quota) = MayPutQuota said link quota
-MayAdd said (item.Caller name group) = MayPutCaller said name group
-MayAdd said (item.Open entry) = MayPutOpen said entry
-MayAdd said (item.Op what) = MayPutOp said what
-MayAdd said (item.Rounds count) = MayPutRounds said count
-MayAdd said (item.Tail count) = MayPutTail said count
-MayAdd said item.Schedule = MayPutSchedule said
-MayAdd said (item.Do what) = MayPutDo said what

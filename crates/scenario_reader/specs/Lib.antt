@@ -6,17 +6,11 @@ pub mod Forms
 pub mod Entries
 pub mod Uses
 pub mod Drafts
-pub mod LinkLine
 pub mod Nodes
 pub mod FoundRoutes
-pub mod OpenLine
-pub mod GroupLines
-pub mod QuotaLine
 pub mod Grammar
 pub mod Reading
 pub mod Kept
-pub mod LinkFields
-pub mod OpenFields
 pub mod ReadSteps
 pub mod PlanText
 pub mod BothWays
@@ -27,3 +21,4 @@ pub mod CsvRows
 pub mod AuditReading
 pub mod AuditKept
 pub mod AuditSteps
+pub mod line

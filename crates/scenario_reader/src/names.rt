@@ -1,6 +1,5 @@
 //! Names, numbered in the order in which they were added.
 ghost use Rattle.std.specs.Prelude.{◌≡◌, ◌<◌, ◌≤◌, ◌++◌, ◌∷◌, [], false, IfOk, IfSome, is_some, length, position};
-ghost use Rattle.std.specs.List.{slice_get};
 ghost use Rattle.call_script.specs.Rules.{is_named};
 ghost use Rattle.scenario_reader.specs.Forms.{is_among};
 

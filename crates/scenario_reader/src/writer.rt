@@ -7,14 +7,24 @@ ghost use Rattle.byte_ends.specs.Faults.{FaultsRise};
 ghost use Rattle.byte_ends.specs.Gathering.{WritesPart};
 ghost use Rattle.link_steps.specs.Lists.{Each};
 ghost use Rattle.call_script.specs.declared.schedule.Do.{Do as Item};
-ghost use Rattle.scenario_reader.specs.PlanText.{plan_text, head_text, link_text, op_text, split_text, rest_text, group_text, quota_text, quotas_text, caller_text, do_text, rounds_text, schedule_text, end_text};
+ghost use Rattle.scenario_reader.specs.PlanText.{plan_text, head_text, split_text, rest_text, caller_text, end_text};
+ghost use Rattle.scenario_reader.specs.line.Link.{link_text};
+ghost use Rattle.scenario_reader.specs.line.Operation.{op_text};
+ghost use Rattle.scenario_reader.specs.line.Group.{group_text};
+ghost use Rattle.scenario_reader.specs.line.Quota.{quota_text, quotas_text};
+ghost use Rattle.scenario_reader.specs.line.Schedule.{do_text, schedule_text};
+ghost use Rattle.scenario_reader.specs.line.Rounds.{rounds_text};
 ghost use Rattle.scenario_reader.specs.Written.{AddsText};
 
 use crate::fault::ReportFault;
-use crate::lines::{
-    caller_line, do_line, group_line, header_line, link_line, op_line, quota_line, rounds_line,
-    schedule_line, tail_line,
-};
+use crate::line::caller::caller_line;
+use crate::line::group::group_line;
+use crate::line::header::header_line;
+use crate::line::link::link_line;
+use crate::line::operation::op_line;
+use crate::line::quota::quota_line;
+use crate::line::rounds::{rounds_line, tail_line};
+use crate::line::schedule::{do_line, schedule_line};
 use crate::out::write_line;
 use byte_ends::{Gather, Sink};
 use call_script::{CallerEntry, Do, LinkEntry, Op, Plan, RequestEntry, Schedule};
@@ -161,7 +171,7 @@ fn write_shares<K: Sink>(
 }
 
 // The quotas of a link.
-#[tactic(auto, unfolding(crate::specs::PlanText::quotas_text))]
+#[tactic(auto, unfolding(crate::specs::line::Quota::quotas_text))]
 fn write_quotas<K: Sink>(
     alloc: Global,
     out: &mut Gather,

@@ -14,12 +14,22 @@ use Rattle.scenario_reader.specs.Drafts.{Said, nothing_said, is_complete, with_i
 use Rattle.scenario_reader.specs.Entries.{has_bounds}
 use Rattle.scenario_reader.specs.Fields.{fields_of, are_fields, field_at}
 use Rattle.scenario_reader.specs.Forms.{has_form, is_among, name_rule, new_name_rule, used_name_rule, number_rule}
-use Rattle.scenario_reader.specs.GroupLines.{group_form, group_rule, is_caller_line, names_group, member_rule, caller_rule}
-use Rattle.scenario_reader.specs.QuotaLine.{quota_form, load_fields, quota_in, quota_numbers_rule, is_new_quota, is_fit_quota, quota_rule}
-use Rattle.scenario_reader.specs.Grammar.{packets_rule, is_over_request, is_closed_request, may_join, carried, load_rule, send_form, send_rule, close_form, close_rule, move_form, move_rule, pour_form, pour_rule, rounds_form, rounds_rule, are_few_ticks, tail_form, tail_rule, schedule_form, schedule_rule, is_plane, actor_rule, do_form, do_rule, header_said, header_version, line_word, may_stand, judge_as, judge_word, judge_after, judge_fields, is_passed_over, judge}
-use Rattle.scenario_reader.specs.LinkLine.{is_link_line, has_best, bound_fields, link_numbers, link_numbers_rule, best_rule, link_fields_rule, link_rule}
+use Rattle.scenario_reader.specs.line.Group.{group_form, group_rule}
+use Rattle.scenario_reader.specs.line.Caller.{is_caller_line, names_group, member_rule, caller_rule}
+use Rattle.scenario_reader.specs.line.Quota.{quota_form, load_fields, quota_in, quota_numbers_rule, is_new_quota, is_fit_quota, quota_rule}
+use Rattle.scenario_reader.specs.line.Using.{packets_rule, is_over_request, is_closed_request, load_rule}
+use Rattle.scenario_reader.specs.line.Move.{may_join, carried, move_form, move_rule}
+use Rattle.scenario_reader.specs.line.Send.{send_form, send_rule}
+use Rattle.scenario_reader.specs.line.Close.{close_form, close_rule}
+use Rattle.scenario_reader.specs.line.Pour.{pour_form, pour_rule}
+use Rattle.scenario_reader.specs.line.Rounds.{rounds_form, rounds_rule, are_few_ticks, tail_form, tail_rule}
+use Rattle.scenario_reader.specs.line.Schedule.{schedule_form, schedule_rule, is_plane, actor_rule, do_form, do_rule}
+use Rattle.scenario_reader.specs.line.Header.{header_said, header_version}
+use Rattle.scenario_reader.specs.line.Table.{line_word, may_stand, judge_as}
+use Rattle.scenario_reader.specs.Grammar.{judge_word, judge_after, judge_fields, is_passed_over, judge}
+use Rattle.scenario_reader.specs.line.Link.{is_link_line, has_best, bound_fields, link_numbers, link_numbers_rule, best_rule, link_fields_rule, link_rule}
 use Rattle.scenario_reader.specs.Nodes.{is_node, route_between}
-use Rattle.scenario_reader.specs.OpenLine.{is_open_line, is_found, has_jitter, hops_in, route_fields, after_route, contract_told, contract_of, is_way, route_link_rule, route_names_rule, nodes_rule, way_fields_rule, terms_rule, jitter_rule, open_fields_rule, between_rule, way_rule, open_limits_rule, open_rule}
+use Rattle.scenario_reader.specs.line.Request.{is_open_line, is_found, has_jitter, hops_in, route_fields, after_route, contract_told, contract_of, is_way, route_link_rule, route_names_rule, nodes_rule, way_fields_rule, terms_rule, jitter_rule, open_fields_rule, between_rule, way_rule, open_limits_rule, open_rule}
 use Rattle.scenario_reader.specs.Reading.{Reading, PlanRead, BadLine, TooManyBytes, at_end, on_judged, reading_of, reading}
 use Rattle.scenario_reader.specs.declared.cause.Cause.{Cause}
 use Rattle.scenario_reader.specs.declared.cause.Cause.TheVariants as cause

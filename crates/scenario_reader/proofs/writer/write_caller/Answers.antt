@@ -1,7 +1,8 @@
 use Rattle.std.proofs.Common.{rules}
 use Rattle.std.specs.List.{flat_map}
 use Rattle.scenario_reader.specs.Fields.{ended_line}
-use Rattle.scenario_reader.specs.PlanText.{caller_fields, op_text}
+use Rattle.scenario_reader.specs.line.Caller.{caller_fields}
+use Rattle.scenario_reader.specs.line.Operation.{op_text}
 use Rattle.scenario_reader.proofs.TextFacts.{caller-text}
 use Rattle.scenario_reader.proofs.WrittenFacts.{adds-on, fails-longer}
 use Rattle.scenario_reader.proofs.writer.write_caller.Goals as goal

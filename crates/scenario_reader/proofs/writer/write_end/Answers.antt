@@ -1,5 +1,7 @@
 use Rattle.std.proofs.Common.{rules}
-use Rattle.scenario_reader.specs.PlanText.{rounds_text, schedule_text, end_text}
+use Rattle.scenario_reader.specs.line.Rounds.{rounds_text}
+use Rattle.scenario_reader.specs.line.Schedule.{schedule_text}
+use Rattle.scenario_reader.specs.PlanText.{end_text}
 use Rattle.scenario_reader.proofs.WrittenFacts.{adds-on, fails-longer}
 use Rattle.scenario_reader.proofs.writer.write_end.Goals as goal
 

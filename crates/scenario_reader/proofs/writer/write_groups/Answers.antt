@@ -1,5 +1,5 @@
 use Rattle.std.proofs.Common.{rules, refl}
-use Rattle.scenario_reader.specs.PlanText.{group_text}
+use Rattle.scenario_reader.specs.line.Group.{group_text}
 use Rattle.scenario_reader.proofs.WrittenFacts.{item-added, item-failed}
 use Rattle.scenario_reader.proofs.writer.write_groups.Goals as goal
 

@@ -1,6 +1,6 @@
 use Rattle.std.proofs.Common.{take}
 use Rattle.std.specs.List.{flat_map}
-use Rattle.scenario_reader.specs.PlanText.{group_text}
+use Rattle.scenario_reader.specs.line.Group.{group_text}
 use Rattle.scenario_reader.specs.Written.{AddsAll}
 use Rattle.scenario_reader.proofs.writer.write_groups.Given as goal
 

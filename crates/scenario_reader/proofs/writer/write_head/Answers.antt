@@ -1,7 +1,9 @@
 use Rattle.std.proofs.Common.{rules}
 use Rattle.std.specs.List.{flat_map}
 use Rattle.scenario_reader.specs.Fields.{ended_line}
-use Rattle.scenario_reader.specs.PlanText.{header_fields, link_text, head_text}
+use Rattle.scenario_reader.specs.line.Header.{header_fields}
+use Rattle.scenario_reader.specs.line.Link.{link_text}
+use Rattle.scenario_reader.specs.PlanText.{head_text}
 use Rattle.scenario_reader.proofs.WrittenFacts.{adds-on, fails-longer}
 use Rattle.scenario_reader.proofs.writer.write_head.Goals as goal
 

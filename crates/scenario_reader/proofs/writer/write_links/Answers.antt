@@ -1,5 +1,5 @@
 use Rattle.std.proofs.Common.{rules, refl}
-use Rattle.scenario_reader.specs.PlanText.{link_text}
+use Rattle.scenario_reader.specs.line.Link.{link_text}
 use Rattle.scenario_reader.proofs.WrittenFacts.{item-added, item-failed}
 use Rattle.scenario_reader.proofs.writer.write_links.Goals as goal
 

@@ -1,6 +1,6 @@
 use Rattle.std.proofs.Common.{rules}
 use Rattle.scenario_reader.specs.Fields.{ended_line}
-use Rattle.scenario_reader.specs.PlanText.{rounds_fields, tail_fields, rounds_text}
+use Rattle.scenario_reader.specs.line.Rounds.{rounds_fields, tail_fields, rounds_text}
 use Rattle.scenario_reader.proofs.WrittenFacts.{adds-on, fails-longer}
 use Rattle.scenario_reader.proofs.writer.write_rounds.Goals as goal
 

@@ -1,7 +1,7 @@
 use Rattle.std.proofs.Common.{rules}
 use Rattle.std.specs.List.{flat_map}
 use Rattle.scenario_reader.specs.Fields.{ended_line}
-use Rattle.scenario_reader.specs.PlanText.{schedule_fields, do_text}
+use Rattle.scenario_reader.specs.line.Schedule.{schedule_fields, do_text}
 use Rattle.scenario_reader.proofs.TextFacts.{schedule-text, no-schedule-text}
 use Rattle.scenario_reader.proofs.WrittenFacts.{adds-nothing, adds-on, fails-longer}
 use Rattle.scenario_reader.proofs.writer.write_schedule.Goals as goal

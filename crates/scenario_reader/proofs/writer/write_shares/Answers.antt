@@ -1,5 +1,5 @@
 use Rattle.std.proofs.Common.{rules, refl}
-use Rattle.scenario_reader.specs.PlanText.{quotas_text}
+use Rattle.scenario_reader.specs.line.Quota.{quotas_text}
 use Rattle.scenario_reader.proofs.WrittenFacts.{item-added, item-failed}
 use Rattle.scenario_reader.proofs.writer.write_shares.Goals as goal
 

@@ -1,6 +1,6 @@
 use Rattle.std.proofs.Common.{rules, refl}
 use Rattle.std.proofs.lemmas.List.{get_or_default}
-use Rattle.scenario_reader.specs.PlanText.{quota_text}
+use Rattle.scenario_reader.specs.line.Quota.{quota_text}
 use Rattle.scenario_reader.proofs.WrittenFacts.{item-added, item-failed}
 use Rattle.scenario_reader.proofs.writer.write_some_quotas.Goals as goal
 

@@ -1,6 +1,8 @@
 use Rattle.std.proofs.Common.{rules}
 use Rattle.std.specs.List.{flat_map}
-use Rattle.scenario_reader.specs.PlanText.{group_text, quotas_text, split_text}
+use Rattle.scenario_reader.specs.line.Group.{group_text}
+use Rattle.scenario_reader.specs.line.Quota.{quotas_text}
+use Rattle.scenario_reader.specs.PlanText.{split_text}
 use Rattle.scenario_reader.proofs.WrittenFacts.{adds-on, fails-longer}
 use Rattle.scenario_reader.proofs.writer.write_split.Goals as goal
 

@@ -1,6 +1,6 @@
 use Rattle.std.proofs.Common.{◌<◌, ◌∙◌, ◌++◌, [], ◌∷◌, length, length-append, ap, sym, arith}
 use Rattle.scenario_reader.specs.Fields.{fields_of}
-use Rattle.scenario_reader.specs.OpenLine.{route_fields, route_link_rule}
+use Rattle.scenario_reader.specs.line.Request.{route_fields, route_link_rule}
 use Rattle.scenario_reader.proofs.HopFacts.{route_more}
 use Rattle.scenario_reader.proofs.RuleFacts.{rules_pass, rules_stop, judges_stop, length-route, route_at}
 use Rattle.scenario_reader.proofs.draft.Draft.judge_route.Goals as goal

@@ -6,7 +6,7 @@ use Rattle.call_script.specs.Rules.{hops_of, load_at, load_of, loads_in}
 use Rattle.call_script.specs.declared.operations.Op.{Op}
 use Rattle.call_script.specs.declared.operations.Op.TheVariants.{Move}
 use Rattle.scenario_reader.specs.Drafts.{Said}
-use Rattle.scenario_reader.specs.Kept.{MayAdd}
+use Rattle.scenario_reader.specs.line.Table.{MayAdd}
 use Rattle.scenario_reader.specs.Uses.{use_at}
 use Rattle.scenario_reader.specs.declared.item.Item.TheVariants as item
 use Rattle.scenario_reader.specs.declared.uses.Uses.{Uses}

@@ -1,6 +1,6 @@
 use Rattle.std.proofs.Common.{sym, subst}
 use Rattle.scenario_reader.specs.Drafts.{Said}
-use Rattle.scenario_reader.specs.Kept.{MayAdd}
+use Rattle.scenario_reader.specs.line.Table.{MayAdd}
 use Rattle.scenario_reader.specs.declared.item.Item.TheVariants as item
 use Rattle.scenario_reader.proofs.DraftFacts.{draft_more}
 use Rattle.scenario_reader.proofs.KeptFacts.{kept_caller}

@@ -1,0 +1,95 @@
+//! The line of a caller: judging it, adding the caller, and its text.
+ghost use Rattle.std.specs.Prelude.{◌<◌, ◌≡◌, OnOk, OnErr, IfOk, string_bytes};
+ghost use Rattle.scenario_reader.specs.Causes.{Judges};
+ghost use Rattle.scenario_reader.specs.Fields.{fields_of, field_at, ended_line};
+ghost use Rattle.scenario_reader.specs.line.Caller.{is_caller_line, member_rule, group_in, caller_rule, caller_fields};
+ghost use Rattle.scenario_reader.specs.Drafts.{with_item};
+ghost use Rattle.scenario_reader.specs.line.Table.{MayAdd};
+ghost use Rattle.scenario_reader.specs.line.Group.{group_name};
+ghost use Rattle.scenario_reader.specs.declared.item.Item.TheVariants as item;
+
+use crate::cause::Cause;
+use crate::draft::Draft;
+use crate::fields::field;
+use crate::form::{Keyword, Part, has_form};
+use crate::line::group::group_name;
+use crate::values::{new_name, require};
+use call_script::{CallerEntry, Ops, Version};
+use net_units::limits::MOST_CALLERS;
+use net_units::{Name, OutOfMemory};
+use std::alloc::Global;
+
+const CALLER_FORM: [Part; 2] = [Part::Word(Keyword::Caller), Part::Field];
+
+const MEMBER_FORM: [Part; 4] = [
+    Part::Word(Keyword::Caller),
+    Part::Field,
+    Part::Word(Keyword::Group),
+    Part::Field,
+];
+
+impl Draft {
+    // The name of the caller that the line says, and the number of its group.
+    pub(crate) fn judge_caller(&self, version: Version, line: &[u8]) -> Result<(Name, u8), Cause>
+        ensures { Judges result (caller_rule version self.now (fields_of line.now)) (field_at (fields_of line.now) 1, group_in self.now (fields_of line.now)) }
+    {
+        require(is_caller_line(version, line), Cause::Shape)?;
+        let caller = new_name(field(line, 1), &self.caller_names)?;
+        let group = self.judge_member(line)?;
+        require(self.callers.len() < MOST_CALLERS, Cause::Many)?;
+        Ok((caller, group))
+    }
+
+    // The number of the group that a caller line names, 0 where it names none.
+    fn judge_member(&self, line: &[u8]) -> Result<u8, Cause>
+        ensures { Judges result (member_rule self.now (fields_of line.now)) (group_in self.now (fields_of line.now)) }
+    {
+        if Keyword::Group.is(field(line, 2)) {
+            self.judge_group_named(field(line, 3))
+        } else {
+            Ok(0)
+        }
+    }
+
+    pub(crate) fn put_caller(
+        &mut self,
+        alloc: Global,
+        name: &Name,
+        group: u8,
+    ) -> Result<(), OutOfMemory>
+        requires { MayAdd self.old (item.Caller name.now group) }
+        ensures ok { OnOk result (self.new ≡ with_item (item.Caller name.now group) self.old) }
+        ensures err { OnErr result (self.new ≡ self.old) }
+    {
+        self.callers.reserve(1)?;
+        self.callers.push_reserved(CallerEntry {
+            name: *name,
+            group,
+            ops: Ops::new(Vec::new(alloc)),
+        });
+        self.caller_names.add(*name);
+        Ok(())
+    }
+}
+
+// Whether the line has a form that the version has.
+fn is_caller_line(version: Version, line: &[u8]) -> bool
+    ensures { result ≡ is_caller_line version (fields_of line.now) }
+{
+    has_form(&CALLER_FORM, line) || (version.has_groups() && has_form(&MEMBER_FORM, line))
+}
+
+pub(crate) fn caller_line(
+    alloc: Global,
+    groups: &[Name],
+    name: Name,
+    group: u8,
+) -> Result<String, OutOfMemory>
+    ensures { IfOk result (λ line. string_bytes line ≡ ended_line (caller_fields groups.now name group)) }
+{
+    if group == 0 {
+        return Ok(format!(in alloc; "caller {name}\n")?);
+    }
+    let group = group_name(groups, group);
+    Ok(format!(in alloc; "caller {name} group {group}\n")?)
+}

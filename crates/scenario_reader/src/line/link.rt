@@ -1,0 +1,310 @@
+//! The line of a link: judging it, adding the link, and its text.
+ghost use Rattle.std.specs.Prelude.{ℕ, ◌≡◌, ◌≤◌, ◌<◌, IfOk, List, length, is_some, option_map, Some, OnOk, OnErr, IsTrue, map, ◌++◌, string_bytes, get_or};
+ghost use Rattle.net_units.specs.Limits.{most_best};
+ghost use Rattle.net_units.specs.Numbers.{link_at};
+ghost use Rattle.call_script.specs.Versions.{test_of};
+ghost use Rattle.scenario_reader.specs.Causes.{Judges, States, unless};
+ghost use Rattle.scenario_reader.specs.Entries.{has_bounds, shape_of};
+ghost use Rattle.scenario_reader.specs.Fields.{fields_of, spaced};
+ghost use Rattle.scenario_reader.specs.line.LinkFields.{AreFigures, link_told, numbers_with, figures_in};
+ghost use Rattle.scenario_reader.specs.line.Link.{is_link_line, bound_fields, bounds_of, link_fields_rule, link_rule, link_said, has_best, bound_start, best_in, link_numbers_rule, best_rule, bound_numbers_rule, best_fields, bounds_fields, link_text, link_line_front};
+ghost use Rattle.scenario_reader.specs.Drafts.{link_named, shape_in, with_item};
+ghost use Rattle.scenario_reader.specs.Forms.{used_name_rule};
+ghost use Rattle.scenario_reader.specs.line.Table.{MayAdd};
+ghost use Rattle.scenario_reader.specs.Decimal.{value_of};
+ghost use Rattle.scenario_reader.specs.declared.item.Item.TheVariants as item;
+
+use crate::cause::Cause;
+use crate::draft::Draft;
+use crate::fields::{field, field_count};
+use crate::form::{Keyword, Part, has_form};
+use crate::values::{name, new_name, number, require};
+use call_script::{LinkEntry, Quotas, Version};
+use link_steps::LinkShape;
+use net_units::limits::{
+    MOST_BEST, MOST_BOUND, MOST_BUFFER, MOST_LEVELS, MOST_LINKS, MOST_PROPAGATION, MOST_RATE,
+    MOST_SIZE,
+};
+use net_units::{Bounds, Level, LinkNo, Name, OutOfMemory};
+use std::alloc::{AllocError, Global};
+
+const PLAIN_FORM: [Part; 14] = [
+    Part::Word(Keyword::Link),
+    Part::Field,
+    Part::Field,
+    Part::Field,
+    Part::Word(Keyword::Rate),
+    Part::Field,
+    Part::Word(Keyword::Cap),
+    Part::Field,
+    Part::Word(Keyword::Prop),
+    Part::Field,
+    Part::Word(Keyword::Buffer),
+    Part::Field,
+    Part::Word(Keyword::Levels),
+    Part::Bounds,
+];
+
+const BEST_FORM: [Part; 16] = [
+    Part::Word(Keyword::Link),
+    Part::Field,
+    Part::Field,
+    Part::Field,
+    Part::Word(Keyword::Rate),
+    Part::Field,
+    Part::Word(Keyword::Cap),
+    Part::Field,
+    Part::Word(Keyword::Prop),
+    Part::Field,
+    Part::Word(Keyword::Buffer),
+    Part::Field,
+    Part::Word(Keyword::Best),
+    Part::Field,
+    Part::Word(Keyword::Levels),
+    Part::Bounds,
+];
+
+// A link's rate, cap, propagation and buffer, each in its range.
+#[derive(Clone, Copy)]
+struct Figures {
+    rate: u32,
+    cap: u32,
+    prop: u32,
+    buffer: u32,
+}
+
+// The fields of a link line, each of which passes.
+#[derive(Clone, Copy)]
+struct LinkFields {
+    name: Name,
+    from: Name,
+    to: Name,
+    figures: Figures,
+    best: u32,
+    // None where they don't rise.
+    bounds: Option<Bounds>,
+}
+
+impl Draft {
+    // The link that the line says.
+    pub(crate) fn judge_link(
+        &self,
+        alloc: Global,
+        version: Version,
+        line: &[u8],
+    ) -> Result<LinkEntry, Cause>
+        ensures { States result (link_rule version self.now (fields_of line.now)) (link_said version self.now (fields_of line.now)) }
+    {
+        require(is_link_line(version, line), Cause::Shape)?;
+        let link = self.judge_link_fields(line)?;
+        require(self.links.len() < usize::from(MOST_LINKS), Cause::Many)?;
+        let shape = self.judge_shape(version, &link)?;
+        Ok(LinkEntry {
+            name: link.name,
+            from: link.from,
+            to: link.to,
+            shape,
+            quotas: Quotas::none(alloc),
+        })
+    }
+
+    // The fields after its word, from left to right.
+    fn judge_link_fields(&self, line: &[u8]) -> Result<LinkFields, Cause>
+        requires { length (bound_fields (fields_of line.now)) ≤ 8 }
+        ensures judged { Judges result (link_fields_rule self.now (fields_of line.now)) (link_told (fields_of line.now)) }
+        ensures figures { IfOk result (λ link. AreFigures link.figures) }
+        ensures best { IfOk result (λ link. link.best ≤ most_best) }
+    {
+        let link_name = new_name(field(line, 1), &self.link_names)?;
+        let from = name(field(line, 2))?;
+        let to = name(field(line, 3))?;
+        let figures = judge_figures(line)?;
+        let best = judge_best(line)?;
+        let bounds = judge_bounds(line)?;
+        Ok(LinkFields {
+            name: link_name,
+            from,
+            to,
+            figures,
+            best,
+            bounds,
+        })
+    }
+
+    // The shape of the next link, which has these numbers.
+    fn judge_shape(&self, version: Version, link: &LinkFields) -> Result<LinkShape, Cause>
+        requires few { length self.now.links < 32 }
+        requires figures { AreFigures link.now.figures }
+        requires best { link.now.best ≤ most_best }
+        ensures { (numbers : List ℕ) → link.now.bounds ≡ bounds_of numbers
+            → States result (unless (has_bounds (numbers_with link.now numbers)) Cause.Levels)
+            (shape_of (link_at (length self.now.links)) (test_of version) (numbers_with link.now numbers)) }
+    {
+        let bounds = link.bounds.ok_or(Cause::Levels)?;
+        let made = LinkShape::new(
+            LinkNo::new(self.links.len() as u8).unwrap(),
+            link.figures.rate,
+            link.figures.cap,
+            link.figures.prop,
+            link.figures.buffer,
+            bounds,
+            version.test(),
+            link.best,
+        );
+        match made {
+            Ok(shape) => Ok(shape),
+            Err(_) => Err(Cause::Levels),
+        }
+    }
+
+    // The shape of the link that a field names.
+    pub(crate) fn judge_link_named(&self, field: &[u8]) -> Result<LinkShape, Cause>
+        ensures { States result (used_name_rule (is_some (link_named self.now.links field.now)) field.now) (option_map shape_in (link_named self.now.links field.now)) }
+    {
+        let name = name(field)?;
+        self.link_named(&name).ok_or(Cause::Unknown)
+    }
+
+    // The shape of the link of this name.
+    pub(crate) fn link_named(&self, name: &Name) -> Option<LinkShape>
+        ensures { result ≡ option_map shape_in (link_named self.now.links name.now) }
+    {
+        let number = self.link_names.number_of(name)?;
+        Some(self.links[number].shape)
+    }
+
+    pub(crate) fn put_link(&mut self, entry: LinkEntry) -> Result<(), OutOfMemory>
+        requires { MayAdd self.old (item.Link entry) }
+        ensures ok { OnOk result (self.new ≡ with_item (item.Link entry) self.old) }
+        ensures err { OnErr result (self.new ≡ self.old) }
+    {
+        let name = entry.name;
+        self.links.push(entry)?;
+        self.link_names.add(name);
+        Ok(())
+    }
+}
+
+// Whether the line has a form that the version has. Up to 8 bounds stand in it then.
+#[tactic(auto, using(crate::proofs::kind::LinkForm::plain_few, crate::proofs::kind::LinkForm::best_few))]
+fn is_link_line(version: Version, line: &[u8]) -> bool
+    ensures value { result ≡ is_link_line version (fields_of line.now) }
+    ensures few { IsTrue result → length (bound_fields (fields_of line.now)) ≤ 8 }
+{
+    has_form(&PLAIN_FORM, line) || (version.has_best_effort() && has_form(&BEST_FORM, line))
+}
+
+// Whether best-effort packets stand after the buffer.
+fn has_best(line: &[u8]) -> bool
+    ensures { result ≡ has_best (fields_of line.now) }
+{
+    Keyword::Best.is(field(line, 12))
+}
+
+// The four numbers between the nodes and the bounds.
+fn judge_figures(line: &[u8]) -> Result<Figures, Cause>
+    ensures judged { Judges result (link_numbers_rule (fields_of line.now)) (figures_in (fields_of line.now)) }
+    ensures figures { IfOk result AreFigures }
+{
+    let rate = number(field(line, 5), 1, u64::from(MOST_RATE))?;
+    let cap = number(field(line, 7), 1, u64::from(MOST_SIZE))?;
+    let prop = number(field(line, 9), 0, u64::from(MOST_PROPAGATION))?;
+    let buffer = number(field(line, 11), 0, u64::from(MOST_BUFFER))?;
+    Ok(Figures {
+        rate: rate as u32,
+        cap: cap as u32,
+        prop: prop as u32,
+        buffer: buffer as u32,
+    })
+}
+
+// How many best-effort packets may wait, 0 where the line doesn't say it.
+fn judge_best(line: &[u8]) -> Result<u32, Cause>
+    ensures judged { Judges result (best_rule (fields_of line.now)) (best_in (fields_of line.now)) }
+    ensures most { IfOk result (λ best. best ≤ most_best) }
+{
+    if has_best(line) {
+        Ok(number(field(line, 13), 1, u64::from(MOST_BEST))? as u32)
+    } else {
+        Ok(0)
+    }
+}
+
+// Where the bounds of the levels begin.
+fn bound_start(line: &[u8]) -> usize
+    ensures { result ≡ bound_start (fields_of line.now) }
+{
+    if has_best(line) { 15 } else { 13 }
+}
+
+// The bounds that the last fields are, None where they don't rise.
+fn judge_bounds(line: &[u8]) -> Result<Option<Bounds>, Cause>
+    requires { length (bound_fields (fields_of line.now)) ≤ 8 }
+    ensures { Judges result (bound_numbers_rule (bound_fields (fields_of line.now))) (bounds_of (map value_of (bound_fields (fields_of line.now)))) }
+{
+    let start = bound_start(line);
+    let count = field_count(line).saturating_sub(start);
+    let mut cells = [0; MOST_LEVELS as usize];
+    for place in 0..count {
+        cells[place] = number(field(line, start + place), 1, u64::from(MOST_BOUND))? as u32;
+    }
+    Ok(Bounds::new(&cells[..count]))
+}
+
+pub(crate) fn link_line(alloc: Global, entry: &LinkEntry) -> Result<String, OutOfMemory>
+    ensures { IfOk result (λ line. string_bytes line ≡ link_text entry.now) }
+{
+    let mut line = String::new(alloc);
+    push_link(&mut line, entry)?;
+    push_best(&mut line, entry.shape.best)?;
+    push_bounds(&mut line, &entry.shape.bounds)?;
+    writeln!(line)?;
+    Ok(line)
+}
+
+// The link up to its buffer.
+fn push_link(line: &mut String, entry: &LinkEntry) -> Result<(), AllocError>
+    ensures { OnOk result (string_bytes line.new ≡ string_bytes line.old ++ link_line_front entry.now) }
+{
+    let (name, from, to) = (entry.name, entry.from, entry.to);
+    let (rate, cap) = (entry.shape.rate, entry.shape.cap);
+    let (prop, buffer) = (entry.shape.prop, entry.shape.buffer);
+    write!(
+        line,
+        "link {name} {from} {to} rate {rate} cap {cap} prop {prop} buffer {buffer}"
+    )
+}
+
+// How many best-effort packets may wait, where any may.
+fn push_best(line: &mut String, best: u32) -> Result<(), AllocError>
+    ensures { OnOk result (string_bytes line.new ≡ string_bytes line.old ++ spaced (best_fields best)) }
+{
+    if best == 0 {
+        return Ok(());
+    }
+    write!(line, " best {best}")
+}
+
+// The bounds of the levels.
+fn push_bounds(line: &mut String, bounds: &Bounds) -> Result<(), AllocError>
+    ensures { OnOk result (string_bytes line.new ≡ string_bytes line.old ++ spaced (bounds_fields bounds.now)) }
+{
+    write!(line, " levels")?;
+    for index in 0..bounds.len() {
+        let bound = bound_at(bounds, index);
+        write!(line, " {bound}")?;
+    }
+    Ok(())
+}
+
+// The bound at a place, from 0.
+fn bound_at(bounds: &Bounds, index: u8) -> u32
+    requires within { index < length bounds.now }
+    requires few { index < 8 }
+    ensures { result ≡ get_or bounds.now index 0 }
+{
+    match Level::new(index + 1) {
+        Some(level) => bounds.at(level),
+        None => unreachable!(),
+    }
+}

@@ -1,0 +1,55 @@
+//! The line of a pour: judging it, and its text.
+ghost use Rattle.std.specs.Prelude.{Ok, ◌≡◌, IfOk, string_bytes, ◌<◌};
+ghost use Rattle.scenario_reader.specs.Causes.{States};
+ghost use Rattle.scenario_reader.specs.Fields.{fields_of, ended_line};
+ghost use Rattle.scenario_reader.specs.line.Pour.{pour_rule, pour_said, pour_fields};
+
+use crate::cause::Cause;
+use crate::draft::Draft;
+use crate::fields::field;
+use crate::form::{Keyword, Part, has_form};
+use crate::line::operation::judge_packets;
+use crate::values::require;
+use call_script::{LinkEntry, Op};
+use net_units::OutOfMemory;
+use std::alloc::Global;
+
+const POUR_FORM: [Part; 5] = [
+    Part::Word(Keyword::Pour),
+    Part::Field,
+    Part::Field,
+    Part::Field,
+    Part::Field,
+];
+
+impl Draft {
+    // The pour that the line says.
+    pub(crate) fn judge_pour(&self, line: &[u8]) -> Result<Op, Cause>
+        ensures { States result (pour_rule self.now (fields_of line.now)) (pour_said self.now (fields_of line.now)) }
+    {
+        require(has_form(&POUR_FORM, line), Cause::Shape)?;
+        let shape = self.judge_link_named(field(line, 1))?;
+        let packets = judge_packets(line)?;
+        self.judge_load(packets.count)?;
+        require(shape.best >= 1, Cause::Best)?;
+        Ok(Op::Pour {
+            link: shape.link,
+            count: packets.count,
+            gap: packets.gap,
+            size: packets.size,
+        })
+    }
+}
+
+pub(crate) fn pour_line(
+    alloc: Global,
+    entry: &LinkEntry,
+    count: u64,
+    gap: u64,
+    size: u32,
+) -> Result<String, OutOfMemory>
+    ensures { IfOk result (λ line. string_bytes line ≡ ended_line (pour_fields count gap size entry.now)) }
+{
+    let name = entry.name;
+    Ok(format!(in alloc; "pour {name} {count} {gap} {size}\n")?)
+}

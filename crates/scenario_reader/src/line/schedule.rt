@@ -1,0 +1,111 @@
+//! The line `schedule` and its `do` lines: judging them, adding what they say, and their text.
+ghost use Rattle.std.specs.Prelude.{◌≤◌, ◌<◌, IfOk, ◌≡◌, OnOk, OnErr, string_bytes};
+ghost use Rattle.scenario_reader.specs.Causes.{States, Judges};
+ghost use Rattle.scenario_reader.specs.Fields.{fields_of, ended_line};
+ghost use Rattle.scenario_reader.specs.line.Schedule.{actor_rule, actor_named, actor_said, do_rule, do_said, schedule_rule, do_text, schedule_fields};
+ghost use Rattle.scenario_reader.specs.Drafts.{with_item};
+ghost use Rattle.scenario_reader.specs.line.Table.{MayAdd};
+ghost use Rattle.std.specs.List.{slice_get};
+ghost use Rattle.net_units.specs.Numbers.{actor_number};
+ghost use Rattle.call_script.specs.ActorNames.{name_of_actor};
+ghost use Rattle.scenario_reader.specs.declared.item.Item.TheVariants as item;
+
+use crate::cause::Cause;
+use crate::draft::Draft;
+use crate::fields::field;
+use crate::form::{Keyword, Part, has_form};
+use crate::values::{name, number, require};
+use call_script::{CallerEntry, Do};
+use net_units::limits::MOST_STEPS;
+use net_units::{ActorNo, OutOfMemory};
+use std::alloc::Global;
+
+const SCHEDULE_FORM: [Part; 1] = [Part::Word(Keyword::Schedule)];
+
+const DO_FORM: [Part; 3] = [Part::Word(Keyword::Do), Part::Field, Part::Field];
+
+impl Draft {
+    pub(crate) fn judge_do(&self, number_of_line: u64, line: &[u8]) -> Result<Do, Cause>
+        ensures { States result (do_rule self.now (fields_of line.now)) (do_said self.now number_of_line (fields_of line.now)) }
+    {
+        require(has_form(&DO_FORM, line), Cause::Shape)?;
+        let actor = self.judge_actor(field(line, 1))?;
+        let count = number(field(line, 2), 1, MOST_STEPS)?;
+        Ok(Do {
+            line: number_of_line,
+            actor,
+            count,
+        })
+    }
+
+    // The actor that a field names.
+    fn judge_actor(&self, field: &[u8]) -> Result<ActorNo, Cause>
+        ensures { States result (actor_rule self.now field.now) (actor_said self.now field.now) }
+    {
+        let number = self.actor_number(field)?;
+        Ok(ActorNo::new(number as u8).unwrap())
+    }
+
+    // The number of the actor that a field names.
+    fn actor_number(&self, field: &[u8]) -> Result<usize, Cause>
+        ensures judged { States result (actor_rule self.now field.now) (actor_named self.now field.now) }
+        ensures small { IfOk result (λ number. number ≤ 64) }
+    {
+        if field == b"plane".as_slice() {
+            return Ok(self.callers.len());
+        }
+        let name = name(field)?;
+        self.caller_names.number_of(&name).ok_or(Cause::Unknown)
+    }
+
+    pub(crate) fn put_schedule(&mut self)
+        requires { MayAdd self.old item.Schedule }
+        ensures { self.new ≡ with_item item.Schedule self.old }
+    {
+        self.written = true;
+    }
+
+    pub(crate) fn put_do(&mut self, what: &Do) -> Result<(), OutOfMemory>
+        requires { MayAdd self.old (item.Do what.now) }
+        ensures ok { OnOk result (self.new ≡ with_item (item.Do what.now) self.old) }
+        ensures err { OnErr result (self.new ≡ self.old) }
+    {
+        self.items.push(*what)?;
+        Ok(())
+    }
+}
+
+pub(crate) fn judge_schedule(line: &[u8]) -> Result<(), Cause>
+    ensures { Judges result (schedule_rule (fields_of line.now)) tt }
+{
+    require(has_form(&SCHEDULE_FORM, line), Cause::Shape)
+}
+
+pub(crate) fn schedule_line(alloc: Global) -> Result<String, OutOfMemory>
+    ensures { IfOk result (λ line. string_bytes line ≡ ended_line schedule_fields) }
+{
+    Ok(format!(in alloc; "schedule\n")?)
+}
+
+#[tactic(auto, unfolding(crate::specs::line::Schedule::do_text))]
+pub(crate) fn do_line(
+    alloc: Global,
+    callers: &[CallerEntry],
+    item: &Do,
+) -> Result<String, OutOfMemory>
+    ensures { IfOk result (λ line. string_bytes line ≡ do_text callers.now item.now) }
+{
+    let actor = actor_name(callers, item.actor);
+    let count = item.count;
+    Ok(format!(in alloc; "do {actor} {count}\n")?)
+}
+
+// A caller's name, or the plane.
+fn actor_name(callers: &[CallerEntry], actor: ActorNo) -> &str
+    ensures { result.now ≡ name_of_actor (slice_get callers.now (actor_number actor)) }
+{
+    match callers.get(usize::from(actor.get())) {
+        Some(caller) => caller.name.as_str(),
+        None => "plane",
+    }
+}

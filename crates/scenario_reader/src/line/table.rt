@@ -1,0 +1,155 @@
+//! The kinds of lines: the word that begins each, when it may stand, how it is judged, and how what it says is added.
+ghost use Rattle.std.specs.Prelude.{◌≡◌, Ok, ◌<◌, OnOk, OnErr, Some};
+ghost use Rattle.scenario_reader.specs.Causes.{AnswersWithRoom};
+ghost use Rattle.scenario_reader.specs.Drafts.{has_quotas, with_item};
+ghost use Rattle.scenario_reader.specs.Fields.{fields_of};
+ghost use Rattle.scenario_reader.specs.line.Table.{may_stand, judge_as, is_before_callers, MayAdd, line_word};
+
+use crate::cause::{Cause, LineFault};
+use crate::draft::Draft;
+use crate::fields::field;
+use crate::form::Keyword;
+use crate::item::Item;
+use crate::line::rounds::judge_rounds;
+use crate::line::schedule::judge_schedule;
+use call_script::{Do, LinkEntry, Op, Version};
+use link_steps::Quota;
+use net_units::OutOfMemory;
+use std::alloc::Global;
+
+impl Draft {
+    pub(crate) fn judge_as(
+        &self,
+        alloc: Global,
+        word: Keyword,
+        version: Version,
+        number: u64,
+        line: &[u8],
+    ) -> Result<Item, LineFault>
+        ensures { AnswersWithRoom result (judge_as word version self.now number (fields_of line.now)) }
+    {
+        match word {
+            Keyword::Link => Ok(Item::Link(self.judge_link(alloc, version, line)?)),
+            Keyword::Group => Ok(Item::Group(self.judge_group(line)?)),
+            Keyword::Quota => Ok(self.judge_quota(line)?),
+            Keyword::Caller => {
+                let (name, group) = self.judge_caller(version, line)?;
+                Ok(Item::Caller { name, group })
+            }
+            Keyword::Open => Ok(Item::Open(self.judge_open(alloc, version, line)?)),
+            Keyword::Send => Ok(Item::Op(self.judge_send(line)?)),
+            Keyword::Close => Ok(Item::Op(self.judge_close(line)?)),
+            Keyword::Pour => Ok(Item::Op(self.judge_pour(line)?)),
+            Keyword::Move => Ok(Item::Op(self.judge_move(line)?)),
+            Keyword::Rounds => Ok(Item::Rounds(judge_rounds(line)?)),
+            Keyword::Tail => Ok(Item::Tail(self.judge_tail(line)?)),
+            Keyword::Schedule => {
+                judge_schedule(line)?;
+                Ok(Item::Schedule)
+            }
+            Keyword::Do => Ok(Item::Do(self.judge_do(number, line)?)),
+            _ => Err(LineFault::Refused(Cause::Word)),
+        }
+    }
+
+    pub(crate) fn may_stand(&self, version: Version, word: Keyword) -> bool
+        ensures { result ≡ may_stand version self.now word }
+    {
+        match word {
+            Keyword::Link => {
+                self.groups.is_empty() && self.callers.is_empty() && self.rounds.is_none()
+            }
+            Keyword::Group => {
+                version.has_groups() && self.is_before_callers() && !has_quotas(&self.links)
+            }
+            Keyword::Quota => version.has_groups() && self.is_before_callers(),
+            Keyword::Caller | Keyword::Rounds => !self.links.is_empty() && self.rounds.is_none(),
+            Keyword::Open | Keyword::Send | Keyword::Close => {
+                !self.callers.is_empty() && self.rounds.is_none()
+            }
+            Keyword::Pour => {
+                version.has_best_effort() && !self.callers.is_empty() && self.rounds.is_none()
+            }
+            Keyword::Move => {
+                version.has_moves() && !self.callers.is_empty() && self.rounds.is_none()
+            }
+            Keyword::Tail => self.rounds.is_some() && self.tail.is_none(),
+            Keyword::Schedule => self.tail.is_some() && !self.written,
+            Keyword::Do => self.written,
+            _ => false,
+        }
+    }
+
+    // Whether a link was read, and no caller and no rounds.
+    fn is_before_callers(&self) -> bool
+        ensures { result ≡ is_before_callers self.now }
+    {
+        !self.links.is_empty() && self.callers.is_empty() && self.rounds.is_none()
+    }
+
+    /// Adds what a line says that was let pass. Want of memory changes nothing.
+    pub fn put(&mut self, alloc: Global, item: Item) -> Result<(), OutOfMemory>
+        requires { MayAdd self.old item }
+        ensures ok { OnOk result (self.new ≡ with_item item self.old) }
+        ensures err { OnErr result (self.new ≡ self.old) }
+    {
+        match item {
+            Item::Nothing => {}
+            Item::Header(version) => self.put_header(version),
+            Item::Link(entry) => self.put_link(entry)?,
+            Item::Group(name) => self.put_group(name)?,
+            Item::Quota { link, quota } => self.put_quota(link, quota)?,
+            Item::Caller { name, group } => self.put_caller(alloc, &name, group)?,
+            Item::Open(entry) => self.put_open(&entry)?,
+            Item::Op(op) => self.put_op(&op)?,
+            Item::Rounds(count) => self.put_rounds(count),
+            Item::Tail(count) => self.put_tail(count),
+            Item::Schedule => self.put_schedule(),
+            Item::Do(what) => self.put_do(&what)?,
+        }
+        Ok(())
+    }
+}
+
+// Whether a link of these has quotas.
+fn has_quotas(links: &[LinkEntry]) -> bool
+    ensures { result ≡ has_quotas links.now }
+{
+    links
+        .iter()
+        .any(|entry| !entry.quotas.as_slice().is_empty())
+}
+
+pub(crate) fn line_word(field: &[u8]) -> Option<Keyword>
+    ensures { result ≡ line_word field.now }
+{
+    if Keyword::Link.is(field) {
+        Some(Keyword::Link)
+    } else if Keyword::Group.is(field) {
+        Some(Keyword::Group)
+    } else if Keyword::Quota.is(field) {
+        Some(Keyword::Quota)
+    } else if Keyword::Caller.is(field) {
+        Some(Keyword::Caller)
+    } else if Keyword::Open.is(field) {
+        Some(Keyword::Open)
+    } else if Keyword::Send.is(field) {
+        Some(Keyword::Send)
+    } else if Keyword::Close.is(field) {
+        Some(Keyword::Close)
+    } else if Keyword::Pour.is(field) {
+        Some(Keyword::Pour)
+    } else if Keyword::Move.is(field) {
+        Some(Keyword::Move)
+    } else if Keyword::Rounds.is(field) {
+        Some(Keyword::Rounds)
+    } else if Keyword::Tail.is(field) {
+        Some(Keyword::Tail)
+    } else if Keyword::Schedule.is(field) {
+        Some(Keyword::Schedule)
+    } else if Keyword::Do.is(field) {
+        Some(Keyword::Do)
+    } else {
+        None
+    }
+}
