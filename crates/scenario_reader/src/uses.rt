@@ -1,7 +1,7 @@
 //! What is kept of a request that a caller has opened.
 ghost use Rattle.std.specs.Prelude.{◌≡◌};
 ghost use Rattle.link_steps.specs.Lists.{Each};
-ghost use Rattle.scenario_reader.specs.Uses.{IsLight, blank, use_at, used_by, with_use};
+ghost use Rattle.scenario_reader.specs.Uses.{IsLight, blank, use_at, sent, shut, left, joined, used_by, with_use};
 
 use call_script::Op;
 use net_units::ChanNo;
@@ -45,6 +45,52 @@ pub(crate) fn use_at(uses: &[Uses], chan: ChanNo) -> Uses
     }
 }
 
+impl Uses {
+    // Sent on, so many packets.
+    fn sent(self, count: u64) -> Uses
+        ensures { result ≡ sent count self }
+    {
+        Uses {
+            used: true,
+            load: count.max(self.load),
+            ..self
+        }
+    }
+
+    // Closed.
+    fn shut(self) -> Uses
+        ensures { result ≡ shut self }
+    {
+        Uses {
+            closed: true,
+            used: true,
+            ..self
+        }
+    }
+
+    // Left by a move.
+    fn left(self) -> Uses
+        ensures { result ≡ left self }
+    {
+        Uses {
+            left: true,
+            used: true,
+            ..self
+        }
+    }
+
+    // Joined by a move, with what the request that it leaves has to carry.
+    fn joined(self, load: u64) -> Uses
+        ensures { result ≡ joined load self }
+    {
+        Uses {
+            joined: true,
+            load: load.max(self.load),
+            ..self
+        }
+    }
+}
+
 // With one operation more.
 pub(crate) fn use_by(uses: &mut Vec<Uses>, op: &Op)
     requires light { Each IsLight uses.old.items }
@@ -54,49 +100,17 @@ pub(crate) fn use_by(uses: &mut Vec<Uses>, op: &Op)
         Op::Open(_) | Op::Pour { .. } => {}
         Op::Send { chan, count, .. } => {
             let was = use_at(uses, *chan);
-            put_use(
-                uses,
-                *chan,
-                Uses {
-                    used: true,
-                    load: (*count).max(was.load),
-                    ..was
-                },
-            );
+            put_use(uses, *chan, was.sent(*count));
         }
         Op::Close(chan) => {
             let was = use_at(uses, *chan);
-            put_use(
-                uses,
-                *chan,
-                Uses {
-                    closed: true,
-                    used: true,
-                    ..was
-                },
-            );
+            put_use(uses, *chan, was.shut());
         }
         Op::Move { old, new } => {
             let was = use_at(uses, *old);
-            put_use(
-                uses,
-                *old,
-                Uses {
-                    left: true,
-                    used: true,
-                    ..was
-                },
-            );
+            put_use(uses, *old, was.left());
             let joins = use_at(uses, *new);
-            put_use(
-                uses,
-                *new,
-                Uses {
-                    joined: true,
-                    load: was.load.max(joins.load),
-                    ..joins
-                },
-            );
+            put_use(uses, *new, joins.joined(was.load));
         }
     }
 }
