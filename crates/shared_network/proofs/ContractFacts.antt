@@ -11,7 +11,7 @@ use Rattle.hop_reservation.specs.declared.route.Hop.{Hop}
 use Rattle.link_steps.specs.Lists.{Each}
 use Rattle.link_steps.specs.Reservation.{Reservation, tentative, committed}
 use Rattle.link_steps.specs.declared.asks.Ask.{Ask}
-use Rattle.link_steps.specs.declared.asks.Ask.TheVariants.{Reserve, Relax, Deny, Submit, Release, Arrive, Tick, Pour}
+use Rattle.link_steps.specs.declared.asks.Ask.TheVariants.{Reserve, Relax, Deny, Release}
 use Rattle.link_steps.specs.declared.replies.Reply.{Reply}
 use Rattle.link_steps.specs.declared.replies.Reply.TheVariants as Is
 use Rattle.link_steps.proofs.ListFacts.{Each-filter}
@@ -28,13 +28,7 @@ ReservesOn c contract _ = Unit {0}
 
 pub off-reserves : (c : ℕ) (contract : Traffic) (ask : Ask) → IsOff c ask → ReservesOn c contract ask
 off-reserves c contract (Reserve chan own kind delay up_reach first next) off = λ same. absurd (off same)
-off-reserves c contract (Relax chan level up_bound) off = tt
-off-reserves c contract (Deny chan) off = tt
-off-reserves c contract (Submit chan count gap size) off = tt
-off-reserves c contract (Release chan upstream) off = tt
-off-reserves c contract (Arrive packet) off = tt
-off-reserves c contract Tick off = tt
-off-reserves c contract (Pour count gap size) off = tt
+off-reserves c contract _ off = tt
 
 -- what is held is on this contract
 abbrev pub IsOn : Traffic → Hold → Type 0
@@ -88,11 +82,8 @@ on-with c contract hold (Reserve chan own kind delay up_reach first next) reply 
     (λ here. reserved-on contract hold (λ level reach. tentative chan own kind first next up_reach level reach) reply (λ level reach. names (eqb-true (channel_number chan) c here)) on) (λ off. on)
 on-with c contract hold (Relax chan level up_bound) reply names on = cond_both (eqb (channel_number chan) c) (hold_relaxed hold (committed level up_bound) reply) hold (IsOn contract) (λ here. relaxed-on contract hold level up_bound reply on) (λ off. on)
 on-with c contract hold (Deny chan) reply names on = cond_both (eqb (channel_number chan) c) (denied hold reply) hold (IsOn contract) (λ here. denied-on contract hold reply) (λ off. on)
-on-with c contract hold (Submit chan count gap size) reply names on = on
 on-with c contract hold (Release chan upstream) reply names on = cond_both (eqb (channel_number chan) c) Untold hold (IsOn contract) (λ here. tt) (λ off. on)
-on-with c contract hold (Arrive packet) reply names on = on
-on-with c contract hold Tick reply names on = on
-on-with c contract hold (Pour count gap size) reply names on = on
+on-with c contract hold _ reply names on = on
 
 -- and all of them
 on-from : (c : ℕ) (contract : Traffic) (hold : Hold) (own : List OwnEntry) → Each (λ (e : OwnEntry). ReservesOn c contract e.ask) own → IsOn contract hold → IsOn contract (hold_from c hold own)

@@ -142,9 +142,7 @@ off-ask owners a b chan ask owner other = by-ask ask where
   by-ask (Deny own) by_b = apart own by_b
   by-ask (Submit own count gap size) by_b = apart own by_b
   by-ask (Release own upstream) by_b = apart own by_b
-  by-ask (Arrive packet) by_b = tt
-  by-ask Tick by_b = tt
-  by-ask (Pour count gap size) by_b = tt
+  by-ask _ by_b = tt
 
 pub off-marks : (owners : List ActorNo) (a : ActorNo) (chan : ChanNo) (ms : List Mark) → IsOwner owners a chan → marks_of (actor_number a) ms ≡ [] → Each (λ (m : Mark). OwnsAsk owners m.actor m.ask) ms → Each (λ (m : Mark). IsOff (channel_number chan) m.ask) ms
 off-marks owners a chan [] owner none owned = tt

@@ -12,7 +12,7 @@ use Rattle.hop_reservation.specs.declared.route.Hop.{Hop}
 use Rattle.link_steps.specs.Lists.{Each}
 use Rattle.link_steps.specs.Reservation.{tentative, committed}
 use Rattle.link_steps.specs.declared.asks.Ask.{Ask}
-use Rattle.link_steps.specs.declared.asks.Ask.TheVariants.{Reserve, Relax, Deny, Submit, Release, Arrive, Tick, Pour}
+use Rattle.link_steps.specs.declared.asks.Ask.TheVariants.{Reserve, Relax, Deny, Release, Arrive, Tick}
 use Rattle.link_steps.specs.declared.replies.Reply.{Reply}
 use Rattle.link_steps.proofs.ListFacts.{Each-filter, Each-if}
 use Rattle.channel_laws.specs.Asks.{IsOff}
@@ -29,41 +29,31 @@ abbrev pub IsStill : ℕ → Ask → Type 0
 IsStill c (Reserve chan contract kind delay up_reach first next) = channel_number chan ≢ c
 IsStill c (Relax chan level up_bound) = channel_number chan ≢ c
 IsStill c (Deny chan) = channel_number chan ≢ c
-IsStill c (Submit chan count gap size) = Unit {0}
 IsStill c (Release chan upstream) = channel_number chan ≢ c
-IsStill c (Arrive packet) = Unit {0}
-IsStill c Tick = Unit {0}
-IsStill c (Pour count gap size) = Unit {0}
+IsStill c _ = Unit {0}
 
 pub off-still : (c : ℕ) (ask : Ask) → IsOff c ask → IsStill c ask
 off-still c (Reserve chan contract kind delay up_reach first next) off = off
 off-still c (Relax chan level up_bound) off = off
 off-still c (Deny chan) off = off
-off-still c (Submit chan count gap size) off = tt
 off-still c (Release chan upstream) off = off
-off-still c (Arrive packet) off = tt
-off-still c Tick off = tt
-off-still c (Pour count gap size) off = tt
+off-still c _ off = tt
 
 pub send-still : (c : ℕ) (ask : Ask) → IsSend ask → IsStill c ask
-send-still c (Submit chan count gap size) send = tt
-send-still c (Pour count gap size) send = tt
 send-still c (Reserve chan contract kind delay up_reach first next) send = absurd send
 send-still c (Relax chan level up_bound) send = absurd send
 send-still c (Deny chan) send = absurd send
 send-still c (Release chan upstream) send = absurd send
 send-still c (Arrive packet) send = absurd send
 send-still c Tick send = absurd send
+send-still c _ send = tt
 
 still-hold : (c : ℕ) (hold : Hold) (ask : Ask) (reply : Reply) → IsStill c ask → hold_with c hold ask reply ≡ hold
 still-hold c hold (Reserve chan contract kind delay up_reach first next) reply off = ap (λ b. cond b (reserved hold (λ level reach. tentative chan contract kind first next up_reach level reach) reply) hold) (ne_eqb (channel_number chan) c off)
 still-hold c hold (Relax chan level up_bound) reply off = ap (λ b. cond b (hold_relaxed hold (committed level up_bound) reply) hold) (ne_eqb (channel_number chan) c off)
 still-hold c hold (Deny chan) reply off = ap (λ b. cond b (denied hold reply) hold) (ne_eqb (channel_number chan) c off)
-still-hold c hold (Submit chan count gap size) reply off = refl
 still-hold c hold (Release chan upstream) reply off = ap (λ b. cond b Untold hold) (ne_eqb (channel_number chan) c off)
-still-hold c hold (Arrive packet) reply off = refl
-still-hold c hold Tick reply off = refl
-still-hold c hold (Pour count gap size) reply off = refl
+still-hold c hold _ reply off = refl
 
 -- ---- entries
 

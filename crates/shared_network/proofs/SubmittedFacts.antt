@@ -8,7 +8,7 @@ use Rattle.net_units.specs.declared.numbers.ChanNo.{ChanNo}
 use Rattle.net_units.specs.declared.numbers.LinkNo.{LinkNo}
 use Rattle.link_steps.specs.Lists.{Each}
 use Rattle.link_steps.specs.declared.asks.Ask.{Ask}
-use Rattle.link_steps.specs.declared.asks.Ask.TheVariants.{Reserve, Relax, Deny, Submit, Release, Arrive, Tick, Pour}
+use Rattle.link_steps.specs.declared.asks.Ask.TheVariants.{Submit, Release}
 use Rattle.link_steps.specs.declared.replies.Reply.{Reply}
 use Rattle.link_steps.specs.declared.replies.Reply.TheVariants as Is
 use Rattle.link_steps.proofs.ListFacts.{Each-append}
@@ -43,13 +43,7 @@ unsent-with c last (Submit chan count gap size) (Is.Closing count' cancelled) of
 unsent-with c last (Submit chan count gap size) (Is.Taken clock eligible) off = refl
 unsent-with c last (Submit chan count gap size) (Is.Ticked clock full sent best_sent best_lost) off = refl
 unsent-with c last (Submit chan count gap size) (Is.Refused refusal) off = refl
-unsent-with c last (Reserve chan contract kind delay up_reach first next) reply off = refl
-unsent-with c last (Relax chan level up_bound) reply off = refl
-unsent-with c last (Deny chan) reply off = refl
-unsent-with c last (Release chan upstream) reply off = refl
-unsent-with c last (Arrive packet) reply off = refl
-unsent-with c last Tick reply off = refl
-unsent-with c last (Pour count gap size) reply off = refl
+unsent-with c last _ reply off = refl
 
 unsent-after : (c : ℕ) (last : Option Packets) (entries : List OwnEntry) → Each (λ (e : OwnEntry). IsUnsent c e.ask) entries → planned_after c last entries ≡ last
 unfolding planned_after

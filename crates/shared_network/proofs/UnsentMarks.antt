@@ -6,7 +6,7 @@ use Rattle.net_units.specs.declared.numbers.ActorNo.{ActorNo}
 use Rattle.net_units.specs.declared.numbers.ChanNo.{ChanNo}
 use Rattle.link_steps.specs.Lists.{Each}
 use Rattle.link_steps.specs.declared.asks.Ask.{Ask}
-use Rattle.link_steps.specs.declared.asks.Ask.TheVariants.{Reserve, Relax, Deny, Submit, Release, Arrive, Tick, Pour}
+use Rattle.link_steps.specs.declared.asks.Ask.TheVariants.{Submit}
 use Rattle.link_steps.specs.declared.replies.Entry.{Entry as Done}
 use Rattle.link_steps.proofs.ListFacts.{Each-if, Each-map, Each-mapped}
 use Rattle.link_steps.proofs.ListParts.{Each-reverse}
@@ -24,14 +24,8 @@ AreUnsent c ms = Each (λ (m : Mark). IsUnsent c m.ask) ms
 
 -- an ask that names another channel, or none, submits nothing on it
 pub off-unsent : (c : ℕ) (ask : Ask) → IsOff c ask → IsUnsent c ask
-off-unsent c (Reserve chan contract kind delay up_reach first next) off = tt
-off-unsent c (Relax chan level up_bound) off = tt
-off-unsent c (Deny chan) off = tt
 off-unsent c (Submit chan count gap size) off = off
-off-unsent c (Release chan upstream) off = tt
-off-unsent c (Arrive packet) off = tt
-off-unsent c Tick off = tt
-off-unsent c (Pour count gap size) off = tt
+off-unsent c _ off = tt
 
 pub owner-unsent : (owners : List ActorNo) (a : ActorNo) (chan : ChanNo) (ms : List Mark) → IsOwner owners a chan → Each (λ (m : Mark). OwnsAsk owners m.actor m.ask) ms → AreUnsent (channel_number chan) (marks_of (actor_number a) ms) → AreUnsent (channel_number chan) ms
 owner-unsent owners a chan [] owner owned each = tt
