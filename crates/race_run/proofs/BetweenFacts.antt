@@ -24,8 +24,8 @@ use Rattle.call_script.specs.declared.tasks.Task.{Task}
 use Rattle.call_script.specs.declared.tasks.Task.TheVariants.{Opens}
 use Rattle.call_script.proofs.Walks.{left-at, before-at, read-at}
 use Rattle.race_run.specs.Callers.{StandsBetween, CallerIsAt, HasOp, LeavesOpen, PacketsStand}
-use Rattle.race_run.specs.Channels.{AreTold}
-use Rattle.race_run.specs.declared.channels.Channel.{Channel}
+use Rattle.call_script.specs.Channels.{AreTold}
+use Rattle.call_script.specs.declared.channels.Channel.{Channel}
 use Rattle.race_run.proofs.PacketFacts.{packets-skip}
 use Rattle.race_run.proofs.ScriptFacts.{each-front, has-front}
 use Rattle.race_run.proofs.TaskFacts.{HasTasks, Past, task-made}

@@ -24,8 +24,8 @@ use Rattle.call_script.specs.declared.tasks.Task.TheVariants.{Opens, Closes}
 use Rattle.race_run.specs.Callers.{CallerIsAt, HasOp, IsNetworkOf}
 use Rattle.race_run.proofs.BetweenFacts.{between-skipped, between-made}
 use Rattle.race_run.proofs.ScriptFacts.{AClose, ByClose, each-front, has-front, used-live}
-use Rattle.race_run.specs.Channels.{channel_in}
-use Rattle.race_run.specs.declared.channels.Channel.{Channel}
+use Rattle.call_script.specs.Channels.{channel_in}
+use Rattle.call_script.specs.declared.channels.Channel.{Channel}
 use Rattle.race_run.proofs.OpFacts.{HereAt, here-with, request-at, full-script, owner-at, route-least, established-told}
 use Rattle.race_run.proofs.PacketFacts.{packets-stay}
 use Rattle.shared_network.proofs.SubmittedFacts.{teardown-unsent}

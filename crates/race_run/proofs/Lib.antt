@@ -4,7 +4,6 @@ mod MergeFacts
 pub mod TurnFacts
 mod RunFacts
 mod Sources
-mod ChannelFacts
 mod ScriptFacts
 mod PacketFacts
 mod TaskFacts

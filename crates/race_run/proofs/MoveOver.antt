@@ -36,8 +36,8 @@ use Rattle.call_script.specs.declared.tasks.Task.TheVariants.{Opens, Moves}
 use Rattle.race_run.specs.Callers.{CallerIsAt, HasOp, IsNetworkOf}
 use Rattle.race_run.proofs.BetweenFacts.{Leaves, between-skipped, between-made}
 use Rattle.race_run.proofs.ScriptFacts.{AMoveFrom, AMoveOnto, ByMoveFrom, ByMoveOnto, joined-unsent, each-front, has-front, used-live}
-use Rattle.race_run.specs.Channels.{AreTold, channel_in}
-use Rattle.race_run.specs.declared.channels.Channel.{Channel}
+use Rattle.call_script.specs.Channels.{Told, AreTold, channel_in}
+use Rattle.call_script.specs.declared.channels.Channel.{Channel}
 use Rattle.race_run.proofs.OpFacts.{HereAt, here-with, full-script, owner-at, hops-of, task-fits, established-told, ordered, there-at}
 use Rattle.race_run.proofs.PacketFacts.{packets-moved}
 
@@ -139,10 +139,10 @@ module _ (parts : PlanParts) (links : List Link) (owners : List ActorNo) (caller
 
   -- the packets are those that were learnt
   gap_is : (channel_in channels old.request.chan).gap ≡ (last_packets old.request.chan here_at.between.outcomes).gap
-  gap_is = ap (λ (c : Channel). c.gap) (here_at.between.known old.request.chan)
+  gap_is = ap (λ (t : Told). t.packets.gap) (here_at.between.known old.request.chan)
 
   size_is : (channel_in channels old.request.chan).size ≡ (last_packets old.request.chan here_at.between.outcomes).size
-  size_is = ap (λ (c : Channel). c.size) (here_at.between.known old.request.chan)
+  size_is = ap (λ (t : Told). t.packets.size) (here_at.between.known old.request.chan)
 
   in-range : SubmitFits 1 (channel_in channels old.request.chan).gap (channel_in channels old.request.chan).size
   in-range = subst (λ (p : ℕ × ℕ). SubmitFits 1 p.0 p.1) (λ i. (sym gap_is i, sym size_is i)) (here_at.between.packets.range old.request.chan)

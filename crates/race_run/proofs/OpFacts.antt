@@ -38,8 +38,8 @@ use Rattle.race_run.proofs.ScriptFacts.{Names, named-off, each-middle}
 use Rattle.race_run.proofs.TaskFacts.{HasTasks}
 use Rattle.link_steps.proofs.ListParts.{Each-at}
 use Rattle.net_units.proofs.NumberFacts.{same-actor}
-use Rattle.race_run.specs.Channels.{channel_in}
-use Rattle.race_run.specs.declared.channels.Channel.{Channel}
+use Rattle.call_script.specs.Channels.{Told, channel_in}
+use Rattle.call_script.specs.declared.channels.Channel.{Channel}
 
 -- ---- the task of an operation
 
@@ -128,7 +128,7 @@ task-fits parts caller place task pass channels plan h =
 
 -- it is established, or not, as was learnt
 pub established-told : (network : Network) (front rest : List Task) (pass : Token) (channels : List Channel) (chan : ChanNo) (told : Bool) → (between : StandsBetween network front rest pass channels) → (channel_in channels chan).established ≡ told → is_established chan between.outcomes ≡ told
-established-told network front rest pass channels chan told between is = sym (ap (λ (c : Channel). c.established) (between.known chan)) ∙ is
+established-told network front rest pass channels chan told between is = sym (ap (λ (t : Told). t.established) (between.known chan)) ∙ is
 
 -- as it was looked up
 pub looked-on : (channels : List Channel) (chan : ChanNo) (kept : Channel) → kept ≡ channel_in channels chan → not kept.established ≡ false → (channel_in channels chan).established ≡ true

@@ -27,8 +27,8 @@ use Rattle.race_run.specs.Callers.{CallerIsAt, HasOp, IsNetworkOf}
 use Rattle.race_run.proofs.BetweenFacts.{Leaves, between-made}
 use Rattle.race_run.proofs.ScriptFacts.{AnOpen, each-front, opened-once}
 use Rattle.setup_protocol.proofs.ProgressFacts.{none-settled}
-use Rattle.race_run.specs.Channels.{AreTold}
-use Rattle.race_run.specs.declared.channels.Channel.{Channel}
+use Rattle.call_script.specs.Channels.{AreTold}
+use Rattle.call_script.specs.declared.channels.Channel.{Channel}
 use Rattle.race_run.proofs.OpFacts.{HereAt, here-with, request-at, full-script, owner-at, route-least}
 use Rattle.race_run.proofs.PacketFacts.{packets-stay, settled-packets}
 use Rattle.shared_network.proofs.SubmittedFacts.{setup-unsent}

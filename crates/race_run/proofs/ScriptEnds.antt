@@ -19,8 +19,8 @@ use Rattle.call_script.specs.declared.entries.RequestEntry.{RequestEntry}
 use Rattle.call_script.specs.declared.tasks.Task.{Task}
 use Rattle.interleave_core.specs.Parts.{IsAsked}
 use Rattle.race_run.specs.Callers.{StandsBetween, PacketsStand, CallerIsAt, HasOps}
-use Rattle.race_run.specs.Channels.{AreTold}
-use Rattle.race_run.specs.declared.channels.Channel.{Channel}
+use Rattle.call_script.specs.Channels.{AreTold}
+use Rattle.call_script.specs.declared.channels.Channel.{Channel}
 use Rattle.race_run.specs.Whole.{HasMadeAll, own_done}
 use Rattle.race_run.proofs.BetweenFacts.{caller-tasks, tasks-none}
 use Rattle.race_run.proofs.PacketFacts.{packets-first}

@@ -27,9 +27,9 @@ use Rattle.call_script.specs.declared.operations.Op.{Op}
 use Rattle.call_script.specs.declared.tasks.Task.{Task}
 use Rattle.call_script.specs.declared.tasks.Task.TheVariants.{Opens, Sends, Closes, Moves}
 use Rattle.interleave_core.specs.Parts.{IsAsked}
-use Rattle.race_run.specs.Channels.{AreTold}
+use Rattle.call_script.specs.Channels.{AreTold}
 use Rattle.race_run.specs.Whole.{own_done}
-use Rattle.race_run.specs.declared.channels.Channel.{Channel}
+use Rattle.call_script.specs.declared.channels.Channel.{Channel}
 
 -- the task doesn't close the channel of this number
 abbrev pub LeavesOpen : ℕ → Task → Type 0

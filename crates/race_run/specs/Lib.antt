@@ -1,7 +1,6 @@
 pub mod Whole
 pub mod Turns
 pub mod Merging
-pub mod Channels
 pub mod Callers
 pub mod Rounds
 pub mod Pieces

@@ -5,8 +5,7 @@ ghost use Rattle.race_run.specs.Callers.{CallerIsAt, HasLeft, HasOp, IsNetworkOf
 ghost use Rattle.link_ledger.specs.Tokens.{stamps_drawn};
 ghost use Rattle.shared_network.specs.Ready.{MayStep, PassGoesOn};
 
-use crate::channels::Channels;
-use call_script::{Op, Plan};
+use call_script::{Channels, Op, Plan};
 use channel_move::Mover;
 use link_ledger::{Home, Pass};
 use link_steps::{Ask, LinkStep};

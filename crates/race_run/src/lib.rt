@@ -6,7 +6,6 @@
 #![tactic(auto)]
 
 pub mod callers;
-pub mod channels;
 pub mod merging;
 pub mod opening;
 pub mod pieces;

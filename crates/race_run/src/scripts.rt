@@ -8,8 +8,7 @@ ghost use Rattle.link_ledger.specs.Tokens.{stamps_drawn};
 ghost use Rattle.shared_network.specs.Ready.{MayStep, PassGoesOn};
 
 use crate::callers::make_op;
-use crate::channels::Channels;
-use call_script::Plan;
+use call_script::{Channels, Plan};
 use link_ledger::{Home, Pass};
 use link_steps::LinkStep;
 use net_units::{Gate, OutOfMemory};

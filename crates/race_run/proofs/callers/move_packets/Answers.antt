@@ -5,8 +5,8 @@ use Rattle.channel_move.specs.Standing.{move_of}
 use Rattle.call_script.specs.Scripts.{Learnt, MovedTo, move_between}
 use Rattle.call_script.specs.declared.operations.Op.TheVariants.{Move}
 use Rattle.shared_network.specs.Calls.{OthersStay}
-use Rattle.race_run.specs.Channels.{AreTold}
-use Rattle.race_run.specs.declared.channels.Channel.{Channel}
+use Rattle.call_script.specs.Channels.{AreTold}
+use Rattle.call_script.specs.declared.channels.Channel.{Channel}
 use Rattle.race_run.proofs.Lists.{there, missing}
 use Rattle.race_run.proofs.MoveOver.{move-none, move-none-new, move-passed, may-shift, move-over}
 use Rattle.race_run.proofs.OpFacts.{kept-inside, looked-off, looked-on, none-passed}
