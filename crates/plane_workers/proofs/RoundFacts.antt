@@ -1,29 +1,25 @@
 -- A core's links at desks; and where the plane has made all its rounds.
-use Rattle.std.proofs.Common.{◌≡◌, ℕ, ◌≤◌, List, [], ◌∷◌, length, map, reverse, Option, Some, None, option_map, refl, sym, ap, ◌∙◌, subst, arith}
+use Rattle.std.proofs.Common.{◌≡◌, ℕ, ◌≤◌, List, [], ◌∷◌, length, map, reverse, None, option_map, refl, sym, ap, ◌∙◌, subst, arith}
 use Rattle.std.proofs.lemmas.Bool.{le-ltb}
 use Rattle.std.proofs.lemmas.List.{length-map}
 use Rattle.std.proofs.lemmas.Option.{slice_get-map}
 use Rattle.std.specs.List.{slice_get}
-use Rattle.net_units.specs.Numbers.{channel_number}
 use Rattle.link_quota.specs.Any.{any_rules, AnyStands}
 use Rattle.link_quota.specs.declared.any_link.AnyLink.{AnyLink}
 use Rattle.link_steps.specs.Lists.{Each}
 use Rattle.link_steps.specs.Split.{Link}
 use Rattle.link_steps.specs.declared.replies.Entry.{Entry}
-use Rattle.link_steps.proofs.ListParts.{Each-at}
+use Rattle.link_steps.proofs.ListParts.{Each-at, comes-from}
 use Rattle.setup_protocol.specs.declared.request.Request.{Request}
 use Rattle.call_script.proofs.FitFacts.{plan-fits}
+use Rattle.call_script.proofs.OperationFacts.{tasks-hold}
 use Rattle.call_script.proofs.OwnerFacts.{all-owned}
 use Rattle.call_script.specs.Parts.{PlanParts}
 use Rattle.call_script.specs.Plans.{IsPlan}
-use Rattle.call_script.specs.Tasks.{Network, network_of, request_of, send_on, task_for, move_for, task_of, with_task, tasks_of, script_of}
-use Rattle.hop_reservation.specs.declared.route.Hop.{Hop}
+use Rattle.call_script.specs.Tasks.{Network, network_of, request_of, tasks_of, script_of}
 use Rattle.call_script.specs.declared.entries.CallerEntry.{CallerEntry}
 use Rattle.call_script.specs.declared.entries.RequestEntry.{RequestEntry}
 use Rattle.call_script.specs.declared.operations.Op.{Op}
-use Rattle.call_script.specs.declared.operations.Op.TheVariants.{Open, Send, Close, Pour, Move}
-use Rattle.call_script.specs.declared.tasks.Task.{Task}
-use Rattle.call_script.specs.declared.tasks.Task.TheVariants.{Sends, Closes}
 use Rattle.tick_plane.specs.Kept.{KeptPlane}
 use Rattle.tick_plane.specs.Planes.{Plane}
 use Rattle.run_record.specs.Entries.{Entries}
@@ -78,34 +74,16 @@ plane-over network plane run stands over =
 
 -- ---- the routes of a plan
 
-task-spaced : (gap : ℕ) (requests : List RequestEntry) (op : Op) (tasks : List Task) → Each (λ (entry : RequestEntry). IsSpaced gap entry.request.route) requests → Each (TaskSpaced gap) tasks → Each (TaskSpaced gap) (with_task (task_of (map request_of requests) op) tasks)
-task-spaced gap requests (Open chan) tasks spaced each = by-found (slice_get requests (channel_number chan)) refl where
-  by-found : (found : Option RequestEntry) → slice_get requests (channel_number chan) ≡ found → Each (TaskSpaced gap) (with_task (task_of (map request_of requests) (Open chan)) tasks)
-  by-found None is = rw (slice_get-map request_of requests (channel_number chan)) (rw is each)
-  by-found (Some entry) is = rw (slice_get-map request_of requests (channel_number chan)) (rw is (Each-at (λ (e : RequestEntry). IsSpaced gap e.request.route) requests (channel_number chan) entry spaced is, each))
-task-spaced gap requests (Send chan count g size) tasks spaced each = other (slice_get (map request_of requests) (channel_number chan)) where
-  at-first : (request : Request) (hop : Option Hop) → Each (TaskSpaced gap) (with_task (option_map (λ (h : Hop). Sends h.link (Some request.chan) count g size) hop) tasks)
-  at-first request None = each
-  at-first request (Some hop) = (tt, each)
-
-  other : (found : Option Request) → Each (TaskSpaced gap) (with_task (task_for (send_on count g size) found) tasks)
-  other None = each
-  other (Some request) = at-first request (slice_get request.route 0)
-task-spaced gap requests (Close chan) tasks spaced each = other (slice_get (map request_of requests) (channel_number chan)) where
-  other : (found : Option Request) → Each (TaskSpaced gap) (with_task (option_map (λ request. Closes request) found) tasks)
-  other None = each
-  other (Some request) = (tt, each)
-task-spaced gap requests (Pour link count g size) tasks spaced each = (tt, each)
-task-spaced gap requests (Move old new) tasks spaced each = other (slice_get (map request_of requests) (channel_number old)) (slice_get (map request_of requests) (channel_number new)) where
-  other : (from to : Option Request) → Each (TaskSpaced gap) (with_task (move_for from to) tasks)
-  other None to = each
-  other (Some from) None = each
-  other (Some from) (Some to) = (tt, each)
-
 tasks-spaced : (gap : ℕ) (requests : List RequestEntry) (ops : List Op) → Each (λ (entry : RequestEntry). IsSpaced gap entry.request.route) requests → Each (TaskSpaced gap) (tasks_of (map request_of requests) ops)
-unfolding tasks_of
-tasks-spaced gap requests [] spaced = tt
-tasks-spaced gap requests (op ∷ ops) spaced = task-spaced gap requests op (tasks_of (map request_of requests) ops) spaced (tasks-spaced gap requests ops spaced)
+tasks-spaced gap requests ops spaced = tasks-hold (TaskSpaced gap) (map request_of requests) (record {
+  opens = λ n request such found.
+      (let at = comes-from request_of requests n request found in
+      subst (λ (r : Request). IsSpaced gap r.route) at.is (Each-at (λ (e : RequestEntry). IsSpaced gap e.request.route) requests n at.from spaced at.found));
+  sends = λ n request link count size step such found. tt;
+  closes = λ n request such found. tt;
+  pours = λ link count size step. tt;
+  moves = λ o n old new such also leaves joins. tt;
+}) ops
 
 scripts-spaced : (gap : ℕ) (requests : List RequestEntry) (callers : List CallerEntry) → Each (λ (entry : RequestEntry). IsSpaced gap entry.request.route) requests → Each (Each (TaskSpaced gap)) (map (script_of (map request_of requests)) callers)
 scripts-spaced gap requests [] spaced = tt

@@ -3,7 +3,6 @@ use Rattle.std.proofs.Common.{◌≡◌, ◌≢◌, ℕ, ◌≤◌, true, List, 
 use Rattle.std.proofs.lemmas.Bool.{eq-eqb, lt-ltb, and_from}
 use Rattle.std.proofs.lemmas.Option.{same_Some, slice_get_within}
 use Rattle.std.specs.List.{slice_get}
-use Rattle.std.specs.Option.{option_map}
 use Rattle.std.specs.Prelude.{nat_eq, nat_lt}
 use Rattle.net_units.specs.Allotted.{levels_of}
 use Rattle.net_units.specs.Numbers.{link_number, actor_number, channel_number}
@@ -23,13 +22,12 @@ use Rattle.channel_laws.specs.Channels.{is_of_channel}
 use Rattle.call_script.specs.Owners.{OwnedFully, TaskOff, IsUnnamed}
 use Rattle.call_script.specs.Parts.{PlanParts}
 use Rattle.call_script.specs.Plans.{IsPlan}
-use Rattle.call_script.specs.Tasks.{Network, request_of, send_on, task_for, move_for, task_of, with_task, tasks_of, script_of, network_of}
+use Rattle.call_script.specs.Tasks.{Network, request_of, tasks_of, script_of, network_of}
 use Rattle.call_script.specs.declared.entries.RequestEntry.{RequestEntry}
 use Rattle.call_script.specs.declared.operations.Op.{Op}
-use Rattle.call_script.specs.declared.operations.Op.TheVariants.{Open, Send, Close, Pour, Move}
 use Rattle.call_script.specs.declared.tasks.Task.{Task}
-use Rattle.call_script.specs.declared.tasks.Task.TheVariants.{Opens, Sends, Closes}
 use Rattle.call_script.proofs.FitFacts.{request-fits, plan-fits}
+use Rattle.call_script.proofs.OperationFacts.{tasks-hold}
 use Rattle.call_script.proofs.OwnerFacts.{owned-by}
 use Rattle.run_record.specs.declared.done.Done.{Done}
 use Rattle.interleave_core.specs.Hops.{packets_on, ChannelAsked}
@@ -57,39 +55,15 @@ task-off-none c requests n planned none request found same =
     absurd (let clash : None ≡ Some from.from = sym none ∙ at in cc)
 
 ops-off-none : (c : ℕ) (requests : List RequestEntry) → ((k : ℕ) (entry : RequestEntry) → slice_get requests k ≡ Some entry → channel_number entry.request.chan ≡ k) → slice_get requests c ≡ None → (ops : List Op) → Each (TaskOff c) (tasks_of (map request_of requests) ops)
-unfolding tasks_of
-ops-off-none c requests planned none [] = tt
-ops-off-none c requests planned none (op ∷ ops) = by-op op (ops-off-none c requests planned none ops) where
+ops-off-none c requests planned none ops = tasks-hold (TaskOff c) (map request_of requests) (record {
+  opens = λ n request such found. off n request found;
+  sends = λ n request link count gap size such found. off n request found;
+  closes = λ n request such found. off n request found;
+  pours = λ link count gap size. tt;
+  moves = λ o n old new such also leaves joins. (off o old leaves, off n new joins);
+}) ops where
   off : (n : ℕ) (request : Request) → slice_get (map request_of requests) n ≡ Some request → channel_number request.chan ≢ c
   off n request found = task-off-none c requests n planned none request found
-
-  opens : (found : Option Request) (n : ℕ) → slice_get (map request_of requests) n ≡ found → Each (TaskOff c) (tasks_of (map request_of requests) ops) → Each (TaskOff c) (with_task (option_map (λ request. Opens request) found) (tasks_of (map request_of requests) ops))
-  opens None n is rest = rest
-  opens (Some request) n is rest = (off n request is, rest)
-
-  sends-at : (found : Option Hop) (request : Request) (count gap size : ℕ) → channel_number request.chan ≢ c → Each (TaskOff c) (tasks_of (map request_of requests) ops) → Each (TaskOff c) (with_task (option_map (λ (hop : Hop). Sends hop.link (Some request.chan) count gap size) found) (tasks_of (map request_of requests) ops))
-  sends-at None request count gap size other rest = rest
-  sends-at (Some hop) request count gap size other rest = (other, rest)
-
-  sends : (found : Option Request) (n count gap size : ℕ) → slice_get (map request_of requests) n ≡ found → Each (TaskOff c) (tasks_of (map request_of requests) ops) → Each (TaskOff c) (with_task (task_for (send_on count gap size) found) (tasks_of (map request_of requests) ops))
-  sends None n count gap size is rest = rest
-  sends (Some request) n count gap size is rest = sends-at (slice_get request.route 0) request count gap size (off n request is) rest
-
-  closes : (found : Option Request) (n : ℕ) → slice_get (map request_of requests) n ≡ found → Each (TaskOff c) (tasks_of (map request_of requests) ops) → Each (TaskOff c) (with_task (option_map (λ request. Closes request) found) (tasks_of (map request_of requests) ops))
-  closes None n is rest = rest
-  closes (Some request) n is rest = (off n request is, rest)
-
-  moves : (from to : Option Request) (m n : ℕ) → slice_get (map request_of requests) m ≡ from → slice_get (map request_of requests) n ≡ to → Each (TaskOff c) (tasks_of (map request_of requests) ops) → Each (TaskOff c) (with_task (move_for from to) (tasks_of (map request_of requests) ops))
-  moves None to m n is also rest = rest
-  moves (Some old) None m n is also rest = rest
-  moves (Some old) (Some new) m n is also rest = ((off m old is, off n new also), rest)
-
-  by-op : (op : Op) → Each (TaskOff c) (tasks_of (map request_of requests) ops) → Each (TaskOff c) (with_task (task_of (map request_of requests) op) (tasks_of (map request_of requests) ops))
-  by-op (Open chan) rest = opens (slice_get (map request_of requests) (channel_number chan)) (channel_number chan) refl rest
-  by-op (Send chan count gap size) rest = sends (slice_get (map request_of requests) (channel_number chan)) (channel_number chan) count gap size refl rest
-  by-op (Close chan) rest = closes (slice_get (map request_of requests) (channel_number chan)) (channel_number chan) refl rest
-  by-op (Pour link count gap size) rest = (tt, rest)
-  by-op (Move old new) rest = moves (slice_get (map request_of requests) (channel_number old)) (slice_get (map request_of requests) (channel_number new)) (channel_number old) (channel_number new) refl refl rest
 
 unnamed : (plan : PlanParts) (c : ℕ) → IsPlan plan → slice_get plan.requests c ≡ None → IsUnnamed (network_of plan) c
 unfolding network_of
