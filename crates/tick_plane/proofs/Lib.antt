@@ -1,3 +1,4 @@
+pub mod CalmFacts
 mod CarriedFacts
 mod ComingFacts
 mod DueFacts

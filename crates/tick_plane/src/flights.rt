@@ -2,6 +2,7 @@
 ghost use Rattle.std.specs.Prelude.{◌≡◌, ◌+◌, ◌-◌, ◌^◌, ◌≤◌, ◌<◌, ◌++◌, ◌∷◌, [], suc, None, IsOk, IsSome, OnOk, OnErr, IfOk, length, find};
 ghost use Rattle.tick_plane.specs.Planes.{is_due};
 ghost use Rattle.tick_plane.specs.Carried.{IsCarried, flights_at};
+ghost use Rattle.tick_plane.specs.Coming.{IsDueFrom};
 ghost use Rattle.link_steps.specs.Lists.{Each, without_first};
 
 use crate::flight::Flight;
@@ -116,6 +117,23 @@ impl Flights {
         ensures { self.new ≡ record self.old { round = suc self.old.round } }
     {
         self.round += 1;
+        self.due = self.rounds.look_due(self.round);
+    }
+
+    // A round before which none is due.
+    pub(crate) fn none_before(&self) -> u64
+        ensures { Each (IsDueFrom result) self.now.list }
+    {
+        self.rounds.rests_until()
+    }
+
+    // Begins the round that comes so many later, where none is due before it.
+    pub(crate) fn pass_rounds(&mut self, rounds: u64)
+        requires early { self.old.round + rounds ≤ 2 ^ 60 }
+        requires none { Each (IsDueFrom (self.old.round + rounds)) self.old.list }
+        ensures { self.new ≡ record self.old { round = self.old.round + rounds } }
+    {
+        self.round += rounds;
         self.due = self.rounds.look_due(self.round);
     }
 
