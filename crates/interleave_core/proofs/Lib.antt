@@ -61,3 +61,6 @@ pub mod OpsFew
 pub mod StepCounts
 pub mod RunLength
 pub mod WatchFacts
+pub mod QuietRounds
+pub mod RestFacts
+pub mod StrideFacts

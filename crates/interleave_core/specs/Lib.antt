@@ -16,3 +16,5 @@ pub mod Standing
 pub mod Turns
 pub mod Schedules
 pub mod Watching
+pub mod Quiet
+pub mod Resting

@@ -9,7 +9,8 @@ use Rattle.call_script.specs.Parts.{PlanParts}
 use Rattle.call_script.specs.Plans.{IsPlan}
 use Rattle.call_script.specs.Tasks.{network_of}
 use Rattle.call_script.specs.declared.schedule.Schedule.{Schedule}
-use Rattle.interleave_core.specs.Runs.{next_for, IsNext, IsRun}
+use Rattle.interleave_core.specs.Quiet.{RestsFor}
+use Rattle.interleave_core.specs.Runs.{next_for, plane_at, IsNext, IsRun}
 use Rattle.interleave_core.specs.Schedules.{FollowsTurns, IsPlayed, PlayedOut, StepsOut}
 use Rattle.interleave_core.specs.Standing.{CallersStand, EngineStands, IsGuaranteedRun}
 use Rattle.interleave_core.specs.declared.callers.Callers.{Callers}
@@ -60,6 +61,14 @@ pub record IsNextSeen {W : Type 0} (saw : W → PlanParts → List Done → Type
   pub plan : IsPlan parts
   pub run : IsRun (network_of parts) past
   pub next : IsNext (network_of parts) past done
+  pub seen : saw watch parts past
+
+-- the next n rounds of a run that was seen are quiet, and the first of them has this number
+pub record IsRestSeen {W : Type 0} (saw : W → PlanParts → List Done → Type 0) (parts : PlanParts) (watch : W) (past : List Done) (first n : ℕ) : Type 0 where
+  pub plan : IsPlan parts
+  pub run : IsRun (network_of parts) past
+  pub rests : RestsFor (network_of parts) n past
+  pub at : (plane_at (network_of parts) past).round ≡ first
   pub seen : saw watch parts past
 
 -- the callers stand for the run, and it was seen

@@ -1,14 +1,16 @@
 //! The links and the actors of a plan on their way through a run, which they don't record.
-ghost use Rattle.std.specs.Prelude.{◌≡◌, ◌∷◌, [], List, IfOk, OnErr};
+ghost use Rattle.std.specs.Prelude.{◌≡◌, ◌≤◌, ◌∷◌, [], List, IfOk, OnErr};
 ghost use Rattle.net_units.specs.Numbers.{actor_number};
+ghost use Rattle.call_script.specs.Parts.{PlanParts};
 ghost use Rattle.call_script.specs.Tasks.{network_of};
+ghost use Rattle.interleave_core.specs.Resting.{EngineRests, MakesStride};
 ghost use Rattle.interleave_core.specs.Runs.{next_for};
 ghost use Rattle.interleave_core.specs.Standing.{EngineStands, IsAboutTo, MakesStep};
 ghost use Rattle.run_record.specs.declared.done.Done.{Done as Entry};
 
 use crate::actors::Actors;
 use crate::callers::Callers;
-use crate::links::{new_links, step_link};
+use crate::links::{new_links, rest_links, step_link, ticks_at_rest};
 use call_script::Plan;
 use link_quota::AnyLink;
 use link_steps::Ask;
@@ -65,6 +67,36 @@ impl Engine {
         };
         self.actors.take(plan, &done);
         Ok(done)
+    }
+
+    /// The number of the plane's round.
+    pub fn round(&self) -> u64
+        ensures { result ≡ self.now.actors.plane.at.round }
+    {
+        self.actors.plane.round()
+    }
+
+    /// For how many rounds it rests: in them no packet reaches a link, and nothing falls due in one. It is 0 in the middle of a round,
+    /// and where it can't tell.
+    pub fn rounds_at_rest(&self) -> u64
+        ensures { 1 ≤ result → EngineRests self.now result }
+    {
+        let calm = self.actors.plane.calm_rounds();
+        if calm == 0 {
+            return 0;
+        }
+        ticks_at_rest(&self.links, calm)
+    }
+
+    /// Makes so many rounds, for which it rests, in one stride: it stands for its runs gone on by as many quiet rounds, each of which
+    /// is a turn of the plane a link. It takes no memory.
+    pub fn stride(&mut self, rounds: u64)
+        requires stands { (parts : PlanParts) × (run : List Entry) × EngineStands parts self.old run }
+        requires rests { EngineRests self.old rounds }
+        ensures { (parts : PlanParts) (run : List Entry) → EngineStands parts self.old run → MakesStride parts self.new run rounds }
+    {
+        rest_links(&mut self.links, rounds);
+        self.actors.plane.stride(rounds);
     }
 
     /// The callers after the steps that it has made. The links and the plane are given up.

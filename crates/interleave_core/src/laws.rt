@@ -1,5 +1,6 @@
 //! Laws of every run, each as the contract of a function that does nothing.
 ghost use Rattle.interleave_core.specs.Laws.{EveryPartIsLegal, EveryAskFits, ClocksFollowThePlane, HeldRowsPassOnEveryLink, EveryHopIsGuaranteed, NoFlightIsLate, EveryAskIsAnswered, EveryReplyIsExpected, VerdictsFollowTheReplies, AcceptedRequestsAreKept, AcceptedChannelsKeepTheirDelays, EveryRunIsGuaranteed, RunsFollowTheirActors, FittingPartsMakeARun};
+ghost use Rattle.interleave_core.specs.Quiet.{QuietRoundsGoOn};
 ghost use Rattle.interleave_core.specs.Moves.{EveryMoveKeeps, EveryMovePlansTheShifted, NonePlannedIsLost, NoneIsLostInAMove, EveryMoveTakesTheLast};
 ghost use Rattle.interleave_core.specs.Schedules.{SchedulesComeToOneEnd};
 ghost use Rattle.interleave_core.specs.Turns.{StepsComeToAnEnd};
@@ -162,4 +163,11 @@ pub fn no_packet_is_lost_in_a_move()
 /// leaves which the run has answered as planned; where it has answered none so, they are 1 and 1.
 pub fn every_move_takes_the_last_packets()
     ensures { EveryMoveTakesTheLast }
+{}
+
+/// Where no packet reaches a link in the next rounds of a run, and no link has anything due in them, the run goes on by as many quiet
+/// rounds, which are turns of the plane. They change the clocks alone: the plane stands as many rounds later, each link has made
+/// as many quiet ticks, and the callers stand where they stood.
+pub fn quiet_rounds_go_on()
+    ensures { QuietRoundsGoOn }
 {}

@@ -1,14 +1,16 @@
 //! The links of a run, as they are kept.
-ghost use Rattle.std.specs.Prelude.{◌≡◌, ◌≢◌, ◌^◌, ◌<◌, ◌∷◌, [], ℕ, List, Some, IfOk, OnErr, length};
+ghost use Rattle.std.specs.Prelude.{◌≡◌, ◌≢◌, ◌^◌, ◌+◌, ◌<◌, ◌≤◌, ◌∷◌, [], ℕ, List, Some, IfOk, OnErr, length};
 ghost use Rattle.std.specs.List.{slice_get};
 ghost use Rattle.call_script.specs.Plans.{IsPlan};
 ghost use Rattle.net_units.specs.Numbers.{link_number};
 ghost use Rattle.call_script.specs.Splits.{entry_link, groups_in};
 ghost use Rattle.call_script.specs.Tasks.{network_of};
+ghost use Rattle.interleave_core.specs.Resting.{RestsBy, HaveRested};
 ghost use Rattle.interleave_core.specs.Standing.{LinksStand};
 ghost use Rattle.link_quota.specs.Any.{any_rules, any_clock, AnyStands};
 ghost use Rattle.link_quota.specs.declared.any_link.AnyLink.{AnyLink as Kept};
 ghost use Rattle.link_steps.specs.Legal.{AskFits};
+ghost use Rattle.link_steps.specs.Lists.{Each};
 ghost use Rattle.link_steps.specs.Replies.{reply_to};
 ghost use Rattle.link_steps.specs.declared.replies.Entry.{Entry};
 
@@ -62,4 +64,30 @@ pub(crate) fn step_link(
     ensures memory { OnErr result ((link next : Kept) (h : List Entry) → slice_get links.old number ≡ Some link → slice_get links.new number ≡ Some next → AnyStands link h → AnyStands next h) }
 {
     links[number].step(ask)
+}
+
+// How many ticks these links rest for, so many at most.
+pub(crate) fn ticks_at_rest(links: &[AnyLink], most: u64) -> u64
+    ensures most { result ≤ most }
+    ensures rests { 1 ≤ result → Each (RestsBy result) links.now }
+{
+    let mut ticks = most;
+    for link in links {
+        ticks = ticks.min(link.rests_until().saturating_sub(link.clock()));
+        if ticks == 0 {
+            return 0;
+        }
+    }
+    ticks
+}
+
+// Each link makes so many ticks in which nothing falls due.
+pub(crate) fn rest_links(links: &mut [AnyLink], ticks: u64)
+    requires rests { Each (RestsBy ticks) links.old }
+    requires early { Each (λ link. any_clock link + ticks ≤ 2 ^ 61) links.old }
+    ensures { HaveRested ticks links.old links.new }
+{
+    for link in links.iter_mut() {
+        link.rest(ticks);
+    }
 }

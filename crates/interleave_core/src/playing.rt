@@ -1,6 +1,9 @@
 //! Runs that are played by a schedule.
 ghost use Rattle.std.specs.Prelude.{◌≡◌, ◌+◌, ◌<◌, ◌≤◌, ◌∷◌, [], List, IfOk, IfErr, OnOk, length, reverse};
 ghost use Rattle.call_script.specs.Tasks.{network_of};
+ghost use Rattle.interleave_core.specs.Quiet.{the_plane};
+ghost use Rattle.interleave_core.specs.Resting.{EngineRests};
+ghost use Rattle.interleave_core.specs.Runs.{next_for};
 ghost use Rattle.interleave_core.specs.Schedules.{IsActorOf, IsFaultOf, IsMissing, IsPlayed, IsStop, IsWanted, StepsOut, lined_turns, repeated, turn_of, turns_of};
 ghost use Rattle.interleave_core.specs.Standing.{IsGuaranteedRun, CoreStands, run_in};
 ghost use Rattle.interleave_core.specs.Watching.{HavePlayedOut, IsPlayedSeen, PlaysOn, PlaysOut, WatchStands};
@@ -11,7 +14,7 @@ ghost use Rattle.run_record.specs.declared.done.Done.{Done as Entry};
 use crate::callers::Callers;
 use crate::engine::Engine;
 use crate::stepping::Core;
-use crate::watching::{Watch, make_watched};
+use crate::watching::{Watch, make_watched, stride_watched};
 use call_script::{Do, Plan, Schedule};
 use net_units::{ActorNo, OutOfMemory};
 use run_record::Record;
@@ -109,8 +112,16 @@ fn play_item<W: Watch>(
     ensures table { OnOk result (W.has_table watch.new ≡ W.has_table watch.old) }
     ensures fault { IfErr result (λ fault. (past : List Entry) → WatchStands W.saw plan.now engine.old watch.old past → IsStop (network_of plan.now) past (repeated item.now.count (turn_of item.now)) fault) }
 {
-    for _ in 0..item.count {
-        make_turn(engine, watch, plan, item.actor, item.line)?;
+    let mut left = item.count;
+    while left > 0 {
+        let made = make_some(engine, watch, plan, item.actor, left)?;
+        if made == 0 {
+            return Err(PlayFault::Step {
+                line: item.line,
+                made: watch.steps_of(item.actor),
+            });
+        }
+        left -= made;
     }
     Ok(())
 }
@@ -142,37 +153,54 @@ fn make_all<W: Watch>(
 {
     // a run has fewer steps
     for _ in 0..u64::MAX {
-        match engine.next_ask(plan, actor) {
-            Some((link, ask)) => make_watched(engine, watch, plan, actor, link, ask)?,
-            None => return Ok(()),
+        if make_some(engine, watch, plan, actor, u64::MAX)? == 0 {
+            return Ok(());
         }
     }
     unreachable!()
 }
 
-// Makes one step of the actor, which the line asks for.
-fn make_turn<W: Watch>(
+// Makes steps of the actor, so many at most: a stride of whole rounds where it is the plane and all rests, or else one step. Answers
+// how many, which is 0 exactly where it has none left.
+fn make_some<W: Watch>(
     engine: &mut Engine,
     watch: &mut W,
     plan: &Plan,
     actor: ActorNo,
-    line: u64,
-) -> Result<(), PlayFault>
-    requires { (run : List Entry) × WatchStands W.saw plan.now engine.old watch.old run }
-    ensures follows { OnOk result ((past : List Entry) → WatchStands W.saw plan.now engine.old watch.old past → PlaysOn W.saw plan.now engine.new watch.new past (actor ∷ [])) }
+    most: u64,
+) -> Result<u64, OutOfMemory>
+    requires stand { (run : List Entry) × WatchStands W.saw plan.now engine.old watch.old run }
+    requires some { 1 ≤ most }
+    ensures most { IfOk result (λ made. made ≤ most) }
+    ensures plays { IfOk result (λ made. (past : List Entry) → WatchStands W.saw plan.now engine.old watch.old past → PlaysOn W.saw plan.now engine.new watch.new past (repeated made actor)) }
+    ensures over { IfOk result (λ made. made ≡ 0 → (past : List Entry) → WatchStands W.saw plan.now engine.old watch.old past → next_for (network_of plan.now) (actor_number actor) past ≡ None) }
     ensures table { OnOk result (W.has_table watch.new ≡ W.has_table watch.old) }
-    ensures fault { IfErr result (λ fault. (past : List Entry) → WatchStands W.saw plan.now engine.old watch.old past → IsMissing (network_of plan.now) past (record { actor = actor; line = line }) fault) }
 {
+    let links = plan.links().len() as u64;
+    let rounds = rounds_at_once(engine, plan, actor, most / links);
+    if rounds > 0 {
+        stride_watched(engine, watch, plan, rounds)?;
+        return Ok(rounds * links);
+    }
     match engine.next_ask(plan, actor) {
         Some((link, ask)) => {
             make_watched(engine, watch, plan, actor, link, ask)?;
-            Ok(())
+            Ok(1)
         }
-        None => Err(PlayFault::Step {
-            line,
-            made: watch.steps_of(actor),
-        }),
+        None => Ok(0),
     }
+}
+
+// How many rounds the actor makes in one stride, so many at most: none where it isn't the plane.
+fn rounds_at_once(engine: &Engine, plan: &Plan, actor: ActorNo, most: u64) -> u64
+    ensures most { result ≤ most }
+    ensures rests { 1 ≤ result → EngineRests engine.now result }
+    ensures plane { 1 ≤ result → actor ≡ the_plane (network_of plan.now) }
+{
+    if usize::from(actor.get()) != plan.callers().len() {
+        return 0;
+    }
+    engine.rounds_at_rest().min(most)
 }
 
 /// Lets the actor make its steps until it has none left. The plan is the one that the core was made for. An `Err` comes only for
@@ -191,7 +219,7 @@ pub fn play_out(core: &mut Core, plan: &Plan, actor: ActorNo) -> Result<(), Play
 }
 
 // The actor of this number.
-fn actor_of(number: usize) -> ActorNo
+pub(crate) fn actor_of(number: usize) -> ActorNo
     requires { number < 65 }
     ensures { result ≡ actor_at number }
 {

@@ -1,12 +1,17 @@
 //! What watches a run as it is made.
-ghost use Rattle.std.specs.Prelude.{◌≡◌, ◌∷◌, Bool, true, List, OnOk, length, reverse};
+ghost use Rattle.std.specs.Prelude.{◌≡◌, ◌*◌, ◌∷◌, Bool, true, List, OnOk, length, reverse};
 ghost use Rattle.net_units.specs.Numbers.{actor_number};
 ghost use Rattle.call_script.specs.Parts.{PlanParts};
-ghost use Rattle.interleave_core.specs.Watching.{GoesOn, IsAsked, IsNextSeen};
+ghost use Rattle.call_script.specs.Tasks.{network_of};
+ghost use Rattle.interleave_core.specs.Quiet.{rested, the_plane};
+ghost use Rattle.interleave_core.specs.Resting.{EngineRests};
+ghost use Rattle.interleave_core.specs.Schedules.{repeated};
+ghost use Rattle.interleave_core.specs.Watching.{GoesOn, IsAsked, IsNextSeen, IsRestSeen, PlaysOn, WatchStands};
 ghost use Rattle.run_record.specs.Runs.{replies_to};
 ghost use Rattle.run_record.specs.declared.done.Done.{Done as Entry};
 
 use crate::engine::Engine;
+use crate::quiet::{plane_of, record_rounds};
 use call_script::Plan;
 use link_steps::Ask;
 use net_units::{ActorNo, LinkNo, OutOfMemory};
@@ -26,6 +31,13 @@ pub trait Watch: Drop {
         ensures seen { OnOk result ((past : List Entry) → IsNextSeen saw plan.now self.old past done.now → saw self.new plan.now (done.now ∷ past)) }
         ensures table { OnOk result (has_table self.new ≡ has_table self.old) };
 
+    /// Sees the next rounds of the run at once, so many quiet ones, the first of which has this number. An `Err` comes only for want
+    /// of memory, and then nothing is said of it any more.
+    fn rested(&mut self, plan: &Plan, first: u64, rounds: u64) -> Result<(), OutOfMemory>
+        requires { (past : List Entry) × IsRestSeen saw plan.now self.old past first rounds }
+        ensures seen { OnOk result ((past : List Entry) → IsRestSeen saw plan.now self.old past first rounds → saw self.new plan.now (rested (network_of plan.now) rounds past)) }
+        ensures table { OnOk result (has_table self.new ≡ has_table self.old) };
+
     /// How many steps of the run that it has seen this actor made.
     fn steps_of(&self, actor: ActorNo) -> u64
         ensures { (parts : PlanParts) (run : List Entry) → saw self.now parts run → result ≡ length (replies_to (actor_number actor) run) };
@@ -41,6 +53,11 @@ impl Watch for Record {
         self.reserve(1)?;
         self.push(*done);
         Ok(())
+    }
+
+    fn rested(&mut self, plan: &Plan, first: u64, rounds: u64) -> Result<(), OutOfMemory> {
+        let links = plan.links().len() as u32;
+        record_rounds(self, plane_of(plan), links, first, rounds)
     }
 
     fn steps_of(&self, actor: ActorNo) -> u64 {
@@ -76,5 +93,24 @@ pub fn make_watched<W: Watch>(
 {
     let done = engine.make(plan, actor, link, ask)?;
     watch.see(plan, &done)?;
+    Ok(())
+}
+
+/// Makes so many rounds, for which the engine rests, in one stride, and shows them to what watches the run. An `Err` comes only for
+/// want of memory.
+pub fn stride_watched<W: Watch>(
+    engine: &mut Engine,
+    watch: &mut W,
+    plan: &Plan,
+    rounds: u64,
+) -> Result<(), OutOfMemory>
+    requires stand { (run : List Entry) × WatchStands W.saw plan.now engine.old watch.old run }
+    requires rests { EngineRests engine.old rounds }
+    ensures plays { OnOk result ((past : List Entry) → WatchStands W.saw plan.now engine.old watch.old past → PlaysOn W.saw plan.now engine.new watch.new past (repeated (rounds * length plan.now.links) (the_plane (network_of plan.now)))) }
+    ensures table { OnOk result (W.has_table watch.new ≡ W.has_table watch.old) }
+{
+    let first = engine.round();
+    engine.stride(rounds);
+    watch.rested(plan, first, rounds)?;
     Ok(())
 }

@@ -1,35 +1,30 @@
--- One step more, until none is left. A run is too short for the loop to end before.
-use Rattle.std.proofs.Common.{refl, sym, ◌∙◌, arith}
-use Rattle.interleave_core.proofs.WatchFacts.{never-ending, plays-again, plays-none, plays-one, plays-out}
+-- Some steps more, until none is left. A run is too short for the loop to end before.
+use Rattle.std.proofs.Common.{◌≡◌, refl, ◌∙◌, arith}
+use Rattle.interleave_core.proofs.StrideFacts.{least-none, least-more, out-now}
+use Rattle.interleave_core.proofs.WatchFacts.{never-ending}
 use Rattle.interleave_core.proofs.playing.make_all.Goals as goal
 
 pub loop-init : goal.loop-init
-loop-init g c = record { made = λ past stand. plays-none g.W.Watch.saw c.args.plan.now c.args.engine.now c.args.watch.now past c.args.actor stand; table = refl }
+loop-init g c = record { made = λ past stand. least-none g.W.Watch.saw c.args.plan.now c.args.engine.now c.args.watch.now past c.args.actor stand; table = refl }
 
-pub next_ask-requires : goal.next_ask-requires
-next_ask-requires g c = let plays = c.loop.invariant.made c.requires.0 c.requires.1 in (plays.run, plays.stand.stands)
+pub make_some-requires-clause-stand : goal.make_some-requires-clause-stand
+make_some-requires-clause-stand g c = (let least = c.loop.invariant.made c.requires.0 c.requires.1 in (least.plays.run, least.plays.stand))
 
-pub make_watched-requires : goal.make_watched-requires
-make_watched-requires g c =
-    let plays = c.loop.invariant.made c.requires.0 c.requires.1 in
-    (plays.run, record { stand = plays.stand; asks = sym (c.next_ask.ensures plays.run plays.stand.stands) ∙ c.in-Some.is })
+pub unreachable-requires : goal.unreachable-requires
+unreachable-requires g c =
+    let least = c.loop.invariant.made c.requires.0 c.requires.1 in
+    let many = least.many in
+    let ending = never-ending g.W.Watch.saw c.args.plan.now c.args.engine.now c.loop.engine c.args.watch.now c.loop.watch c.requires.0 c.args.actor least.count c.requires.1 least.plays in
+    omega (arith, ending, many, c.loop-test.false)
 
-pub returns-in-None-clause-out : goal.returns-in-None-clause-out
-returns-in-None-clause-out g c = λ past stand.
-    let plays = c.loop.invariant.made past stand in
-    plays-out g.W.Watch.saw c.args.plan.now c.loop.engine c.loop.watch past c.args.actor c.loop.counter plays (sym (c.next_ask.ensures plays.run plays.stand.stands) ∙ c.in-None.is)
+pub returns-then-branch-eq0-clause-out : goal.returns-then-branch-eq0-clause-out
+returns-then-branch-eq0-clause-out g c = λ past stand.
+    let made = c.in_ok-make_some.field-0 in
+    out-now g.W.Watch.saw c.args.plan.now c.loop.engine c.make_some.new.engine c.loop.watch c.make_some.new.watch past c.args.actor c.loop.counter made (c.loop.invariant.made past stand) c.if-branch-eq0.true c.in_ok-make_some.ensures.plays (c.in_ok-make_some.ensures.over c.if-branch-eq0.true)
 
 pub loop-preserved : goal.loop-preserved
 loop-preserved g c = record {
   made = λ past stand.
-      plays-again g.W.Watch.saw c.args.plan.now c.loop.engine c.make_watched.new.engine c.loop.watch c.make_watched.new.watch past c.args.actor c.loop.counter (c.loop.invariant.made past stand)
-      (λ run now.
-      plays-one g.W.Watch.saw c.args.plan.now c.make_watched.new.engine c.make_watched.new.watch run c.args.actor
-      (c.in_ok-make_watched-in-Some.ensures.goes_on run (record { stand = now; asks = sym (c.next_ask.ensures run now.stands) ∙ c.in-Some.is })));
-  table = c.in_ok-make_watched-in-Some.ensures.table ∙ c.loop.invariant.table;
+      least-more g.W.Watch.saw c.args.plan.now c.loop.engine c.make_some.new.engine c.loop.watch c.make_some.new.watch past c.args.actor c.loop.counter c.in_ok-make_some.field-0 (c.loop.invariant.made past stand) (let some = c.if-branch-eq0.false in omega (arith, some)) c.in_ok-make_some.ensures.plays;
+  table = c.in_ok-make_some.ensures.table ∙ c.loop.invariant.table;
 }
-
-pub unreachable-requires : goal.unreachable-requires
-unreachable-requires g c =
-    let ending = never-ending g.W.Watch.saw c.args.plan.now c.args.engine.now c.loop.engine c.args.watch.now c.loop.watch c.requires.0 c.args.actor c.loop.counter c.requires.1 (c.loop.invariant.made c.requires.0 c.requires.1) in
-    omega (arith, ending, c.loop-test.false)

@@ -1,12 +1,12 @@
 use Rattle.std.proofs.Common.{◌≡◌, List}
-use Rattle.interleave_core.specs.Schedules.{repeated}
-use Rattle.interleave_core.specs.Watching.{PlaysOn, WatchStands}
+use Rattle.interleave_core.specs.Watching.{WatchStands}
+use Rattle.interleave_core.proofs.StrideFacts.{PlaysAtLeast}
 use Rattle.run_record.specs.declared.done.Done.{Done}
 use Rattle.interleave_core.proofs.playing.make_all.Given as goal
 
--- so many steps of the actor are made
+-- so many steps of the actor are made at least
 abbrev pub invariant-loop : goal.invariant-loop
 invariant-loop g l = record {
-  made : (past : List Done) → WatchStands g.W.Watch.saw l.plan l.initial.engine l.initial.watch past → PlaysOn g.W.Watch.saw l.plan l.engine l.watch past (repeated l.counter l.actor);
+  made : (past : List Done) → WatchStands g.W.Watch.saw l.plan l.initial.engine l.initial.watch past → PlaysAtLeast g.W.Watch.saw l.plan l.engine l.watch past l.actor l.counter;
   table : g.W.Watch.has_table l.watch ≡ g.W.Watch.has_table l.initial.watch;
 }

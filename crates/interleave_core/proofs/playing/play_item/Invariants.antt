@@ -1,12 +1,16 @@
-use Rattle.std.proofs.Common.{◌≡◌, List}
+use Rattle.std.proofs.Common.{◌≡◌, ℕ, ◌-◌, ◌≤◌, List}
 use Rattle.interleave_core.specs.Schedules.{repeated}
 use Rattle.interleave_core.specs.Watching.{PlaysOn, WatchStands}
 use Rattle.run_record.specs.declared.done.Done.{Done}
 use Rattle.interleave_core.proofs.playing.play_item.Given as goal
 
--- the turns so far are made
-abbrev pub invariant-loop : goal.invariant-loop
-invariant-loop g l = record {
-  made : (past : List Done) → WatchStands g.W.Watch.saw l.plan l.initial.engine l.initial.watch past → PlaysOn g.W.Watch.saw l.plan l.engine l.watch past (repeated l.counter l.item.actor);
+-- the turns but for those that are left are made
+abbrev pub invariant-loop-left : goal.invariant-loop-left
+invariant-loop-left g l = record {
+  few : l.left ≤ l.item.count;
+  made : (past : List Done) → WatchStands g.W.Watch.saw l.plan l.initial.engine l.initial.watch past → PlaysOn g.W.Watch.saw l.plan l.engine l.watch past (repeated (l.item.count - l.left) l.item.actor);
   table : g.W.Watch.has_table l.watch ≡ g.W.Watch.has_table l.initial.watch;
 }
+
+abbrev pub decreases-loop-left : goal.decreases-loop-left
+decreases-loop-left g l = l.left

@@ -1,0 +1,6 @@
+use Rattle.interleave_core.proofs.RestFacts.{HaveRestedTo}
+use Rattle.interleave_core.proofs.links.rest_links.Given as goal
+
+-- the links so far have rested
+abbrev pub invariant-loop-link : goal.invariant-loop-link
+invariant-loop-link l = HaveRestedTo l.ticks l.initial.links l.links l.link-index

@@ -1,0 +1,17 @@
+-- A stride is so many turns of the plane, and a step is one.
+use Rattle.std.proofs.Common.{◌≡◌, ◌<◌, length, sym, ap, ◌∙◌, arith}
+use Rattle.interleave_core.proofs.StrideFacts.{links-some, plays-once}
+use Rattle.interleave_core.proofs.WatchFacts.{plays-none, plays-one}
+use Rattle.interleave_core.proofs.playing.make_some.Goals as goal
+
+pub nonzero_div-most : goal.nonzero_div-most
+nonzero_div-most g c = (let some = links-some c.args.plan.now c.links.ensures.valid in let same = ap length c.links.ensures.value in omega (arith, some, same))
+
+pub returns-in_ok-make_watched-in-Some-clause-plays : goal.returns-in_ok-make_watched-in-Some-clause-plays
+returns-in_ok-make_watched-in-Some-clause-plays g c = λ past stand.
+    plays-once g.W.Watch.saw c.args.plan.now c.make_watched.new.engine c.make_watched.new.watch past c.args.actor
+    (plays-one g.W.Watch.saw c.args.plan.now c.make_watched.new.engine c.make_watched.new.watch past c.args.actor
+    (c.in_ok-make_watched-in-Some.ensures.goes_on past (record { stand = stand; asks = sym (c.next_ask.ensures past stand.stands) ∙ c.in-Some.is })))
+
+pub returns-in-None-clause-plays : goal.returns-in-None-clause-plays
+returns-in-None-clause-plays g c = λ past stand. plays-none g.W.Watch.saw c.args.plan.now c.args.engine.now c.args.watch.now past c.args.actor stand

@@ -1,0 +1,12 @@
+-- The plane's number is the one after those of the callers.
+use Rattle.std.proofs.Common.{length, sym, ap, ◌∙◌, arith}
+use Rattle.net_units.specs.Numbers.{actor_at}
+use Rattle.interleave_core.proofs.ActorFacts.{plane-number}
+use Rattle.interleave_core.proofs.StepFacts.{callers-few}
+use Rattle.interleave_core.proofs.quiet.plane_of.Goals as goal
+
+pub actor_of-requires : goal.actor_of-requires
+actor_of-requires c = (let few = callers-few c.args.plan.now c.callers.ensures.valid in let same = ap length c.callers.ensures.value in omega (arith, few, same))
+
+pub returns : goal.returns
+returns c = c.actor_of.ensures ∙ ap actor_at (ap length c.callers.ensures.value ∙ sym (plane-number c.args.plan.now))
