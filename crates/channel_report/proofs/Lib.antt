@@ -13,4 +13,5 @@ pub mod SummaryFacts
 pub mod EndFacts
 pub mod KeptFacts
 pub mod StepTallies
+pub mod RestTallies
 mod Worked

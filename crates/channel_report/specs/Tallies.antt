@@ -1,6 +1,6 @@
 -- What is kept of a run while its entries are counted: for each link the counts of its history, and for each channel what its source
--- has planned at its first link, without what was cancelled, and how many sends were refused there.
-use Rattle.std.specs.Prelude.{◌≡◌, ℕ, ◌*◌, ◌<◌, ◌≤◌, List, length, slice_index_or}
+-- has planned at its first link, without what was cancelled, and how many sends were refused there. Quiet ticks add to the clocks alone.
+use Rattle.std.specs.Prelude.{◌≡◌, ℕ, ◌+◌, ◌*◌, ◌<◌, ◌≤◌, List, length, slice_index_or}
 use Rattle.link_steps.specs.Scan.{clock_of}
 use Rattle.link_steps.specs.declared.replies.Entry.{Entry}
 use Rattle.run_record.specs.Runs.{part_of}
@@ -28,3 +28,14 @@ pub record IsTally (h : List Entry) (tally : LinkTally) : Type 0 where
 pub record AreLinkTallies (count : ℕ) (run : List Done) (tallies : List LinkTally) : Type 0 where
   pub all : length tallies ≡ count
   pub tells : (n : ℕ) (d : LinkTally) → n < count → IsTally (part_of n run) (slice_index_or tallies n d)
+
+-- ---- quiet ticks
+
+-- the counts with so many quiet ticks more
+abbrev pub ticks_later : ℕ → LinkTally → LinkTally
+ticks_later n tally = record tally { clock = tally.clock + n }
+
+-- each of these links has made so many
+pub record HaveRested (n : ℕ) (old new : List LinkTally) : Type 0 where
+  pub same : length new ≡ length old
+  pub each : (k : ℕ) (d : LinkTally) → k < length old → slice_index_or new k d ≡ ticks_later n (slice_index_or old k d)

@@ -1,5 +1,5 @@
 //! What a report tells of a run, kept while the run is made.
-ghost use Rattle.std.specs.Prelude.{◌≡◌, ℕ, ◌<◌, ◌^◌, ◌∷◌, ◌++◌, [], false, List, IfOk, OnOk, length, slice_index_or};
+ghost use Rattle.std.specs.Prelude.{◌≡◌, ℕ, ◌+◌, ◌<◌, ◌^◌, ◌∷◌, ◌++◌, [], false, List, IfOk, OnOk, length, slice_index_or};
 ghost use Rattle.net_units.specs.Numbers.{actor_number, link_number};
 ghost use Rattle.link_steps.specs.Scan.{clock_of};
 ghost use Rattle.run_record.specs.Hops.{AreHops};
@@ -9,7 +9,8 @@ ghost use Rattle.run_record.specs.declared.done.Done.{Done as Step};
 ghost use Rattle.channel_report.specs.Ends.{AreKept, is_end, is_kept};
 ghost use Rattle.channel_report.specs.StepCounts.{AreStepCounts};
 ghost use Rattle.channel_report.specs.Tallied.{IsTallied};
-ghost use Rattle.channel_report.specs.Tallies.{AreLinkTallies};
+ghost use Rattle.channel_report.specs.Tallies.{AreLinkTallies, HaveRested};
+ghost use Rattle.channel_report.specs.declared.link_tally.LinkTally.{LinkTally as Counts};
 
 use crate::channel_tally::ChannelTally;
 use crate::counts::{keep_source, new_tallies};
@@ -80,8 +81,26 @@ impl Watch for Tally {
         Ok(())
     }
 
+    fn rested(&mut self, plan: &Plan, _first: u64, rounds: u64) -> Result<(), OutOfMemory> {
+        let steps = rounds * plan.links().len() as u64;
+        rest_links(&mut self.links, rounds);
+        self.made[plan.callers().len()] += steps;
+        self.steps += steps as usize;
+        Ok(())
+    }
+
     fn steps_of(&self, actor: ActorNo) -> u64 {
         steps_at(self.made.as_slice(), actor)
+    }
+}
+
+// Counts so many quiet ticks of each link.
+fn rest_links(links: &mut [LinkTally], ticks: u64)
+    requires { (k : ℕ) (d : Counts) → k < length links.old → (slice_index_or links.old k d).clock + ticks < 2 ^ 62 }
+    ensures { HaveRested ticks links.old links.new }
+{
+    for link in links.iter_mut() {
+        link.clock += ticks;
     }
 }
 
