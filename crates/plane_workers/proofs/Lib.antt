@@ -1,6 +1,7 @@
 pub mod AnswerFacts
 pub mod AheadFacts
 pub mod TellFacts
+pub mod HandFacts
 pub mod WindowAsks
 pub mod MakeFacts
 pub mod GapLaw

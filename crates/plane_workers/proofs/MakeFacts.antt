@@ -5,6 +5,7 @@ use Rattle.std.proofs.lemmas.Option.{slice_get_within}
 use Rattle.std.proofs.Math.Nat.{lt_of_le_of_lt}
 use Rattle.std.specs.List.{slice_get}
 use Rattle.std.specs.Prelude.{nat_lt, Result, Ok, Err, OnOk}
+use Rattle.net_units.specs.declared.numbers.ActorNo.{ActorNo}
 use Rattle.link_steps.specs.Legal.{AskFits}
 use Rattle.link_steps.specs.Lists.{Each}
 use Rattle.link_steps.specs.Scan.{clock_of}
@@ -25,6 +26,7 @@ use Rattle.interleave_core.specs.Runs.{plane_at}
 use Rattle.interleave_core.proofs.Lookups.{held}
 use Rattle.interleave_core.proofs.RunLegal.{run-stands}
 use Rattle.plane_workers.specs.Answered.{IsAnswered, ticks_in}
+use Rattle.plane_workers.specs.Seen.{GoesTo, SeenBetween, SeenWithin}
 use Rattle.plane_workers.specs.Windows.{KeepsGap, IsWithin, IsBetween}
 use Rattle.plane_workers.proofs.AheadFacts.{ahead-begins, ahead-over}
 use Rattle.plane_workers.proofs.WindowAsks.{window-fits, window-ticks}
@@ -99,6 +101,24 @@ between-again rules stands left parts gap from until links plane run keeps is ov
   plane_is = is.plane_is;
   keeps = keeps;
 }
+
+-- ---- what watches has seen the run
+
+module _ {X W : Type 0} (rules : X → Link) (stands : X → List Entry → Type 0) (left : X → List Reply) (saw : W → PlanParts → List Done → Type 0) (parts : PlanParts) (gap from until : ℕ) where
+  pub seen-begins : (links new : List X) (plane : KeptPlane) (watch : W) (run : List Done) → SeenBetween rules stands saw parts gap links plane watch run → from ≡ plane.at.round → until ≤ plane.at.round + gap + 1 → plane.at.round < until → until ≤ plane.rounds → length new ≡ length links
+      → ((n : ℕ) (x y : X) → slice_get links n ≡ Some x → slice_get new n ≡ Some y → IsAnswered rules stands x y (window_at n until plane.at) (left y)) → SeenWithin rules stands left saw parts from until new plane watch run
+  seen-begins links new plane watch run is at near early all long answered = record {
+    within = subst (λ start. IsWithin rules stands left parts start until new plane run) (sym at) (within-begins rules stands parts gap until links plane run is.between left new near early all long answered);
+    seen = is.seen;
+  }
+
+  pub seen-again : (actor : ActorNo) (links : List X) (plane : KeptPlane) (watch : W) (past : List Done) → KeepsGap (network_of parts) gap → until ≤ plane.at.round → GoesTo (network_of parts) actor past (SeenWithin rules stands left saw parts from until links plane watch)
+      → GoesTo (network_of parts) actor past (SeenBetween rules stands saw parts gap links plane watch)
+  seen-again actor links plane watch past keeps over goes = record {
+    run = goes.run;
+    goes = goes.goes;
+    comes = record { between = between-again rules stands left parts gap from until links plane goes.run keeps goes.comes.within over; seen = goes.comes.seen };
+  }
 
 pub rounds-few : {X : Type 0} (rules : X → Link) (stands : X → List Entry → Type 0) (parts : PlanParts) (gap : ℕ) (links : List X) (plane : KeptPlane) (run : List Done) → IsBetween rules stands parts gap links plane run → plane.rounds ≤ 1048576
 rounds-few rules stands parts gap links plane run is = (let most = (plan-fits parts is.plan).rounds in let same = is.plane_is.rounds in omega (arith, most, same))

@@ -1,9 +1,11 @@
--- A core's links at desks; and where the plane has made all its rounds.
-use Rattle.std.proofs.Common.{◌≡◌, ℕ, ◌≤◌, List, [], ◌∷◌, length, map, reverse, None, option_map, refl, sym, ap, ◌∙◌, subst, arith}
+-- An engine's links at desks; and where the plane has made all its rounds.
+use Rattle.std.proofs.Common.{◌≡◌, ℕ, ◌≤◌, List, [], ◌∷◌, length, map, None, option_map, refl, sym, ap, ◌∙◌, subst, arith}
 use Rattle.std.proofs.lemmas.Bool.{le-ltb}
 use Rattle.std.proofs.lemmas.List.{length-map}
-use Rattle.std.proofs.lemmas.Option.{slice_get-map}
+use Rattle.std.proofs.lemmas.Option.{slice_get-map, slice_get_within}
 use Rattle.std.specs.List.{slice_get}
+use Rattle.net_units.specs.Numbers.{actor_at, actor_number}
+use Rattle.net_units.specs.declared.numbers.ActorNo.{ActorNo}
 use Rattle.link_quota.specs.Any.{any_rules, AnyStands}
 use Rattle.link_quota.specs.declared.any_link.AnyLink.{AnyLink}
 use Rattle.link_steps.specs.Lists.{Each}
@@ -16,21 +18,28 @@ use Rattle.call_script.proofs.OperationFacts.{tasks-hold}
 use Rattle.call_script.proofs.OwnerFacts.{all-owned}
 use Rattle.call_script.specs.Parts.{PlanParts}
 use Rattle.call_script.specs.Plans.{IsPlan}
+use Rattle.call_script.specs.Standing.{CallerStands}
+use Rattle.call_script.specs.declared.actor.Actor.{Actor}
 use Rattle.call_script.specs.Tasks.{Network, network_of, request_of, tasks_of, script_of}
 use Rattle.call_script.specs.declared.entries.CallerEntry.{CallerEntry}
 use Rattle.call_script.specs.declared.entries.RequestEntry.{RequestEntry}
 use Rattle.call_script.specs.declared.operations.Op.{Op}
 use Rattle.tick_plane.specs.Kept.{KeptPlane}
 use Rattle.tick_plane.specs.Planes.{Plane}
-use Rattle.run_record.specs.Entries.{Entries}
 use Rattle.run_record.specs.declared.done.Done.{Done}
 use Rattle.interleave_core.specs.Runs.{plane_no, plane_at, next_for, IsRun}
-use Rattle.interleave_core.specs.Standing.{LinksStand, PlaneStands, CoreStands, IsGuaranteedRun, run_in}
-use Rattle.interleave_core.specs.declared.stepping.Core.{Core}
+use Rattle.interleave_core.specs.Schedules.{FollowsTurns, repeated}
+use Rattle.interleave_core.specs.Standing.{AreCallers, CallersStand, LinksStand, PlaneStands, IsGuaranteedRun}
+use Rattle.interleave_core.specs.Watching.{WatchStands}
+use Rattle.interleave_core.specs.declared.callers.Callers.{Callers}
+use Rattle.interleave_core.specs.declared.engine.Engine.{Engine}
+use Rattle.interleave_core.proofs.ActorFacts.{plane-number}
+use Rattle.interleave_core.proofs.StepFacts.{callers-few}
 use Rattle.interleave_core.proofs.GuaranteeLaw.{guaranteed-throughout}
 use Rattle.interleave_core.proofs.RunLegal.{asked-plane}
 use Rattle.plane_workers.specs.Gaps.{IsSpaced, TaskSpaced, AreSpaced}
-use Rattle.plane_workers.specs.Windows.{LinksKept, KeepsGap, IsBetween}
+use Rattle.plane_workers.specs.Seen.{GoesTo, HasPlayedOut, SeenBetween}
+use Rattle.plane_workers.specs.Windows.{GoesOnBy, LinksKept, KeepsGap}
 
 -- ---- links at desks
 
@@ -42,26 +51,6 @@ module _ {D X : Type 0} (link : D → X) (rules : X → Link) (stands : X → Li
     parts = λ n d found. kept.parts n (link d) (ap (λ ls. slice_get ls n) (sym are) ∙ slice_get-map link desks n ∙ ap (option_map link) found);
   }
 
--- ---- the links of a core
-
-pub kept-of : (network : List Link) (links : List AnyLink) (run : List Done) → LinksStand network links run → LinksKept any_rules AnyStands network links run
-kept-of network links run stand = record { same = stand.same; linked = stand.linked; parts = stand.parts }
-
--- before the plane's first round they and the plane stand for what the core has recorded
-pub between-first : {D : Type 0} (link : D → AnyLink) (parts : PlanParts) (core : Core) (gap : ℕ) (links : List AnyLink) (plane : KeptPlane) (steps : Entries) (desks : List D) → CoreStands parts core
-    → links ≡ core.engine.links.items → plane ≡ core.engine.actors.plane → steps ≡ core.steps → map link desks ≡ links → KeepsGap (network_of parts) gap
-    → IsBetween (λ d. any_rules (link d)) (λ d. AnyStands (link d)) parts gap desks plane (reverse steps.entries)
-between-first link parts core gap links plane steps desks stands same flown told are keeps =
-    subst (λ (p : KeptPlane). IsBetween (λ d. any_rules (link d)) (λ d. AnyStands (link d)) parts gap desks p (reverse steps.entries)) (sym flown)
-    (subst (λ (s : Entries). IsBetween (λ d. any_rules (link d)) (λ d. AnyStands (link d)) parts gap desks core.engine.actors.plane (reverse s.entries)) (sym told)
-    (record {
-      plan = stands.plan;
-      run_is = stands.run;
-      kept = at-desks link any_rules AnyStands (network_of parts).links (run_in core) core.engine.links.items desks (are ∙ same) (kept-of (network_of parts).links core.engine.links.items (run_in core) stands.links);
-      plane_is = stands.actors.plane;
-      keeps = keeps;
-    }))
-
 pub made-guaranteed : (parts : PlanParts) (run : List Done) → IsPlan parts → IsRun (network_of parts) run → IsGuaranteedRun parts run
 made-guaranteed parts run plan is = record { run_is = is; guaranteed = guaranteed-throughout (network_of parts) run (plan-fits parts plan) (all-owned parts plan) is }
 
@@ -71,6 +60,61 @@ pub plane-over : (network : Network) (plane : KeptPlane) (run : List Done) → P
 plane-over network plane run stands over =
     let round = ap (λ (p : Plane). p.round) stands.at in
     asked-plane network (plane_no network) run refl ∙ rw (le-ltb (plane_at network run).round network.rounds (omega (arith, over, round))) refl
+
+-- ---- the links of an engine
+
+pub kept-of : (network : List Link) (links : List AnyLink) (run : List Done) → LinksStand network links run → LinksKept any_rules AnyStands network links run
+kept-of network links run stand = record { same = stand.same; linked = stand.linked; parts = stand.parts }
+
+module _ {D W : Type 0} (link : D → AnyLink) (saw : W → PlanParts → List Done → Type 0) (parts : PlanParts) (engine : Engine) (gap : ℕ) where
+  abbrev network : Network
+  network = network_of parts
+
+  -- before the plane's first round they and the plane stand for the run for which the engine does
+  pub seen-first : (links : List AnyLink) (plane : KeptPlane) (desks : List D) (watch : W) (run : List Done) → WatchStands saw parts engine watch run → links ≡ engine.links.items → plane ≡ engine.actors.plane → map link desks ≡ links → KeepsGap network gap
+      → SeenBetween (λ d. any_rules (link d)) (λ d. AnyStands (link d)) saw parts gap desks plane watch run
+  seen-first links plane desks watch run stand same flown are keeps = record {
+    between = record {
+      plan = stand.stands.plan;
+      run_is = stand.stands.run;
+      kept = at-desks link any_rules AnyStands network.links run engine.links.items desks (are ∙ same) (kept-of network.links engine.links.items run stand.stands.links);
+      plane_is = subst (λ (p : KeptPlane). PlaneStands network p run) (sym flown) stand.stands.actors.plane;
+      keeps = keeps;
+    };
+    seen = stand.seen;
+  }
+
+  -- the callers stand where they stood, since the plane alone made steps
+  callers-stay : (callers : List Actor) (past run : List Done) (actor : ActorNo) → length parts.callers ≤ actor_number actor → GoesOnBy network actor past run → AreCallers parts callers past → AreCallers parts callers run
+  callers-stay callers past run actor high goes are = record {
+    same = are.same;
+    numbers = are.numbers;
+    stand = λ n caller found.
+        (let within = slice_get_within callers n caller found in
+        let same = are.same in
+        subst (CallerStands parts caller) (sym (goes.others n (λ is. omega (arith, is, within, same, high)))) (are.stand n caller found));
+  }
+
+  -- after the plane's last round all is made
+  pub rounds-out : (callers : Callers) (desks : List D) (plane : KeptPlane) (first watch : W) (past : List Done) (actor : ActorNo) → WatchStands saw parts engine first past → actor ≡ actor_at (length parts.callers) → callers ≡ engine.actors.callers
+      → GoesTo network actor past (SeenBetween (λ d. any_rules (link d)) (λ d. AnyStands (link d)) saw parts gap desks plane watch) → network.rounds ≤ plane.at.round → HasPlayedOut saw parts callers watch past (actor_at (length parts.callers))
+  rounds-out callers desks plane first watch past actor stand is same goes over =
+      let run = goes.run in
+      let between = goes.comes.between in
+      let few = callers-few parts stand.stands.plan in
+      let number : plane_no network ≡ actor_number (actor_at (length parts.callers)) = plane-number parts ∙ omega (arith, few) in
+      let own = ap actor_number is in
+      let high : length parts.callers ≤ actor_number actor = omega (arith, own, few) in
+      record {
+        run = run;
+        out = record {
+          count = goes.goes.count;
+          steps = subst (λ (a : ActorNo). FollowsTurns network past (repeated goes.goes.count a) run) is goes.goes.follows;
+          over = ap (λ n. next_for network n run) (sym number) ∙ plane-over network plane run between.plane_is over;
+        };
+        guaranteed = made-guaranteed parts run between.plan between.run_is;
+        seen = record { stand = subst (λ (cs : Callers). CallersStand parts cs run) (sym same) (callers-stay engine.actors.callers.by_number.items past run actor high goes.goes stand.stands.actors.callers); seen = goes.comes.seen };
+      }
 
 -- ---- the routes of a plan
 

@@ -38,6 +38,7 @@ use Rattle.interleave_core.proofs.RunOf.{step-is}
 use Rattle.interleave_core.proofs.ScheduleFacts.{follows-none, follows-more}
 use Rattle.interleave_core.proofs.TurnFacts.{with-fewer}
 use Rattle.plane_workers.specs.Answered.{replies_along}
+use Rattle.plane_workers.specs.Seen.{GoesTo}
 use Rattle.plane_workers.specs.Windows.{IsWithin, GoesOnBy}
 use Rattle.plane_workers.proofs.AheadFacts.{first-reply, step-ahead, step-next}
 
@@ -85,6 +86,15 @@ goes-both network actor past mid run one two = record {
   long = (let a = one.long in let b = two.long in omega (arith, a, b));
   others = λ n off. two.others n off ∙ one.others n off;
 }
+
+-- to one of which something holds
+pub comes-none : (network : Network) (actor : ActorNo) (past : List Done) (holds : List Done → Type 0) → holds past → GoesTo network actor past holds
+comes-none network actor past holds now = record { run = past; goes = goes-none network actor past; comes = now }
+
+pub comes-both : (network : Network) (actor : ActorNo) (past : List Done) (held holds : List Done → Type 0) → GoesTo network actor past held → ((mid : List Done) → held mid → GoesTo network actor mid holds) → GoesTo network actor past holds
+comes-both network actor past held holds one on =
+    let two = on one.run one.comes in
+    record { run = two.run; goes = goes-both network actor past one.run two.run one.goes two.goes; comes = two.comes }
 
 -- ---- one step
 

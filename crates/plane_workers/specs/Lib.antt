@@ -1,5 +1,6 @@
 pub mod Answered
 pub mod Windows
+pub mod Seen
 pub mod Gaps
 pub mod Batches
 pub mod Desks

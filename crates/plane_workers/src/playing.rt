@@ -1,16 +1,19 @@
 //! Runs that are played by a schedule, the plane's rounds by several workers.
-ghost use Rattle.std.specs.Prelude.{◌≡◌, ◌+◌, ◌<◌, ◌≤◌, [], IfOk, IfErr, OnOk, length, map, reverse};
+ghost use Rattle.std.specs.Prelude.{◌≡◌, ◌+◌, ◌<◌, ◌≤◌, [], List, IfOk, IfErr, OnOk, length, reverse};
 ghost use Rattle.call_script.specs.Tasks.{network_of};
-ghost use Rattle.interleave_core.specs.Schedules.{IsActorOf, IsFaultOf, IsPlayed, IsWanted, PlayedOut, StepsOut};
-ghost use Rattle.interleave_core.specs.Standing.{IsGuaranteedRun, CoreStands, run_in};
+ghost use Rattle.interleave_core.specs.Schedules.{IsActorOf, IsFaultOf, IsPlayed, IsWanted};
+ghost use Rattle.interleave_core.specs.Standing.{IsGuaranteedRun};
+ghost use Rattle.interleave_core.specs.Watching.{HavePlayedOut, IsPlayedSeen, PlaysOut, WatchStands};
 ghost use Rattle.link_steps.specs.Lists.{Each};
 ghost use Rattle.net_units.specs.Numbers.{actor_number, actor_at};
+ghost use Rattle.plane_workers.specs.Seen.{HasPlayedOut};
+ghost use Rattle.run_record.specs.declared.done.Done.{Done as Step};
 
 use crate::desk::desks_of;
 use crate::gap::least_gap;
 use crate::window::make_rounds;
 use call_script::{Plan, Schedule};
-use interleave_core::{Core, PlayFault, play_out};
+use interleave_core::{Callers, Engine, PlayFault, Watch, make_watched, play_watched};
 use net_units::{ActorNo, Gate, OutOfMemory};
 use run_record::Record;
 use std::alloc::Global;
@@ -35,52 +38,100 @@ pub fn played<R: Threads + Sync, G: Gate + Sync>(
     ensures guaranteed { IfOk result (λ made. IsGuaranteedRun plan.now (reverse made.entries)) }
     ensures fault { IfErr result (IsFaultOf (network_of plan.now) schedule.now) }
 {
+    let mut record = Record::new(alloc);
+    played_watched(rt, alloc, plan, schedule, workers, gate, &mut record)?;
+    Ok(record)
+}
+
+/// Plays a schedule of a plan as [`played`] does, shows the run to what watches it, and answers the callers after it: what
+/// [`play_watched`](interleave_core::play_watched) comes to, whatever the number of workers. What watches sees the steps in the
+/// order in which the plane asks for them, on the thread of the call. It has seen nothing before, and after an `Err` nothing is said of it.
+pub fn played_watched<R: Threads + Sync, W: Watch, G: Gate + Sync>(
+    rt: &R,
+    alloc: Global,
+    plan: &Plan,
+    schedule: &Schedule,
+    workers: u32,
+    gate: &G,
+    watch: &mut W,
+) -> Result<Callers, PlayFault>
+    requires workers { (1 ≤ workers) × (workers ≤ 16) }
+    requires fresh { W.saw watch.old plan.now [] }
+    requires actors { Each (IsActorOf plan.now) schedule.now.items }
+    ensures played { IfOk result (λ callers. IsPlayedSeen W.saw plan.now schedule.now callers watch.new) }
+    ensures table { OnOk result (W.has_table watch.new ≡ W.has_table watch.old) }
+    ensures fault { IfErr result (IsFaultOf (network_of plan.now) schedule.now) }
+{
     if schedule.written {
-        return interleave_core::play(alloc, plan, schedule);
+        return play_watched(alloc, plan, schedule, watch);
     }
-    let mut core = Core::new(alloc, plan)?;
-    play_callers(&mut core, plan)?;
-    let made = make_all_rounds(rt, alloc, plan, core, workers as usize, gate)?;
-    Ok(made)
+    let mut engine = Engine::new(alloc, plan)?;
+    play_callers(&mut engine, plan, watch)?;
+    let callers = make_all_rounds(rt, alloc, plan, engine, workers as usize, gate, watch)?;
+    Ok(callers)
 }
 
 // Lets the callers in their order each make their steps.
-fn play_callers(core: &mut Core, plan: &Plan) -> Result<(), PlayFault>
-    requires stands { CoreStands plan.now core.old }
-    requires none { run_in core.old ≡ [] }
-    ensures stands { CoreStands plan.now core.new }
-    ensures played { OnOk result (PlayedOut (network_of plan.now) (length plan.now.callers) (run_in core.new)) }
-    ensures fault { IfErr result IsWanted }
+fn play_callers<W: Watch>(
+    engine: &mut Engine,
+    plan: &Plan,
+    watch: &mut W,
+) -> Result<(), OutOfMemory>
+    requires { WatchStands W.saw plan.now engine.old watch.old [] }
+    ensures played { OnOk result (HavePlayedOut W.saw plan.now engine.new watch.new (length plan.now.callers)) }
+    ensures table { OnOk result (W.has_table watch.new ≡ W.has_table watch.old) }
 {
     for number in 0..plan.callers().len() {
-        play_out(core, plan, actor_of(number))?;
+        play_caller(engine, plan, watch, actor_of(number))?;
     }
     Ok(())
 }
 
-// Lets the plane make its rounds, and answers the record.
-fn make_all_rounds<R: Threads + Sync, G: Gate + Sync>(
+// Lets the caller make its steps until it has none left.
+fn play_caller<W: Watch>(
+    engine: &mut Engine,
+    plan: &Plan,
+    watch: &mut W,
+    actor: ActorNo,
+) -> Result<(), OutOfMemory>
+    requires { (run : List Step) × WatchStands W.saw plan.now engine.old watch.old run }
+    ensures out { OnOk result ((past : List Step) → WatchStands W.saw plan.now engine.old watch.old past → PlaysOut W.saw plan.now engine.new watch.new past actor) }
+    ensures table { OnOk result (W.has_table watch.new ≡ W.has_table watch.old) }
+{
+    // a run has fewer steps
+    for _ in 0..u64::MAX {
+        match engine.next_ask(plan, actor) {
+            Some((link, ask)) => make_watched(engine, watch, plan, actor, link, ask)?,
+            None => return Ok(()),
+        }
+    }
+    unreachable!()
+}
+
+// Lets the plane make its rounds, and answers the callers.
+fn make_all_rounds<R: Threads + Sync, W: Watch, G: Gate + Sync>(
     rt: &R,
     alloc: Global,
     plan: &Plan,
-    core: Core,
+    engine: Engine,
     workers: usize,
     gate: &G,
-) -> Result<Record, OutOfMemory>
+    watch: &mut W,
+) -> Result<Callers, OutOfMemory>
     requires workers { 0 < workers }
-    requires stands { CoreStands plan.now core }
-    ensures guaranteed { IfOk result (λ made. IsGuaranteedRun plan.now (reverse made.entries)) }
-    ensures out { IfOk result (λ made. StepsOut (network_of plan.now) (run_in core) (actor_at (length plan.now.callers)) (reverse made.entries)) }
+    requires stand { (run : List Step) × WatchStands W.saw plan.now engine watch.old run }
+    ensures out { IfOk result (λ callers. (past : List Step) → WatchStands W.saw plan.now engine watch.old past → HasPlayedOut W.saw plan.now callers watch.new past (actor_at (length plan.now.callers))) }
+    ensures table { OnOk result (W.has_table watch.new ≡ W.has_table watch.old) }
 {
     let gap = least_gap(plan);
     let rounds = plan.rounds() + plan.tail();
     let actor = actor_of(plan.callers().len());
-    let (links, mut plane, mut steps) = core.into_parts();
+    let (links, mut plane, callers) = engine.into_parts();
     let mut desks = desks_of(alloc, links)?;
     make_rounds(
-        rt, alloc, plan, &mut plane, &mut desks, &mut steps, actor, gap, rounds, workers, gate,
+        rt, alloc, plan, &mut plane, &mut desks, watch, actor, gap, rounds, workers, gate,
     )?;
-    Ok(steps)
+    Ok(callers)
 }
 
 // The actor of this number.

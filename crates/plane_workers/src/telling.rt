@@ -1,71 +1,76 @@
-//! The steps of a window, put into the record in the order in which the plane asks.
-ghost use Rattle.std.specs.Prelude.{◌≡◌, ◌≢◌, ℕ, ◌+◌, ◌<◌, ◌≤◌, ◌∷◌, length, drop, reverse, Some, OnOk};
+//! The steps of a window, shown to what watches the run in the order in which the plane asks.
+ghost use Rattle.std.specs.Prelude.{◌≡◌, ◌≢◌, ℕ, ◌+◌, ◌<◌, ◌≤◌, ◌∷◌, List, length, drop, Some, OnOk};
 ghost use Rattle.std.specs.List.{slice_get};
 ghost use Rattle.net_units.specs.Numbers.{actor_number};
 ghost use Rattle.call_script.specs.Tasks.{network_of};
 ghost use Rattle.interleave_core.specs.Turns.{plane_most};
 ghost use Rattle.plane_workers.specs.Desks.{rules_at, stands_at, left_at};
-ghost use Rattle.plane_workers.specs.Windows.{GoesOnBy, IsWithin};
+ghost use Rattle.plane_workers.specs.Seen.{GoesTo, SeenWithin};
+ghost use Rattle.run_record.specs.declared.done.Done.{Done as Entry};
 
 use crate::desk::Desk;
 use call_script::Plan;
+use interleave_core::Watch;
 use link_steps::{LinkStep, Reply};
 use net_units::{ActorNo, OutOfMemory};
-use run_record::{Done, Record};
+use run_record::Done;
 use tick_plane::Plane;
 
-/// The plane's steps from where it stands until round `until` begins. Each link has answered what it is asked until then.
-pub(crate) fn tell_all<L: LinkStep>(
+/// The plane's steps from where it stands until round `until` begins, each shown to what watches the run. Each link has answered
+/// what it is asked until then.
+pub(crate) fn tell_all<L: LinkStep, W: Watch>(
     plan: &Plan,
     plane: &mut Plane,
     desks: &mut [Desk<L>],
-    steps: &mut Record,
+    watch: &mut W,
     actor: ActorNo,
     from: u64,
     until: u64,
 ) -> Result<(), OutOfMemory>
     requires actor { actor_number actor ≡ length plan.now.callers }
-    requires within { IsWithin (rules_at L.link_of) (stands_at L.stands_for) left_at plan.now from until desks.old plane.old (reverse steps.old.entries) }
-    ensures within { OnOk result (IsWithin (rules_at L.link_of) (stands_at L.stands_for) left_at plan.now from until desks.new plane.new (reverse steps.new.entries)) }
+    requires within { (run : List Entry) × SeenWithin (rules_at L.link_of) (stands_at L.stands_for) left_at W.saw plan.now from until desks.old plane.old watch.old run }
+    ensures goes { OnOk result ((past : List Entry) → SeenWithin (rules_at L.link_of) (stands_at L.stands_for) left_at W.saw plan.now from until desks.old plane.old watch.old past → GoesTo (network_of plan.now) actor past (SeenWithin (rules_at L.link_of) (stands_at L.stands_for) left_at W.saw plan.now from until desks.new plane.new watch.new)) }
     ensures over { OnOk result (until ≤ plane.new.at.round) }
-    ensures goes { OnOk result (GoesOnBy (network_of plan.now) actor (reverse steps.old.entries) (reverse steps.new.entries)) }
+    ensures rounds { OnOk result (plane.new.rounds ≡ plane.old.rounds) }
+    ensures table { OnOk result (W.has_table watch.new ≡ W.has_table watch.old) }
 {
     while plane.round() < until {
-        tell_one(plan, plane, desks, steps, actor, from, until)?;
+        tell_one(plan, plane, desks, watch, actor, from, until)?;
     }
     Ok(())
 }
 
 // The plane's next step, whose reply its link has given already.
-fn tell_one<L: LinkStep>(
+fn tell_one<L: LinkStep, W: Watch>(
     plan: &Plan,
     plane: &mut Plane,
     desks: &mut [Desk<L>],
-    steps: &mut Record,
+    watch: &mut W,
     actor: ActorNo,
     from: u64,
     until: u64,
 ) -> Result<(), OutOfMemory>
     requires actor { actor_number actor ≡ length plan.now.callers }
-    requires within { IsWithin (rules_at L.link_of) (stands_at L.stands_for) left_at plan.now from until desks.old plane.old (reverse steps.old.entries) }
+    requires within { (run : List Entry) × SeenWithin (rules_at L.link_of) (stands_at L.stands_for) left_at W.saw plan.now from until desks.old plane.old watch.old run }
     requires early { plane.old.at.round < until }
-    ensures within { OnOk result (IsWithin (rules_at L.link_of) (stands_at L.stands_for) left_at plan.now from until desks.new plane.new (reverse steps.new.entries)) }
-    ensures goes { OnOk result (GoesOnBy (network_of plan.now) actor (reverse steps.old.entries) (reverse steps.new.entries)) }
+    ensures goes { OnOk result ((past : List Entry) → SeenWithin (rules_at L.link_of) (stands_at L.stands_for) left_at W.saw plan.now from until desks.old plane.old watch.old past → GoesTo (network_of plan.now) actor past (SeenWithin (rules_at L.link_of) (stands_at L.stands_for) left_at W.saw plan.now from until desks.new plane.new watch.new)) }
     ensures fewer { OnOk result (plane_most plane.new.links plane.new.rounds plane.new.at < plane_most plane.old.links plane.old.rounds plane.old.at) }
+    ensures rounds { OnOk result (plane.new.rounds ≡ plane.old.rounds) }
+    ensures table { OnOk result (W.has_table watch.new ≡ W.has_table watch.old) }
 {
-    steps.reserve(1)?;
     plane.ready()?;
     let Some((link, ask)) = plane.next_ask() else {
         unreachable!()
     };
     let reply = next_reply(desks, usize::from(link.get()));
     plane.take(reply).unwrap();
-    steps.push(Done {
+    let done = Done {
         actor,
         link,
         ask,
         reply,
-    });
+    };
+    watch.see(plan, &done)?;
     Ok(())
 }
 

@@ -1,5 +1,5 @@
 //! A window of rounds, made for each link on its own.
-ghost use Rattle.std.specs.Prelude.{◌≡◌, ℕ, ◌+◌, ◌^◌, ◌<◌, ◌≤◌, List, length, drop, reverse, false, Some, OnOk};
+ghost use Rattle.std.specs.Prelude.{◌≡◌, ℕ, ◌+◌, ◌^◌, ◌<◌, ◌≤◌, List, length, drop, false, Some, OnOk};
 ghost use Rattle.std.specs.List.{slice_get};
 ghost use Rattle.link_steps.specs.Legal.{AskFits};
 ghost use Rattle.link_steps.specs.Lists.{Each};
@@ -9,15 +9,16 @@ ghost use Rattle.net_units.specs.Numbers.{actor_number};
 ghost use Rattle.call_script.specs.Tasks.{network_of};
 ghost use Rattle.plane_workers.specs.Desks.{rules_at, stands_at, left_at};
 ghost use Rattle.plane_workers.specs.Answered.{IsAnswered, ticks_in};
-ghost use Rattle.plane_workers.specs.Windows.{GoesOnBy, IsBetween};
+ghost use Rattle.plane_workers.specs.Seen.{GoesTo, SeenBetween};
+ghost use Rattle.run_record.specs.declared.done.Done.{Done as Step};
 ghost use Rattle.tick_plane.specs.Windows.{window_at};
 
 use crate::desk::Desk;
 use crate::telling::tell_all;
 use call_script::Plan;
+use interleave_core::Watch;
 use link_steps::LinkStep;
 use net_units::{ActorNo, Gate, OutOfMemory};
-use run_record::Record;
 use std::alloc::Global;
 use std::thread;
 use std::thread::Threads;
@@ -52,14 +53,14 @@ pub(crate) fn answer_windows<R: Threads + Sync, L: LinkStep + Send, G: Gate + Sy
 }
 
 // The rounds from where the plane stands until one begins, which is no further than the gap allows: each link answers on its
-// own, by so many workers, and then the steps are put into the record in the order in which the plane asks.
-fn make_window<R: Threads + Sync, L: LinkStep + Send, G: Gate + Sync>(
+// own, by so many workers, and then the steps are shown to what watches the run in the order in which the plane asks.
+fn make_window<R: Threads + Sync, L: LinkStep + Send, W: Watch, G: Gate + Sync>(
     rt: &R,
     alloc: Global,
     plan: &Plan,
     plane: &mut Plane,
     desks: &mut [Desk<L>],
-    steps: &mut Record,
+    watch: &mut W,
     actor: ActorNo,
     gap: u64,
     until: u64,
@@ -68,14 +69,14 @@ fn make_window<R: Threads + Sync, L: LinkStep + Send, G: Gate + Sync>(
 ) -> Result<(), OutOfMemory>
     requires workers { 0 < workers }
     requires actor { actor_number actor ≡ length plan.now.callers }
-    requires between { IsBetween (rules_at L.link_of) (stands_at L.stands_for) plan.now gap desks.old plane.old (reverse steps.old.entries) }
+    requires between { (run : List Step) × SeenBetween (rules_at L.link_of) (stands_at L.stands_for) W.saw plan.now gap desks.old plane.old watch.old run }
     requires early { plane.old.at.round < until }
     requires near { until ≤ plane.old.at.round + gap + 1 }
     requires all { until ≤ plane.old.rounds }
-    ensures between { OnOk result (IsBetween (rules_at L.link_of) (stands_at L.stands_for) plan.now gap desks.new plane.new (reverse steps.new.entries)) }
-    ensures at { OnOk result (plane.new.at.round ≡ until) }
+    ensures goes { OnOk result ((past : List Step) → SeenBetween (rules_at L.link_of) (stands_at L.stands_for) W.saw plan.now gap desks.old plane.old watch.old past → GoesTo (network_of plan.now) actor past (SeenBetween (rules_at L.link_of) (stands_at L.stands_for) W.saw plan.now gap desks.new plane.new watch.new)) }
+    ensures at { OnOk result (until ≤ plane.new.at.round) }
     ensures rounds { OnOk result (plane.new.rounds ≡ plane.old.rounds) }
-    ensures goes { OnOk result (GoesOnBy (network_of plan.now) actor (reverse steps.old.entries) (reverse steps.new.entries)) }
+    ensures table { OnOk result (W.has_table watch.new ≡ W.has_table watch.old) }
 {
     let from = plane.round();
     let window = plane.window(alloc, until)?;
@@ -84,7 +85,7 @@ fn make_window<R: Threads + Sync, L: LinkStep + Send, G: Gate + Sync>(
     if any_wanted(desks) {
         return Err(OutOfMemory);
     }
-    tell_all(plan, plane, desks, steps, actor, from, until)
+    tell_all(plan, plane, desks, watch, actor, from, until)
 }
 
 // The clock of each link is that of every history that it stands for.
@@ -101,13 +102,13 @@ pub(crate) fn any_wanted<L: LinkStep>(desks: &[Desk<L>]) -> bool
 
 /// The rounds from where the plane stands until one begins, by windows. What leaves a link reaches the next one more than `gap`
 /// rounds later, so a window has no more rounds than that and one.
-pub(crate) fn make_rounds<R: Threads + Sync, L: LinkStep + Send, G: Gate + Sync>(
+pub(crate) fn make_rounds<R: Threads + Sync, L: LinkStep + Send, W: Watch, G: Gate + Sync>(
     rt: &R,
     alloc: Global,
     plan: &Plan,
     plane: &mut Plane,
     desks: &mut [Desk<L>],
-    steps: &mut Record,
+    watch: &mut W,
     actor: ActorNo,
     gap: u64,
     until: u64,
@@ -117,11 +118,11 @@ pub(crate) fn make_rounds<R: Threads + Sync, L: LinkStep + Send, G: Gate + Sync>
     requires workers { 0 < workers }
     requires gap { gap < 2 ^ 60 }
     requires actor { actor_number actor ≡ length plan.now.callers }
-    requires between { IsBetween (rules_at L.link_of) (stands_at L.stands_for) plan.now gap desks.old plane.old (reverse steps.old.entries) }
+    requires between { (run : List Step) × SeenBetween (rules_at L.link_of) (stands_at L.stands_for) W.saw plan.now gap desks.old plane.old watch.old run }
     requires all { until ≤ plane.old.rounds }
-    ensures between { OnOk result (IsBetween (rules_at L.link_of) (stands_at L.stands_for) plan.now gap desks.new plane.new (reverse steps.new.entries)) }
+    ensures goes { OnOk result ((past : List Step) → SeenBetween (rules_at L.link_of) (stands_at L.stands_for) W.saw plan.now gap desks.old plane.old watch.old past → GoesTo (network_of plan.now) actor past (SeenBetween (rules_at L.link_of) (stands_at L.stands_for) W.saw plan.now gap desks.new plane.new watch.new)) }
     ensures at { OnOk result (until ≤ plane.new.at.round) }
-    ensures goes { OnOk result (GoesOnBy (network_of plan.now) actor (reverse steps.old.entries) (reverse steps.new.entries)) }
+    ensures table { OnOk result (W.has_table watch.new ≡ W.has_table watch.old) }
 {
     // The first window has two workers, where there are two, though it may be short.
     let mut least = 2;
@@ -130,7 +131,7 @@ pub(crate) fn make_rounds<R: Threads + Sync, L: LinkStep + Send, G: Gate + Sync>
         let next = until.min(round + gap + 1);
         let count = worth(desks.len(), next - round).max(least).min(workers);
         make_window(
-            rt, alloc, plan, plane, desks, steps, actor, gap, next, count, gate,
+            rt, alloc, plan, plane, desks, watch, actor, gap, next, count, gate,
         )?;
         least = 1;
     }

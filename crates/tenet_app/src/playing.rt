@@ -78,7 +78,7 @@ fn tallied(
 }
 
 // Writes the report of a run that was tallied.
-fn report_tallied<K: Sink>(
+pub(crate) fn report_tallied<K: Sink>(
     alloc: Global,
     plan: &Plan,
     callers: Callers,

@@ -1,24 +1,22 @@
 //! The words `play --workers N`: as `play`, with the rounds of the plane made by several workers.
-ghost use Rattle.std.specs.Prelude.{◌≡◌, ◌≤◌, IfSome, map, reverse, string_bytes};
+ghost use Rattle.std.specs.Prelude.{◌≡◌, ◌≤◌, IfErr, IfOk, IfSome, map, string_bytes};
 ghost use Rattle.call_script.specs.Tasks.{network_of};
-ghost use Rattle.channel_report.specs.Report.{report_of};
-ghost use Rattle.interleave_core.specs.Runs.{IsRun};
-ghost use Rattle.interleave_core.specs.Schedules.{IsActorOf};
+ghost use Rattle.interleave_core.specs.Schedules.{IsActorOf, IsFaultOf};
 ghost use Rattle.link_steps.specs.Lists.{Each};
 ghost use Rattle.tenet_app.specs.Making.{number_from};
-ghost use Rattle.tenet_app.specs.Playing.{AnswersPlan, CountsRise, Plays, WritesReport};
+ghost use Rattle.tenet_app.specs.Playing.{AnswersPlan, CountsRise, Plays};
+ghost use Rattle.tenet_app.specs.Tallying.{IsTalliedPlay};
 ghost use Rattle.tenet_app.specs.Working.{are_to_work, work_of, work_with_table, work_words};
 
-use crate::playing::refuse;
+use crate::playing::{refuse, report_tallied};
 use crate::status::Status;
 use crate::words::{is_word, number_from};
 use byte_ends::{Sink, Source};
 use call_script::{Plan, Schedule};
-use channel_report::{ReportFault, write_report};
-use interleave_core::PlayFault;
+use channel_report::Tally;
+use interleave_core::{Callers, PlayFault};
 use net_units::Gate;
-use plane_workers::played;
-use run_record::Record;
+use plane_workers::played_watched;
 use scenario_reader::{Cause, ReadRefusal, read_plan};
 use std::alloc::Global;
 use std::thread::Threads;
@@ -124,22 +122,30 @@ fn answer<R: Threads + Sync, K: Sink, G: Gate + Sync>(
     ensures answers { AnswersPlan packets plan.now schedule.now result (K.written sink.old) (K.written sink.new) (K.faults sink.old) (K.faults sink.new) }
     ensures counts { K.faults sink.old ≤ K.faults sink.new }
 {
-    match played(rt, alloc, plan, schedule, workers, gate) {
-        Ok(run) => report(alloc, packets, plan, &run, sink),
+    match tallied(rt, alloc, packets, workers, plan, schedule, gate) {
+        Ok((callers, tally)) => report_tallied(alloc, plan, callers, tally, sink),
         Err(PlayFault::Memory) => Status::Memory,
         Err(PlayFault::Step { line, .. }) => refuse(alloc, line, Cause::Step, sink),
     }
 }
 
-// Writes the report of a run that was recorded.
-fn report<K: Sink>(alloc: Global, packets: bool, plan: &Plan, run: &Record, sink: &mut K) -> Status
-    requires { IsRun (network_of plan.now) (reverse run.now.entries) }
-    ensures reports { WritesReport result (report_of plan.now run.now.entries packets) (K.written sink.old) (K.written sink.new) (K.faults sink.old) (K.faults sink.new) }
-    ensures counts { K.faults sink.old ≤ K.faults sink.new }
+// Plays the schedule of a plan by so many workers while a tally sees its run.
+fn tallied<R: Threads + Sync, G: Gate + Sync>(
+    rt: &R,
+    alloc: Global,
+    packets: bool,
+    workers: u32,
+    plan: &Plan,
+    schedule: &Schedule,
+    gate: &G,
+) -> Result<(Callers, Tally), PlayFault>
+    requires workers { (1 ≤ workers) × (workers ≤ 16) }
+    requires actors { Each (IsActorOf plan.now) schedule.now.items }
+    ensures played { IfOk result (λ told. IsTalliedPlay plan.now schedule.now told.0 told.1) }
+    ensures table { IfOk result (λ told. told.1.packets ≡ packets) }
+    ensures fault { IfErr result (IsFaultOf (network_of plan.now) schedule.now) }
 {
-    match write_report(alloc, plan, run, packets, sink) {
-        Ok(()) => Status::Done,
-        Err(ReportFault::Memory) => Status::Memory,
-        Err(ReportFault::WriteFault) => Status::WriteFault,
-    }
+    let mut tally = Tally::new(alloc, plan, packets)?;
+    let callers = played_watched(rt, alloc, plan, schedule, workers, gate, &mut tally)?;
+    Ok((callers, tally))
 }

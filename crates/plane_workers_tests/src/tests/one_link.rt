@@ -12,7 +12,8 @@ use hop_reservation::{Hop, Route};
 use interleave_core::PlayFault;
 use link_steps::LinkShape;
 use net_units::{ActorNo, Bounds, ChanNo, LinkNo, Name, NoGate};
-use plane_workers::played;
+use plane_workers::{played, played_watched};
+use run_record::Record;
 use setup_protocol::{Control, Request};
 use std::alloc::Global;
 use std::process::Abort;
@@ -136,6 +137,33 @@ fn a_plan_is_played_to_its_end(rt: HostRuntime) -> Result<(), Fail> {
     let plan = plan(alloc)?;
     assert_eq!(rt; steps_of(&rt, alloc, &plan, None, 1)?, Ok(5));
     assert_eq!(rt; steps_of(&rt, alloc, &plan, None, 16)?, Ok(5));
+    Ok(())
+}
+
+// The actor of each step that a record sees, where no schedule is written and two workers make the rounds.
+fn actors_seen<R: Threads + Sync>(rt: &R, alloc: Global, plan: &Plan) -> Result<Vec<u8>, Fail> {
+    let schedule = Schedule {
+        written: false,
+        items: Dos::new(Vec::new(alloc)),
+    };
+    let mut seen = Record::new(alloc);
+    let played = played_watched(rt, alloc, plan, &schedule, 2, &NoGate, &mut seen);
+    if played.is_err() {
+        return Err(Fail::from("a plan that isn't played"));
+    }
+    let mut actors = Vec::new(alloc);
+    for done in seen.entries() {
+        actors.push(done.actor.get())?;
+    }
+    Ok(actors)
+}
+
+#[test]
+fn what_watches_sees_the_plan_played(rt: HostRuntime) -> Result<(), Fail> {
+    let alloc = rt.alloc();
+    let plan = plan(alloc)?;
+    let actors = actors_seen(&rt, alloc, &plan)?;
+    assert_eq!(rt; actors.as_slice(), [0, 0, 1, 1, 1].as_slice());
     Ok(())
 }
 

@@ -1,20 +1,22 @@
 -- One caller more has played out, and then all.
-use Rattle.std.proofs.Common.{◌≡◌, length, ap, arith}
-use Rattle.interleave_core.specs.Standing.{run_in}
-use Rattle.interleave_core.proofs.PlayFacts.{none-out, out-again}
+use Rattle.std.proofs.Common.{◌≡◌, length, refl, ap, ◌∙◌, arith}
 use Rattle.interleave_core.proofs.StepFacts.{callers-few}
+use Rattle.interleave_core.proofs.WatchFacts.{none-yet, one-out}
 use Rattle.plane_workers.proofs.playing.play_callers.Goals as goal
 
 pub loop-number-init : goal.loop-number-init
-loop-number-init c = record { stands = c.requires.stands; played = none-out c.args.plan.now (run_in c.args.core.now) c.requires.none }
+loop-number-init g c = record { played = none-yet g.W.Watch.saw c.args.plan.now c.args.engine.now c.args.watch.now c.requires; table = refl }
 
 pub actor_of-requires : goal.actor_of-requires
-actor_of-requires c =
+actor_of-requires g c =
     let same : length c.callers-number-end.result.now ≡ length c.args.plan.now.callers = ap length c.callers-number-end.ensures.value in
     omega (arith, c.loop-number-test.true, callers-few c.args.plan.now c.requires.stands.plan, same)
 
+pub play_caller-requires : goal.play_caller-requires
+play_caller-requires g c = (c.loop-number.invariant.played.run, c.loop-number.invariant.played.stand)
+
 pub loop-number-preserved : goal.loop-number-preserved
-loop-number-preserved c = record {
-  stands = c.play_out.ensures.stands;
-  played = out-again c.args.plan.now (run_in c.loop-number.core) (run_in c.play_out.new.core) c.loop-number.number c.actor_of.result c.actor_of.ensures c.loop-number.invariant.played c.in_ok-play_out.ensures.out;
+loop-number-preserved g c = record {
+  played = one-out g.W.Watch.saw c.args.plan.now c.loop-number.engine c.play_caller.new.engine c.loop-number.watch c.play_caller.new.watch c.loop-number.number c.actor_of.result c.actor_of.ensures c.loop-number.invariant.played c.in_ok-play_caller.ensures.out;
+  table = c.in_ok-play_caller.ensures.table ∙ c.loop-number.invariant.table;
 }

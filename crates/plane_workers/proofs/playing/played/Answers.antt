@@ -1,12 +1,16 @@
--- The callers have played out, and then the plane.
-use Rattle.std.proofs.Common.{length, reverse, refl}
-use Rattle.net_units.specs.Numbers.{actor_at}
-use Rattle.interleave_core.specs.Standing.{run_in}
-use Rattle.interleave_core.proofs.PlayFacts.{out-again, played-out}
+-- The record has the run that was seen.
+use Rattle.std.proofs.Common.{sym, subst, reverse, ap}
+use Rattle.call_script.specs.Tasks.{network_of}
+use Rattle.interleave_core.specs.Schedules.{IsPlayed}
+use Rattle.interleave_core.specs.Standing.{IsGuaranteedRun}
+use Rattle.run_record.specs.Entries.{Entries}
 use Rattle.plane_workers.proofs.playing.played.Goals as goal
 
+pub played_watched-requires-clause-fresh : goal.played_watched-requires-clause-fresh
+played_watched-requires-clause-fresh g c κs within = ap (λ (e : Entries). reverse e.entries) c.new-record.ensures
+
 pub returns-clause-played : goal.returns-clause-played
-returns-clause-played g c =
-    played-out c.args.plan.now c.args.schedule.now (reverse c.in_ok-made.made.entries) (reverse c.in_ok-made.made.entries) c.if-schedule.false
-    (out-again c.args.plan.now (run_in c.play_callers.new.core) (reverse c.in_ok-made.made.entries) (length c.args.plan.now.callers) (actor_at (length c.args.plan.now.callers)) refl c.in_ok-play_callers.ensures.played c.in_ok-made.ensures.out)
-    refl
+returns-clause-played g c = subst (IsPlayed (network_of c.args.plan.now) c.args.schedule.now) (sym c.in_ok-played_watched.ensures.played.seen.seen) c.in_ok-played_watched.ensures.played.played
+
+pub returns-clause-guaranteed : goal.returns-clause-guaranteed
+returns-clause-guaranteed g c = subst (IsGuaranteedRun c.args.plan.now) (sym c.in_ok-played_watched.ensures.played.seen.seen) c.in_ok-played_watched.ensures.played.guaranteed

@@ -1,14 +1,26 @@
 -- No step yet, and then one more.
-use Rattle.std.proofs.Common.{reverse}
+use Rattle.std.proofs.Common.{refl, ◌∙◌}
 use Rattle.call_script.specs.Tasks.{network_of}
-use Rattle.plane_workers.proofs.TellFacts.{goes-none, goes-both}
+use Rattle.plane_workers.specs.Desks.{rules_at, stands_at, left_at}
+use Rattle.plane_workers.specs.Seen.{SeenWithin}
+use Rattle.plane_workers.proofs.TellFacts.{comes-none, comes-both}
 use Rattle.plane_workers.proofs.telling.tell_all.Goals as goal
 
 pub loop-actor-init : goal.loop-actor-init
-loop-actor-init g c = record { within = c.requires.within; goes = goes-none (network_of c.args.plan.now) c.args.actor (reverse c.args.steps.now.entries) }
+loop-actor-init g c = record {
+  goes = λ past stand. comes-none (network_of c.args.plan.now) c.args.actor past (SeenWithin (rules_at g.L.LinkStep.link_of) (stands_at g.L.LinkStep.stands_for) left_at g.W.Watch.saw c.args.plan.now c.args.from c.args.until c.args.desks.now c.args.plane.now c.args.watch.now) stand;
+  rounds = refl;
+  table = refl;
+}
+
+pub tell_one-requires-clause-within : goal.tell_one-requires-clause-within
+tell_one-requires-clause-within g c = (let goes = c.loop-actor.invariant.goes c.requires.within.0 c.requires.within.1 in (goes.run, goes.comes))
 
 pub loop-actor-preserved : goal.loop-actor-preserved
 loop-actor-preserved g c = record {
-  within = c.in_ok-tell_one.ensures.within;
-  goes = goes-both (network_of c.args.plan.now) c.args.actor (reverse c.args.steps.now.entries) (reverse c.loop-actor.steps.entries) (reverse c.tell_one.new.steps.entries) c.loop-actor.invariant.goes c.in_ok-tell_one.ensures.goes;
+  goes = λ past stand.
+      comes-both (network_of c.args.plan.now) c.args.actor past (SeenWithin (rules_at g.L.LinkStep.link_of) (stands_at g.L.LinkStep.stands_for) left_at g.W.Watch.saw c.args.plan.now c.args.from c.args.until c.loop-actor.desks c.loop-actor.plane c.loop-actor.watch)
+      (SeenWithin (rules_at g.L.LinkStep.link_of) (stands_at g.L.LinkStep.stands_for) left_at g.W.Watch.saw c.args.plan.now c.args.from c.args.until c.tell_one.new.desks c.tell_one.new.plane c.tell_one.new.watch) (c.loop-actor.invariant.goes past stand) c.in_ok-tell_one.ensures.goes;
+  rounds = c.in_ok-tell_one.ensures.rounds ∙ c.loop-actor.invariant.rounds;
+  table = c.in_ok-tell_one.ensures.table ∙ c.loop-actor.invariant.table;
 }

@@ -1,15 +1,18 @@
-use Rattle.std.proofs.Common.{reverse}
+use Rattle.std.proofs.Common.{◌≡◌, List}
 use Rattle.call_script.specs.Tasks.{network_of}
 use Rattle.interleave_core.specs.Turns.{plane_most}
-use Rattle.plane_workers.specs.Windows.{GoesOnBy, IsWithin}
 use Rattle.plane_workers.specs.Desks.{rules_at, stands_at, left_at}
+use Rattle.plane_workers.specs.Seen.{GoesTo, SeenWithin}
+use Rattle.run_record.specs.declared.done.Done.{Done}
 use Rattle.plane_workers.proofs.telling.tell_all.Given as goal
 
 -- the steps so far
 abbrev pub invariant-loop-actor : goal.invariant-loop-actor
 invariant-loop-actor g l = record {
-  within : IsWithin (rules_at g.L.LinkStep.link_of) (stands_at g.L.LinkStep.stands_for) left_at l.plan l.from l.until l.desks l.plane (reverse l.steps.entries);
-  goes : GoesOnBy (network_of l.plan) l.actor (reverse l.initial.steps.entries) (reverse l.steps.entries);
+  goes : (past : List Done) → SeenWithin (rules_at g.L.LinkStep.link_of) (stands_at g.L.LinkStep.stands_for) left_at g.W.Watch.saw l.plan l.from l.until l.initial.desks l.initial.plane l.initial.watch past
+      → GoesTo (network_of l.plan) l.actor past (SeenWithin (rules_at g.L.LinkStep.link_of) (stands_at g.L.LinkStep.stands_for) left_at g.W.Watch.saw l.plan l.from l.until l.desks l.plane l.watch);
+  rounds : l.plane.rounds ≡ l.initial.plane.rounds;
+  table : g.W.Watch.has_table l.watch ≡ g.W.Watch.has_table l.initial.watch;
 }
 
 -- the plane has fewer steps left at most

@@ -1,0 +1,41 @@
+-- What watches a run sees the steps of a window as they are put in order. Between two windows, and within one, links, plane and
+-- what watches stand for one run. `saw` tells which runs of a plan were seen.
+use Rattle.std.specs.Prelude.{ℕ, List}
+use Rattle.net_units.specs.declared.numbers.ActorNo.{ActorNo}
+use Rattle.link_steps.specs.Split.{Link}
+use Rattle.link_steps.specs.declared.replies.Entry.{Entry}
+use Rattle.link_steps.specs.declared.replies.Reply.{Reply}
+use Rattle.call_script.specs.Parts.{PlanParts}
+use Rattle.call_script.specs.Tasks.{Network, network_of}
+use Rattle.tick_plane.specs.Kept.{KeptPlane}
+use Rattle.run_record.specs.declared.done.Done.{Done}
+use Rattle.interleave_core.specs.Schedules.{StepsOut}
+use Rattle.interleave_core.specs.Standing.{IsGuaranteedRun}
+use Rattle.interleave_core.specs.Watching.{IsSeen}
+use Rattle.interleave_core.specs.declared.callers.Callers.{Callers}
+use Rattle.plane_workers.specs.Windows.{GoesOnBy, IsBetween, IsWithin}
+
+-- the run goes on by steps of one actor to one of which this holds
+pub record GoesTo (network : Network) (actor : ActorNo) (past : List Done) (holds : List Done → Type 0) : Type 0 where
+  pub run : List Done
+  pub goes : GoesOnBy network actor past run
+  pub comes : holds run
+
+-- within a window, and the run was seen
+pub record SeenWithin {X W : Type 0} (rules : X → Link) (stands : X → List Entry → Type 0) (left : X → List Reply) (saw : W → PlanParts → List Done → Type 0) (parts : PlanParts) (from until : ℕ) (links : List X) (plane : KeptPlane) (watch : W) (run : List Done) : Type 0 where
+  pub within : IsWithin rules stands left parts from until links plane run
+  pub seen : saw watch parts run
+
+-- between two windows, and the run was seen
+pub record SeenBetween {X W : Type 0} (rules : X → Link) (stands : X → List Entry → Type 0) (saw : W → PlanParts → List Done → Type 0) (parts : PlanParts) (gap : ℕ) (links : List X) (plane : KeptPlane) (watch : W) (run : List Done) : Type 0 where
+  pub between : IsBetween rules stands parts gap links plane run
+  pub seen : saw watch parts run
+
+-- ---- all steps of an actor
+
+-- it has made those that it had left: the callers stand for the run with them, which has the whole guarantee and was seen
+pub record HasPlayedOut {W : Type 0} (saw : W → PlanParts → List Done → Type 0) (parts : PlanParts) (callers : Callers) (watch : W) (past : List Done) (actor : ActorNo) : Type 0 where
+  pub run : List Done
+  pub out : StepsOut (network_of parts) past actor run
+  pub guaranteed : IsGuaranteedRun parts run
+  pub seen : IsSeen saw parts callers watch run
