@@ -1,10 +1,9 @@
 -- A desk hands out the reply to what the plane asks next: the run goes on with that step.
-use Rattle.std.proofs.Common.{◌≡◌, ◌≢◌, ℕ, ◌<◌, true, List, ◌∷◌, drop, length, Some, sym, ap, ◌∙◌, subst, arith}
+use Rattle.std.proofs.Common.{◌≡◌, ◌≢◌, ℕ, ◌<◌, true, List, ◌∷◌, length, Some, sym, ap, ◌∙◌, subst, arith}
 use Rattle.std.specs.List.{slice_get}
 use Rattle.net_units.specs.Numbers.{actor_number, link_number}
 use Rattle.net_units.specs.declared.numbers.ActorNo.{ActorNo}
 use Rattle.net_units.specs.declared.numbers.LinkNo.{LinkNo}
-use Rattle.link_steps.specs.Lists.{Each}
 use Rattle.link_steps.specs.Split.{Link}
 use Rattle.link_steps.specs.declared.asks.Ask.{Ask}
 use Rattle.link_steps.specs.declared.replies.Entry.{Entry}
@@ -20,7 +19,6 @@ use Rattle.interleave_core.specs.Watching.{IsNextSeen}
 use Rattle.interleave_core.proofs.Lookups.{held}
 use Rattle.interleave_core.proofs.StepFacts.{run-more}
 use Rattle.plane_workers.specs.Desks.{rules_at, stands_at, left_at}
-use Rattle.plane_workers.specs.Seen.{GoesTo, SeenWithin}
 use Rattle.plane_workers.specs.Windows.{GoesOnBy, IsWithin}
 use Rattle.plane_workers.specs.declared.desk.Desk.{Desk}
 use Rattle.plane_workers.proofs.TellFacts.{one-next, one-expected, one-goes, one-fewer, one-within, one-later}

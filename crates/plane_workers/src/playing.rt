@@ -21,9 +21,10 @@ use std::thread::Threads;
 
 /// Plays a schedule of a plan, and answers the record of its run: that of [`play`](interleave_core::play), whatever the number of
 /// workers, with the same fault. Where no schedule is written the plane's rounds are made by 1 to 16 workers. A written one is
-/// played step by step.
+/// played step by step, and so is any by one worker.
 ///
-/// A worker calls the gate's `within` before each ask of a round and `after` after it, with the ask's link and the plane.
+/// Each of several workers calls the gate's `within` before each ask of a round and `after` after it, with the ask's link and the
+/// plane.
 pub fn played<R: Threads + Sync, G: Gate + Sync>(
     rt: &R,
     alloc: Global,
@@ -62,7 +63,8 @@ pub fn played_watched<R: Threads + Sync, W: Watch, G: Gate + Sync>(
     ensures table { OnOk result (W.has_table watch.new ≡ W.has_table watch.old) }
     ensures fault { IfErr result (IsFaultOf (network_of plan.now) schedule.now) }
 {
-    if schedule.written {
+    // One worker makes the rounds as they come, so it needs no windows.
+    if schedule.written || workers == 1 {
         return play_watched(alloc, plan, schedule, watch);
     }
     let mut engine = Engine::new(alloc, plan)?;
