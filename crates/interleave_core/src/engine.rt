@@ -17,6 +17,7 @@ use link_steps::Ask;
 use net_units::{ActorNo, LinkNo, OutOfMemory};
 use run_record::Done;
 use std::alloc::Global;
+use tick_plane::Plane;
 
 /// The links and the actors of a plan, which each call is given. Its clauses hold for every run that it stands for
 /// (`EngineStands`), so that whoever has it may record the run, tally it, or send its steps elsewhere.
@@ -97,6 +98,17 @@ impl Engine {
     {
         rest_links(&mut self.links, rounds);
         self.actors.plane.stride(rounds);
+    }
+
+    /// Its links, its plane and its callers, each on its own, for whoever makes the plane's rounds in another way.
+    pub fn into_parts(self) -> (Vec<AnyLink>, Plane, Callers)
+        ensures links { result.0 ≡ self.links }
+        ensures plane { result.1 ≡ self.actors.plane }
+        ensures callers { result.2 ≡ self.actors.callers }
+    {
+        let Engine { links, actors } = self;
+        let Actors { callers, plane } = actors;
+        (links, plane, callers)
     }
 
     /// The callers after the steps that it has made. The links and the plane are given up.

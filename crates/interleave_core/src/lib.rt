@@ -11,7 +11,6 @@ pub mod engine;
 pub mod laws;
 pub mod linked_laws;
 mod links;
-mod parting;
 pub mod playing;
 mod quiet;
 pub mod refusal;

@@ -7,17 +7,14 @@ ghost use Rattle.interleave_core.specs.Runs.{next_for};
 ghost use Rattle.interleave_core.specs.Standing.{IsGuaranteedRun, IsLeft, IsRightRefusal, CoreStands, StepsTo, run_in};
 ghost use Rattle.run_record.specs.Runs.{replies_to};
 
-use crate::actors::Actors;
 use crate::engine::Engine;
 use crate::refusal::CoreRefusal;
 use crate::watching::steps_among;
 use call_script::Plan;
-use link_quota::AnyLink;
 use link_steps::{Ask, Reply};
 use net_units::{ActorNo, LinkNo, OutOfMemory};
 use run_record::Record;
 use std::alloc::Global;
-use tick_plane::Plane;
 
 /// The links and the actors of a plan, which each call is given, and the record of the steps that they have made.
 ///
@@ -70,19 +67,6 @@ impl Core {
         ensures guaranteed { (parts : PlanParts) → CoreStands parts self → IsGuaranteedRun parts (reverse result.entries) }
     {
         self.steps
-    }
-
-    /// Its links, its plane and its record, each on its own, for whoever makes the plane's rounds in another way. The callers are
-    /// given up.
-    pub fn into_parts(self) -> (Vec<AnyLink>, Plane, Record)
-        ensures links { result.0 ≡ self.engine.links }
-        ensures plane { result.1 ≡ self.engine.actors.plane }
-        ensures steps { result.2 ≡ self.steps }
-    {
-        let Core { engine, steps } = self;
-        let Engine { links, actors } = engine;
-        let Actors { plane, .. } = actors;
-        (links, plane, steps)
     }
 
     // The step, without what the laws of runs say of it.
