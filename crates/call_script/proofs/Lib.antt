@@ -11,7 +11,6 @@ pub mod OpeningFacts
 pub mod OperationFacts
 pub mod LoadFacts
 pub mod OwnerFacts
-pub mod OneLinkFacts
 pub mod Growing
 pub mod QuotaGrowth
 pub mod ReadyFacts

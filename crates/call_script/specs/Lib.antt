@@ -16,6 +16,5 @@ pub mod Growing
 pub mod Work
 pub mod Channels
 pub mod Standing
-pub mod OneLink
 pub mod ActorNames
 pub mod Accepted

@@ -1,49 +1,20 @@
-//! Plans and callers over one link, worked by hand. The link has levels of 10, 20 and 40 ticks and a propagation of 2.
+//! Plans and callers over one link, worked by hand.
 ghost use Rattle.std.specs.Prelude.{◌≡◌, [], ◌∷◌, IfOk, OnOk, List, length};
-ghost use Rattle.std.specs.List.{All};
-ghost use Rattle.call_script.specs.Parts.{LeavesUnused};
-ghost use Rattle.net_units.specs.Numbers.{link_number, channel_number};
-ghost use Rattle.link_steps.specs.Lists.{Each};
 ghost use Rattle.link_steps.specs.declared.replies.Reply.{Reply as Replied};
-ghost use Rattle.call_script.specs.OneLink.{IsOverIt, IsPerhapsSplit, IsThatRequest, IsThatScript};
+ghost use Rattle.one_link_plans.specs.OneLink.{IsThatLink, IsThatScript};
 ghost use Rattle.call_script.specs.Standing.{CallerStands};
 
-use call_script::{
-    Actor, BadPlan, CallerEntry, LinkEntry, Op, Ops, Plan, Quotas, RequestEntry, Version,
-    push_request,
-};
-use hop_reservation::{Hop, Route};
-use link_steps::{Ask, LinkShape, Quota, Reply, Unexpected};
-use net_units::{ActorNo, Bounds, ChanNo, Kind, Level, LinkNo, Name};
+use call_script::{Actor, BadPlan, CallerEntry, LinkEntry, Op, Plan, Quotas, Version};
+use link_steps::{Ask, Quota, Reply, Unexpected};
+use net_units::{ActorNo, ChanNo, Kind, Level};
+use one_link_plans::{caller, channel, link, link_no, name, opened, over_it, plan, request};
 use setup_protocol::{Control, Request, Verdict};
 use std::alloc::Global;
 use std::process::Abort;
 use std::test::Fail;
-use traffic_contract::{Contract, Test};
+use traffic_contract::Test;
 
 mod moves;
-
-fn name(text: &str) -> Result<Name, Fail> {
-    Ok(Name::new(text.as_bytes()).ok_or("name")?)
-}
-
-fn bounds() -> Result<Bounds, Fail>
-    ensures { IfOk result (λ made. made ≡ 10 ∷ 20 ∷ 40 ∷ []) }
-{
-    Ok(Bounds::new(&[10, 20, 40]).ok_or("bounds")?)
-}
-
-fn link_no() -> Result<LinkNo, Fail>
-    ensures { IfOk result (λ link. link_number link ≡ 0) }
-{
-    Ok(LinkNo::new(0).ok_or("link")?)
-}
-
-fn link(alloc: Global, test: Test, best: u32) -> Result<LinkEntry, Fail>
-    ensures { IfOk result IsPerhapsSplit }
-{
-    link_with(test, best, Quotas::none(alloc))
-}
 
 // Of the group of this number.
 fn quota(group: u8) -> Quota
@@ -58,69 +29,20 @@ fn quota(group: u8) -> Quota
 
 // The first group alone has a quota.
 fn split_link(alloc: Global) -> Result<LinkEntry, Fail>
-    ensures { IfOk result IsPerhapsSplit }
+    ensures { IfOk result IsThatLink }
 {
-    let mut quotas = Quotas::none(alloc);
-    quotas.push(quota(1))?;
-    link_with(Test::Least, 0, quotas)
-}
-
-fn link_with(test: Test, best: u32, quotas: Quotas) -> Result<LinkEntry, Fail>
-    requires { All (LeavesUnused (10 ∷ 20 ∷ 40 ∷ [])) quotas }
-    ensures { IfOk result IsPerhapsSplit }
-{
-    Ok(LinkEntry {
-        name: name("A")?,
-        from: name("n1")?,
-        to: name("n2")?,
-        shape: LinkShape::new(link_no()?, 1, 4, 2, 100, bounds()?, test, best)?,
-        quotas,
-    })
-}
-
-fn channel() -> Result<ChanNo, Fail>
-    ensures { IfOk result (λ chan. channel_number chan ≡ 0) }
-{
-    Ok(ChanNo::new(0).ok_or("channel")?)
-}
-
-fn asked(chan: ChanNo) -> Result<Request, Fail>
-    ensures { IfOk result (λ made. (made.chan ≡ chan) × Each IsOverIt made.route) }
-{
-    let hop = Hop {
-        link: link_no()?,
-        bounds: bounds()?,
-        prop: 2,
-    };
-    Ok(Request {
-        chan,
-        route: Route::new(&[hop])?,
-        contract: Contract::new(5, 10, 20, 2)?,
-        control: Control::Rate,
-        delay: 12,
-    })
-}
-
-// The request, whose route is given or was found between these nodes.
-fn request(found: Option<(Name, Name)>) -> Result<RequestEntry, Fail>
-    ensures { IfOk result IsThatRequest }
-{
-    Ok(RequestEntry {
-        name: name("r1")?,
-        caller: ActorNo::new(0).ok_or("caller")?,
-        request: asked(channel()?)?,
-        found,
-    })
+    let mut entry = link(alloc, Test::Least, 0)?;
+    entry.quotas.push(quota(1))?;
+    Ok(entry)
 }
 
 // The caller, which is of this group, opens the request, and then it pours or it doesn't.
 #[tactic(auto, unfolding(call_script::specs::Parts::openings_in))]
-fn caller(alloc: Global, chan: ChanNo, group: u8, pours: bool) -> Result<CallerEntry, Fail>
-    requires { channel_number chan ≡ 0 }
+fn script(alloc: Global, group: u8, pours: bool) -> Result<CallerEntry, Fail>
     ensures { IfOk result IsThatScript }
 {
     let mut ops = Vec::new(alloc);
-    ops.push(Op::Open(chan))?;
+    ops.push(Op::Open(channel()?))?;
     if pours {
         ops.push(Op::Pour {
             link: link_no()?,
@@ -129,62 +51,8 @@ fn caller(alloc: Global, chan: ChanNo, group: u8, pours: bool) -> Result<CallerE
             size: 4,
         })?;
     }
-    Ok(CallerEntry {
-        name: name("k1")?,
-        group,
-        ops: Ops::new(ops),
-    })
-}
-
-// A plan of that link, that request and that caller.
-fn plan(
-    alloc: Global,
-    version: Version,
-    link: LinkEntry,
-    found: Option<(Name, Name)>,
-    pours: bool,
-    rounds: u64,
-) -> Result<Result<Plan, BadPlan>, Fail>
-    requires { IsPerhapsSplit link }
-    ensures callers { IfOk result (λ made. IfOk made (λ plan. length plan.callers ≡ 1)) }
-    ensures links { IfOk result (λ made. IfOk made (λ plan. length plan.links ≡ 1)) }
-{
-    let request = request(found)?;
-    let caller = caller(alloc, request.request.chan, 0, pours)?;
-    plan_with(
-        alloc,
-        version,
-        link,
-        Vec::new(alloc),
-        request,
-        caller,
-        rounds,
-    )
-}
-
-// A plan of these parts.
-fn plan_with(
-    alloc: Global,
-    version: Version,
-    link: LinkEntry,
-    groups: Vec<Name>,
-    request: RequestEntry,
-    caller: CallerEntry,
-    rounds: u64,
-) -> Result<Result<Plan, BadPlan>, Fail>
-    requires link { IsPerhapsSplit link }
-    requires request { IsThatRequest request }
-    requires script { IsThatScript caller }
-    ensures callers { IfOk result (λ made. IfOk made (λ plan. length plan.callers ≡ 1)) }
-    ensures links { IfOk result (λ made. IfOk made (λ plan. length plan.links ≡ 1)) }
-{
-    let mut links = Vec::new(alloc);
-    links.push(link)?;
-    let mut requests = Vec::new(alloc);
-    push_request(&mut requests, request)?;
-    let mut callers = Vec::new(alloc);
-    callers.push(caller)?;
-    Ok(Plan::new(alloc, version, links, groups, requests, callers, rounds, 0))
+    let made = caller(group, ops)?;
+    Ok(made)
 }
 
 #[test]
@@ -209,7 +77,10 @@ fn a_plan_keeps_the_rules_of_its_version(rt: HostRuntime) -> Result<(), Fail> {
         } else {
             None
         };
-        let made = plan(rt.alloc(), version, link, nodes, pours, rounds)?;
+        let request = request(Control::Rate, nodes)?;
+        let caller = script(rt.alloc(), 0, pours)?;
+        let groups = Vec::new(rt.alloc());
+        let made = plan(rt.alloc(), version, link, groups, request, caller, rounds)?;
         let broken = rule.map(|rule| BadPlan::Broken { rule });
         assert_eq!(rt; made.err(), broken, "{version:?}, {test:?}, best {best}");
     }
@@ -219,8 +90,7 @@ fn a_plan_keeps_the_rules_of_its_version(rt: HostRuntime) -> Result<(), Fail> {
 #[test]
 fn a_link_without_quotas_is_not_split(rt: HostRuntime) -> Result<(), Fail> {
     let alloc = rt.alloc();
-    let link = link(alloc, Test::Whole, 0)?;
-    let plan = plan(alloc, Version::One, link, None, false, 0)??;
+    let plan = opened(alloc, 0)?;
     assert!(rt; plan.split(alloc, link_no()?)?.is_none());
     assert_eq!(rt; plan.groups().len(), 0);
     Ok(())
@@ -230,20 +100,13 @@ fn a_link_without_quotas_is_not_split(rt: HostRuntime) -> Result<(), Fail> {
 fn split_plan(alloc: Global, version: Version) -> Result<Result<Plan, BadPlan>, Fail>
     ensures { IfOk result (λ made. IfOk made (λ plan. length plan.links ≡ 1)) }
 {
-    let request = request(None)?;
-    let caller = caller(alloc, request.request.chan, 1, false)?;
+    let request = request(Control::Rate, None)?;
+    let caller = script(alloc, 1, false)?;
     let mut groups = Vec::new(alloc);
     groups.push(name("g1")?)?;
     groups.push(name("g2")?)?;
-    plan_with(
-        alloc,
-        version,
-        split_link(alloc)?,
-        groups,
-        request,
-        caller,
-        0,
-    )
+    let link = split_link(alloc)?;
+    plan(alloc, version, link, groups, request, caller, 0)
 }
 
 #[test]
@@ -346,16 +209,9 @@ const OFFER: Reply = Reply::Offer {
 #[test]
 fn a_reply_of_another_ask_changes_nothing(rt: HostRuntime) -> Result<(), Fail> {
     let alloc = rt.alloc();
-    let request = asked(channel()?)?;
+    let request = over_it(channel()?, Control::Rate, 12)?;
     let caller = ActorNo::new(0).ok_or("caller")?;
-    let plan = plan(
-        alloc,
-        Version::One,
-        link(alloc, Test::Whole, 0)?,
-        None,
-        false,
-        0,
-    )??;
+    let plan = opened(alloc, 0)?;
     let mut actor = Actor::new(alloc, &plan, caller)?;
     refuses(&rt, &mut actor, &plan, &reserve(&request), Reply::Denied)?;
     asks(&rt, &mut actor, &plan, &reserve(&request), OFFER)
@@ -364,16 +220,9 @@ fn a_reply_of_another_ask_changes_nothing(rt: HostRuntime) -> Result<(), Fail> {
 #[test]
 fn a_caller_opens_its_request(rt: HostRuntime) -> Result<(), Fail> {
     let alloc = rt.alloc();
-    let request = asked(channel()?)?;
+    let request = over_it(channel()?, Control::Rate, 12)?;
     let caller = ActorNo::new(0).ok_or("caller")?;
-    let plan = plan(
-        alloc,
-        Version::One,
-        link(alloc, Test::Whole, 0)?,
-        None,
-        false,
-        0,
-    )??;
+    let plan = opened(alloc, 0)?;
     let mut actor = Actor::new(alloc, &plan, caller)?;
     asks(&rt, &mut actor, &plan, &reserve(&request), OFFER)?;
     assert!(rt; actor.verdict(request.chan).is_none());

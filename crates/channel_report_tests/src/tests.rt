@@ -1,118 +1,33 @@
-//! Reports of runs, worked by hand. The link has levels of 10, 20 and 40 ticks and a propagation of 2.
-ghost use Rattle.std.specs.Prelude.{◌≡◌, [], ◌∷◌, IfOk, OnOk, reverse};
-ghost use Rattle.net_units.specs.Numbers.{link_number, channel_number};
-ghost use Rattle.call_script.specs.OneLink.{IsThatLink, IsThatRequest, IsThatScript};
+//! Reports of runs over one link, worked by hand.
+ghost use Rattle.std.specs.Prelude.{IfOk, OnOk, reverse};
 ghost use Rattle.call_script.specs.Tasks.{network_of};
 ghost use Rattle.interleave_core.specs.Runs.{IsRun};
 ghost use Rattle.interleave_core.specs.Standing.{CoreStands};
 
 use byte_ends::MemSink;
-use call_script::{
-    CallerEntry, Do, Dos, LinkEntry, Op, Ops, Plan, Quotas, RequestEntry, Schedule, Version,
-    push_request,
-};
+use call_script::{Do, Dos, Plan, Schedule, Version};
 use channel_report::{
     Tally, write_report, write_schedule, write_summary, write_tallied, write_tallied_summary,
 };
-use hop_reservation::{Hop, Route};
 use interleave_core::{Core, Watch, replay_watched};
-use link_steps::LinkShape;
-use net_units::{ActorNo, Bounds, ChanNo, LinkNo, Name};
+use net_units::{ActorNo, Name};
+use one_link_plans as plans;
+use one_link_plans::{link, name, request, sender};
 use run_record::Record;
-use setup_protocol::{Control, Request};
+use setup_protocol::Control;
 use std::alloc::Global;
 use std::process::Abort;
 use std::test::Fail;
-use traffic_contract::Contract;
 
 mod moves;
 mod summaries;
 
-fn name(text: &str) -> Result<Name, Fail> {
-    Ok(Name::new(text.as_bytes()).ok_or("name")?)
-}
-
-fn bounds() -> Result<Bounds, Fail>
-    ensures { IfOk result (λ made. made ≡ 10 ∷ 20 ∷ 40 ∷ []) }
-{
-    Ok(Bounds::new(&[10, 20, 40]).ok_or("bounds")?)
-}
-
-fn link_no() -> Result<LinkNo, Fail>
-    ensures { IfOk result (λ link. link_number link ≡ 0) }
-{
-    Ok(LinkNo::new(0).ok_or("link")?)
-}
-
-fn link(alloc: Global, version: Version) -> Result<LinkEntry, Fail>
-    ensures { IfOk result IsThatLink }
-{
-    let test = version.test();
-    Ok(LinkEntry {
-        name: name("A")?,
-        from: name("n1")?,
-        to: name("n2")?,
-        shape: LinkShape::new(link_no()?, 1, 4, 2, 100, bounds()?, test, 0)?,
-        quotas: Quotas::none(alloc),
-    })
-}
-
-// A request whose route is given, or was found between these nodes.
-fn request(found: Option<(Name, Name)>) -> Result<RequestEntry, Fail>
-    ensures { IfOk result IsThatRequest }
-{
-    let hop = Hop {
-        link: link_no()?,
-        bounds: bounds()?,
-        prop: 2,
-    };
-    Ok(RequestEntry {
-        name: name("r1")?,
-        caller: ActorNo::new(0).ok_or("caller")?,
-        request: Request {
-            chan: ChanNo::new(0).ok_or("channel")?,
-            route: Route::new(&[hop])?,
-            contract: Contract::new(5, 10, 20, 2)?,
-            control: Control::Rate,
-            delay: 12,
-        },
-        found,
-    })
-}
-
-// The caller opens the request, and sends three packets.
-#[tactic(auto, unfolding(call_script::specs::Parts::openings_in))]
-fn caller(alloc: Global, chan: ChanNo) -> Result<CallerEntry, Fail>
-    requires { channel_number chan ≡ 0 }
-    ensures { IfOk result IsThatScript }
-{
-    let mut ops = Vec::new(alloc);
-    ops.push(Op::Open(chan))?;
-    ops.push(Op::Send {
-        chan,
-        count: 3,
-        gap: 10,
-        size: 2,
-    })?;
-    Ok(CallerEntry {
-        name: name("k1")?,
-        group: 0,
-        ops: Ops::new(ops),
-    })
-}
-
-// A plan of that link, that request and that caller, with 30 rounds.
+// A plan in which the caller opens the request, whose route is given or was found between these nodes, and sends three packets, over 30 rounds.
 fn plan(alloc: Global, version: Version, found: Option<(Name, Name)>) -> Result<Plan, Fail> {
-    let request = request(found)?;
-    let caller = caller(alloc, request.request.chan)?;
-    let mut links = Vec::new(alloc);
-    links.push(link(alloc, version)?)?;
-    let mut requests = Vec::new(alloc);
-    push_request(&mut requests, request)?;
-    let mut callers = Vec::new(alloc);
-    callers.push(caller)?;
-    let groups = Vec::new(alloc);
-    Ok(Plan::new(alloc, version, links, groups, requests, callers, 30, 0)?)
+    let link = link(alloc, version.test(), 0)?;
+    let request = request(Control::Rate, found)?;
+    let caller = sender(alloc, 3)?;
+    Ok(plans::plan(alloc, version, link, Vec::new(alloc), request, caller, 30)??)
 }
 
 // So many steps of one actor.

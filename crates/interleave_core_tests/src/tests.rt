@@ -1,109 +1,21 @@
-//! Runs of a plan over one link, worked by hand. The link has levels of 10, 20 and 40 ticks and a propagation of 2.
-ghost use Rattle.std.specs.Prelude.{◌≡◌, [], ◌∷◌, IfOk};
-ghost use Rattle.net_units.specs.Numbers.{link_number, channel_number};
-ghost use Rattle.call_script.specs.OneLink.{IsThatLink, IsThatRequest, IsThatScript};
-
-use call_script::{
-    CallerEntry, Do, Dos, LinkEntry, Op, Ops, Plan, Quotas, RequestEntry, Schedule, Version,
-    push_request,
-};
-use hop_reservation::{Hop, Route};
+//! Runs of a plan over one link, in which the caller opens its request, worked by hand.
+use call_script::{Do, Dos, Plan, Schedule};
 use interleave_core::{Core, CoreRefusal, PlayFault, Watch, play, play_watched};
-use link_steps::{LinkShape, Reply};
-use net_units::{ActorNo, Bounds, ChanNo, Level, LinkNo, Name};
+use link_steps::Reply;
+use net_units::{ActorNo, Level};
+use one_link_plans::opened;
 use run_record::Record;
-use setup_protocol::{Control, Request, Verdict};
+use setup_protocol::Verdict;
 use std::alloc::Global;
 use std::process::Abort;
 use std::test::Fail;
-use traffic_contract::Contract;
 
 mod moves;
-
-fn name(text: &str) -> Result<Name, Fail> {
-    Ok(Name::new(text.as_bytes()).ok_or("name")?)
-}
-
-fn bounds() -> Result<Bounds, Fail>
-    ensures { IfOk result (λ made. made ≡ 10 ∷ 20 ∷ 40 ∷ []) }
-{
-    Ok(Bounds::new(&[10, 20, 40]).ok_or("bounds")?)
-}
-
-fn link_no() -> Result<LinkNo, Fail>
-    ensures { IfOk result (λ link. link_number link ≡ 0) }
-{
-    Ok(LinkNo::new(0).ok_or("link")?)
-}
-
-fn link(alloc: Global, version: Version) -> Result<LinkEntry, Fail>
-    ensures { IfOk result IsThatLink }
-{
-    Ok(LinkEntry {
-        name: name("A")?,
-        from: name("n1")?,
-        to: name("n2")?,
-        shape: LinkShape::new(link_no()?, 1, 4, 2, 100, bounds()?, version.test(), 0)?,
-        quotas: Quotas::none(alloc),
-    })
-}
-
-// A request whose route is given, or was found between these nodes.
-fn request(found: Option<(Name, Name)>) -> Result<RequestEntry, Fail>
-    ensures { IfOk result IsThatRequest }
-{
-    let hop = Hop {
-        link: link_no()?,
-        bounds: bounds()?,
-        prop: 2,
-    };
-    Ok(RequestEntry {
-        name: name("r1")?,
-        caller: ActorNo::new(0).ok_or("caller")?,
-        request: Request {
-            chan: ChanNo::new(0).ok_or("channel")?,
-            route: Route::new(&[hop])?,
-            contract: Contract::new(5, 10, 20, 2)?,
-            control: Control::Rate,
-            delay: 12,
-        },
-        found,
-    })
-}
-
-// The caller opens the request.
-#[tactic(auto, unfolding(call_script::specs::Parts::openings_in))]
-fn caller(alloc: Global, chan: ChanNo) -> Result<CallerEntry, Fail>
-    requires { channel_number chan ≡ 0 }
-    ensures { IfOk result IsThatScript }
-{
-    let mut ops = Vec::new(alloc);
-    ops.push(Op::Open(chan))?;
-    Ok(CallerEntry {
-        name: name("k1")?,
-        group: 0,
-        ops: Ops::new(ops),
-    })
-}
-
-// A plan of that link, that request and that caller.
-fn plan(alloc: Global) -> Result<Plan, Fail> {
-    let request = request(None)?;
-    let caller = caller(alloc, request.request.chan)?;
-    let mut links = Vec::new(alloc);
-    links.push(link(alloc, Version::One)?)?;
-    let mut requests = Vec::new(alloc);
-    push_request(&mut requests, request)?;
-    let mut callers = Vec::new(alloc);
-    callers.push(caller)?;
-    let groups = Vec::new(alloc);
-    Ok(Plan::new(alloc, Version::One, links, groups, requests, callers, 1, 0)?)
-}
 
 #[test]
 fn a_caller_makes_its_steps(rt: HostRuntime) -> Result<(), Fail> {
     let alloc = rt.alloc();
-    let plan = plan(alloc)?;
+    let plan = opened(alloc, 1)?;
     let mut core = Core::new(alloc, &plan)?;
     let caller = ActorNo::new(0).ok_or("caller")?;
     let plane = ActorNo::new(1).ok_or("plane")?;
@@ -160,7 +72,7 @@ fn steps_of_played(played: Result<Record, PlayFault>) -> Result<usize, PlayFault
 #[test]
 fn a_written_schedule_is_played_as_far_as_it_asks(rt: HostRuntime) -> Result<(), Fail> {
     let alloc = rt.alloc();
-    let plan = plan(alloc)?;
+    let plan = opened(alloc, 1)?;
     assert_eq!(rt; steps_of_written(alloc, &plan, 1)?, Ok(1));
     assert_eq!(rt; steps_of_written(alloc, &plan, 2)?, Ok(2));
     assert_eq!(rt;
@@ -174,7 +86,7 @@ fn a_written_schedule_is_played_as_far_as_it_asks(rt: HostRuntime) -> Result<(),
 #[test]
 fn what_watches_sees_each_step(rt: HostRuntime) -> Result<(), Fail> {
     let alloc = rt.alloc();
-    let plan = plan(alloc)?;
+    let plan = opened(alloc, 1)?;
     let caller = ActorNo::new(0).ok_or("caller")?;
     let plane = ActorNo::new(1).ok_or("plane")?;
     let schedule = Schedule {
@@ -201,7 +113,7 @@ fn what_watches_sees_each_step(rt: HostRuntime) -> Result<(), Fail> {
 #[test]
 fn without_a_schedule_each_plays_to_its_end(rt: HostRuntime) -> Result<(), Fail> {
     let alloc = rt.alloc();
-    let plan = plan(alloc)?;
+    let plan = opened(alloc, 1)?;
     let schedule = Schedule {
         written: false,
         items: Dos::new(Vec::new(alloc)),

@@ -1,87 +1,17 @@
 //! The texts of plans over one link, as they are written by hand.
-ghost use Rattle.std.specs.Prelude.{◌≡◌, [], ◌∷◌, IfOk, length};
-ghost use Rattle.net_units.specs.Numbers.{link_number, channel_number};
-ghost use Rattle.call_script.specs.OneLink.{IsThatLink, IsThatRequest, IsThatScript};
+ghost use Rattle.std.specs.Prelude.{◌≡◌, IfOk};
+ghost use Rattle.net_units.specs.Numbers.{channel_number};
+ghost use Rattle.one_link_plans.specs.OneLink.{IsThatScript};
 
 use byte_ends::MemSink;
-use call_script::{
-    BadPlan, CallerEntry, Do, Dos, LinkEntry, Op, Ops, Plan, Quotas, RequestEntry, Schedule,
-    Version, push_request,
-};
-use hop_reservation::{Hop, Route};
-use link_steps::LinkShape;
-use net_units::{ActorNo, Bounds, ChanNo, LinkNo, Name};
+use call_script::{CallerEntry, Do, Dos, Op, Schedule, Version};
+use net_units::{ActorNo, ChanNo, LinkNo};
+use one_link_plans::{caller, link, opened, plan, request};
 use scenario_reader::write_plan;
-use setup_protocol::{Control, Request};
+use setup_protocol::Control;
 use std::alloc::Global;
 use std::test::Fail;
-use traffic_contract::Contract;
-
-fn name(text: &str) -> Result<Name, Fail> {
-    Ok(Name::new(text.as_bytes()).ok_or("name")?)
-}
-
-fn bounds() -> Result<Bounds, Fail>
-    ensures { IfOk result (λ made. made ≡ 10 ∷ 20 ∷ 40 ∷ []) }
-{
-    Ok(Bounds::new(&[10, 20, 40]).ok_or("bounds")?)
-}
-
-fn link_no() -> Result<LinkNo, Fail>
-    ensures { IfOk result (λ link. link_number link ≡ 0) }
-{
-    Ok(LinkNo::new(0).ok_or("link")?)
-}
-
-fn link(alloc: Global, version: Version, best: u32) -> Result<LinkEntry, Fail>
-    ensures { IfOk result IsThatLink }
-{
-    let test = version.test();
-    Ok(LinkEntry {
-        name: name("A")?,
-        from: name("n1")?,
-        to: name("n2")?,
-        shape: LinkShape::new(link_no()?, 1, 4, 2, 100, bounds()?, test, best)?,
-        quotas: Quotas::none(alloc),
-    })
-}
-
-// A request whose route is given, or was found between these nodes.
-fn request(control: Control, found: Option<(Name, Name)>) -> Result<RequestEntry, Fail>
-    ensures { IfOk result IsThatRequest }
-{
-    let hop = Hop {
-        link: link_no()?,
-        bounds: bounds()?,
-        prop: 2,
-    };
-    Ok(RequestEntry {
-        name: name("r1")?,
-        caller: ActorNo::new(0).ok_or("caller")?,
-        request: Request {
-            chan: ChanNo::new(0).ok_or("channel")?,
-            route: Route::new(&[hop])?,
-            contract: Contract::new(5, 10, 20, 2)?,
-            control,
-            delay: 12,
-        },
-        found,
-    })
-}
-
-// A caller that opens the request and does nothing else.
-#[tactic(auto, unfolding(call_script::specs::Parts::openings_in))]
-fn opener(alloc: Global, chan: ChanNo) -> Result<CallerEntry, Fail>
-    requires { channel_number chan ≡ 0 }
-    ensures { IfOk result IsThatScript }
-{
-    let ops = vec![in alloc; Op::Open(chan)]?;
-    Ok(CallerEntry {
-        name: name("k1")?,
-        group: 0,
-        ops: Ops::new(ops),
-    })
-}
+use traffic_contract::Test;
 
 // A caller that opens the request, sends on it, pours, and closes it.
 #[tactic(auto, unfolding(call_script::specs::Parts::openings_in))]
@@ -106,46 +36,13 @@ fn busy_caller(alloc: Global, chan: ChanNo, link: LinkNo) -> Result<CallerEntry,
         },
         Op::Close(chan),
     ]?;
-    Ok(CallerEntry {
-        name: name("k1")?,
-        group: 0,
-        ops: Ops::new(ops),
-    })
-}
-
-// A plan of that link, that request and that caller.
-fn plan(
-    alloc: Global,
-    version: Version,
-    link: LinkEntry,
-    request: RequestEntry,
-    caller: CallerEntry,
-    rounds: u64,
-) -> Result<Plan, Fail>
-    requires link { IsThatLink link }
-    requires request { IsThatRequest request }
-    requires script { IsThatScript caller }
-    ensures { IfOk result (λ plan. length plan.callers ≡ 1) }
-{
-    let links = vec![in alloc; link]?;
-    let mut requests = Vec::new(alloc);
-    push_request(&mut requests, request)?;
-    let callers = vec![in alloc; caller]?;
-    let groups = Vec::new(alloc);
-    match Plan::new(alloc, version, links, groups, requests, callers, rounds, 0) {
-        Ok(plan) => Ok(plan),
-        Err(BadPlan::Memory) => Err(Fail::from("memory")),
-        Err(BadPlan::Broken { .. }) => Err(Fail::from("broken")),
-    }
+    caller(0, ops)
 }
 
 #[test]
 fn a_plan_of_one_link_has_six_lines(rt: HostRuntime) -> Result<(), Fail> {
     let alloc = rt.alloc();
-    let link = link(alloc, Version::One, 0)?;
-    let request = request(Control::Rate, None)?;
-    let caller = opener(alloc, request.request.chan)?;
-    let plan = plan(alloc, Version::One, link, request, caller, 0)?;
+    let plan = opened(alloc, 0)?;
     let schedule = Schedule {
         written: false,
         items: Dos::new(Vec::new(alloc)),
@@ -166,10 +63,11 @@ tail 0
 #[test]
 fn a_plan_with_every_form_has_each_line(rt: HostRuntime) -> Result<(), Fail> {
     let alloc = rt.alloc();
-    let link = link(alloc, Version::Four, 7)?;
+    let link = link(alloc, Test::Least, 7)?;
     let request = request(Control::Jitter(15), Some((link.from, link.to)))?;
-    let caller = busy_caller(alloc, request.request.chan, link.shape.link)?;
-    let plan = plan(alloc, Version::Four, link, request, caller, 30)?;
+    let busy = busy_caller(alloc, request.request.chan, link.shape.link)?;
+    let groups = Vec::new(alloc);
+    let plan = plan(alloc, Version::Four, link, groups, request, busy, 30)??;
     let (line, count) = (0, 2);
     let (first, second) = (
         ActorNo::new(0).ok_or("k1")?,

@@ -2,104 +2,14 @@
 //! the channel may send packets of up to 2 units, 5 ticks apart and two in any 20, and was accepted at level 1.
 ghost use Rattle.std.specs.Prelude.{◌≡◌, ◌<◌, ◌^◌, [], ◌∷◌, IfOk};
 ghost use Rattle.net_units.specs.Allotted.{levels_of};
-ghost use Rattle.net_units.specs.Numbers.{channel_number, link_number};
-ghost use Rattle.call_script.specs.OneLink.{AsksForOne, HasThatRequest, IsThatLink, IsThatRequest, IsThatScript};
 ghost use Rattle.run_record.specs.SmallRows.{IsSmall};
 
-use call_script::{
-    CallerEntry, LinkEntry, Op, Ops, Plan, Quotas, RequestEntry, Version, push_request,
-};
-use hop_reservation::{Hop, Route};
-use link_steps::LinkShape;
-use net_units::{ActorNo, Bounds, ChanNo, Level, Levels, LinkNo, Name};
+use net_units::{ChanNo, Level, Levels};
+use one_link_plans::{link_no, opened};
 use run_record::HopRow;
-use setup_protocol::{Control, Request};
 use std::alloc::Global;
 use std::test::Fail;
 use trace_audit::{Check, Finding, audit};
-use traffic_contract::{Contract, Test};
-
-fn name(text: &str) -> Result<Name, Fail> {
-    Ok(Name::new(text.as_bytes()).ok_or("name")?)
-}
-
-fn bounds() -> Result<Bounds, Fail>
-    ensures { IfOk result (λ made. made ≡ 10 ∷ 20 ∷ 40 ∷ []) }
-{
-    Ok(Bounds::new(&[10, 20, 40]).ok_or("bounds")?)
-}
-
-fn link_no() -> Result<LinkNo, Fail>
-    ensures { IfOk result (λ link. link_number link ≡ 0) }
-{
-    Ok(LinkNo::new(0).ok_or("link")?)
-}
-
-fn link(alloc: Global) -> Result<LinkEntry, Fail>
-    ensures { IfOk result IsThatLink }
-{
-    Ok(LinkEntry {
-        name: name("A")?,
-        from: name("n1")?,
-        to: name("n2")?,
-        shape: LinkShape::new(link_no()?, 1, 4, 2, 100, bounds()?, Test::Whole, 0)?,
-        quotas: Quotas::none(alloc),
-    })
-}
-
-// A request whose route is given, or was found between these nodes.
-fn request(found: Option<(Name, Name)>) -> Result<RequestEntry, Fail>
-    ensures is { IfOk result IsThatRequest }
-    ensures asks { IfOk result (λ made. AsksForOne made.request) }
-{
-    let hop = Hop {
-        link: link_no()?,
-        bounds: bounds()?,
-        prop: 2,
-    };
-    Ok(RequestEntry {
-        name: name("r1")?,
-        caller: ActorNo::new(0).ok_or("caller")?,
-        request: Request {
-            chan: ChanNo::new(0).ok_or("channel")?,
-            route: Route::new(&[hop])?,
-            contract: Contract::new(5, 10, 20, 2)?,
-            control: Control::Rate,
-            delay: 12,
-        },
-        found,
-    })
-}
-
-#[tactic(auto, unfolding(call_script::specs::Parts::openings_in))]
-fn caller(alloc: Global, chan: ChanNo) -> Result<CallerEntry, Fail>
-    requires { channel_number chan ≡ 0 }
-    ensures { IfOk result IsThatScript }
-{
-    let mut ops = Vec::new(alloc);
-    ops.push(Op::Open(chan))?;
-    Ok(CallerEntry {
-        name: name("k1")?,
-        group: 0,
-        ops: Ops::new(ops),
-    })
-}
-
-// A plan of that link, that request and that caller.
-fn plan(alloc: Global) -> Result<Plan, Fail>
-    ensures { IfOk result HasThatRequest }
-{
-    let request = request(None)?;
-    let caller = caller(alloc, request.request.chan)?;
-    let mut links = Vec::new(alloc);
-    links.push(link(alloc)?)?;
-    let mut requests = Vec::new(alloc);
-    push_request(&mut requests, request)?;
-    let mut callers = Vec::new(alloc);
-    callers.push(caller)?;
-    let groups = Vec::new(alloc);
-    Ok(Plan::new(alloc, Version::One, links, groups, requests, callers, 30, 0)?)
-}
 
 // Level 1 at the one hop.
 fn level_one() -> Result<Levels, Fail>
@@ -135,7 +45,7 @@ fn found(alloc: Global, second: HopRow, third: HopRow) -> Result<Finding, Fail>
     requires second { IsSmall second }
     requires third { IsSmall third }
 {
-    let plan = plan(alloc)?;
+    let plan = opened(alloc, 30)?;
     let levels = [Some(level_one()?)];
     let first = row(1, 2, 0, 0, 2)?;
     Ok(audit(alloc, &plan, &levels, &[first, second, third])?)

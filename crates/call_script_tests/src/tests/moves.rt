@@ -1,63 +1,24 @@
 //! Moves between two channels over that link.
 ghost use Rattle.std.specs.Prelude.{◌≡◌, IfOk, OnOk, List, length};
-ghost use Rattle.net_units.specs.Numbers.{channel_number};
 ghost use Rattle.link_steps.specs.declared.replies.Reply.{Reply as Replied};
-ghost use Rattle.call_script.specs.OneLink.{IsNextRequest, OpensBoth};
 ghost use Rattle.call_script.specs.Standing.{CallerStands};
 
-use super::{OFFER, asked, asks, bounds, channel, link, name, relax, request, reserve};
-use call_script::{
-    Actor, BadPlan, CallerEntry, Op, Ops, Plan, RequestEntry, Version, may_move, push_request,
-};
+use super::{OFFER, asks, relax, reserve};
+use call_script::{Actor, BadPlan, Plan, RequestEntry, Version, may_move};
 use channel_move::Shifted;
 use hop_reservation::{Hop, Route};
 use link_steps::{Ask, Reply};
 use net_units::{ActorNo, ChanNo, LinkNo};
+use one_link_plans::{
+    bounds, channel, link, mover, name, over_it, plan_of_two, request, second_channel, second_request,
+};
+use setup_protocol::{Control, Request};
 use std::alloc::Global;
 use std::process::Abort;
 use std::test::Fail;
 use traffic_contract::{Contract, Test};
 
-fn next_channel() -> Result<ChanNo, Fail>
-    ensures { IfOk result (λ chan. channel_number chan ≡ 1) }
-{
-    Ok(ChanNo::new(1).ok_or("channel")?)
-}
-
-fn next_request() -> Result<RequestEntry, Fail>
-    ensures { IfOk result IsNextRequest }
-{
-    Ok(RequestEntry {
-        name: name("r2")?,
-        caller: ActorNo::new(0).ok_or("caller")?,
-        request: asked(next_channel()?)?,
-        found: None,
-    })
-}
-
-// The caller opens both requests, sends so many packets on the first, and moves those of the one channel to the other.
-#[tactic(auto, unfolding(call_script::specs::Parts::openings_in))]
-fn mover(alloc: Global, count: u64, old: ChanNo, new: ChanNo) -> Result<CallerEntry, Fail>
-    ensures { IfOk result OpensBoth }
-{
-    let mut ops = Vec::new(alloc);
-    ops.push(Op::Open(channel()?))?;
-    ops.push(Op::Open(next_channel()?))?;
-    ops.push(Op::Send {
-        chan: channel()?,
-        count,
-        gap: 10,
-        size: 2,
-    })?;
-    ops.push(Op::Move { old, new })?;
-    Ok(CallerEntry {
-        name: name("k1")?,
-        group: 0,
-        ops: Ops::new(ops),
-    })
-}
-
-// A plan of that link, both requests and that caller.
+// A plan of the link, both requests, and the caller that moves the packets of the one channel to the other.
 fn moving(
     alloc: Global,
     version: Version,
@@ -67,28 +28,16 @@ fn moving(
 ) -> Result<Result<Plan, BadPlan>, Fail>
     ensures { IfOk result (λ made. IfOk made (λ plan. length plan.callers ≡ 1)) }
 {
-    let mut links = Vec::new(alloc);
-    links.push(link(alloc, Test::Least, 0)?)?;
-    let mut requests = Vec::new(alloc);
-    push_request(&mut requests, request(None)?)?;
-    push_request(&mut requests, next_request()?)?;
-    let mut callers = Vec::new(alloc);
-    callers.push(mover(alloc, count, old, new)?)?;
-    Ok(Plan::new(
-        alloc,
-        version,
-        links,
-        Vec::new(alloc),
-        requests,
-        callers,
-        0,
-        0,
-    ))
+    let link = link(alloc, Test::Least, 0)?;
+    let first = request(Control::Rate, None)?;
+    let second = second_request(12)?;
+    let caller = mover(alloc, count, old, new)?;
+    plan_of_two(alloc, version, link, first, second, caller, 0)
 }
 
 #[test]
 fn a_plan_has_moves_from_version_six_on(rt: HostRuntime) -> Result<(), Fail> {
-    let (one, two) = (channel()?, next_channel()?);
+    let (one, two) = (channel()?, second_channel()?);
     let gone = ChanNo::new(2).ok_or("channel")?;
     for (version, count, old, new, rule) in [
         (Version::Five, 4, one, two, Some(1)),
@@ -111,6 +60,11 @@ fn a_plan_has_moves_from_version_six_on(rt: HostRuntime) -> Result<(), Fail> {
         );
     }
     Ok(())
+}
+
+// What is asked for the channel.
+fn asked(chan: ChanNo) -> Result<Request, Fail> {
+    over_it(chan, Control::Rate, 12)
 }
 
 // The next asks are these, and get these replies.
@@ -142,7 +96,7 @@ fn submit(chan: ChanNo, count: u64) -> Ask {
 #[test]
 fn a_caller_moves_the_packets_that_are_left(rt: HostRuntime) -> Result<(), Fail> {
     let alloc = rt.alloc();
-    let (old, new) = (channel()?, next_channel()?);
+    let (old, new) = (channel()?, second_channel()?);
     let plan = moving(alloc, Version::Six, 4, old, new)??;
     let mut actor = Actor::new(alloc, &plan, ActorNo::new(0).ok_or("caller")?)?;
     let turns = [
@@ -176,7 +130,7 @@ fn a_caller_moves_the_packets_that_are_left(rt: HostRuntime) -> Result<(), Fail>
 
 // The same request over another link.
 fn over(link: LinkNo) -> Result<RequestEntry, Fail> {
-    let mut entry = next_request()?;
+    let mut entry = second_request(12)?;
     let hop = Hop {
         link,
         bounds: bounds()?,
@@ -194,9 +148,9 @@ fn packets_move_where_contracts_and_ends_agree(rt: HostRuntime) -> Result<(), Fa
     let mut begins = link(alloc, Test::Least, 0)?;
     begins.from = name("n3")?;
     let links = [link(alloc, Test::Least, 0)?, ends, begins];
-    let old = request(None)?;
-    assert!(rt; may_move(&links, &old, &next_request()?));
-    let mut smaller = next_request()?;
+    let old = request(Control::Rate, None)?;
+    assert!(rt; may_move(&links, &old, &second_request(12)?));
+    let mut smaller = second_request(12)?;
     smaller.request.contract = Contract::new(5, 10, 20, 1)?;
     assert!(rt; !may_move(&links, &old, &smaller));
     for number in [1, 2] {

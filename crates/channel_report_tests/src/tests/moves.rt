@@ -1,107 +1,12 @@
 //! Reports of runs in which a caller moves packets between two channels over that link.
-ghost use Rattle.std.specs.Prelude.{◌≡◌, [], ◌∷◌, IfOk};
-ghost use Rattle.net_units.specs.Numbers.{channel_number};
-ghost use Rattle.link_steps.specs.Lists.{Each};
-ghost use Rattle.call_script.specs.OneLink.{IsOverIt, IsNextRequest, OpensBoth};
-
-use super::{bounds, link, link_no, name, request, steps};
+use super::steps;
 use byte_ends::MemSink;
-use call_script::{BadPlan, CallerEntry, Op, Ops, Plan, RequestEntry, Version, push_request};
 use channel_report::write_report;
-use hop_reservation::{Hop, Route};
 use interleave_core::Core;
-use net_units::{ActorNo, ChanNo};
-use setup_protocol::{Control, Request};
+use one_link_plans::moved;
 use std::alloc::Global;
 use std::process::Abort;
 use std::test::Fail;
-use traffic_contract::Contract;
-
-fn channel() -> Result<ChanNo, Fail>
-    ensures { IfOk result (λ chan. channel_number chan ≡ 0) }
-{
-    Ok(ChanNo::new(0).ok_or("channel")?)
-}
-
-fn next_channel() -> Result<ChanNo, Fail>
-    ensures { IfOk result (λ chan. channel_number chan ≡ 1) }
-{
-    Ok(ChanNo::new(1).ok_or("channel")?)
-}
-
-fn asked(chan: ChanNo, delay: u64) -> Result<Request, Fail>
-    ensures { IfOk result (λ made. (made.chan ≡ chan) × Each IsOverIt made.route) }
-{
-    let hop = Hop {
-        link: link_no()?,
-        bounds: bounds()?,
-        prop: 2,
-    };
-    Ok(Request {
-        chan,
-        route: Route::new(&[hop])?,
-        contract: Contract::new(5, 10, 20, 2)?,
-        control: Control::Rate,
-        delay,
-    })
-}
-
-fn next_request(delay: u64) -> Result<RequestEntry, Fail>
-    ensures { IfOk result IsNextRequest }
-{
-    Ok(RequestEntry {
-        name: name("r2")?,
-        caller: ActorNo::new(0).ok_or("caller")?,
-        request: asked(next_channel()?, delay)?,
-        found: None,
-    })
-}
-
-// The caller opens both requests, sends four packets on the first channel, one each ten ticks, and moves what is left.
-#[tactic(auto, unfolding(call_script::specs::Parts::openings_in))]
-fn mover(alloc: Global) -> Result<CallerEntry, Fail>
-    ensures { IfOk result OpensBoth }
-{
-    let mut ops = Vec::new(alloc);
-    ops.push(Op::Open(channel()?))?;
-    ops.push(Op::Open(next_channel()?))?;
-    ops.push(Op::Send {
-        chan: channel()?,
-        count: 4,
-        gap: 10,
-        size: 2,
-    })?;
-    ops.push(Op::Move {
-        old: channel()?,
-        new: next_channel()?,
-    })?;
-    Ok(CallerEntry {
-        name: name("k1")?,
-        group: 0,
-        ops: Ops::new(ops),
-    })
-}
-
-// A plan of that link, both requests and that caller, with 40 rounds. The second request wants this delay.
-fn plan(alloc: Global, delay: u64) -> Result<Result<Plan, BadPlan>, Fail> {
-    let mut links = Vec::new(alloc);
-    links.push(link(alloc, Version::Six)?)?;
-    let mut requests = Vec::new(alloc);
-    push_request(&mut requests, request(None)?)?;
-    push_request(&mut requests, next_request(delay)?)?;
-    let mut callers = Vec::new(alloc);
-    callers.push(mover(alloc)?)?;
-    Ok(Plan::new(
-        alloc,
-        Version::Six,
-        links,
-        Vec::new(alloc),
-        requests,
-        callers,
-        40,
-        0,
-    ))
-}
 
 // The report of the run in which the caller makes five steps, up to its send, the plane 15 ticks, the caller as many steps as are given
 // here, and the plane again as many.
@@ -113,7 +18,7 @@ fn reports<R: Abort>(
     plane: u64,
     text: &str,
 ) -> Result<(), Fail> {
-    let plan = plan(alloc, delay)??;
+    let plan = moved(alloc, delay)?;
     let mut core = Core::new(alloc, &plan)?;
     steps(&mut core, &plan, 0, 5)?;
     steps(&mut core, &plan, 1, 15)?;

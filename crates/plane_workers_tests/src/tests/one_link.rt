@@ -1,105 +1,16 @@
-//! A plan of one link, whose caller opens a channel, played by workers. The link has levels of 10, 20 and 40 ticks and a
-//! propagation of 2.
-ghost use Rattle.std.specs.Prelude.{◌≡◌, ◌≤◌, [], ◌∷◌, IfOk};
-ghost use Rattle.net_units.specs.Numbers.{link_number, channel_number};
-ghost use Rattle.call_script.specs.OneLink.{IsThatLink, IsThatRequest, IsThatScript};
+//! A plan of one link, whose caller opens a channel, played by workers.
+ghost use Rattle.std.specs.Prelude.{◌≤◌};
 
-use call_script::{
-    CallerEntry, Do, Dos, LinkEntry, Op, Ops, Plan, Quotas, RequestEntry, Schedule, Version,
-    push_request,
-};
-use hop_reservation::{Hop, Route};
+use call_script::{Do, Dos, Plan, Schedule};
 use interleave_core::PlayFault;
-use link_steps::LinkShape;
-use net_units::{ActorNo, Bounds, ChanNo, LinkNo, Name, NoGate};
+use net_units::{ActorNo, NoGate};
+use one_link_plans::opened;
 use plane_workers::{played, played_watched};
 use run_record::Record;
-use setup_protocol::{Control, Request};
 use std::alloc::Global;
 use std::process::Abort;
 use std::test::Fail;
 use std::thread::Threads;
-use traffic_contract::{Contract, Test};
-
-fn name(text: &str) -> Result<Name, Fail> {
-    Ok(Name::new(text.as_bytes()).ok_or("name")?)
-}
-
-fn bounds() -> Result<Bounds, Fail>
-    ensures { IfOk result (λ made. made ≡ 10 ∷ 20 ∷ 40 ∷ []) }
-{
-    Ok(Bounds::new(&[10, 20, 40]).ok_or("bounds")?)
-}
-
-fn link_no() -> Result<LinkNo, Fail>
-    ensures { IfOk result (λ link. link_number link ≡ 0) }
-{
-    Ok(LinkNo::new(0).ok_or("link")?)
-}
-
-fn link(alloc: Global) -> Result<LinkEntry, Fail>
-    ensures { IfOk result IsThatLink }
-{
-    Ok(LinkEntry {
-        name: name("A")?,
-        from: name("n1")?,
-        to: name("n2")?,
-        shape: LinkShape::new(link_no()?, 1, 4, 2, 100, bounds()?, Test::Whole, 0)?,
-        quotas: Quotas::none(alloc),
-    })
-}
-
-// A request whose route is given, or was found between these nodes.
-fn request(found: Option<(Name, Name)>) -> Result<RequestEntry, Fail>
-    ensures { IfOk result IsThatRequest }
-{
-    let hop = Hop {
-        link: link_no()?,
-        bounds: bounds()?,
-        prop: 2,
-    };
-    Ok(RequestEntry {
-        name: name("r1")?,
-        caller: ActorNo::new(0).ok_or("caller")?,
-        request: Request {
-            chan: ChanNo::new(0).ok_or("channel")?,
-            route: Route::new(&[hop])?,
-            contract: Contract::new(5, 10, 20, 2)?,
-            control: Control::Rate,
-            delay: 12,
-        },
-        found,
-    })
-}
-
-// The caller opens the request.
-#[tactic(auto, unfolding(call_script::specs::Parts::openings_in))]
-fn caller(alloc: Global, chan: ChanNo) -> Result<CallerEntry, Fail>
-    requires { channel_number chan ≡ 0 }
-    ensures { IfOk result IsThatScript }
-{
-    let mut ops = Vec::new(alloc);
-    ops.push(Op::Open(chan))?;
-    Ok(CallerEntry {
-        name: name("k1")?,
-        group: 0,
-        ops: Ops::new(ops),
-    })
-}
-
-// A plan of that link, that request and that caller, over three rounds.
-fn plan(alloc: Global) -> Result<Plan, Fail> {
-    let request = request(None)?;
-    let caller = caller(alloc, request.request.chan)?;
-    let mut links = Vec::new(alloc);
-    links.push(link(alloc)?)?;
-    let mut requests = Vec::new(alloc);
-    push_request(&mut requests, request)?;
-    let mut callers = Vec::new(alloc);
-    callers.push(caller)?;
-    let groups = Vec::new(alloc);
-    Ok(Plan::new(alloc, Version::One, links, groups, requests, callers, 3, 0)?)
-}
 
 // How many steps the run of a schedule has.
 fn steps_of<R: Threads + Sync>(
@@ -134,7 +45,7 @@ fn steps_of<R: Threads + Sync>(
 #[test]
 fn a_plan_is_played_to_its_end(rt: HostRuntime) -> Result<(), Fail> {
     let alloc = rt.alloc();
-    let plan = plan(alloc)?;
+    let plan = opened(alloc, 3)?;
     assert_eq!(rt; steps_of(&rt, alloc, &plan, None, 1)?, Ok(5));
     assert_eq!(rt; steps_of(&rt, alloc, &plan, None, 16)?, Ok(5));
     Ok(())
@@ -161,7 +72,7 @@ fn actors_seen<R: Threads + Sync>(rt: &R, alloc: Global, plan: &Plan) -> Result<
 #[test]
 fn what_watches_sees_the_plan_played(rt: HostRuntime) -> Result<(), Fail> {
     let alloc = rt.alloc();
-    let plan = plan(alloc)?;
+    let plan = opened(alloc, 3)?;
     let actors = actors_seen(&rt, alloc, &plan)?;
     assert_eq!(rt; actors.as_slice(), [0, 0, 1, 1, 1].as_slice());
     Ok(())
@@ -171,7 +82,7 @@ fn what_watches_sees_the_plan_played(rt: HostRuntime) -> Result<(), Fail> {
 #[test]
 fn a_written_schedule_is_played_as_far_as_it_asks(rt: HostRuntime) -> Result<(), Fail> {
     let alloc = rt.alloc();
-    let plan = plan(alloc)?;
+    let plan = opened(alloc, 3)?;
     assert_eq!(rt; steps_of(&rt, alloc, &plan, Some(2), 2)?, Ok(2));
     assert_eq!(rt;
         steps_of(&rt, alloc, &plan, Some(9), 2)?,

@@ -1,6 +1,6 @@
 -- The parts may be planned.
-use Rattle.call_script.proofs.OneLinkFacts.{split-planned}
-use Rattle.call_script_tests.proofs.tests.plan_with.Goals as goal
+use Rattle.one_link_plans.proofs.OneLinkFacts.{split-planned}
+use Rattle.one_link_plans.proofs.plans.plan.Goals as goal
 
 pub new-requires : goal.new-requires
 new-requires c =

@@ -15,7 +15,7 @@ use Rattle.link_steps.proofs.ListFacts.{Each-if}
 use Rattle.link_steps.specs.Lists.{Each}
 use Rattle.link_steps.specs.declared.quota.Quota.{Quota}
 use Rattle.call_script.specs.Accepted.{AreAccepted}
-use Rattle.call_script.specs.OneLink.{IsThatLink, IsPerhapsSplit, IsOverIt, IsThatRequest, IsNextRequest, IsThatScript, OpensBoth, AsksForOne, HasThatRequest}
+use Rattle.one_link_plans.specs.OneLink.{IsThatLink, IsOverIt, IsThatRequest, IsNextRequest, IsThatScript, OpensBoth, AsksForOne, HasThatRequest}
 use Rattle.call_script.specs.Parts.{PlanParts, Opening, parts_of, parts_with, openings_in, openings_of, opening_of, FollowsLink, LeavesUnused, ArePlanned}
 use Rattle.call_script.specs.declared.entries.LinkEntry.{LinkEntry}
 use Rattle.call_script.specs.declared.entries.RequestEntry.{RequestEntry}
@@ -33,7 +33,7 @@ both-of P x y own other zero z found = subst (P 0) (same_Some x z found) own
 both-of P x y own other (suc zero) z found = subst (P 1) (same_Some y z found) other
 both-of P x y own other (suc (suc n)) z found = cc
 
-follows : (link : LinkEntry) (hop : Hop) → IsPerhapsSplit link → IsOverIt hop → FollowsLink (link ∷ []) hop
+follows : (link : LinkEntry) (hop : Hop) → IsThatLink link → IsOverIt hop → FollowsLink (link ∷ []) hop
 follows link hop is over = record {
   bounds = λ entry found. over.bounds ∙ sym is.bounds ∙ ap (λ (e : LinkEntry). e.shape.bounds) (same entry found);
   prop = λ entry found. over.prop ∙ sym is.prop ∙ ap (λ (e : LinkEntry). e.shape.prop) (same entry found);
@@ -41,7 +41,7 @@ follows link hop is over = record {
   same : (entry : LinkEntry) → slice_get (link ∷ []) (link_number hop.link) ≡ Some entry → link ≡ entry
   same entry found = same_Some link entry (sym (ap (slice_get (link ∷ [])) over.link) ∙ found)
 
-pub split-planned : (version : Version) (link : LinkEntry) (groups : List (List ℕ)) (request : RequestEntry) (caller : CallerEntry) (rounds tail : ℕ) → IsPerhapsSplit link → IsThatRequest request → IsThatScript caller
+pub split-planned : (version : Version) (link : LinkEntry) (groups : List (List ℕ)) (request : RequestEntry) (caller : CallerEntry) (rounds tail : ℕ) → IsThatLink link → IsThatRequest request → IsThatScript caller
     → ArePlanned (parts_with version (link ∷ []) groups (request ∷ []) (caller ∷ []) rounds tail)
 unfolding openings_of
 split-planned version link groups request caller rounds tail is asks opens = record {
@@ -54,7 +54,7 @@ split-planned version link groups request caller rounds tail is asks opens = rec
   opening : opening_of request ≡ record { caller = 0; chan = 0 }
   opening = ap (λ (n : ℕ). record { caller = n; chan = channel_number request.request.chan }) asks.caller ∙ ap (λ (n : ℕ). record { caller = 0; chan = n }) asks.chan
 
-pub two-planned : (version : Version) (link : LinkEntry) (first second : RequestEntry) (caller : CallerEntry) (rounds tail : ℕ) → IsPerhapsSplit link → IsThatRequest first → IsNextRequest second → OpensBoth caller
+pub two-planned : (version : Version) (link : LinkEntry) (first second : RequestEntry) (caller : CallerEntry) (rounds tail : ℕ) → IsThatLink link → IsThatRequest first → IsNextRequest second → OpensBoth caller
     → ArePlanned (parts_with version (link ∷ []) [] (first ∷ second ∷ []) (caller ∷ []) rounds tail)
 unfolding openings_of
 two-planned version link first second caller rounds tail is one two opens = record {
@@ -73,11 +73,6 @@ two-planned version link first second caller rounds tail is one two opens = reco
 -- no quotas leave all unused
 pub none-leaves : (quotas : List Quota) → quotas ≡ [] → All (LeavesUnused (10 ∷ 20 ∷ 40 ∷ [])) quotas
 none-leaves quotas none = subst (All (LeavesUnused (10 ∷ 20 ∷ 40 ∷ []))) (sym none) (λ k d inside. absurd (omega (arith, inside)))
-
-pub one-planned : (version : Version) (link : LinkEntry) (request : RequestEntry) (caller : CallerEntry) (rounds tail : ℕ) → IsThatLink link → IsThatRequest request → IsThatScript caller
-    → ArePlanned (parts_of version (link ∷ []) (request ∷ []) (caller ∷ []) rounds tail)
-one-planned version link request caller rounds tail is =
-    split-planned version link [] request caller rounds tail (record { number = is.number; bounds = is.bounds; prop = is.prop; unused = none-leaves link.quotas is.unsplit })
 
 -- a quota with the loads of three levels
 three-unused : (quota : Quota) → quota.levels ≡ 4 ∷ 8 ∷ 20 ∷ 0 ∷ 0 ∷ 0 ∷ 0 ∷ 0 ∷ [] → LeavesUnused (10 ∷ 20 ∷ 40 ∷ []) quota

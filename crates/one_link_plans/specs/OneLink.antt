@@ -1,6 +1,6 @@
--- A plan of one link, one request and one caller, as the tests have it: link 0 has levels of 10, 20 and 40 ticks, a
--- propagation of 2 and no quotas, or quotas without load after its levels; channel 0 goes over it, and caller 0 opens that channel and no other.
--- Or a plan of two requests: channel 1 goes over it too, and caller 0 opens both.
+-- A plan of one link, one request and one caller, as tests have it: link 0 has levels of 10, 20 and 40 ticks, a propagation of 2, and
+-- no quotas, or some without load after its levels; channel 0 goes over it, and caller 0 opens that channel and no other. Or a plan of two
+-- requests: channel 1 goes over it too, and caller 0 opens both.
 use Rattle.std.specs.Prelude.{◌≡◌, ℕ, None, List, [], ◌∷◌, length}
 use Rattle.std.specs.List.{All}
 use Rattle.net_units.specs.Numbers.{link_number, actor_number, channel_number}
@@ -14,13 +14,6 @@ use Rattle.call_script.specs.declared.entries.RequestEntry.{RequestEntry}
 use Rattle.call_script.specs.declared.entries.CallerEntry.{CallerEntry}
 
 pub record IsThatLink (entry : LinkEntry) : Type 0 where
-  pub number : link_number entry.shape.link ≡ 0
-  pub bounds : entry.shape.bounds ≡ 10 ∷ 20 ∷ 40 ∷ []
-  pub prop : entry.shape.prop ≡ 2
-  pub unsplit : entry.quotas ≡ []
-
--- the same, perhaps with quotas
-pub record IsPerhapsSplit (entry : LinkEntry) : Type 0 where
   pub number : link_number entry.shape.link ≡ 0
   pub bounds : entry.shape.bounds ≡ 10 ∷ 20 ∷ 40 ∷ []
   pub prop : entry.shape.prop ≡ 2
