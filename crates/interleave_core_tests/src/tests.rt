@@ -121,3 +121,70 @@ fn without_a_schedule_each_plays_to_its_end(rt: HostRuntime) -> Result<(), Fail>
     assert_eq!(rt; steps_of_played(play(alloc, &plan, &schedule)), Ok(3));
     Ok(())
 }
+
+// A link that was never asked has nothing due: each item, of three and of two ticks, is one stride, and what watches has seen five ticks.
+#[test]
+fn a_stride_is_seen_as_its_ticks(rt: HostRuntime) -> Result<(), Fail> {
+    let alloc = rt.alloc();
+    let plan = opened(alloc, 5)?;
+    let plane = ActorNo::new(1).ok_or("plane")?;
+    let mut items = Vec::new(alloc);
+    items.push(Do {
+        line: 4,
+        actor: plane,
+        count: 3,
+    })?;
+    items.push(Do {
+        line: 5,
+        actor: plane,
+        count: 2,
+    })?;
+    let schedule = Schedule {
+        written: true,
+        items: Dos::new(items),
+    };
+    let mut seen = Record::new(alloc);
+    if play_watched(alloc, &plan, &schedule, &mut seen).is_err() {
+        return Err("played")?;
+    }
+    assert_eq!(rt; seen.entries().len(), 5);
+    for (done, clock) in seen.entries().iter().zip(0..5) {
+        let told = Reply::Ticked {
+            clock,
+            full: 0,
+            sent: None,
+            best_sent: false,
+            best_lost: false,
+        };
+        assert_eq!(rt; done.reply, told);
+    }
+    Ok(())
+}
+
+// Nine rounds of a schedule that asks for seven ticks, and then for three more, of which two are left.
+#[test]
+fn items_of_the_plane_stop_where_its_rounds_end(rt: HostRuntime) -> Result<(), Fail> {
+    let alloc = rt.alloc();
+    let plan = opened(alloc, 9)?;
+    let plane = ActorNo::new(1).ok_or("plane")?;
+    let mut items = Vec::new(alloc);
+    items.push(Do {
+        line: 4,
+        actor: plane,
+        count: 7,
+    })?;
+    items.push(Do {
+        line: 5,
+        actor: plane,
+        count: 3,
+    })?;
+    let schedule = Schedule {
+        written: true,
+        items: Dos::new(items),
+    };
+    assert_eq!(rt;
+        steps_of_played(play(alloc, &plan, &schedule)),
+        Err(PlayFault::Step { line: 5, made: 9 })
+    );
+    Ok(())
+}

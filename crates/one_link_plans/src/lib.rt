@@ -8,6 +8,8 @@ pub mod parts;
 pub mod plans;
 pub mod scripts;
 
-pub use parts::{bounds, channel, link, link_no, name, over_it, request, second_channel, second_request};
+pub use parts::{
+    bounds, channel, link, link_no, name, over_it, request, second_channel, second_request,
+};
 pub use plans::{moved, opened, plan, plan_of_two};
 pub use scripts::{caller, mover, opener, sender};

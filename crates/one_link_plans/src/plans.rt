@@ -61,7 +61,16 @@ pub fn plan_of_two(
     push_request(&mut requests, second)?;
     let mut callers = Vec::new(alloc);
     callers.push(caller)?;
-    Ok(Plan::new(alloc, version, links, Vec::new(alloc), requests, callers, rounds, 0))
+    Ok(Plan::new(
+        alloc,
+        version,
+        links,
+        Vec::new(alloc),
+        requests,
+        callers,
+        rounds,
+        0,
+    ))
 }
 
 /// A plan of the first version in which the caller opens the request, over so many rounds.
@@ -73,7 +82,15 @@ pub fn opened(alloc: Global, rounds: u64) -> Result<Plan, Fail>
     let link = link(alloc, Test::Whole, 0)?;
     let request = request(Control::Rate, None)?;
     let caller = opener(alloc)?;
-    Ok(plan(alloc, Version::One, link, Vec::new(alloc), request, caller, rounds)??)
+    Ok(plan(
+        alloc,
+        Version::One,
+        link,
+        Vec::new(alloc),
+        request,
+        caller,
+        rounds,
+    )??)
 }
 
 /// A plan of the sixth version in which the caller opens both requests, the second for a delay of at most so many ticks, sends four packets

@@ -34,7 +34,18 @@ pub fn sender(alloc: Global, count: u64) -> Result<CallerEntry, Fail>
     ensures { IfOk result IsThatScript }
 {
     let chan = channel()?;
-    caller(0, vec![in alloc; Op::Open(chan), Op::Send { chan, count, gap: 10, size: 2 }]?)
+    caller(
+        0,
+        vec![in alloc;
+            Op::Open(chan),
+            Op::Send {
+                chan,
+                count,
+                gap: 10,
+                size: 2
+            },
+        ]?,
+    )
 }
 
 /// It opens both requests, sends so many such packets on the first channel, and moves those of the one channel to the other.
@@ -48,7 +59,12 @@ pub fn mover(alloc: Global, count: u64, old: ChanNo, new: ChanNo) -> Result<Call
         vec![in alloc;
             Op::Open(chan),
             Op::Open(second_channel()?),
-            Op::Send { chan, count, gap: 10, size: 2 },
+            Op::Send {
+                chan,
+                count,
+                gap: 10,
+                size: 2
+            },
             Op::Move { old, new },
         ]?,
     )

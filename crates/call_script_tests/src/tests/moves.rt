@@ -10,7 +10,8 @@ use hop_reservation::{Hop, Route};
 use link_steps::{Ask, Reply};
 use net_units::{ActorNo, ChanNo, LinkNo};
 use one_link_plans::{
-    bounds, channel, link, mover, name, over_it, plan_of_two, request, second_channel, second_request,
+    bounds, channel, link, mover, name, over_it, plan_of_two, request, second_channel,
+    second_request,
 };
 use setup_protocol::{Control, Request};
 use std::alloc::Global;

@@ -60,7 +60,7 @@ returns-clause-seen c = λ past next.
     let long : length c.rest_links.new.links ≡ tally.links.len = omega (arith, c.rest_links.ensures.same, ap length c.deref_mut.ensures.value, tally.links.ok.0) in
     let have : HaveRested rounds tally.links.items c.rest_links.new.links = subst (λ ls. HaveRested rounds ls c.rest_links.new.links) c.deref_mut.ensures.value c.rest_links.ensures in
     let more : (d : ℕ) → now + rounds * length c.links.result.now ≡ get_or tally.made.items place d + rounds * length parts.links = λ d.
-        (let was : now ≡ get_or tally.made.items place d = c.index_mut.ensures.value ∙ get_or_default tally.made.items place now d within in
-        omega (arith, was, times)) in
+    (let was : now ≡ get_or tally.made.items place d = c.index_mut.ensures.value ∙ get_or_default tally.made.items place now d within in
+    omega (arith, was, times)) in
     tally-rested parts tally past c.args._first rounds next _ (subst (HaveRested rounds tally.links.items) (sym (with_items_is tally.links c.rest_links.new.links long)) have) refl refl refl refl
     (steps-rested parts tally past c.args._first rounds next _ place (now + rounds * length c.links.result.now) there more refl) (ap (λ steps. tally.steps + steps) times)
