@@ -3,4 +3,4 @@ use Rattle.one_link_plans.proofs.OneLinkFacts.{one-accepted}
 use Rattle.trace_audit_tests.proofs.tests.found.Goals as goal
 
 pub audit-requires-clause-accepted : goal.audit-requires-clause-accepted
-audit-requires-clause-accepted c = one-accepted c.in_ok-plan.plan c.in_ok-level_one.field-0 c.in_ok-plan.ensures c.in_ok-level_one.ensures
+audit-requires-clause-accepted c = one-accepted c.in_ok-plan.plan c.in_ok-level_one.field-0 c.in_ok-plan.ensures.request c.in_ok-level_one.ensures
