@@ -19,8 +19,8 @@ fn open(alloc: Global, buffer: u32) -> Result<LinkState, Fail> {
 
 // One step. A test fails where its link's clock would be past the range of a step, so that none has to say that it
 // isn't.
-fn step(link: &mut LinkState, ask: &Ask) -> Result<Reply, Fail>
-    requires { AskFits link.old.shape ask.now }
+fn step<L: LinkStep>(link: &mut L, ask: &Ask) -> Result<Reply, Fail>
+    requires { AskFits (L.link_of link.old).shape ask.now }
 {
     if link.clock() >= 1 << 61 {
         return Err(Fail::from("the clock is too late for a step"));

@@ -60,19 +60,28 @@ fn left(clock: u64, until: u64) -> Result<u64, Fail>
     Ok(until - clock)
 }
 
-// Makes the ticks before the one until which the link rests, and answers how many they are.
-fn rest_split(link: &mut QuotaLink) -> Result<u64, Fail> {
-    let until = link.rests_until();
-    let ticks = left(link.clock(), until)?;
-    link.rest(ticks);
-    Ok(ticks)
+// A link that makes ticks in which nothing falls due at once.
+trait Stride: LinkStep {
+    // Makes the ticks before the one until which it rests, and answers how many they are.
+    fn stride(&mut self) -> Result<u64, Fail>;
 }
 
-fn rest_any(link: &mut AnyLink) -> Result<u64, Fail> {
-    let until = link.rests_until();
-    let ticks = left(link.clock(), until)?;
-    link.rest(ticks);
-    Ok(ticks)
+impl Stride for QuotaLink {
+    fn stride(&mut self) -> Result<u64, Fail> {
+        let until = self.rests_until();
+        let ticks = left(self.clock(), until)?;
+        self.rest(ticks);
+        Ok(ticks)
+    }
+}
+
+impl Stride for AnyLink {
+    fn stride(&mut self) -> Result<u64, Fail> {
+        let until = self.rests_until();
+        let ticks = left(self.clock(), until)?;
+        self.rest(ticks);
+        Ok(ticks)
+    }
 }
 
 // Whether so many ticks, made one by one, are quiet.
@@ -113,29 +122,26 @@ fn leave_alike<L: LinkStep, M: LinkStep>(
     Ok(Some(left))
 }
 
-// The split link once it has made seven ticks more at once, and one by one.
-fn rested_split(alloc: Global) -> Result<QuotaLink, Fail> {
-    let mut link = split(alloc)?;
-    if rest_split(&mut link)? != 7 {
+// In how many of the twenty ticks after the next seven a packet leaves, where two links answer all of them alike, of which one makes the seven at
+// once and the other one by one.
+fn leave_after_seven<L: Stride, M: LinkStep>(one: L, other: M) -> Result<Option<u64>, Fail> {
+    let mut one = one;
+    let mut other = other;
+    if one.stride()? != 7 {
         return Err(Fail::from("it rests for another number of ticks"));
     }
-    Ok(link)
-}
-
-fn ticked_split(alloc: Global) -> Result<QuotaLink, Fail> {
-    let mut link = split(alloc)?;
-    if !are_quiet(&mut link, 7)? {
+    if !are_quiet(&mut other, 7)? {
         return Err(Fail::from("one of seven ticks isn't quiet"));
     }
-    Ok(link)
+    leave_alike(one, other, 20)
 }
 
 // After ticks 0, 1 and 2 it rests for seven, and two packets leave in ticks 10 to 29.
 #[test]
 fn a_split_link_rests_as_it_ticks(rt: HostRuntime) -> Result<(), Fail> {
-    let rested = rested_split(rt.alloc())?;
-    let ticked = ticked_split(rt.alloc())?;
-    assert_eq!(rt; leave_alike(rested, ticked, 20)?, Some(2));
+    let one = split(rt.alloc())?;
+    let other = split(rt.alloc())?;
+    assert_eq!(rt; leave_after_seven(one, other)?, Some(2));
     Ok(())
 }
 
@@ -148,28 +154,12 @@ fn either(alloc: Global, splits: bool) -> Result<AnyLink, Fail> {
     }
 }
 
-fn rested_either(alloc: Global, splits: bool) -> Result<AnyLink, Fail> {
-    let mut link = either(alloc, splits)?;
-    if rest_any(&mut link)? != 7 {
-        return Err(Fail::from("it rests for another number of ticks"));
-    }
-    Ok(link)
-}
-
-fn ticked_either(alloc: Global, splits: bool) -> Result<AnyLink, Fail> {
-    let mut link = either(alloc, splits)?;
-    if !are_quiet(&mut link, 7)? {
-        return Err(Fail::from("one of seven ticks isn't quiet"));
-    }
-    Ok(link)
-}
-
 #[test]
 fn a_link_of_either_kind_rests_as_it_ticks(rt: HostRuntime) -> Result<(), Fail> {
     for splits in [true, false] {
-        let rested = rested_either(rt.alloc(), splits)?;
-        let ticked = ticked_either(rt.alloc(), splits)?;
-        assert_eq!(rt; leave_alike(rested, ticked, 20)?, Some(2), "{splits}");
+        let one = either(rt.alloc(), splits)?;
+        let other = either(rt.alloc(), splits)?;
+        assert_eq!(rt; leave_after_seven(one, other)?, Some(2), "{splits}");
     }
     Ok(())
 }
