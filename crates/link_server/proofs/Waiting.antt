@@ -1,11 +1,11 @@
--- The packets that wait for the link: their ranks, the line, and which of them goes first.
-pub mod Line
+-- The packets that wait for the link: the line, and which of them goes first; and those here by arrival.
+pub mod Arrived
+pub mod Best
 pub mod Counts
 pub mod Serving
 pub mod Rising
-pub mod Rank
+pub mod Order
 pub mod Next
-pub mod Turn
 pub mod Queues
 pub mod Keys
 pub mod Due

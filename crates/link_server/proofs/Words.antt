@@ -7,7 +7,6 @@ pub use Rattle.link_server.specs.Rows.{IsAbsent, IsFirstPlace, IsPlaceOf, IsWith
 pub use Rattle.link_server.specs.State.{kept_in}
 pub use Rattle.link_server.specs.declared.link_state.LinkState.{LinkState}
 pub use Rattle.link_server.specs.declared.queue.held_packet.HeldPacket.{HeldPacket}
-pub use Rattle.link_server.specs.declared.queue.line.Rank.{Rank}
 pub use Rattle.link_server.specs.declared.table.served_row.Offered.{Offered}
 pub use Rattle.link_server.specs.declared.table.served_row.ServedRow.{ServedRow}
 pub use Rattle.link_server.specs.declared.table.served_row.Wanted.{Wanted}

@@ -25,11 +25,10 @@ pub mod Sound
 pub mod SoundProp
 pub mod Holds
 pub mod Plans
-pub mod Rank
+pub mod Order
 pub mod HoldsAgree
 pub mod Line
-pub mod InLine
-pub mod Parting
+pub mod Arrived
 pub mod Queues
 pub mod Keys
 pub mod Ready

@@ -31,6 +31,7 @@ pub struct LinkState {
     // Nothing falls due before this tick.
     pub(crate) due: u64,
     ghost of_shape: { table ≡ record table { server = server_of shape; buffer = shape.buffer } },
+    ghost same_bounds: { queue.bounds ≡ shape.bounds },
     ghost looked: { (table.looked ≤ clock) × (queue.looked ≤ clock) },
     ghost few: { queue.room < 2 ^ 63 },
     ghost sound: { IsSound shape queue.room (account clock queue table.rows) } by { IsSound-prop shape queue.room (account clock queue table.rows) },
@@ -56,7 +57,7 @@ impl LinkState {
         ensures stands { IfOk result (λ link. LinkStands link []) }
     {
         let places = shape.best + 1;
-        let mut queue = Queue::new(alloc)?;
+        let mut queue = Queue::new(alloc, shape.bounds)?;
         queue.reserve(places as usize)?;
         Ok(LinkState {
             alloc,

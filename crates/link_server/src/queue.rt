@@ -6,19 +6,16 @@ ghost use Rattle.link_server.specs.Planned.{left_in};
 mod best_effort;
 mod counts;
 pub(crate) mod held_packet;
-mod in_line;
 mod lead_count;
 mod line;
 mod ready;
 
-use crate::keyed_list::KeyedList;
 use crate::planned::Planned;
-use crate::queue::best_effort::best_packet;
-use crate::queue::counts::{count_of, raise};
+use crate::queue::best_effort::{best_in, best_packet};
+use crate::queue::counts::{count_of, lower, raise};
 use crate::queue::held_packet::{HeldPacket, Running};
-use crate::queue::in_line::{best_here, best_here_but, start_next, take_out};
 use crate::queue::lead_count::Count;
-use crate::queue::line::{Line, Rank};
+use crate::queue::line::Line;
 use link_steps::{LinkShape, Sent};
 use net_units::{Bounds, OutOfMemory};
 use std::alloc::Global;
@@ -29,15 +26,17 @@ use std::marker::Model;
 pub(crate) struct Queue {
     // How many packets the link has taken.
     taken: u64,
-    // In the order of their arrival.
-    here: KeyedList<HeldPacket>,
-    // How many of them are of each reservation, in the order of their leads.
+    // How many of the packets here are of each reservation, in the order of their leads.
     counts: Vec<Count>,
-    // The ranks of those that haven't started.
+    // Those that haven't started.
     line: Line,
+    // Those of the link's levels: a best-effort packet is of the level after the last.
+    bounds: Bounds,
+    // How many best-effort packets are here and haven't started.
+    best_waiting: u64,
     // For how many packets there is room, those here included.
     room: usize,
-    // The one that occupies the link: it is one of those here.
+    // The one that occupies the link.
     on: Option<Running>,
     // The best-effort packets that are planned and left.
     best: Planned,
@@ -73,15 +72,16 @@ impl Queue {
     ghost use Rattle.link_server.specs.Planned.{IsPlannedFrom};
     ghost use Rattle.link_server.specs.Serving.{CanServe};
 
-    // No packet taken yet, and no room for one.
-    pub(crate) fn new(alloc: Global) -> Result<Queue, OutOfMemory>
-        ensures { IfOk result (λ made. made ≡ record { taken = 0; here = []; on = None; best = []; room = 0; looked = 0 }) }
+    // No packet taken yet, and no room for one, at a link with these bounds.
+    pub(crate) fn new(alloc: Global, bounds: Bounds) -> Result<Queue, OutOfMemory>
+        ensures { IfOk result (λ made. made ≡ record { taken = 0; here = []; on = None; best = []; room = 0; looked = 0; bounds = bounds }) }
     {
         Ok(Queue {
             taken: 0,
-            here: KeyedList::new(alloc),
             counts: Vec::new(alloc),
             line: Line::new(alloc)?,
+            bounds,
+            best_waiting: 0,
             room: 0,
             on: None,
             best: Planned::NONE,
@@ -96,11 +96,10 @@ impl Queue {
         ensures small { self.old.room < 2 ^ 63 → self.new.room < 2 ^ 63 }
         ensures kept { self.new ≡ record self.old { room = self.new.room } }
     {
-        let room = self.here.len().checked_add(more).ok_or(OutOfMemory)?;
+        let room = self.len().checked_add(more).ok_or(OutOfMemory)?;
         if room <= self.room {
             return Ok(());
         }
-        self.here.reserve(room)?;
         self.line.reserve(room)?;
         self.counts.reserve(room.saturating_sub(self.counts.len()))?;
         self.room = room;
@@ -118,7 +117,10 @@ impl Queue {
     pub(crate) fn len(&self) -> usize
         ensures { result ≡ length self.now.here }
     {
-        self.here.len()
+        match self.on {
+            Some(_) => self.line.len() + 1,
+            None => self.line.len(),
+        }
     }
 
     // How many best-effort packets are planned and left.
@@ -145,14 +147,9 @@ impl Queue {
         ensures kept { self.new ≡ record self.old { taken = self.old.taken + 1; here = self.old.here ++ arrival_in packet ∷ []; looked = self.new.looked } }
         ensures looked { self.new.looked ≤ clock }
     {
-        let rank = Rank {
-            level: packet.level,
-            eligible: packet.eligible,
-            place: packet.place,
-        };
-        self.line.push(&rank, clock);
         raise(&mut self.counts, packet.lead);
-        self.here.push(packet);
+        self.best_waiting += best_in(&packet, &self.bounds);
+        self.line.push(&packet, clock);
         self.taken += 1;
     }
 
@@ -175,10 +172,11 @@ impl Queue {
             return self.on;
         }
         // most ticks of a run find no packet here, and needn't look at the line
-        if self.here.len() == 0 {
+        if self.line.len() == 0 {
             return None;
         }
-        let packet = start_next(&mut self.line, &self.here, tick)?;
+        let packet = self.line.next(tick)?;
+        self.best_waiting -= best_in(&packet, &self.bounds);
         self.on = Some(Running { packet, tick });
         self.on
     }
@@ -200,7 +198,7 @@ impl Queue {
         match &self.on {
             Some(running) => running.leaves_at(rate) - 1,
             None => {
-                if self.here.len() == 0 {
+                if self.line.len() == 0 {
                     u64::MAX
                 } else {
                     self.line.rests_until()
@@ -209,26 +207,17 @@ impl Queue {
         }
     }
 
-    // Whether the best-effort packet that is planned for this tick has a place. Where none is planned it looks at no packet.
+    // Whether the best-effort packet that is planned for this tick has a place. It looks at no packet.
     pub(crate) fn best_fits(&self, shape: &LinkShape, clock: u64) -> bool
         requires ahead { Each (IsPlannedFrom clock) self.now.best }
+        requires bounds { self.now.bounds ≡ shape.now.bounds }
         ensures step { source_step result (find (is_for clock) self.now.best) ≡ best_step (length (filter (waits_here shape.now.bounds self.now.on) self.now.here)) shape.now.best clock self.now.best }
         ensures fewer { IsTrue result → length (filter (waits_here shape.now.bounds self.now.on) self.now.here) < shape.now.best }
     {
         if !self.best.is_for(clock) {
             return false;
         }
-        (self.waiting(&shape.bounds) as u64) < u64::from(shape.best)
-    }
-
-    // How many best-effort packets are here and haven't started.
-    fn waiting(&self, bounds: &Bounds) -> usize
-        ensures { result ≡ length (filter (waits_here bounds.now self.now.on) self.now.here) }
-    {
-        match &self.on {
-            None => best_here(&self.here, bounds),
-            Some(running) => best_here_but(&self.here, bounds, running),
-        }
+        self.best_waiting < u64::from(shape.best)
     }
 
     // Takes the best-effort packet that is planned for this tick, if there is one and it `fits`. It answers whether it
@@ -277,7 +266,7 @@ impl Queue {
             };
         }
         self.on = None;
-        take_out(&mut self.here, &mut self.counts, &running);
+        lower(&mut self.counts, running.packet.lead);
         Left {
             sent: running.sent(shape),
             best_sent: running.is_best(&shape.bounds),

@@ -1,15 +1,14 @@
 -- What a packet more, and one less, make of the counts.
-use Rattle.std.proofs.Common.{◌≡◌, ℕ, zero, suc, ◌+◌, ◌<◌, ◌≤◌, Bool, true, false, List, [], ◌∷◌, ◌++◌, length, get_or, set, ⊎_elim, refl, sym, ap, ◌∙◌, arith}
-use Rattle.std.proofs.lemmas.Bool.{cases_Bool, eq-eqb, eqb-true, ne_eqb}
-use Rattle.std.proofs.lemmas.List.{length-map}
-use Rattle.std.proofs.lemmas.List.Edits.{length-remove}
-use Rattle.std.proofs.lemmas.List.Sorted.{IsPartitionedBy-ltb}
-use Rattle.link_server.proofs.Words.{insert, remove, filter, nat_eq, nat_lt, if◌then◌else◌, total, Arrival, HeldPacket}
+use Rattle.std.proofs.Common.{◌≡◌, ℕ, zero, suc, ◌+◌, ◌<◌, ◌≤◌, Bool, true, false, List, [], ◌∷◌, length, get_or, set, refl, sym, ap, ◌∙◌, arith}
+use Rattle.std.proofs.lemmas.Bool.{eq-eqb, eqb-true, ne_eqb}
+use Rattle.std.proofs.lemmas.List.Sorted.{IsPartitionedBy-ltb, length_permutation}
+use Rattle.link_server.proofs.Words.{IsPermutation, insert, remove, nat_eq, nat_lt, if◌then◌else◌, total, Arrival}
 use Rattle.std.specs.List.Sorted.{IsPartitionedBy}
 use Rattle.link_steps.specs.Buffer.{has_lead, held_packets}
 use Rattle.link_server.specs.declared.queue.lead_count.Count.{Count}
 use Rattle.link_server.specs.Counts.{share_of, counted, packets_in, all_counted, one_of, IsCountAt, IsGapFor, AreByLead, AreCounts}
-use Rattle.link_server.specs.Packets.{arrival_in, here_in}
+use Rattle.link_server.specs.Arrived.{arrived, AreNumbered}
+use Rattle.link_server.proofs.Waiting.Arrived.{one-more, count-same, count-arrived}
 
 -- ---- sums over counts
 
@@ -175,56 +174,42 @@ all-inserted xs i new one = total-inserted packets_in xs i new ∙ ap (λ n. all
 
 -- ---- packets
 
-length-push : (test : Arrival → Bool) (here : List Arrival) (p : Arrival) → length (filter test (here ++ p ∷ [])) ≡ length (filter test here) + (if test p then 1 else 0)
-length-push test [] p = ⊎_elim (λ (yes : test p ≡ true). rw yes refl) (λ (no : test p ≡ false). rw no refl) (cases_Bool (test p))
-length-push test (q ∷ here) p =
-    let rest = length-push test here p in
-    ⊎_elim (λ (yes : test q ≡ true). rw yes (omega (arith, rest))) (λ (no : test q ≡ false). rw no rest) (cases_Bool (test q))
-
--- one more
-pub held-pushed : (lead : ℕ) (here : List Arrival) (p : Arrival) → held_packets lead (here ++ p ∷ []) ≡ held_packets lead here + one_of p.lead lead
-unfolding held_packets
-held-pushed lead here p = length-push (has_lead lead) here p
-
-length-removed : (test : Arrival → Bool) (items : List HeldPacket) (i : ℕ) (d : HeldPacket) → i < length items → length (filter test (here_in (remove items i))) + (if test (arrival_in (get_or items i d)) then 1 else 0) ≡ length (filter test (here_in items))
-length-removed test [] i d inside = absurd (omega arith)
-length-removed test (q ∷ items) zero d inside =
-    ⊎_elim (λ (yes : test (arrival_in q) ≡ true). rw yes (omega arith)) (λ (no : test (arrival_in q) ≡ false). rw no (omega arith)) (cases_Bool (test (arrival_in q)))
-length-removed test (q ∷ items) (suc i) d inside =
-    let rest = length-removed test items i d (omega (arith, inside)) in
-    ⊎_elim (λ (yes : test (arrival_in q) ≡ true). rw yes (omega (arith, rest))) (λ (no : test (arrival_in q) ≡ false). rw no rest) (cases_Bool (test (arrival_in q)))
-
--- one less
-pub held-removed : (lead : ℕ) (items : List HeldPacket) (i : ℕ) (d : HeldPacket) → i < length items → held_packets lead (here_in (remove items i)) + one_of (get_or items i d).lead lead ≡ held_packets lead (here_in items)
-unfolding held_packets
-held-removed lead items i d inside = length-removed (has_lead lead) items i d inside
-
 -- a packet is one of its own reservation
 pub one-own : (lead : ℕ) → one_of lead lead ≡ 1
 one-own lead = rw (eq-eqb lead lead refl) refl
 
--- the counts without the packet at a place are those of the others
-pub counts-without : (old new : List Count) (items : List HeldPacket) (i : ℕ) (packet : HeldPacket) → AreCounts old (here_in items) → i < length items → packet ≡ get_or items i packet
-    → ((lead : ℕ) → counted lead new + one_of packet.lead lead ≡ counted lead old) → all_counted new + 1 ≡ all_counted old → AreCounts new (here_in (remove items i))
-counts-without old new items i packet are inside is each all = record {
-  each = λ lead.
-      let gone = held-removed lead items i packet inside in
-      let same = ap (λ p. one_of p.lead lead) is in
-      let was = are.each lead in
-      let now = each lead in
-      omega (arith, gone, same, was, now);
-  all =
-      let was = are.all in
-      let fewer = length-remove items i inside in
-      let long = length-map items arrival_in in
-      let short = length-map (remove items i) arrival_in in
-      omega (arith, was, all, fewer, long, short, inside);
+held-more : (lead : ℕ) (p : Arrival) (ps : List Arrival) → held_packets lead (p ∷ ps) ≡ held_packets lead ps + one_of p.lead lead
+unfolding held_packets
+held-more lead p ps = one-more (has_lead lead) p ps
+
+pub held-same : (lead : ℕ) (ps qs : List Arrival) → IsPermutation ps qs → held_packets lead qs ≡ held_packets lead ps
+unfolding held_packets
+held-same lead ps qs same = count-same (has_lead lead) ps qs same
+
+pub held-arrived : (lead : ℕ) (ps : List Arrival) (n : ℕ) → AreNumbered n ps → held_packets lead (arrived ps n) ≡ held_packets lead ps
+unfolding held_packets
+held-arrived lead ps n numbered = count-arrived (has_lead lead) ps n numbered
+
+-- the counts of packets are those of the same packets in another order
+pub counts-same : (counts : List Count) (ps qs : List Arrival) → IsPermutation ps qs → AreCounts counts ps → AreCounts counts qs
+counts-same counts ps qs same are = record {
+  each = λ lead. are.each lead ∙ sym (held-same lead ps qs same);
+  all = are.all ∙ sym (length_permutation ps qs same);
 }
 
--- and it was counted
-pub one-counted : (counts : List Count) (items : List HeldPacket) (i : ℕ) (packet : HeldPacket) → AreCounts counts (here_in items) → i < length items → packet ≡ get_or items i packet → 1 ≤ counted packet.lead counts
-one-counted counts items i packet are inside is =
-    let gone = held-removed packet.lead items i packet inside in
-    let own = sym (ap (λ p. one_of p.lead packet.lead) is) ∙ one-own packet.lead in
-    let was = are.each packet.lead in
-    omega (arith, gone, own, was)
+-- one more
+pub counts-came : (old new : List Count) (p : Arrival) (ps : List Arrival) → AreCounts old ps → ((lead : ℕ) → counted lead new ≡ counted lead old + one_of p.lead lead) → all_counted new ≡ all_counted old + 1 → AreCounts new (p ∷ ps)
+counts-came old new p ps are each all = record {
+  each = λ lead. (let were = are.each lead in omega (arith, were, each lead, held-more lead p ps));
+  all = (let were = are.all in omega (arith, were, all));
+}
+
+-- one less
+pub counts-left : (old new : List Count) (p : Arrival) (ps : List Arrival) → AreCounts old (p ∷ ps) → ((lead : ℕ) → counted lead new + one_of p.lead lead ≡ counted lead old) → all_counted new + 1 ≡ all_counted old → AreCounts new ps
+counts-left old new p ps are each all = record {
+  each = λ lead. (let were = are.each lead in omega (arith, were, each lead, held-more lead p ps));
+  all = (let were = are.all in omega (arith, were, all));
+}
+
+pub one-counted : (counts : List Count) (p : Arrival) (ps : List Arrival) → AreCounts counts (p ∷ ps) → 1 ≤ counted p.lead counts
+one-counted counts p ps are = (let are = are.each p.lead in omega (arith, are, held-more p.lead p ps, one-own p.lead))

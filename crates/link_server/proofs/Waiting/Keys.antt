@@ -1,14 +1,14 @@
--- Each key has its rank: as one comes, goes on to a queue, or leaves.
+-- Each key has its packet: as one comes, goes on to a queue, or leaves.
 use Rattle.std.proofs.Common.{◌≡◌, ℕ, if◌then◌else◌, ◌+◌, ◌<◌, ◌≤◌, Bool, true, false, nat_eq, List, [], ◌∷◌, ◌++◌, Option, Some, None, is_some, count_by, get_or, length, refl, sym, ap, ◌∙◌, subst, arith, inl, inr, cond}
 use Rattle.std.proofs.lemmas.Bool.{cases_Bool, eq-eqb, eqb-false, eqb-true, ne_eqb}
 use Rattle.std.proofs.lemmas.List.{append-nil, map-append, length-append, length-map}
 use Rattle.std.proofs.lemmas.List.Recursion.{is_sum_by}
 use Rattle.std.proofs.lemmas.List.Sorted.{sum_by-IsPermutation, length_permutation}
 use Rattle.std.specs.List.{sum_by}
-use Rattle.link_server.proofs.Words.{IsPermutation, Each, Entry, Rank}
+use Rattle.link_server.proofs.Words.{IsPermutation, Each, Entry, HeldPacket}
 use Rattle.slab.specs.Slab.{Slab, Updates, get}
 use Rattle.link_steps.proofs.ListFacts.{Each-append}
-use Rattle.link_server.specs.Keys.{rank_told, rank_at, ranks_at, queues_at, key_of, keys_of, keys_in, times, held_at, IsUnderTick, AreKeyed}
+use Rattle.link_server.specs.Keys.{packet_told, packet_at, packets_at, queues_at, key_of, keys_of, keys_in, times, held_at, IsUnderTick, AreKeyed}
 use Rattle.link_server.specs.Queues.{joined, first_of, after_first, pushed}
 use Rattle.link_server.proofs.Waiting.Queues.{Each-parts, comes-before, moved-between, joined-first, joined-map, pushed-map}
 
@@ -29,51 +29,51 @@ pub times-append : (key : ℕ) (xs ys : List ℕ) → times key (xs ++ ys) ≡ t
 times-append key [] ys = omega arith
 times-append key (x ∷ xs) ys = let rest = times-append key xs ys in omega (arith, rest)
 
--- ---- ranks that stay
+-- ---- packets that stay
 
--- another key has the rank that it had
-same-rank : (old new : Slab Rank) (key : ℕ) (slot : Option Rank) (k : ℕ) → Updates old new key slot → nat_eq k key ≡ false → rank_at new.slots k ≡ rank_at old.slots k
-same-rank old new key slot k updates other = ap rank_told (updates.others k (eqb-false k key other))
+-- another key has the packet that it had
+same-packet : (old new : Slab HeldPacket) (key : ℕ) (slot : Option HeldPacket) (k : ℕ) → Updates old new key slot → nat_eq k key ≡ false → packet_at new.slots k ≡ packet_at old.slots k
+same-packet old new key slot k updates other = ap packet_told (updates.others k (eqb-false k key other))
 
-own-rank : (old new : Slab Rank) (key : ℕ) (rank : Rank) → Updates old new key (Some rank) → rank_at new.slots key ≡ rank
-own-rank old new key rank updates = ap rank_told updates.changed
+own-packet : (old new : Slab HeldPacket) (key : ℕ) (packet : HeldPacket) → Updates old new key (Some packet) → packet_at new.slots key ≡ packet
+own-packet old new key packet updates = ap packet_told updates.changed
 
-module _ (old new : Slab Rank) (key : ℕ) (slot : Option Rank) (updates : Updates old new key slot) where
-  pub same-ranks : (keys : List ℕ) → times key keys ≡ 0 → ranks_at new.slots keys ≡ ranks_at old.slots keys
-  same-ranks [] none = refl
-  same-ranks (k ∷ keys) none =
+module _ (old new : Slab HeldPacket) (key : ℕ) (slot : Option HeldPacket) (updates : Updates old new key slot) where
+  pub same-packets : (keys : List ℕ) → times key keys ≡ 0 → packets_at new.slots keys ≡ packets_at old.slots keys
+  same-packets [] none = refl
+  same-packets (k ∷ keys) none =
       elim (cases_Bool (nat_eq k key)) [
         | inl at ↦ absurd (let one : ◌≡◌ {A = ℕ} (if nat_eq k key then 1 else 0) 1 = rw at refl in omega (arith, one, none))
         | inr other ↦ (
-            let rest = same-ranks keys (omega (arith, none)) in
-            ap (λ (r : Rank). r ∷ ranks_at new.slots keys) (same-rank old new key slot k updates other) ∙ ap (λ (rs : List Rank). rank_at old.slots k ∷ rs) rest)
+            let rest = same-packets keys (omega (arith, none)) in
+            ap (λ (r : HeldPacket). r ∷ packets_at new.slots keys) (same-packet old new key slot k updates other) ∙ ap (λ (rs : List HeldPacket). packet_at old.slots k ∷ rs) rest)
       ]
 
   pub same-queues : (queues : List (List ℕ)) → times key (joined queues) ≡ 0 → queues_at new.slots queues ≡ queues_at old.slots queues
   same-queues [] none = refl
   same-queues (queue ∷ queues) none =
       let parts = times-append key queue (joined queues) in
-      ap (λ (rs : List Rank). rs ∷ queues_at new.slots queues) (same-ranks queue (omega (arith, parts, none)))
-      ∙ ap (λ (rs : List (List Rank)). ranks_at old.slots queue ∷ rs) (same-queues queues (omega (arith, parts, none)))
+      ap (λ (rs : List HeldPacket). rs ∷ queues_at new.slots queues) (same-packets queue (omega (arith, parts, none)))
+      ∙ ap (λ (rs : List (List HeldPacket)). packets_at old.slots queue ∷ rs) (same-queues queues (omega (arith, parts, none)))
 
   same-under : (later : List Entry) → times key (keys_of later) ≡ 0 → Each (IsUnderTick old.slots) later → Each (IsUnderTick new.slots) later
   same-under [] none under = tt
   same-under (entry ∷ later) none under =
       elim (cases_Bool (nat_eq entry.1 key)) [
         | inl at ↦ absurd (let one : ◌≡◌ {A = ℕ} (if nat_eq entry.1 key then 1 else 0) 1 = rw at refl in omega (arith, one, none))
-        | inr other ↦ (under.0 ∙ sym (ap (λ (r : Rank). r.eligible) (same-rank old new key slot entry.1 updates other)), same-under later (omega (arith, none)) under.1)
+        | inr other ↦ (under.0 ∙ sym (ap (λ (r : HeldPacket). r.eligible) (same-packet old new key slot entry.1 updates other)), same-under later (omega (arith, none)) under.1)
       ]
 
 -- ---- which keys are held
 
-held-other : (old new : Slab Rank) (key : ℕ) (slot : Option Rank) (k : ℕ) → Updates old new key slot → nat_eq k key ≡ false → held_at new.slots k ≡ held_at old.slots k
-held-other old new key slot k updates other = ap (λ (o : Option Rank). if is_some o then 1 else 0) (updates.others k (eqb-false k key other))
+held-other : (old new : Slab HeldPacket) (key : ℕ) (slot : Option HeldPacket) (k : ℕ) → Updates old new key slot → nat_eq k key ≡ false → held_at new.slots k ≡ held_at old.slots k
+held-other old new key slot k updates other = ap (λ (o : Option HeldPacket). if is_some o then 1 else 0) (updates.others k (eqb-false k key other))
 
-held-own : (old new : Slab Rank) (key : ℕ) (slot : Option Rank) → Updates old new key slot → held_at new.slots key ≡ (if is_some slot then 1 else 0)
-held-own old new key slot updates = ap (λ (o : Option Rank). if is_some o then 1 else 0) updates.changed
+held-own : (old new : Slab HeldPacket) (key : ℕ) (slot : Option HeldPacket) → Updates old new key slot → held_at new.slots key ≡ (if is_some slot then 1 else 0)
+held-own old new key slot updates = ap (λ (o : Option HeldPacket). if is_some o then 1 else 0) updates.changed
 
-held-none : (old : Slab Rank) (key : ℕ) → get old key ≡ None → held_at old.slots key ≡ 0
-held-none old key none = ap (λ (o : Option Rank). if is_some o then 1 else 0) none
+held-none : (old : Slab HeldPacket) (key : ℕ) → get old key ≡ None → held_at old.slots key ≡ 0
+held-none old key none = ap (λ (o : Option HeldPacket). if is_some o then 1 else 0) none
 
 -- ---- a key comes
 
@@ -83,17 +83,17 @@ came later queues tick key =
     subst (λ (keys : List ℕ). IsPermutation (key ∷ keys_in later queues) (keys ++ joined queues)) (sym (map-append key_of later ((tick, key) ∷ []))) (comes-before (keys_of later) key (joined queues))
 
 -- a key that isn't held is none of these
-none-held : (slots : List (Option Rank)) (later : List Entry) (queues : List (List ℕ)) (key : ℕ) → AreKeyed slots later queues → held_at slots key ≡ 0 → (times key (keys_of later) ≡ 0) × (times key (joined queues) ≡ 0)
+none-held : (slots : List (Option HeldPacket)) (later : List Entry) (queues : List (List ℕ)) (key : ℕ) → AreKeyed slots later queues → held_at slots key ≡ 0 → (times key (keys_of later) ≡ 0) × (times key (joined queues) ≡ 0)
 none-held slots later queues key keyed none =
     let once = keyed.once key in
     let parts = times-append key (keys_of later) (joined queues) in
     (omega (arith, once, parts, none), omega (arith, once, parts, none))
 
-pub keyed-came : (old new : Slab Rank) (later : List Entry) (queues : List (List ℕ)) (key : ℕ) (rank : Rank) → AreKeyed old.slots later queues → get old key ≡ None → Updates old new key (Some rank) → count_by is_some new.slots ≡ count_by is_some old.slots + 1
-    → AreKeyed new.slots (later ++ (rank.eligible, key) ∷ []) queues
-keyed-came old new later queues key rank keyed none updates more =
+pub keyed-came : (old new : Slab HeldPacket) (later : List Entry) (queues : List (List ℕ)) (key : ℕ) (packet : HeldPacket) → AreKeyed old.slots later queues → get old key ≡ None → Updates old new key (Some packet) → count_by is_some new.slots ≡ count_by is_some old.slots + 1
+    → AreKeyed new.slots (later ++ (packet.eligible, key) ∷ []) queues
+keyed-came old new later queues key packet keyed none updates more =
     let apart = none-held old.slots later queues key keyed (held-none old key none) in
-    let moved = came later queues rank.eligible key in
+    let moved = came later queues packet.eligible key in
     record {
       once = λ k.
           let all = times-same k _ _ moved in
@@ -102,32 +102,32 @@ keyed-came old new later queues key rank keyed none updates more =
             | inl at ↦ (
                 let same = eqb-true k key at in
                 let one : ◌≡◌ {A = ℕ} (if nat_eq key k then 1 else 0) 1 = rw (eq-eqb key k (sym same)) refl in
-                let held : held_at new.slots k ≡ 1 = ap (held_at new.slots) same ∙ held-own old new key (Some rank) updates in
+                let held : held_at new.slots k ≡ 1 = ap (held_at new.slots) same ∙ held-own old new key (Some packet) updates in
                 let not : held_at old.slots k ≡ 0 = ap (held_at old.slots) same ∙ held-none old key none in
                 omega (arith, all, were, one, held, not))
             | inr other ↦ (
                 let zero_more : ◌≡◌ {A = ℕ} (if nat_eq key k then 1 else 0) 0 = rw (ne_eqb key k (λ same. eqb-false k key other (sym same))) refl in
-                let held = held-other old new key (Some rank) k updates other in
+                let held = held-other old new key (Some packet) k updates other in
                 omega (arith, all, were, zero_more, held))
           ];
       counted = (let long = length_permutation _ _ moved in let were = keyed.counted in omega (arith, long, were, more));
-      under = Each-append (IsUnderTick new.slots) later ((rank.eligible, key) ∷ []) (same-under old new key (Some rank) updates later apart.0 keyed.under) (sym (ap (λ (r : Rank). r.eligible) (own-rank old new key rank updates)), tt);
+      under = Each-append (IsUnderTick new.slots) later ((packet.eligible, key) ∷ []) (same-under old new key (Some packet) updates later apart.0 keyed.under) (sym (ap (λ (r : HeldPacket). r.eligible) (own-packet old new key packet updates)), tt);
     }
 
--- the ranks with one more
-pub ranks-came : (old new : Slab Rank) (later : List Entry) (queues : List (List ℕ)) (key : ℕ) (rank : Rank) → AreKeyed old.slots later queues → get old key ≡ None → Updates old new key (Some rank)
-    → (ranks_at new.slots (keys_of (later ++ (rank.eligible, key) ∷ [])) ≡ ranks_at old.slots (keys_of later) ++ rank ∷ []) × (queues_at new.slots queues ≡ queues_at old.slots queues)
-ranks-came old new later queues key rank keyed none updates =
+-- the packets with one more
+pub packets-came : (old new : Slab HeldPacket) (later : List Entry) (queues : List (List ℕ)) (key : ℕ) (packet : HeldPacket) → AreKeyed old.slots later queues → get old key ≡ None → Updates old new key (Some packet)
+    → (packets_at new.slots (keys_of (later ++ (packet.eligible, key) ∷ [])) ≡ packets_at old.slots (keys_of later) ++ packet ∷ []) × (queues_at new.slots queues ≡ queues_at old.slots queues)
+packets-came old new later queues key packet keyed none updates =
     let apart = none-held old.slots later queues key keyed (held-none old key none) in (
-      ap (ranks_at new.slots) (map-append key_of later ((rank.eligible, key) ∷ [])) ∙ map-append (rank_at new.slots) (keys_of later) (key ∷ [])
-          ∙ ap (λ (r : Rank). ranks_at new.slots (keys_of later) ++ r ∷ []) (own-rank old new key rank updates)
-          ∙ ap (λ (rs : List Rank). rs ++ rank ∷ []) (same-ranks old new key (Some rank) updates (keys_of later) apart.0),
-      same-queues old new key (Some rank) updates queues apart.1,
+      ap (packets_at new.slots) (map-append key_of later ((packet.eligible, key) ∷ [])) ∙ map-append (packet_at new.slots) (keys_of later) (key ∷ [])
+          ∙ ap (λ (r : HeldPacket). packets_at new.slots (keys_of later) ++ r ∷ []) (own-packet old new key packet updates)
+          ∙ ap (λ (rs : List HeldPacket). rs ++ packet ∷ []) (same-packets old new key (Some packet) updates (keys_of later) apart.0),
+      same-queues old new key (Some packet) updates queues apart.1,
     )
 
 -- ---- a key goes on to a queue
 
-pub keyed-moved : (slots : List (Option Rank)) (before after : List Entry) (queues : List (List ℕ)) (tick key place : ℕ) → place < length queues → AreKeyed slots (before ++ (tick, key) ∷ after) queues → AreKeyed slots (before ++ after) (pushed queues place key)
+pub keyed-moved : (slots : List (Option HeldPacket)) (before after : List Entry) (queues : List (List ℕ)) (tick key place : ℕ) → place < length queues → AreKeyed slots (before ++ (tick, key) ∷ after) queues → AreKeyed slots (before ++ after) (pushed queues place key)
 keyed-moved slots before after queues tick key place inside keyed = record {
   once = λ k. times-same k _ _ moved ∙ keyed.once k;
   counted = keyed.counted ∙ sym (length_permutation _ _ moved);
@@ -139,26 +139,26 @@ keyed-moved slots before after queues tick key place inside keyed = record {
 
 -- ---- a key comes into a queue
 
-module _ (old new : Slab Rank) (later : List Entry) (queues : List (List ℕ)) (key place : ℕ) (rank : Rank) where
-  pub keyed-ready : place < length queues → AreKeyed old.slots later queues → get old key ≡ None → Updates old new key (Some rank) → count_by is_some new.slots ≡ count_by is_some old.slots + 1 → AreKeyed new.slots later (pushed queues place key)
+module _ (old new : Slab HeldPacket) (later : List Entry) (queues : List (List ℕ)) (key place : ℕ) (packet : HeldPacket) where
+  pub keyed-ready : place < length queues → AreKeyed old.slots later queues → get old key ≡ None → Updates old new key (Some packet) → count_by is_some new.slots ≡ count_by is_some old.slots + 1 → AreKeyed new.slots later (pushed queues place key)
   keyed-ready inside keyed none updates more =
       subst (λ entries. AreKeyed new.slots entries (pushed queues place key)) (append-nil later)
-      (keyed-moved new.slots later [] queues rank.eligible key place inside (keyed-came old new later queues key rank keyed none updates more))
+      (keyed-moved new.slots later [] queues packet.eligible key place inside (keyed-came old new later queues key packet keyed none updates more))
 
-  pub ranks-ready : AreKeyed old.slots later queues → get old key ≡ None → Updates old new key (Some rank)
-      → (ranks_at new.slots (keys_of later) ≡ ranks_at old.slots (keys_of later)) × (queues_at new.slots (pushed queues place key) ≡ pushed (queues_at old.slots queues) place rank)
-  ranks-ready keyed none updates =
+  pub packets-ready : AreKeyed old.slots later queues → get old key ≡ None → Updates old new key (Some packet)
+      → (packets_at new.slots (keys_of later) ≡ packets_at old.slots (keys_of later)) × (queues_at new.slots (pushed queues place key) ≡ pushed (queues_at old.slots queues) place packet)
+  packets-ready keyed none updates =
       let apart = none-held old.slots later queues key keyed (held-none old key none) in (
-        same-ranks old new key (Some rank) updates (keys_of later) apart.0,
-        pushed-map (rank_at new.slots) queues place key
-            ∙ ap (pushed (queues_at new.slots queues) place) (own-rank old new key rank updates)
-            ∙ ap (λ qs. pushed qs place rank) (same-queues old new key (Some rank) updates queues apart.1),
+        same-packets old new key (Some packet) updates (keys_of later) apart.0,
+        pushed-map (packet_at new.slots) queues place key
+            ∙ ap (pushed (queues_at new.slots queues) place) (own-packet old new key packet updates)
+            ∙ ap (λ qs. pushed qs place packet) (same-queues old new key (Some packet) updates queues apart.1),
       )
 
 -- ---- a key leaves
 
 -- the key of the first in the queues is held, and is none of the others
-pub first-held : (slots : List (Option Rank)) (later : List Entry) (queues : List (List ℕ)) (key : ℕ) → AreKeyed slots later queues → first_of queues ≡ Some key
+pub first-held : (slots : List (Option HeldPacket)) (later : List Entry) (queues : List (List ℕ)) (key : ℕ) → AreKeyed slots later queues → first_of queues ≡ Some key
     → (held_at slots key ≡ 1) × (times key (keys_of later) ≡ 0) × (times key (joined (after_first queues)) ≡ 0)
 first-held slots later queues key keyed first =
     let once = keyed.once key in
@@ -171,7 +171,7 @@ first-held slots later queues key keyed first =
       held-most true = omega arith
       held-most false = omega arith
 
-pub keyed-left : (old new : Slab Rank) (later : List Entry) (queues : List (List ℕ)) (key : ℕ) → AreKeyed old.slots later queues → first_of queues ≡ Some key → Updates old new key None → count_by is_some new.slots + 1 ≡ count_by is_some old.slots
+pub keyed-left : (old new : Slab HeldPacket) (later : List Entry) (queues : List (List ℕ)) (key : ℕ) → AreKeyed old.slots later queues → first_of queues ≡ Some key → Updates old new key None → count_by is_some new.slots + 1 ≡ count_by is_some old.slots
     → AreKeyed new.slots later (after_first queues)
 keyed-left old new later queues key keyed first updates fewer =
     let apart = first-held old.slots later queues key keyed first in
@@ -203,30 +203,30 @@ keyed-left old new later queues key keyed first updates fewer =
       under = same-under old new key None updates later apart.1 keyed.under;
     }
 
-pub ranks-left : (old new : Slab Rank) (later : List Entry) (queues : List (List ℕ)) (key : ℕ) → AreKeyed old.slots later queues → first_of queues ≡ Some key → Updates old new key None
-    → (ranks_at new.slots (keys_of later) ≡ ranks_at old.slots (keys_of later)) × (queues_at new.slots (after_first queues) ≡ queues_at old.slots (after_first queues))
-ranks-left old new later queues key keyed first updates =
+pub packets-left : (old new : Slab HeldPacket) (later : List Entry) (queues : List (List ℕ)) (key : ℕ) → AreKeyed old.slots later queues → first_of queues ≡ Some key → Updates old new key None
+    → (packets_at new.slots (keys_of later) ≡ packets_at old.slots (keys_of later)) × (queues_at new.slots (after_first queues) ≡ queues_at old.slots (after_first queues))
+packets-left old new later queues key keyed first updates =
     let apart = first-held old.slots later queues key keyed first in
-    (same-ranks old new key None updates (keys_of later) apart.1, same-queues old new key None updates (after_first queues) apart.2)
+    (same-packets old new key None updates (keys_of later) apart.1, same-queues old new key None updates (after_first queues) apart.2)
 
--- ---- keys and their ranks
+-- ---- keys and their packets
 
--- there are as many ranks as keys
-pub long-ranks : (slots : List (Option Rank)) (later : List Entry) (queues : List (List ℕ)) → length (ranks_at slots (keys_of later) ++ joined (queues_at slots queues)) ≡ length (keys_in later queues)
-long-ranks slots later queues =
-    let all = length-append (ranks_at slots (keys_of later)) (joined (queues_at slots queues)) in
+-- there are as many packets as keys
+pub long-packets : (slots : List (Option HeldPacket)) (later : List Entry) (queues : List (List ℕ)) → length (packets_at slots (keys_of later) ++ joined (queues_at slots queues)) ≡ length (keys_in later queues)
+long-packets slots later queues =
+    let all = length-append (packets_at slots (keys_of later)) (joined (queues_at slots queues)) in
     let keys = length-append (keys_of later) (joined queues) in
-    let first = length-map (keys_of later) (rank_at slots) in
-    let rest = ap length (joined-map (rank_at slots) queues) ∙ length-map (joined queues) (rank_at slots) in
+    let first = length-map (keys_of later) (packet_at slots) in
+    let rest = ap length (joined-map (packet_at slots) queues) ∙ length-map (joined queues) (packet_at slots) in
     omega (arith, all, keys, first, rest)
 
-pub is-held : (slots : List (Option Rank)) (key : ℕ) → held_at slots key ≡ 1 → is_some (get_or slots key None) ≡ true
+pub is-held : (slots : List (Option HeldPacket)) (key : ℕ) → held_at slots key ≡ 1 → is_some (get_or slots key None) ≡ true
 is-held slots key held = some (is_some (get_or slots key None)) held where
   some : (b : Bool) → ◌≡◌ {A = ℕ} (if b then 1 else 0) 1 → b ≡ true
   some true one = refl
   some false one = absurd (omega (arith, one))
 
--- what the ticks of entries have, the eligible ticks of their ranks have
-pub under-tick : (slots : List (Option Rank)) (P : ℕ → Type 0) (entries : List Entry) → Each (IsUnderTick slots) entries → Each (λ entry. P entry.0) entries → Each (λ rank. P rank.eligible) (ranks_at slots (keys_of entries))
+-- what the ticks of entries have, the eligible ticks of their packets have
+pub under-tick : (slots : List (Option HeldPacket)) (P : ℕ → Type 0) (entries : List Entry) → Each (IsUnderTick slots) entries → Each (λ entry. P entry.0) entries → Each (λ packet. P packet.eligible) (packets_at slots (keys_of entries))
 under-tick slots P [] under each = tt
 under-tick slots P (entry ∷ entries) under each = (subst P under.0 each.0, under-tick slots P entries under.1 each.1)

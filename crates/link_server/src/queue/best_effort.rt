@@ -1,6 +1,6 @@
 //! The best-effort packets of a link.
-ghost use Rattle.std.specs.Prelude.{◌≡◌, ◌≤◌};
-ghost use Rattle.link_steps.specs.BestEffort.{best_arrival};
+ghost use Rattle.std.specs.Prelude.{◌≡◌, ◌≤◌, if◌then◌else◌};
+ghost use Rattle.link_steps.specs.BestEffort.{best_arrival, is_best};
 ghost use Rattle.link_server.specs.Packets.{arrival_in};
 
 use crate::queue::held_packet::HeldPacket;
@@ -24,4 +24,12 @@ pub(crate) fn best_packet(bounds: &Bounds, place: u64, size: u32, clock: u64) ->
         level: bounds.len() + 1,
         next: None,
     }
+}
+
+// How many best-effort packets it is: one or none.
+pub(crate) fn best_in(packet: &HeldPacket, bounds: &Bounds) -> u64
+    ensures value { result ≡ (if is_best bounds.now (arrival_in packet.now) then 1 else 0) }
+    ensures most { result ≤ 1 }
+{
+    if packet.level > bounds.len() { 1 } else { 0 }
 }

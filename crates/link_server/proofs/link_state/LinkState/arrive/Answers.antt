@@ -143,6 +143,7 @@ invariant_of-self-2 c =
       of_shape = still-of link c.take-taken.new.self (ap (λ (table : KeptTable). table.server) c.take-taken.ensures.table) (ap (λ (table : KeptTable). table.buffer) c.take-taken.ensures.table);
       looked = (let looked = ap (λ (table : KeptTable). table.looked) c.take-taken.ensures.table in omega (arith, looked), c.push.ensures.looked);
       few = omega (arith, few, room);
+      same_bounds = ap (λ (queue : KeptQueue). queue.bounds) c.push.ensures.kept ∙ link.same_bounds;
       sound =
           subst (λ n. IsSound link.shape n (account link.clock c.push.new.self c.take-taken.new.self.rows)) (sym room)
           (subst (IsSound link.shape link.queue.room) (sym after) (sound at.After-take-taken here));

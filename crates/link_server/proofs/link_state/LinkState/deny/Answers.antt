@@ -49,6 +49,7 @@ invariant_of-self c =
       of_shape = still-of link c.remove.new.self (ap (λ (table : KeptTable). table.server) c.remove.ensures) (ap (λ (table : KeptTable). table.buffer) c.remove.ensures);
       looked = (subst (λ t. t ≤ link.clock) (sym (ap (λ (table : KeptTable). table.looked) c.remove.ensures)) link.looked.0, link.looked.1);
       few = link.few;
+      same_bounds = link.same_bounds;
       sound = subst (IsSound link.shape link.queue.room) (sym (kept after)) (sound-deny link.shape link.queue.room (kept_in link) c.args.chan Denied link.sound);
       stood = still-stood link (Deny c.args.chan) Denied _ tt (replied after) (kept after);
       rests = due-now _ _;

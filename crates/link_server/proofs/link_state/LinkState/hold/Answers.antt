@@ -47,6 +47,7 @@ invariant_of-self c =
       of_shape = link.of_shape;
       looked = (link.looked.0, let was = link.looked.1 in let looked = ap (λ (queue : KeptQueue). queue.looked) kept in omega (arith, was, looked));
       few = c.reserve.ensures.small link.few;
+      same_bounds = ap (λ (queue : KeptQueue). queue.bounds) kept ∙ link.same_bounds;
       sound = subst (λ (queue : KeptQueue). IsSound link.shape c.reserve.new.self.room (account link.clock queue link.table.rows)) (sym kept) (sound-larger link.shape link.queue.room c.reserve.new.self.room (kept_in link) c.reserve.ensures.grows link.sound);
       stood = subst (λ (queue : KeptQueue). IsStood link.shape (account link.clock queue link.table.rows)) (sym kept) link.stood;
       rests = subst (λ (queue : KeptQueue). RestsFromClock link.shape link.due (account link.clock queue link.table.rows)) (sym kept) link.rests;
@@ -84,6 +85,7 @@ invariant_of-self-2 c =
         let was = link.looked.1 in let looked = ap (λ (queue : KeptQueue). queue.looked) kept in omega (arith, was, looked),
       );
       few = c.reserve.ensures.small link.few;
+      same_bounds = ap (λ (queue : KeptQueue). queue.bounds) kept ∙ link.same_bounds;
       sound = subst (IsSound link.shape room) (sym after) (sound-held link.shape room (kept_in link) c.args.wanted.now c.args.offer.now (row_in row) c.requires.fits larger c.requires.may c.in_ok-row.ensures enough);
       stood = subst (IsStood link.shape) (sym after) (stood-offered link.shape (kept_in link) c.args.wanted.now c.args.offer.now (rows-have link) c.requires.fits c.requires.may link.stood);
       rests = due-now _ _;
@@ -118,6 +120,7 @@ invariant_of-self-in-Break-branch-3 c =
         let was = link.looked.1 in let looked = ap (λ (queue : KeptQueue). queue.looked) kept in omega (arith, was, looked),
       );
       few = c.reserve.ensures.small link.few;
+      same_bounds = ap (λ (queue : KeptQueue). queue.bounds) kept ∙ link.same_bounds;
       sound = subst (IsSound link.shape c.reserve.new.self.room) (sym both) (sound-larger link.shape link.queue.room c.reserve.new.self.room (kept_in link) c.reserve.ensures.grows link.sound);
       stood = subst (IsStood link.shape) (sym both) link.stood;
       rests = subst (RestsFromClock link.shape link.due) (sym both) link.rests;

@@ -34,7 +34,7 @@ take_source_packets-full-requires-clause-may c =
     (subst (MayBring link.shape.bounds link.clock link.queue) (sym (at-shape (λ bounds rows. rows) link table c.expire.ensures)) (may-bring link c.requires.early))
 
 pub best_fits-fits-requires : goal.best_fits-fits-requires
-best_fits-fits-requires c = record { ahead = ahead-from c.args.self.now.clock c.args.self.now.clock c.args.self.now.queue.best (omega arith) c.args.self.now.sound.best_ahead }
+best_fits-fits-requires c = record { ahead = ahead-from c.args.self.now.clock c.args.self.now.clock c.args.self.now.queue.best (omega arith) c.args.self.now.sound.best_ahead; bounds = c.args.self.now.same_bounds }
 
 -- the queue once the sources have brought their packets
 brought : (c : After-take_source_packets-full) → c.take_source_packets-full.new.queue ≡ queue_after c.args.self.now.shape.bounds c.args.self.now.clock (held_rows c.args.self.now.shape (kept_in c.args.self.now)) c.take_source_packets-full.new.queue.looked c.args.self.now.queue
@@ -119,6 +119,7 @@ invariant_of-self c =
     let reply = Ticked link.clock c.take_source_packets-full.result c.serve-left.result.sent c.serve-left.result.best_sent c.take_best-best_lost.result in
     let table = c.take_source_packets-full.ensures.table in
     let room = ap (λ (q : KeptQueue). q.room) c.serve-left.ensures.kept ∙ ap (λ (q : KeptQueue). q.room) c.take_best-best_lost.ensures.kept ∙ ap (λ (q : KeptQueue). q.room) queue in
+    let bounds = ap (λ (q : KeptQueue). q.bounds) c.serve-left.ensures.kept ∙ ap (λ (q : KeptQueue). q.bounds) c.take_best-best_lost.ensures.kept ∙ ap (λ (q : KeptQueue). q.bounds) queue in
     let few = link.few in
     record {
       of_shape =
@@ -129,6 +130,7 @@ invariant_of-self c =
           subst (λ n. IsSound link.shape n (account (link.clock + 1) c.serve-left.new.self c.take_source_packets-full.new.self.rows)) (sym room)
           (subst (IsSound link.shape link.queue.room) (sym after) (sound-tick link.shape link.queue.room (kept_in link) reply link.sound));
       few = omega (arith, few, room);
+      same_bounds = bounds ∙ link.same_bounds;
       stood = still-stood link Tick reply _ tt (replied at.After-serve-left (ap (λ (q : KeptQueue). q.best) queue) served) after;
       rests = λ _. record {
         rows =

@@ -14,7 +14,7 @@ use Rattle.link_server.proofs.link_state.LinkState.new.Goals.{In_ok-new}
 
 nothing : (c : In_ok-new) → account 0 c.reserve.new.self c.in_ok-new.field-0.rows ≡ nothing_kept
 nothing c =
-    account-nothing c.reserve.new.self.room c.reserve.new.self c.in_ok-new.field-0.rows
+    account-nothing c.reserve.new.self.room c.args.shape.bounds c.reserve.new.self c.in_ok-new.field-0.rows
     (c.reserve.ensures.kept ∙ ap (λ (queue : KeptQueue). record queue { room = c.reserve.new.self.room }) c.in_ok-queue.ensures)
     (ap (λ (table : KeptTable). table.rows) c.in_ok-new.ensures)
 
@@ -41,6 +41,9 @@ invariant_of-result-clause-looked c =
     let none = ap (λ (queue : KeptQueue). queue.looked) c.in_ok-queue.ensures in
     let table = ap (λ (table : KeptTable). table.looked) c.in_ok-new.ensures in
     (omega (arith, table), omega (arith, kept, none))
+
+pub invariant_of-result-clause-same_bounds : goal.invariant_of-result-clause-same_bounds
+invariant_of-result-clause-same_bounds c = ap (λ (queue : KeptQueue). queue.bounds) c.reserve.ensures.kept ∙ ap (λ (queue : KeptQueue). queue.bounds) c.in_ok-queue.ensures
 
 pub invariant_of-result-clause-rests : goal.invariant_of-result-clause-rests
 invariant_of-result-clause-rests c = due-now _ _

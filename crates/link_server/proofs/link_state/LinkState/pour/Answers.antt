@@ -51,6 +51,7 @@ invariant_of-self c =
       looked = (l.looked.0, let was = l.looked.1 in omega (arith, was, looked));
       sound = subst (λ n. IsSound l.shape n (account l.clock c.plan_best.new.self l.table.rows)) (sym room) sound;
       few = omega (arith, few, room);
+      same_bounds = ap (λ (queue : KeptQueue). queue.bounds) c.plan_best.ensures ∙ l.same_bounds;
       stood = stood;
       rests = due-now _ _;
     }

@@ -76,6 +76,7 @@ invariant_of-self c =
       of_shape = still-of link c.commit.new.self (ap (λ (table : KeptTable). table.server) c.commit.ensures) (ap (λ (table : KeptTable). table.buffer) c.commit.ensures);
       looked = (subst (λ t. t ≤ link.clock) (sym (ap (λ (table : KeptTable). table.looked) c.commit.ensures)) link.looked.0, link.looked.1);
       few = link.few;
+      same_bounds = link.same_bounds;
       sound = subst (IsSound link.shape link.queue.room) (sym (kept after)) (sound-relax link.shape link.queue.room (kept_in link) c.args.chan c.args.level c.args.up_bound (Relaxed link.clock) c.requires.fits link.sound (replied after));
       stood = still-stood link (Relax c.args.chan c.args.level c.args.up_bound) (Relaxed link.clock) _ c.requires.fits (replied after) (kept after);
       rests = due-now _ _;

@@ -66,6 +66,7 @@ invariant_of-self c =
       of_shape = still-of link c.close.new.self (ap (λ (table : KeptTable). table.server) c.close.ensures) (ap (λ (table : KeptTable). table.buffer) c.close.ensures);
       looked = (subst (λ t. t ≤ link.clock) (sym (ap (λ (table : KeptTable). table.looked) c.close.ensures)) (omega arith), link.looked.1);
       few = link.few;
+      same_bounds = link.same_bounds;
       sound = subst (IsSound link.shape link.queue.room) (sym (closed after place)) (sound-release link.shape link.queue.room (kept_in link) c.args.chan c.args.upstream (Closing c.count_at_release-count.result c.cancelled_at_release-cancelled.result) link.sound (answered after (found at.After-row-row place)));
       stood = still-stood link (Release c.args.chan c.args.upstream) ((Closing c.count_at_release-count.result c.cancelled_at_release-cancelled.result)) _ tt (answered after (found at.After-row-row place)) (closed after place);
       rests = due-now _ _;

@@ -14,6 +14,7 @@ invariant_of-self c =
       of_shape = link.of_shape;
       looked = (let looked = link.looked.0 in omega (arith, looked), let looked = link.looked.1 in omega (arith, looked));
       few = link.few;
+      same_bounds = link.same_bounds;
       sound = later-sound link.shape link.queue.room rests.0 c.args.ticks (kept_in link) rests.1.0 rests.1.1 link.sound;
       stood = later-stood link.shape rests.0 c.args.ticks (kept_in link) (rows-have link) rests.1.0 rests.1.1 link.stood;
       rests = λ before. later-rests link.shape link.due c.args.ticks (kept_in link) (link.rests (omega (arith, before)));

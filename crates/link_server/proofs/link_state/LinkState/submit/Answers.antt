@@ -72,6 +72,7 @@ invariant_of-self c =
       of_shape = still-of link c.plan.new.self (ap (λ (table : KeptTable). table.server) c.plan.ensures) (ap (λ (table : KeptTable). table.buffer) c.plan.ensures);
       looked = (subst (λ t. t ≤ link.clock) (sym (ap (λ (table : KeptTable). table.looked) c.plan.ensures)) link.looked.0, link.looked.1);
       few = link.few;
+      same_bounds = link.same_bounds;
       sound = subst (IsSound link.shape link.queue.room) (sym (kept after)) (sound-submit link.shape link.queue.room (kept_in link) c.args.chan c.args.count c.args.gap c.args.size (Planned link.clock) c.requires.fits link.sound (replied after));
       stood = still-stood link (Submit c.args.chan c.args.count c.args.gap c.args.size) (Planned link.clock) _ c.requires.fits (replied after) (kept after);
       rests = due-now _ _;

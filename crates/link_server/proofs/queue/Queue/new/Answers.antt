@@ -1,29 +1,27 @@
 -- None are here, and none are planned.
-use Rattle.std.proofs.Common.{◌≡◌, length, refl, ap, arith}
+use Rattle.std.proofs.Common.{[], length, refl, sym, ap, subst, arith}
 use Rattle.link_steps.specs.Rows.{planned_from}
-use Rattle.link_server.specs.KeyedList.{Listed}
-use Rattle.link_server.specs.Line.{ranks_in}
-use Rattle.link_server.proofs.Words.{HeldPacket}
+use Rattle.link_server.specs.Arrived.{arrived, HaveOwnNumbers, AreNumbered}
+use Rattle.link_server.specs.Counts.{AreCounts}
+use Rattle.link_server.specs.Packets.{here_in}
+use Rattle.link_server.proofs.Words.{filter, is_best}
 use Rattle.link_server.proofs.Waiting.Counts.{none-counted}
 use Rattle.link_server.proofs.queue.Queue.new.Goals as goal
 
 pub invariant_of-result-2 : goal.invariant_of-result-2
 invariant_of-result-2 c =
-    let items = ap (λ (list : Listed HeldPacket). list.items) c.new.ensures in
-    let none : length (ranks_in c.in_ok-new.field-0) ≡ 0 = ap length c.in_ok-new.ensures.ranks in
+    let none = c.in_ok-new.ensures.waiting in
     record {
-      numbered = rw items (omega arith);
-      ranked = rw items tt;
-      few = omega (arith, none, ap length items);
-      fits = omega (arith, ap length items);
-      holds = omega arith;
+      own = subst (λ packets. HaveOwnNumbers (here_in packets)) (sym none) (λ n. omega arith);
+      numbered = subst (λ packets. AreNumbered 0 (here_in packets)) (sym none) tt;
+      fits = (let long = ap (λ packets. length (here_in packets)) none in omega (arith, long));
       lines_up = omega arith;
-      counts_are = rw (items, c.new-2.ensures.items) none-counted;
       counts_fit = omega arith;
-      latest = omega (arith, c.in_ok-new.ensures.newest);
-      counts_sorted = rw c.new-2.ensures.items tt;
+      counts_are = rw c.new.ensures.items (subst (λ packets. AreCounts [] (here_in packets)) (sym none) none-counted);
+      counts_sorted = rw c.new.ensures.items tt;
+      best_counted = ap (λ packets. length (filter (is_best c.args.bounds) (here_in packets))) (sym none);
     }
 
 pub returns : goal.returns
-unfolding planned_from
-returns c = rw (ap (λ (list : Listed HeldPacket). list.items) c.new.ensures, c.in_ok-new.ensures.until) refl
+unfolding planned_from arrived
+returns c = rw c.in_ok-new.ensures.until refl

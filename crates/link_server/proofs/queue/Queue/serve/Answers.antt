@@ -1,18 +1,18 @@
 -- The packet that occupies the link can go on, so where it doesn't it departs.
-use Rattle.std.proofs.Common.{◌≡◌, ◌+◌, ◌≤◌, None, Some, length, sym, ap, ◌∙◌, subst, arith}
-use Rattle.link_server.proofs.Words.{filter, is_other, KeptQueue}
-use Rattle.link_server.specs.InLine.{AreIn, count_on}
-use Rattle.link_server.specs.Line.{ranks_in}
+use Rattle.std.proofs.Common.{◌≡◌, ◌≤◌, ◌∷◌, List, None, Some, length, sym, ap, ◌∙◌, subst, arith}
+use Rattle.link_server.proofs.Words.{filter, is_other, Arrival, KeptQueue}
+use Rattle.link_server.specs.Arrived.{all_here, arrived, HaveOwnNumbers, AreNumbered}
+use Rattle.link_server.specs.Counts.{AreCounts}
+use Rattle.link_server.specs.Line.{waiting_in}
 use Rattle.link_server.specs.Packets.{start_in, here_in, on_in}
 use Rattle.link_server.specs.Planned.{left_in}
+use Rattle.link_server.specs.QueueParts.{packets_of}
 use Rattle.link_server.specs.Serving.{ServiceGoesOn}
-use Rattle.link_server.specs.Sound.{AreNumberedWithin}
-use Rattle.link_server.proofs.Waiting.Next.{ranks-departed}
+use Rattle.link_server.proofs.Waiting.Arrived.{arrived-departed, own-left}
+use Rattle.link_server.proofs.Waiting.Counts.{counts-left, one-counted}
 use Rattle.link_server.proofs.Waiting.Serving.{running-goes-on, departs-now, best-departs-now, none-served, goes-on-served, departs-served}
-use Rattle.link_server.proofs.Sound.Packets.{numbered-filter}
-use Rattle.link_server.proofs.Waiting.Turn.{numbered-rising}
 use Rattle.link_server.proofs.queue.Queue.serve.Goals as goal
-use Rattle.link_server.proofs.queue.Queue.serve.Goals.{In-Some}
+use Rattle.link_server.proofs.queue.Queue.serve.Goals.{In-Some, After-self}
 
 goes : (c : In-Some) → ServiceGoesOn c.args.shape.now c.args.clock (start_in c.in-Some.running)
 goes c = running-goes-on c.args.shape.now c.args.clock c.args.self.now.here c.args.self.now.on _ _ c.requires.serves c.occupant.ensures.occupant c.in-Some.is
@@ -40,33 +40,49 @@ pub returns-clause-best_sent : goal.returns-clause-best_sent
 returns-clause-best_sent c =
     best-departs-now c.args.shape.now c.args.clock _ _ _ c.is_best.result (goes (goal.at.returns-clause-best_sent c).In-Some) c.occupant.ensures.occupant c.in-Some.is (omega (arith, c.leaves_at.ensures.value, c.if-leaves_at-clock.false)) c.is_best.ensures
 
+-- the one that departs is the first of those here
+here-with : (c : After-self) → on_in c.self.inside.on ≡ Some (start_in c.in-Some.running)
+here-with c = ap (λ (queue : KeptQueue). queue.on) (c.self.view_is ∙ c.occupant.ensures.kept) ∙ ap on_in c.in-Some.is
+
+with-it : (c : After-self) → (P : List Arrival → Type 0) → P (packets_of c.self.inside) → P ((start_in c.in-Some.running).packet ∷ here_in (waiting_in c.self.inside.line))
+with-it c P all = subst (λ on. P (all_here on (here_in (waiting_in c.self.inside.line)))) (here-with c) all
+
+pub lower-requires : goal.lower-requires
+lower-requires c =
+    let at = (goal.at.lower-requires c).After-self in
+    record {
+      sorted = c.self.invariant.counts_sorted;
+      some = one-counted c.self.inside.counts.items (start_in c.in-Some.running).packet (here_in (waiting_in c.self.inside.line)) (with-it at (AreCounts c.self.inside.counts.items) c.self.invariant.counts_are);
+    }
+
 pub returns-clause-kept : goal.returns-clause-kept
 returns-clause-kept c =
-    let looked = c.self.inside.line.until in
-    let before = c.self.view_is ∙ c.occupant.ensures.kept in
-    ap (λ all. record { taken = c.self.inside.taken; here = all; on = None; best = left_in c.self.inside.best; room = c.self.inside.room; looked = looked }) c.take_out.ensures.others
-    ∙ ap (λ (queue : KeptQueue). record queue { here = filter (is_other (start_in c.in-Some.running)) queue.here; on = None; looked = looked }) before
+    let q = c.self.inside in
+    let at = (goal.at.returns-clause-kept c).After-self in
+    let start = start_in c.in-Some.running in
+    let waiting = here_in (waiting_in q.line) in
+    let looked = q.line.until in
+    let left : arrived waiting q.taken ≡ filter (is_other start) (arrived (packets_of q) q.taken) =
+    sym (arrived-departed start waiting q.taken (with-it at HaveOwnNumbers c.self.invariant.own)) ∙ ap (λ on. filter (is_other start) (arrived (all_here on waiting) q.taken)) (sym (here-with at)) in
+    ap (λ all. record { taken = q.taken; here = all; on = None; best = left_in q.best; room = q.room; looked = looked; bounds = q.bounds }) left
+    ∙ ap (λ (queue : KeptQueue). record queue { here = filter (is_other start) queue.here; on = None; looked = looked }) (c.self.view_is ∙ c.occupant.ensures.kept)
     ∙ departs-served c.args.shape.now.rate c.args.clock looked c.args.self.now c.occupant.result _ c.in-Some.running c.occupant.ensures.occupant c.in-Some.is (omega (arith, c.leaves_at.ensures.value, c.if-leaves_at-clock.false))
-
-pub take_out-requires-clause-rising : goal.take_out-requires-clause-rising
-take_out-requires-clause-rising c = numbered-rising 0 (here_in c.self.inside.here.items) c.self.inside.taken c.self.invariant.numbered
 
 pub invariant_of-self : goal.invariant_of-self
 invariant_of-self c =
-    let o = c.self.inside in
-    let on : on_in o.on ≡ Some (start_in c.in-Some.running) = ap (λ (queue : KeptQueue). queue.on) (c.self.view_is ∙ c.occupant.ensures.kept) ∙ ap on_in c.in-Some.is in
-    let few = subst (λ start. length (ranks_in o.line) + count_on start ≤ length o.here.items) on c.self.invariant.few in
-    let fits = c.self.invariant.fits in
-    let holds = c.self.invariant.holds in
+    let q = c.self.inside in
+    let at = (goal.at.invariant_of-self c).After-self in
+    let start = start_in c.in-Some.running in
+    let waiting = here_in (waiting_in q.line) in
+    let fits = with-it at (λ ps. length ps ≤ q.room) c.self.invariant.fits in
+    let fit = c.self.invariant.counts_fit in
     record {
-      numbered = subst (λ ps. AreNumberedWithin 0 ps o.taken) (sym c.take_out.ensures.others) (numbered-filter (is_other (start_in c.in-Some.running)) 0 (here_in o.here.items) o.taken c.self.invariant.numbered);
-      ranked = subst (AreIn (ranks_in o.line) None) (sym c.take_out.ensures.others) (ranks-departed (ranks_in o.line) (start_in c.in-Some.running) (here_in o.here.items) (subst (λ start. AreIn (ranks_in o.line) start (here_in o.here.items)) on c.self.invariant.ranked));
-      few = omega (arith, few, c.take_out.ensures.one);
-      fits = omega (arith, fits, c.take_out.ensures.fewer);
-      holds = omega (arith, holds, c.take_out.ensures.capacity);
+      own = own-left start.packet waiting (with-it at HaveOwnNumbers c.self.invariant.own);
+      numbered = (with-it at (AreNumbered q.taken) c.self.invariant.numbered).1;
+      fits = omega (arith, fits);
       lines_up = c.self.invariant.lines_up;
-      counts_are = c.take_out.ensures.counts;
-      latest = c.self.invariant.latest;
-      counts_sorted = c.take_out.ensures.sorted;
-      counts_fit = (let fit = c.self.invariant.counts_fit in omega (arith, fit, c.take_out.ensures.counts_capacity));
+      counts_fit = omega (arith, fit, c.lower.ensures.capacity);
+      counts_are = counts-left q.counts.items c.lower.new.counts.items start.packet waiting (with-it at (AreCounts q.counts.items) c.self.invariant.counts_are) c.lower.ensures.each c.lower.ensures.all;
+      counts_sorted = c.lower.ensures.sorted;
+      best_counted = c.self.invariant.best_counted;
     }

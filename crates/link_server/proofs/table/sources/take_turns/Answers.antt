@@ -1,6 +1,6 @@
 -- Each turn adds to what the rows before it have done.
 use Rattle.std.proofs.Common.{◌≡◌, ℕ, List, ◌+◌, ◌++◌, ◌<◌, ◌≤◌, suc, length, get_or, set, take, drop, refl, sym, ap, ◌∙◌, subst, arith}
-use Rattle.link_server.proofs.Words.{if◌then◌else◌, held_packets, kept_packet, kept_after_step, SourceStep, taken_by, dropped_by, Arrival, KeptQueue, row_in, IsWithinLevels, ServedRow}
+use Rattle.link_server.proofs.Words.{held_packets, kept_packet, kept_after_step, SourceStep, taken_by, dropped_by, Arrival, KeptQueue, row_in, IsWithinLevels, ServedRow}
 use Rattle.std.proofs.lemmas.List.{get_or_past, length-append, length-map, length-set, take_all}
 use Rattle.link_steps.proofs.ListFacts.{Each-if}
 use Rattle.link_server.proofs.Replies.Account.{queue-same}
@@ -132,6 +132,7 @@ still-kept first old new taken here before kept =
     (ap (λ (queue : KeptQueue). queue.on) kept ∙ ap (λ (queue : KeptQueue). queue.on) before)
     (ap (λ (queue : KeptQueue). queue.best) kept ∙ ap (λ (queue : KeptQueue). queue.best) before)
     (ap (λ (queue : KeptQueue). queue.room) kept ∙ ap (λ (queue : KeptQueue). queue.room) before) refl
+    (ap (λ (queue : KeptQueue). queue.bounds) kept ∙ ap (λ (queue : KeptQueue). queue.bounds) before)
 
 pub loop-place-preserved : goal.loop-place-preserved
 loop-place-preserved c =
