@@ -7,7 +7,7 @@ use Rattle.std.specs.List.{list_any, slice_get}
 use Rattle.std.specs.Prelude.{◌||◌}
 use Rattle.net_units.specs.Numbers.{actor_number, channel_number}
 use Rattle.net_units.specs.declared.numbers.ChanNo.{ChanNo}
-use Rattle.link_steps.proofs.ListFacts.{Among}
+use Rattle.link_steps.specs.Lists.{Among}
 use Rattle.call_script.specs.Operations.{attributes_of}
 use Rattle.call_script.specs.Parts.{PlanParts, Opening, opening_by, openings_in, openings_of, opening_of, ArePlanned}
 use Rattle.call_script.specs.Rules.{hits, is_in}

@@ -12,13 +12,13 @@ use Rattle.link_steps.specs.declared.replies.Sent.{Sent}
 use Rattle.link_steps.specs.declared.shape.LinkShape.{LinkShape}
 use Rattle.link_steps.specs.BusyPeriod.{HasWork}
 use Rattle.link_steps.specs.Admissible.{IsAdmissible}
-use Rattle.link_steps.specs.Lists.{Each}
+use Rattle.link_steps.specs.Lists.{Each, Among}
 use Rattle.link_steps.specs.Replies.{sent_at, sent_of, tick_reply, reply_at}
 use Rattle.link_steps.specs.Rows.{Row}
 use Rattle.link_steps.specs.Scan.{clock_with, clock_of, scan_of, after, starts_of}
 use Rattle.link_steps.specs.Service.{Arrival, Start, leaves_at, work_of, starts_below}
 use Rattle.link_steps.specs.Shape.{blocking_of}
-use Rattle.link_steps.proofs.ListFacts.{Among, Each-among, Each-if}
+use Rattle.link_steps.proofs.ListFacts.{Each-among, Each-if}
 use Rattle.link_steps.proofs.ServiceFacts.{starts-fact}
 use Rattle.link_steps.proofs.ChangeFacts.{Each-from_among}
 use Rattle.link_steps.proofs.WindowFits.{packets-have_work}

@@ -4,12 +4,11 @@ use Rattle.std.proofs.lemmas.Bool.{cases_lt, cond_both, eqb-true, leb-true, le-l
 use Rattle.std.specs.Prelude.{filter, nat_le}
 use Rattle.link_steps.specs.declared.replies.Entry.{Entry}
 use Rattle.link_steps.specs.declared.shape.LinkShape.{LinkShape}
-use Rattle.link_steps.specs.Lists.{Each}
+use Rattle.link_steps.specs.Lists.{Each, Among}
 use Rattle.link_steps.specs.Scan.{scan_of}
 use Rattle.link_steps.specs.Service.{Arrival, Start, leaves_at, goes_before, first_in_line, is_start_of, has_started, is_waiting, is_busy, add_start, serve_tick, starts_below, is_departure_by, has_departed}
 use Rattle.link_steps.specs.Belonging.{AreNumbered as ArePlaced}
 use Rattle.link_steps.proofs.NewPackets.{packets-numbered, same-number}
-use Rattle.link_steps.proofs.ListFacts.{Among}
 use Rattle.link_steps.proofs.ChangeFacts.{Each-from_among}
 use Rattle.link_steps.proofs.ServiceFacts.{HasLeft, FollowEachOther, starts-follow, starts-fact}
 use Rattle.link_steps.proofs.Departures.{IsEligibleStart, starts-eligible}

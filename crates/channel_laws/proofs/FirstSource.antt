@@ -13,13 +13,13 @@ use Rattle.link_steps.specs.declared.shape.LinkShape.{LinkShape}
 use Rattle.link_steps.specs.Buffer.{has_lead}
 use Rattle.link_steps.specs.Hold.{stays, expires}
 use Rattle.link_steps.specs.Admissible.{IsAdmissible}
-use Rattle.link_steps.specs.Lists.{Each}
+use Rattle.link_steps.specs.Lists.{Each, Among}
 use Rattle.link_steps.specs.Rows.{Row, new_row}
 use Rattle.link_steps.specs.Scan.{Scan, clock_of, scan_of, is_row_of, arrived_packet, arrived_row, with_arrival, without_expired, with_sources, with_best, after_tick}
 use Rattle.link_steps.specs.Service.{Arrival, here_at}
 use Rattle.link_steps.specs.SourceGuarantee.{IsEligibleAtOnce, KeepingIsServed}
 use Rattle.link_steps.proofs.ChangeFacts.{Each-passes, Each-if_passes}
-use Rattle.link_steps.proofs.ListFacts.{Among, Each-append, Each-both, Each-if, Each-filter, Each-find, Each-among, Each-change_first, Each-without_first}
+use Rattle.link_steps.proofs.ListFacts.{Each-append, Each-both, Each-if, Each-filter, Each-find, Each-among, Each-change_first, Each-without_first}
 use Rattle.link_steps.proofs.RowPackets.{IsHeld, IsBeside}
 use Rattle.link_steps.specs.Belonging.{own_packets}
 use Rattle.link_steps.specs.Effects.{Effect, Adds, Changes, Removes, Takes, Ticks, changed_row, is_changed, with_effect}

@@ -8,7 +8,7 @@ use Rattle.traffic_contract.proofs.ContractFacts.{burst-least}
 use Rattle.traffic_contract.proofs.NewestFirst.{Decides-keeps_newest_first}
 use Rattle.link_steps.specs.Rows.{Row}
 use Rattle.link_steps.specs.Service.{Arrival}
-use Rattle.link_steps.proofs.ListFacts.{Among}
+use Rattle.link_steps.specs.Lists.{Among}
 use Rattle.channel_laws.specs.Channels.{HopTerms, AreNumberedAfter, RowTells, tick_of_packet}
 
 -- the eligible tick of the packet at an index

@@ -14,14 +14,13 @@ use Rattle.link_steps.specs.HopGuarantee.{LeavesInTime, deadline_of}
 use Rattle.link_steps.specs.Admissible.{MayAnswer, IsAdmissible}
 use Rattle.link_steps.specs.BestEffort.{is_best}
 use Rattle.link_steps.specs.Legal.{PacketFits}
-use Rattle.link_steps.specs.Lists.{Each}
+use Rattle.link_steps.specs.Lists.{Each, Among}
 use Rattle.link_steps.specs.Replies.{sent_of, sent_at, tick_reply, reply_at, reply_to}
 use Rattle.link_steps.specs.Scan.{clock_of, scan_of, after, starts_of}
 use Rattle.link_steps.specs.Service.{Start, leaves_at}
 use Rattle.channel_laws.specs.Departing.{ticked, IsSent}
 use Rattle.link_steps.proofs.HopHolds.{guaranteed}
 use Rattle.link_steps.proofs.LegalOrder.{IsCarried, legal-order}
-use Rattle.link_steps.proofs.ListFacts.{Among}
 use Rattle.link_steps.proofs.ServiceFacts.{starts-fact}
 use Rattle.link_steps.specs.Split.{Link}
 use Rattle.link_steps.specs.declared.asks.Ask.TheVariants.{Tick}

@@ -3,9 +3,9 @@ use Rattle.std.proofs.Common.{◌≡◌, ℕ, zero, suc, ◌<◌, ◌≤◌, ◌
 use Rattle.std.proofs.lemmas.Bool.{cases_Bool, cases_lt, cond_both, lt-ltb, ltb-true, le-leb, eq-eqb, eqb-true, and_parts, and_from, or_cases, or_left, or_right, not_from_false}
 use Rattle.std.proofs.lemmas.Option.{same_Some}
 use Rattle.std.specs.Prelude.{filter, nat_eq, nat_lt, nat_le, ◌||◌}
-use Rattle.link_steps.specs.Lists.{Each}
+use Rattle.link_steps.specs.Lists.{Each, Among}
 use Rattle.link_steps.specs.Service.{Arrival, Start, goes_before, sooner, first_in_line, is_start_of, has_started, is_waiting, is_busy, add_start, serve_tick, starts_below}
-use Rattle.link_steps.proofs.ListFacts.{Among, Each-if}
+use Rattle.link_steps.proofs.ListFacts.{Each-if}
 use Rattle.link_steps.proofs.PacketRows.{Among-passes}
 
 -- p goes before q

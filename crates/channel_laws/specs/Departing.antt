@@ -12,7 +12,7 @@ use Rattle.link_steps.specs.HopGuarantee.{deadline_of}
 use Rattle.link_steps.specs.Replies.{sent_of, tick_reply}
 use Rattle.link_steps.specs.Scan.{clock_of, scan_of, starts_of}
 use Rattle.link_steps.specs.Service.{Arrival, Start, leaves_at, starts_below, has_departed}
-use Rattle.link_steps.proofs.ListFacts.{Among}
+use Rattle.link_steps.specs.Lists.{Among}
 use Rattle.channel_laws.specs.Channels.{channel_packets}
 
 -- the history with one tick more

@@ -1,10 +1,9 @@
 -- A channel whose source keeps its contract, and how the link then serves it.
 use Rattle.std.specs.Prelude.{◌≡◌, ◌⊎◌, ℕ, []}
-use Rattle.link_steps.specs.Lists.{Each}
+use Rattle.link_steps.specs.Lists.{Each, Among}
 use Rattle.link_steps.specs.Rows.{Row}
 use Rattle.link_steps.specs.Scan.{Scan}
 use Rattle.link_steps.specs.SourceGuarantee.{SourceKeeps}
-use Rattle.link_steps.proofs.ListFacts.{Among}
 use Rattle.channel_laws.specs.Channels.{channel_packets, channel_of}
 
 -- the channel's row, held or gone, whose source keeps its contract

@@ -5,7 +5,7 @@ use Rattle.link_steps.specs.Replies.{reply_to}
 use Rattle.link_steps.specs.Scan.{clock_of}
 use Rattle.link_steps.specs.Split.{Link}
 use Rattle.link_steps.specs.declared.asks.Ask.{Ask}
-use Rattle.link_steps.specs.declared.asks.Ask.TheVariants.{Reserve, Relax, Deny, Submit, Release, Arrive, Tick, Pour}
+use Rattle.link_steps.specs.declared.asks.Ask.TheVariants.{Reserve, Relax, Deny, Release, Arrive, Tick}
 use Rattle.link_steps.specs.declared.replies.Entry.{Entry}
 use Rattle.link_steps.specs.declared.replies.Reply.{Reply}
 use Rattle.link_steps.specs.declared.replies.Reply.TheVariants as Is
@@ -15,9 +15,9 @@ use Rattle.call_script.proofs.OwnerFacts.{all-owned}
 use Rattle.call_script.specs.Parts.{PlanParts}
 use Rattle.call_script.specs.Plans.{IsPlan}
 use Rattle.call_script.specs.Tasks.{network_of}
-use Rattle.interleave_core.specs.Answers.{IsReplyOf, IsReserveReply, IsRelaxed}
-use Rattle.interleave_core.specs.Runs.{IsNext, IsRun}
-use Rattle.interleave_core.proofs.Replying.{asks-answered}
+use Rattle.interleave_core.specs.replies.Answers.{IsReplyOf, IsReserveReply, IsRelaxed}
+use Rattle.interleave_core.specs.runs.Runs.{IsNext, IsRun}
+use Rattle.interleave_core.proofs.Replies.Replying.{asks-answered}
 use Rattle.channel_laws.proofs.SentFacts.{tick-answer}
 use Rattle.run_record.specs.Rows.{IsEarly}
 use Rattle.run_record.specs.Runs.{part_of}
@@ -49,11 +49,10 @@ answer-early : (link : Link) (h : List Entry) (ask : Ask) (reply : Reply) → Is
 answer-early link h (Reserve chan contract kind delay up_reach first next) reply answered is small = reserve-early reply answered
 answer-early link h (Relax chan level up_bound) reply answered is small = relax-early reply answered
 answer-early link h (Deny chan) reply answered is small = subst IsEarly (sym answered) tt
-answer-early link h (Submit chan count gap size) reply answered is small = send-early reply answered
 answer-early link h (Release chan upstream) reply answered is small = release-early reply answered
 answer-early link h (Arrive packet) reply answered is small = arrive-early reply answered
 answer-early link h Tick reply answered is small = subst IsEarly (sym (is ∙ tick-answer link h)) small
-answer-early link h (Pour count gap size) reply answered is small = send-early reply answered
+answer-early link h _ reply answered is small = send-early reply answered
 
 -- the next step of a run tells its tick early
 pub next-early : (parts : PlanParts) (past : List Done) (done : Done) → IsPlan parts → IsRun (network_of parts) past → IsNext (network_of parts) past done → length past < 2 ^ 60 → IsEarly done.reply

@@ -1,5 +1,4 @@
 pub mod LinkFacts
-pub mod TellingFacts
 pub mod LineFacts
 pub mod TickFacts
 pub mod RouteFacts

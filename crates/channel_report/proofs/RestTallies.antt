@@ -10,15 +10,15 @@ use Rattle.call_script.proofs.FitFacts.{plan-fits}
 use Rattle.call_script.specs.Parts.{PlanParts}
 use Rattle.call_script.specs.Tasks.{Network, network_of}
 use Rattle.call_script.specs.declared.entries.RequestEntry.{RequestEntry}
-use Rattle.interleave_core.specs.Quiet.{quiet_step, quiet_round, quiet_rounds, the_plane, rested, GoesOnAtRest}
-use Rattle.interleave_core.specs.Runs.{plane_no, plane_at}
-use Rattle.interleave_core.specs.Watching.{IsRestSeen}
-use Rattle.interleave_core.proofs.ActorFacts.{plane-number}
-use Rattle.interleave_core.proofs.QuietRounds.{plane-is, quiet-rounds}
-use Rattle.interleave_core.proofs.RunLegal.{replies-by}
-use Rattle.interleave_core.proofs.RunLength.{run-short}
-use Rattle.interleave_core.proofs.StepFacts.{callers-few}
-use Rattle.interleave_core.proofs.StrideFacts.{links-are}
+use Rattle.interleave_core.specs.schedules.Quiet.{quiet_step, quiet_round, quiet_rounds, the_plane, rested, GoesOnAtRest}
+use Rattle.interleave_core.specs.runs.Runs.{plane_no, plane_at}
+use Rattle.interleave_core.specs.schedules.Watching.{IsRestSeen}
+use Rattle.interleave_core.proofs.Keeping.ActorFacts.{plane-number}
+use Rattle.interleave_core.proofs.Watched.QuietRounds.{plane-is, quiet-rounds}
+use Rattle.interleave_core.proofs.Runs.RunLegal.{replies-by}
+use Rattle.interleave_core.proofs.Runs.RunLength.{run-short}
+use Rattle.interleave_core.proofs.Keeping.StepFacts.{callers-few}
+use Rattle.interleave_core.proofs.Watched.StrideFacts.{links-are}
 use Rattle.run_record.specs.Hops.{AreHops, AreOffered, hops_at}
 use Rattle.run_record.specs.Rows.{links_of}
 use Rattle.run_record.specs.Runs.{part_of, replies_to}

@@ -1,5 +1,6 @@
 -- The line of a route, a link at a time.
 use Rattle.std.proofs.Common.{◌≡◌, ℕ, suc, ◌+◌, ◌-◌, ◌≤◌, Some, List, [], ◌∷◌, ◌++◌, length, take, drop, append_assoc, append-nil, ap, sym, subst, ◌∙◌, arith}
+use Rattle.std.proofs.lemmas.Grind.{flat_map-append}
 use Rattle.std.proofs.Math.Seq.{drop-cons, take-suc}
 use Rattle.std.proofs.lemmas.List.{take_all, drop_all}
 use Rattle.std.proofs.lemmas.Option.{slice_get_within, get_or_from_slice_get}
@@ -7,7 +8,6 @@ use Rattle.std.specs.List.{flat_map, slice_get}
 use Rattle.hop_reservation.specs.declared.route.Hop.{Hop}
 use Rattle.call_script.specs.declared.entries.LinkEntry.{LinkEntry}
 use Rattle.channel_report.specs.Routes.{hop_word, prop_over}
-use Rattle.channel_report.proofs.TellingFacts.{flat-append}
 
 -- one link more
 pub hops-more : (links : List LinkEntry) (route : List Hop) (i : ℕ) (hop : Hop) (start before now : List ℕ) → slice_get route (i + 1 - 1) ≡ Some hop → before ≡ start ++ flat_map (hop_word links) (take i route) → now ≡ before ++ hop_word links hop
@@ -20,7 +20,7 @@ hops-more links route i hop start before now found so_far is =
     let next : suc i ≡ i + 1 = omega arith in
     let one : flat_map (hop_word links) (hop ∷ []) ≡ hop_word links hop = append-nil (hop_word links hop) in
     is ∙ ap (λ text. text ++ hop_word links hop) so_far ∙ append_assoc start (flat_map (hop_word links) (take i route)) (hop_word links hop)
-    ∙ ap (λ text. start ++ text) (ap (λ text. flat_map (hop_word links) (take i route) ++ text) (sym one) ∙ sym (flat-append (hop_word links) (take i route) (hop ∷ []))
+    ∙ ap (λ text. start ++ text) (ap (λ text. flat_map (hop_word links) (take i route) ++ text) (sym one) ∙ sym (flat_map-append (hop_word links) (take i route) (hop ∷ []))
     ∙ ap (λ h. flat_map (hop_word links) (take i route ++ h ∷ [])) (sym last) ∙ ap (flat_map (hop_word links)) (sym (take-suc route i hop within)) ∙ ap (λ n. flat_map (hop_word links) (take n route)) next)
 
 pub hops-all : (links : List LinkEntry) (route : List Hop) (i : ℕ) (start now : List ℕ) → length route ≤ i → now ≡ start ++ flat_map (hop_word links) (take i route) → now ≡ start ++ flat_map (hop_word links) route

@@ -32,8 +32,9 @@ use Rattle.call_script.specs.Scripts.{newest, standing, resumed, from_step, is_e
 use Rattle.call_script.specs.Tasks.{network_of, tasks_of}
 use Rattle.call_script.specs.declared.operations.Op.TheVariants.{Open, Send}
 use Rattle.call_script.specs.declared.version.Version.TheVariants.{One}
-use Rattle.interleave_core.specs.Runs.{next_for, run_from}
-use Rattle.interleave_core.specs.Verdicts.{setup_replies}
+use Rattle.interleave_core.specs.runs.Runs.{next_for, run_from}
+use Rattle.interleave_core.specs.replies.Verdicts.{setup_replies}
+use Rattle.interleave_core.proofs.Worked.Networks.{k1, chan0, wide_link, request_over}
 use Rattle.run_record.specs.Rows.{links_of, place_in, departures_in, put_row, in_order}
 use Rattle.run_record.specs.Runs.{replies_to, part_of}
 use Rattle.tick_plane.specs.Planes.{plane_of}
@@ -42,36 +43,12 @@ use Rattle.channel_report.specs.Links.{total_in}
 use Rattle.channel_report.specs.Report.{report_of}
 use Rattle.channel_report.specs.Sources.{planned_in, refused_in}
 
-abbrev k1 : ActorNo
-k1 = record { number = 0; small = lit< tt }
-
 -- the plane, after one caller
 abbrev plane : ActorNo
 plane = record { number = 1; small = lit< tt }
 
-abbrev chan : ChanNo
-chan = record { number = 0; small = lit< tt }
-
 abbrev shape : LinkShape
-shape = record {
-  link = link_at 0;
-  rate = 1;
-  cap = 4;
-  prop = 2;
-  buffer = 100;
-  bounds = 10 ∷ 20 ∷ 40 ∷ [];
-  test = Whole;
-  best = 0;
-  best_most = lit≤ tt;
-  rate_least = lit≤ tt;
-  rate_most = lit≤ tt;
-  cap_least = lit≤ tt;
-  cap_most = lit≤ tt;
-  prop_most = lit≤ tt;
-  buffer_most = lit≤ tt;
-  bounds_rise = refl;
-  blocking_fits = lit≤ tt;
-}
+shape = wide_link 0
 
 abbrev plan : PlanParts
 plan = parts_of One
@@ -79,16 +56,10 @@ plan = parts_of One
     (record {
       name = codes "r1";
       caller = k1;
-      request = record {
-        chan = chan;
-        route = record { link = shape.link; bounds = shape.bounds; prop = shape.prop } ∷ [];
-        contract = terms_of 5 10 20 2;
-        control = Rate;
-        delay = 12;
-      };
+      request = request_over chan0 (shape ∷ []) 12;
       found = None;
     } ∷ [])
-    (record { name = codes "k1"; group = 0; ops = Open chan ∷ Send chan 1 10 2 ∷ [] } ∷ [])
+    (record { name = codes "k1"; group = 0; ops = Open chan0 ∷ Send chan0 1 10 2 ∷ [] } ∷ [])
     3 0
 
 -- the report of the run of these actors

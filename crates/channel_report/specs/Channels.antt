@@ -12,7 +12,7 @@ use Rattle.run_record.specs.Runs.{part_of}
 use Rattle.run_record.specs.declared.done.Done.{Done}
 use Rattle.run_record.specs.declared.rows.HopRow.{HopRow}
 use Rattle.channel_report.specs.Delays.{delays_in, least_of, worst_of}
-use Rattle.channel_report.specs.Lines.{whole_line}
+use Rattle.text_writer.specs.Lines.{whole_line}
 use Rattle.channel_report.specs.Sources.{first_link, offered_in, refused_in}
 use Rattle.channel_report.specs.Verdicts.{verdict_in}
 

@@ -1,11 +1,9 @@
-pub mod Lines
 pub mod Verdicts
 pub mod Links
 pub mod Report
 pub mod Routes
 pub mod Moves
 pub mod Schedule
-pub mod Telling
 pub mod Tallies
 pub mod Findings
 pub mod Table

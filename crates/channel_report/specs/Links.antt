@@ -16,7 +16,7 @@ use Rattle.call_script.specs.declared.entries.LinkEntry.{LinkEntry}
 use Rattle.call_script.specs.declared.version.Version.{Version}
 use Rattle.run_record.specs.Runs.{part_of}
 use Rattle.run_record.specs.declared.done.Done.{Done}
-use Rattle.channel_report.specs.Lines.{whole_line}
+use Rattle.text_writer.specs.Lines.{whole_line}
 
 -- ---- counts
 

@@ -10,9 +10,9 @@ use Rattle.call_script.specs.declared.entries.CallerEntry.{CallerEntry}
 use Rattle.call_script.specs.declared.entries.RequestEntry.{RequestEntry}
 use Rattle.call_script.specs.declared.operations.Op.{Op}
 use Rattle.call_script.specs.declared.operations.Op.TheVariants.{Open, Send, Close, Pour, Move}
-use Rattle.interleave_core.specs.Moves.{moved_in}
+use Rattle.interleave_core.specs.channels.Moves.{moved_in}
 use Rattle.run_record.specs.declared.done.Done.{Done}
-use Rattle.channel_report.specs.Lines.{whole_line}
+use Rattle.text_writer.specs.Lines.{whole_line}
 
 -- move OLD NEW kept N shifted X, where the move was made
 abbrev pub made_line : List ℕ → List ℕ → Option Shifted → List ℕ

@@ -8,7 +8,7 @@ use Rattle.call_script.specs.Parts.{PlanParts}
 use Rattle.run_record.specs.Rows.{rows_of}
 use Rattle.run_record.specs.declared.done.Done.{Done}
 use Rattle.channel_report.specs.Channels.{channel_lines}
-use Rattle.channel_report.specs.Lines.{whole_line}
+use Rattle.text_writer.specs.Lines.{whole_line}
 use Rattle.channel_report.specs.Links.{link_line}
 use Rattle.channel_report.specs.Moves.{move_lines}
 use Rattle.channel_report.specs.Routes.{route_lines}

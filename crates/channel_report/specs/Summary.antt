@@ -13,7 +13,7 @@ use Rattle.run_record.specs.declared.done.Done.{Done}
 use Rattle.run_record.specs.declared.rows.HopRow.{HopRow}
 use Rattle.channel_report.specs.Channels.{was_accepted}
 use Rattle.channel_report.specs.Delays.{delays_in}
-use Rattle.channel_report.specs.Lines.{whole_line}
+use Rattle.text_writer.specs.Lines.{whole_line}
 use Rattle.channel_report.specs.Links.{one_if}
 use Rattle.channel_report.specs.Verdicts.{verdict_in}
 use Rattle.channel_report.specs.declared.summary.Sums.{Sums}

@@ -4,8 +4,8 @@
 use Rattle.std.specs.Prelude.{◌≡◌, List, length, reverse}
 use Rattle.call_script.specs.Parts.{PlanParts}
 use Rattle.call_script.specs.Tasks.{network_of}
-use Rattle.interleave_core.specs.Runs.{IsRun}
-use Rattle.interleave_core.specs.Standing.{CallersStand}
+use Rattle.interleave_core.specs.runs.Runs.{IsRun}
+use Rattle.interleave_core.specs.schedules.Standing.{CallersStand}
 use Rattle.interleave_core.specs.declared.callers.Callers.{Callers}
 use Rattle.run_record.specs.Hops.{AreHops}
 use Rattle.run_record.specs.declared.done.Done.{Done}

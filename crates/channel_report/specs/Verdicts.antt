@@ -11,9 +11,9 @@ use Rattle.setup_protocol.specs.Setup.{Outcome, Accepts, Denies, verdict_of}
 use Rattle.setup_protocol.specs.declared.verdict.Deny.{Deny}
 use Rattle.setup_protocol.specs.declared.verdict.Deny.TheVariants.{Hop, End}
 use Rattle.call_script.specs.declared.entries.RequestEntry.{RequestEntry}
-use Rattle.interleave_core.specs.Verdicts.{setup_replies}
+use Rattle.interleave_core.specs.replies.Verdicts.{setup_replies}
 use Rattle.run_record.specs.declared.done.Done.{Done}
-use Rattle.channel_report.specs.Lines.{whole_line}
+use Rattle.text_writer.specs.Lines.{whole_line}
 
 -- schedule SUM BOUND, buffer NEED FREE or wide SMAX CAP; a setup is refused for nothing else
 abbrev pub refusal_words : Refusal → List (List ℕ)

@@ -8,15 +8,13 @@ ghost use Rattle.run_record.specs.declared.done.Done.{Done as Step};
 ghost use Rattle.channel_report.specs.Channels.{channel_line, channel_lines, established_line, was_accepted, told_channel};
 ghost use Rattle.channel_report.specs.Findings.{AreFound};
 ghost use Rattle.channel_report.specs.Sources.{first_link};
-ghost use Rattle.channel_report.specs.Telling.{Tells};
+ghost use Rattle.text_writer.specs.Telling.{Tells};
 ghost use Rattle.channel_report.specs.declared.link_tally.LinkTally.{LinkTally as Counted};
 
 use crate::channel_tally::made;
 use crate::delay_tally::DelayTally;
-use crate::fault::ReportFault;
 use crate::findings::Findings;
 use crate::link_tally::LinkTally;
-use crate::telling::tell;
 use crate::words::{Keeping, NumberOrDash};
 use byte_ends::{Gather, Sink};
 use call_script::Plan;
@@ -24,6 +22,7 @@ use hop_reservation::Route;
 use net_units::Name;
 use setup_protocol::Verdict;
 use std::alloc::{AllocError, Global};
+use text_writer::{ReportFault, tell};
 
 // Tells the lines of all channels that were established.
 pub(crate) fn tell_channels<K: Sink>(

@@ -1,12 +1,11 @@
 //! The last line of a report.
 ghost use Rattle.std.specs.Prelude.{length, string_bytes};
 ghost use Rattle.channel_report.specs.Report.{end_line};
-ghost use Rattle.channel_report.specs.Telling.{Tells};
+ghost use Rattle.text_writer.specs.Telling.{Tells};
 
-use crate::fault::ReportFault;
-use crate::telling::tell;
 use byte_ends::{Gather, Sink};
 use std::alloc::Global;
+use text_writer::{ReportFault, tell};
 
 // Tells how many steps there were.
 pub(crate) fn tell_end<K: Sink>(

@@ -7,15 +7,14 @@ ghost use Rattle.run_record.specs.declared.done.Done.{Done as Step};
 ghost use Rattle.channel_report.specs.Links.{takes_best, told_link};
 ghost use Rattle.channel_report.specs.Report.{link_lines};
 ghost use Rattle.channel_report.specs.Tallies.{AreLinkTallies, link_tally_of};
-ghost use Rattle.channel_report.specs.Telling.{Tells};
+ghost use Rattle.text_writer.specs.Telling.{Tells};
 
-use crate::fault::ReportFault;
 use crate::link_tally::LinkTally;
-use crate::telling::tell;
 use byte_ends::{Gather, Sink};
 use call_script::{LinkEntry, Plan, Version};
 use net_units::Name;
 use std::alloc::{AllocError, Global};
+use text_writer::{ReportFault, tell};
 
 // Tells the lines of all links, by these counts.
 pub(crate) fn tell_links<K: Sink>(

@@ -1,7 +1,7 @@
 //! The report of a run.
 ghost use Rattle.std.specs.Prelude.{◌++◌, List, length, reverse};
 ghost use Rattle.call_script.specs.Tasks.{network_of};
-ghost use Rattle.interleave_core.specs.Runs.{IsRun};
+ghost use Rattle.interleave_core.specs.runs.Runs.{IsRun};
 ghost use Rattle.run_record.specs.declared.done.Done.{Done as Step};
 ghost use Rattle.run_record.specs.Rows.{rows_of};
 ghost use Rattle.channel_report.specs.Channels.{channel_lines};
@@ -10,11 +10,10 @@ ghost use Rattle.channel_report.specs.Moves.{move_lines};
 ghost use Rattle.channel_report.specs.Report.{end_line, link_lines, report_of, request_lines, table_if};
 ghost use Rattle.channel_report.specs.Routes.{route_lines};
 ghost use Rattle.channel_report.specs.Tallied.{IsTalliedRun};
-ghost use Rattle.channel_report.specs.Telling.{Tells, WritesText};
+ghost use Rattle.text_writer.specs.Telling.{Tells, WritesText};
 
 use crate::channel_lines::tell_channels;
 use crate::end_line::tell_end;
-use crate::fault::ReportFault;
 use crate::findings::Findings;
 use crate::link_lines::tell_links;
 use crate::move_lines::tell_moves;
@@ -22,12 +21,12 @@ use crate::request_lines::tell_requests;
 use crate::route_lines::tell_routes;
 use crate::table::tell_table;
 use crate::tally::Tally;
-use crate::telling::finish;
 use byte_ends::{Gather, Sink};
 use call_script::Plan;
 use interleave_core::{Callers, replay_watched};
 use run_record::Record;
 use std::alloc::Global;
+use text_writer::{ReportFault, finish};
 
 /// Writes the report of a run of this plan: its requests, the routes that were found, the moves that were made, its established channels, its links, the
 /// number of its steps, and, where it is asked for, the table of its packets. A write fault comes only where the sink's count of

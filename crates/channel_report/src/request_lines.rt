@@ -6,15 +6,13 @@ ghost use Rattle.setup_protocol.specs.Setup.{Accepts, Denies};
 ghost use Rattle.setup_protocol.specs.State.{outcome_of};
 ghost use Rattle.setup_protocol.specs.declared.verdict.Deny.TheVariants.{Hop, End};
 ghost use Rattle.call_script.specs.Tasks.{network_of};
-ghost use Rattle.interleave_core.specs.Runs.{IsRun};
-ghost use Rattle.interleave_core.specs.Standing.{CallersStand};
+ghost use Rattle.interleave_core.specs.runs.Runs.{IsRun};
+ghost use Rattle.interleave_core.specs.schedules.Standing.{CallersStand};
 ghost use Rattle.run_record.specs.declared.done.Done.{Done as Step};
 ghost use Rattle.channel_report.specs.Report.{request_lines};
-ghost use Rattle.channel_report.specs.Telling.{Tells};
+ghost use Rattle.text_writer.specs.Telling.{Tells};
 ghost use Rattle.channel_report.specs.Verdicts.{verdict_line};
 
-use crate::fault::ReportFault;
-use crate::telling::tell;
 use byte_ends::{Gather, Sink};
 use call_script::Plan;
 use interleave_core::Callers;
@@ -23,6 +21,7 @@ use net_units::{Levels, Name};
 use relaxation::EndDenial;
 use setup_protocol::{Deny, Verdict};
 use std::alloc::{AllocError, Global};
+use text_writer::{ReportFault, tell};
 
 // Tells the lines of all requests, by what the callers know of them.
 pub(crate) fn tell_requests<K: Sink>(

@@ -4,15 +4,14 @@ ghost use Rattle.std.specs.List.{flat_map, slice_get};
 ghost use Rattle.net_units.specs.Numbers.{link_number};
 ghost use Rattle.channel_report.specs.Routes.{found_line, hop_word, prop_over, route_line, route_lines};
 ghost use Rattle.channel_report.specs.Table.{name_of_link};
-ghost use Rattle.channel_report.specs.Telling.{Tells};
+ghost use Rattle.text_writer.specs.Telling.{Tells};
 
-use crate::fault::ReportFault;
-use crate::telling::tell;
 use byte_ends::{Gather, Sink};
 use call_script::{LinkEntry, RequestEntry};
 use hop_reservation::Route;
 use net_units::LinkNo;
 use std::alloc::{AllocError, Global};
+use text_writer::{ReportFault, tell};
 
 // Tells a line for each request whose route was found.
 pub(crate) fn tell_routes<K: Sink>(

@@ -1,19 +1,15 @@
 //! The text of a schedule.
-ghost use Rattle.std.specs.Prelude.{◌≡◌, ◌++◌, ◌≤◌, OnOk, length, string_bytes};
-ghost use Rattle.std.specs.List.{slice_get};
+ghost use Rattle.std.specs.Prelude.{◌≡◌, ◌≤◌, IfOk, length, string_bytes};
 ghost use Rattle.net_units.specs.Numbers.{actor_number};
 ghost use Rattle.link_steps.specs.Lists.{Each};
-ghost use Rattle.call_script.specs.declared.schedule.Do.{Do as Item};
-ghost use Rattle.call_script.specs.ActorNames.{name_of_actor};
-ghost use Rattle.channel_report.specs.Schedule.{do_line, schedule_of};
-ghost use Rattle.channel_report.specs.Telling.{Tells, WritesText};
+ghost use Rattle.channel_report.specs.Schedule.{item_line, schedule_of};
+ghost use Rattle.text_writer.specs.Telling.{Tells, WritesText};
 
-use crate::fault::ReportFault;
-use crate::telling::{finish, tell};
 use byte_ends::{Gather, Sink};
 use call_script::{Do, Plan, Schedule};
-use net_units::ActorNo;
-use std::alloc::{AllocError, Global};
+use net_units::OutOfMemory;
+use std::alloc::Global;
+use text_writer::{ReportFault, do_line, finish, tell_line};
 
 /// Writes the `do` lines of a schedule whose actors are those of the plan. A write fault comes only where the sink's count of
 /// faults rose in this call. Where the lines aren't all written, a prefix of them is.
@@ -55,22 +51,17 @@ fn tell_item<K: Sink>(
     gather: &mut Gather,
     sink: &mut K,
 ) -> Result<(), ReportFault>
-    ensures { Tells result (K.written sink.old) (K.written sink.new) gather.old gather.new (K.faults sink.old) (K.faults sink.new) (do_line plan.now.callers item.now) }
+    ensures { Tells result (K.written sink.old) (K.written sink.new) gather.old gather.new (K.faults sink.old) (K.faults sink.new) (item_line plan.now.callers item.now) }
 {
-    let mut line = String::new(alloc);
-    push_item(&mut line, plan, item.actor, item.count)?;
-    tell(gather, sink, line.as_bytes())
+    tell_line(gather, sink, item_line(alloc, plan, item))
 }
 
-// The line of a count of steps of an actor.
-fn push_item(text: &mut String, plan: &Plan, actor: ActorNo, count: u64) -> Result<(), AllocError>
-    ensures { OnOk result ((item : Item) → item.actor ≡ actor → item.count ≡ count → string_bytes text.new ≡ string_bytes text.old ++ do_line plan.now.callers item) }
+// The line of an item, whose actor is a caller or the plane.
+fn item_line(alloc: Global, plan: &Plan, item: &Do) -> Result<String, OutOfMemory>
+    ensures { IfOk result (λ line. string_bytes line ≡ item_line plan.now.callers item.now) }
 {
-    match plan.callers().get(usize::from(actor.get())) {
-        Some(caller) => {
-            let name = caller.name;
-            writeln!(text, "do {name} {count}")
-        }
-        None => writeln!(text, "do plane {count}"),
+    match plan.callers().get(usize::from(item.actor.get())) {
+        Some(caller) => do_line(alloc, caller.name.as_str(), item.count),
+        None => do_line(alloc, "plane", item.count),
     }
 }

@@ -4,24 +4,24 @@ ghost use Rattle.std.specs.List.{slice_get};
 ghost use Rattle.call_script.specs.Parts.{PlanParts as Parts};
 ghost use Rattle.call_script.specs.Tasks.{network_of};
 ghost use Rattle.call_script.specs.declared.entries.RequestEntry.{RequestEntry as Asked};
-ghost use Rattle.interleave_core.specs.Runs.{IsRun};
+ghost use Rattle.interleave_core.specs.runs.Runs.{IsRun};
 ghost use Rattle.run_record.specs.Rows.{rows_of};
 ghost use Rattle.run_record.specs.declared.done.Done.{Done as Step};
 ghost use Rattle.setup_protocol.specs.State.{outcome_of};
 ghost use Rattle.channel_report.specs.Findings.{AreFound};
 ghost use Rattle.channel_report.specs.Summary.{delivers, summary_of, sums_of, told_summary, with_request};
 ghost use Rattle.channel_report.specs.Tallied.{IsTalliedRun};
-ghost use Rattle.channel_report.specs.Telling.{WritesText};
+ghost use Rattle.text_writer.specs.Telling.{WritesText};
 
-use crate::fault::ReportFault;
 use crate::findings::Findings;
 use crate::tally::Tally;
-use byte_ends::{Sink, put_all};
+use byte_ends::Sink;
 use call_script::Plan;
 use interleave_core::{Callers, replay_watched};
 use run_record::Record;
 use setup_protocol::Verdict;
 use std::alloc::{AllocError, Global};
+use text_writer::{ReportFault, write_line};
 
 // What the requests of a plan have come to in a run.
 #[derive(Clone, Copy)]
@@ -94,17 +94,7 @@ pub fn write_tallied_summary<K: Sink>(
     let findings = Findings::new(alloc, plan, callers, tally)?;
     let sums = sum_up(plan, &findings);
     let line = summary_line(alloc, number, size, &sums, findings.steps)?;
-    put_line(sink, line.as_bytes())
-}
-
-// Writes a line.
-fn put_line<K: Sink>(sink: &mut K, line: &[u8]) -> Result<(), ReportFault>
-    ensures { WritesText result (K.written sink.old) (K.written sink.new) (K.faults sink.old) (K.faults sink.new) line.now }
-{
-    match put_all(sink, line) {
-        Ok(()) => Ok(()),
-        Err(_) => Err(ReportFault::WriteFault),
-    }
+    write_line(sink, line.as_bytes())
 }
 
 // What all requests have come to.

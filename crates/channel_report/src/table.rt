@@ -3,15 +3,14 @@ ghost use Rattle.std.specs.Prelude.{◌≡◌, ◌++◌, OnOk, string_bytes};
 ghost use Rattle.std.specs.List.{flat_map, slice_get};
 ghost use Rattle.net_units.specs.Numbers.{channel_number, link_number};
 ghost use Rattle.channel_report.specs.Table.{fields_of_row, header, name_of_link, name_of_request, row_line, table_of, told_row};
-ghost use Rattle.channel_report.specs.Telling.{Tells};
+ghost use Rattle.text_writer.specs.Telling.{Tells};
 
-use crate::fault::ReportFault;
-use crate::telling::tell;
 use byte_ends::{Gather, Sink};
 use call_script::Plan;
 use net_units::{ChanNo, LinkNo};
 use run_record::HopRow;
 use std::alloc::{AllocError, Global};
+use text_writer::{ReportFault, tell};
 
 // Tells the header, and a line for each row.
 pub(crate) fn tell_table<K: Sink>(

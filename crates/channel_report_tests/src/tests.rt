@@ -1,8 +1,8 @@
 //! Reports of runs over one link, worked by hand.
 ghost use Rattle.std.specs.Prelude.{IfOk, OnOk, reverse};
 ghost use Rattle.call_script.specs.Tasks.{network_of};
-ghost use Rattle.interleave_core.specs.Runs.{IsRun};
-ghost use Rattle.interleave_core.specs.Standing.{CoreStands};
+ghost use Rattle.interleave_core.specs.runs.Runs.{IsRun};
+ghost use Rattle.interleave_core.specs.schedules.Standing.{CoreStands};
 
 use byte_ends::MemSink;
 use call_script::{Do, Dos, Plan, Schedule, Version};

@@ -1,11 +1,11 @@
 //! The actors of a run, as they are kept.
-ghost use Rattle.std.specs.Prelude.{◌≡◌, ◌-◌, ◌≤◌, ◌∷◌, [], List, IfOk, OnOk};
-ghost use Rattle.net_units.specs.Numbers.{actor_number};
+ghost use Rattle.std.specs.Prelude.{◌≡◌, ◌-◌, ◌<◌, ◌≤◌, ◌∷◌, [], List, IfOk, OnOk};
+ghost use Rattle.net_units.specs.Numbers.{actor_at, actor_number};
 ghost use Rattle.call_script.specs.Parts.{PlanParts};
 ghost use Rattle.call_script.specs.Plans.{IsPlan};
 ghost use Rattle.call_script.specs.Tasks.{network_of};
-ghost use Rattle.interleave_core.specs.Runs.{next_for};
-ghost use Rattle.interleave_core.specs.Standing.{ActorsStand, IsDueStep};
+ghost use Rattle.interleave_core.specs.runs.Runs.{next_for};
+ghost use Rattle.interleave_core.specs.schedules.Standing.{ActorsStand, IsDueStep};
 ghost use Rattle.run_record.specs.declared.done.Done.{Done as Entry};
 
 use crate::callers::Callers;
@@ -66,5 +66,16 @@ impl Actors {
         } else {
             self.callers.take(plan, done);
         }
+    }
+}
+
+/// The actor of this number: the callers of a plan have theirs from 0 on in their order, and the plane has the next.
+pub fn actor_of(number: usize) -> ActorNo
+    requires { number < 65 }
+    ensures { result ≡ actor_at number }
+{
+    match ActorNo::new(number as u8) {
+        Some(actor) => actor,
+        None => unreachable!(),
     }
 }

@@ -1,23 +1,24 @@
 //! The callers of a run, as they are kept, and how a record brings them through it.
-ghost use Rattle.std.specs.Prelude.{◌≡◌, ◌<◌, ◌≤◌, ◌∷◌, [], Some, List, IfOk, OnOk, length, option_map, reverse};
+ghost use Rattle.std.specs.Prelude.{◌≡◌, ◌<◌, ◌∷◌, [], Some, List, IfOk, OnOk, length, option_map, reverse};
 ghost use Rattle.std.specs.List.{slice_get};
-ghost use Rattle.net_units.specs.Numbers.{actor_number, channel_number};
+ghost use Rattle.net_units.specs.Numbers.{channel_number};
 ghost use Rattle.setup_protocol.specs.Setup.{verdict_of};
 ghost use Rattle.setup_protocol.specs.State.{outcome_of};
 ghost use Rattle.call_script.specs.Plans.{IsPlan};
 ghost use Rattle.call_script.specs.Tasks.{network_of};
 ghost use Rattle.call_script.specs.declared.entries.RequestEntry.{RequestEntry as Asked};
-ghost use Rattle.interleave_core.specs.Moves.{moved_in};
-ghost use Rattle.interleave_core.specs.Runs.{IsRun};
-ghost use Rattle.interleave_core.specs.Verdicts.{setup_replies};
-ghost use Rattle.interleave_core.specs.Standing.{CallersStand, IsNextStep};
-ghost use Rattle.interleave_core.specs.Watching.{IsSeen};
+ghost use Rattle.interleave_core.specs.channels.Moves.{moved_in};
+ghost use Rattle.interleave_core.specs.runs.Runs.{IsRun};
+ghost use Rattle.interleave_core.specs.replies.Verdicts.{setup_replies};
+ghost use Rattle.interleave_core.specs.schedules.Standing.{CallersStand, IsNextStep};
+ghost use Rattle.interleave_core.specs.schedules.Watching.{IsSeen};
 ghost use Rattle.run_record.specs.declared.done.Done.{Done as Entry};
 
+use crate::actors::actor_of;
 use crate::watching::Watch;
 use call_script::{Actor, Plan};
 use channel_move::Shifted;
-use net_units::{ActorNo, OutOfMemory};
+use net_units::OutOfMemory;
 use run_record::{Done, Record};
 use setup_protocol::Verdict;
 use std::alloc::Global;
@@ -37,7 +38,7 @@ impl Callers {
         let count = plan.callers().len();
         let mut by_number = Vec::with_capacity(alloc, count)?;
         for number in 0..count {
-            by_number.push(Actor::new(alloc, plan, caller_of(number))?)?;
+            by_number.push(Actor::new(alloc, plan, actor_of(number))?)?;
         }
         Ok(Callers { by_number })
     }
@@ -110,12 +111,4 @@ pub fn replay_watched<W: Watch>(
         watch.see(plan, done)?;
     }
     Ok(callers)
-}
-
-// The caller of this number.
-fn caller_of(number: usize) -> ActorNo
-    requires { number < 65 }
-    ensures { actor_number result ≡ number }
-{
-    ActorNo::new(number as u8).unwrap()
 }

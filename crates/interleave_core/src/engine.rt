@@ -3,9 +3,9 @@ ghost use Rattle.std.specs.Prelude.{◌≡◌, ◌≤◌, ◌∷◌, [], List, I
 ghost use Rattle.net_units.specs.Numbers.{actor_number};
 ghost use Rattle.call_script.specs.Parts.{PlanParts};
 ghost use Rattle.call_script.specs.Tasks.{network_of};
-ghost use Rattle.interleave_core.specs.Resting.{EngineRests, MakesStride};
-ghost use Rattle.interleave_core.specs.Runs.{next_for};
-ghost use Rattle.interleave_core.specs.Standing.{EngineStands, IsAboutTo, MakesStep};
+ghost use Rattle.interleave_core.specs.schedules.Resting.{EngineRests, MakesStride};
+ghost use Rattle.interleave_core.specs.runs.Runs.{next_for};
+ghost use Rattle.interleave_core.specs.schedules.Standing.{EngineStands, IsAboutTo, MakesStep};
 ghost use Rattle.run_record.specs.declared.done.Done.{Done as Entry};
 
 use crate::actors::Actors;

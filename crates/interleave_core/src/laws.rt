@@ -1,11 +1,11 @@
 //! Laws of every run, each as the contract of a function that does nothing.
-ghost use Rattle.interleave_core.specs.Laws.{EveryPartIsLegal, EveryAskFits, ClocksFollowThePlane, HeldRowsPassOnEveryLink, EveryHopIsGuaranteed, NoFlightIsLate, EveryAskIsAnswered, EveryReplyIsExpected, VerdictsFollowTheReplies, AcceptedRequestsAreKept, AcceptedChannelsKeepTheirDelays, EveryRunIsGuaranteed, RunsFollowTheirActors, FittingPartsMakeARun};
-ghost use Rattle.interleave_core.specs.Quiet.{QuietRoundsGoOn};
-ghost use Rattle.interleave_core.specs.Moves.{EveryMoveKeeps, EveryMovePlansTheShifted, NonePlannedIsLost, NoneIsLostInAMove, EveryMoveTakesTheLast};
-ghost use Rattle.interleave_core.specs.Schedules.{SchedulesComeToOneEnd};
-ghost use Rattle.interleave_core.specs.Turns.{StepsComeToAnEnd};
-ghost use Rattle.interleave_core.specs.Sent.{TicksTellWhatHasLeft};
-ghost use Rattle.interleave_core.specs.Weave.{JournalsWeaveToARun};
+ghost use Rattle.interleave_core.specs.runs.Laws.{EveryPartIsLegal, EveryAskFits, ClocksFollowThePlane, HeldRowsPassOnEveryLink, EveryHopIsGuaranteed, NoFlightIsLate, EveryAskIsAnswered, EveryReplyIsExpected, VerdictsFollowTheReplies, AcceptedRequestsAreKept, AcceptedChannelsKeepTheirDelays, EveryRunIsGuaranteed, RunsFollowTheirActors, FittingPartsMakeARun};
+ghost use Rattle.interleave_core.specs.schedules.Quiet.{QuietRoundsGoOn};
+ghost use Rattle.interleave_core.specs.channels.Moves.{EveryMoveKeeps, EveryMovePlansTheShifted, NonePlannedIsLost, NoneIsLostInAMove, EveryMoveTakesTheLast};
+ghost use Rattle.interleave_core.specs.schedules.Schedules.{SchedulesComeToOneEnd};
+ghost use Rattle.interleave_core.specs.runs.Turns.{StepsComeToAnEnd};
+ghost use Rattle.interleave_core.specs.channels.Sent.{TicksTellWhatHasLeft};
+ghost use Rattle.interleave_core.specs.runs.Weave.{JournalsWeaveToARun};
 
 /// The part of every run on each link is a legal history of that link. So every law of legal and admissible histories holds
 /// of it.

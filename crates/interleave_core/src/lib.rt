@@ -17,10 +17,11 @@ pub mod refusal;
 pub mod stepping;
 pub mod watching;
 
+pub use actors::actor_of;
 pub use callers::{Callers, replay, replay_watched};
 pub use engine::Engine;
 pub use links::new_link;
-pub use playing::{PlayFault, play, play_out, play_watched};
+pub use playing::{PlayFault, play, play_watched};
 pub use refusal::CoreRefusal;
 pub use stepping::Core;
 pub use watching::{Watch, make_watched, stride_watched};

@@ -1,19 +1,19 @@
 //! Runs that are played by a schedule.
-ghost use Rattle.std.specs.Prelude.{◌≡◌, ◌+◌, ◌<◌, ◌≤◌, ◌∷◌, [], List, IfOk, IfErr, OnOk, length, reverse};
+ghost use Rattle.std.specs.Prelude.{◌≡◌, ◌+◌, ◌<◌, ◌≤◌, [], List, IfOk, IfErr, OnOk, length, reverse};
 ghost use Rattle.call_script.specs.Tasks.{network_of};
-ghost use Rattle.interleave_core.specs.Quiet.{the_plane};
-ghost use Rattle.interleave_core.specs.Resting.{EngineRests};
-ghost use Rattle.interleave_core.specs.Runs.{next_for};
-ghost use Rattle.interleave_core.specs.Schedules.{IsActorOf, IsFaultOf, IsMissing, IsPlayed, IsStop, IsWanted, StepsOut, lined_turns, repeated, turn_of, turns_of};
-ghost use Rattle.interleave_core.specs.Standing.{IsGuaranteedRun, CoreStands, run_in};
-ghost use Rattle.interleave_core.specs.Watching.{HavePlayedOut, IsPlayedSeen, PlaysOn, PlaysOut, WatchStands};
+ghost use Rattle.interleave_core.specs.schedules.Quiet.{the_plane};
+ghost use Rattle.interleave_core.specs.schedules.Resting.{EngineRests};
+ghost use Rattle.interleave_core.specs.runs.Runs.{next_for};
+ghost use Rattle.interleave_core.specs.schedules.Schedules.{IsActorOf, IsFaultOf, IsPlayed, IsStop, IsWanted, lined_turns, repeated, turn_of, turns_of};
+ghost use Rattle.interleave_core.specs.schedules.Standing.{IsGuaranteedRun};
+ghost use Rattle.interleave_core.specs.schedules.Watching.{HavePlayedOut, IsPlayedSeen, PlaysOn, PlaysOut, WatchStands};
 ghost use Rattle.link_steps.specs.Lists.{Each};
-ghost use Rattle.net_units.specs.Numbers.{actor_number, actor_at};
+ghost use Rattle.net_units.specs.Numbers.{actor_number};
 ghost use Rattle.run_record.specs.declared.done.Done.{Done as Entry};
 
+use crate::actors::actor_of;
 use crate::callers::Callers;
 use crate::engine::Engine;
-use crate::stepping::Core;
 use crate::watching::{Watch, make_watched, stride_watched};
 use call_script::{Do, Plan, Schedule};
 use net_units::{ActorNo, OutOfMemory};
@@ -201,30 +201,4 @@ fn rounds_at_once(engine: &Engine, plan: &Plan, actor: ActorNo, most: u64) -> u6
         return 0;
     }
     engine.rounds_at_rest().min(most)
-}
-
-/// Lets the actor make its steps until it has none left. The plan is the one that the core was made for. An `Err` comes only for
-/// want of memory.
-pub fn play_out(core: &mut Core, plan: &Plan, actor: ActorNo) -> Result<(), PlayFault>
-    requires stands { CoreStands plan.now core.old }
-    requires actor { actor_number actor ≤ length plan.now.callers }
-    ensures stands { CoreStands plan.now core.new }
-    ensures out { OnOk result (StepsOut (network_of plan.now) (run_in core.old) actor (run_in core.new)) }
-    ensures fault { IfErr result IsWanted }
-{
-    while let Some((link, ask)) = core.next_ask(plan, actor) {
-        core.make(plan, actor, link, ask)?;
-    }
-    Ok(())
-}
-
-// The actor of this number.
-pub(crate) fn actor_of(number: usize) -> ActorNo
-    requires { number < 65 }
-    ensures { result ≡ actor_at number }
-{
-    match ActorNo::new(number as u8) {
-        Some(actor) => actor,
-        None => unreachable!(),
-    }
 }

@@ -2,9 +2,9 @@
 ghost use Rattle.std.specs.Prelude.{◌≡◌, ◌+◌, ◌^◌, ◌<◌, ◌≤◌, OnOk, reverse};
 ghost use Rattle.net_units.specs.Numbers.{link_at};
 ghost use Rattle.call_script.specs.Tasks.{network_of};
-ghost use Rattle.interleave_core.specs.Quiet.{quiet_round, quiet_rounds, quiet_step, the_plane};
+ghost use Rattle.interleave_core.specs.schedules.Quiet.{quiet_round, quiet_rounds, quiet_step, the_plane};
 
-use crate::playing::actor_of;
+use crate::actors::actor_of;
 use call_script::Plan;
 use link_steps::{Ask, Reply};
 use net_units::{ActorNo, LinkNo, OutOfMemory};

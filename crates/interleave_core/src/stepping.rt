@@ -3,8 +3,8 @@ ghost use Rattle.std.specs.Prelude.{◌≡◌, ◌≤◌, ◌↔◌, [], ℕ, Li
 ghost use Rattle.net_units.specs.Numbers.{actor_number};
 ghost use Rattle.call_script.specs.Parts.{PlanParts};
 ghost use Rattle.call_script.specs.Tasks.{network_of};
-ghost use Rattle.interleave_core.specs.Runs.{next_for};
-ghost use Rattle.interleave_core.specs.Standing.{IsGuaranteedRun, IsLeft, IsRightRefusal, CoreStands, StepsTo, run_in};
+ghost use Rattle.interleave_core.specs.runs.Runs.{next_for};
+ghost use Rattle.interleave_core.specs.schedules.Standing.{IsGuaranteedRun, IsLeft, IsRightRefusal, CoreStands, StepsTo, run_in};
 ghost use Rattle.run_record.specs.Runs.{replies_to};
 
 use crate::engine::Engine;
@@ -84,7 +84,7 @@ impl Core {
     }
 
     // What the actor asks next, and of which link.
-    pub(crate) fn next_ask(&self, plan: &Plan, actor: ActorNo) -> Option<(LinkNo, Ask)>
+    fn next_ask(&self, plan: &Plan, actor: ActorNo) -> Option<(LinkNo, Ask)>
         requires { CoreStands plan.now self.now }
         ensures { result ≡ next_for (network_of plan.now) (actor_number actor) (run_in self.now) }
     {
@@ -92,7 +92,7 @@ impl Core {
     }
 
     // Makes the step that the actor asks for next, and records it.
-    pub(crate) fn make(
+    fn make(
         &mut self,
         plan: &Plan,
         actor: ActorNo,

@@ -3,10 +3,10 @@ ghost use Rattle.std.specs.Prelude.{◌≡◌, ◌*◌, ◌∷◌, Bool, true, L
 ghost use Rattle.net_units.specs.Numbers.{actor_number};
 ghost use Rattle.call_script.specs.Parts.{PlanParts};
 ghost use Rattle.call_script.specs.Tasks.{network_of};
-ghost use Rattle.interleave_core.specs.Quiet.{rested, the_plane};
-ghost use Rattle.interleave_core.specs.Resting.{EngineRests};
-ghost use Rattle.interleave_core.specs.Schedules.{repeated};
-ghost use Rattle.interleave_core.specs.Watching.{GoesOn, IsAsked, IsNextSeen, IsRestSeen, PlaysOn, WatchStands};
+ghost use Rattle.interleave_core.specs.schedules.Quiet.{rested, the_plane};
+ghost use Rattle.interleave_core.specs.schedules.Resting.{EngineRests};
+ghost use Rattle.interleave_core.specs.schedules.Schedules.{repeated};
+ghost use Rattle.interleave_core.specs.schedules.Watching.{GoesOn, IsAsked, IsNextSeen, IsRestSeen, PlaysOn, WatchStands};
 ghost use Rattle.run_record.specs.Runs.{replies_to};
 ghost use Rattle.run_record.specs.declared.done.Done.{Done as Entry};
 

@@ -17,7 +17,7 @@ use Rattle.link_steps.specs.Buffer.{slots_of, kept_units, has_lead, has_slot, he
 use Rattle.link_steps.specs.BufferHolds.{units_of, here_after, FitsItsShare, BufferHolds, BufferAlwaysHolds}
 use Rattle.link_steps.specs.Hold.{expires, stays}
 use Rattle.link_steps.specs.HopGuarantee.{HasLeftInTime}
-use Rattle.link_steps.specs.Lists.{Each, Any}
+use Rattle.link_steps.specs.Lists.{Each, Any, Among}
 use Rattle.link_steps.specs.Rows.{Row, SourcePacket, row_terms, is_for}
 use Rattle.link_steps.specs.Scan.{Scan, clock_of, without_expired, with_sources, with_best, best_step_at, after_tick, scan_of, starts_of}
 use Rattle.link_steps.specs.Service.{Arrival, is_here, here_at, has_departed, starts_below}
@@ -28,7 +28,7 @@ use Rattle.link_steps.proofs.ChangeFacts.{Each-from_among, Each-passes, Each-if_
 use Rattle.link_steps.proofs.HopHolds.{guaranteed}
 use Rattle.link_steps.proofs.LegalOrder.{ScanInOrder, HasExpired, IsCarried, legal-order}
 use Rattle.link_steps.proofs.LegalRowFacts.{SizeFits, IsInOrder}
-use Rattle.link_steps.proofs.ListFacts.{Each-append, Each-both, Each-mapped, Each-filter, Each-find, Each-if, Among, Each-among, Among-filter}
+use Rattle.link_steps.proofs.ListFacts.{Each-append, Each-both, Each-mapped, Each-filter, Each-find, Each-if, Each-among, Among-filter}
 use Rattle.link_steps.proofs.PacketRows.{Among-passes, packets-have_rows}
 use Rattle.link_steps.proofs.RowPackets.{IsHeld, RowsStand, stand-sources}
 use Rattle.link_steps.proofs.RowsStanding.{stand-if, stand-effect, stand-expired}

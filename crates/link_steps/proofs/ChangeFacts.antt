@@ -5,8 +5,7 @@ use Rattle.std.proofs.lemmas.Bool.{cases_Bool, cond_both}
 use Rattle.std.proofs.lemmas.Option.{same_Some}
 use Rattle.std.specs.Prelude.{filter, find}
 use Rattle.traffic_contract.specs.Admission.{total}
-use Rattle.link_steps.specs.Lists.{change_first, without_first, Each}
-use Rattle.link_steps.proofs.ListFacts.{Among}
+use Rattle.link_steps.specs.Lists.{change_first, without_first, Each, Among}
 
 -- a fact of each element stays one where the change keeps it of the one found
 pub Each-change_found : {X : Type 0} (P : X → Type 0) (test : X → Bool) (change : X → X) (xs : List X) → ((x : X) → find test xs ≡ Some x → P x → P (change x)) → Each P xs → Each P (change_first test change xs)

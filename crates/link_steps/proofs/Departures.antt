@@ -4,11 +4,11 @@ use Rattle.std.proofs.Common.{◌≡◌, ℕ, zero, suc, ◌+◌, ◌-◌, ◌<�
 use Rattle.std.proofs.lemmas.Bool.{cases_lt, leb-true, le-leb, eq-eqb, eqb-true, and_parts, and_from, or_cases, or_left, or_right, or_parts, true≢false, cond_both}
 use Rattle.std.specs.Prelude.{filter, nat_eq}
 use Rattle.link_steps.specs.BusyPeriod.{IsClear, IsGone, HasWork, FitsWithin, EndsWithin}
-use Rattle.link_steps.specs.Lists.{Each}
+use Rattle.link_steps.specs.Lists.{Each, Among}
 use Rattle.link_steps.specs.Service.{Arrival, Start, leaves_at, first_in_line, is_start_of, has_started, is_waiting, is_busy, add_start, serve_tick, starts_below, is_departure_by, has_departed}
 use Rattle.link_steps.proofs.BusyPeriods.{busy_period-ends, add-departed, departed-has-started, waits-fresh}
 use Rattle.link_steps.proofs.ChangeFacts.{Each-passes}
-use Rattle.link_steps.proofs.ListFacts.{Each-from, Among, Each-among}
+use Rattle.link_steps.proofs.ListFacts.{Each-from, Each-among}
 use Rattle.link_steps.proofs.ServiceFacts.{first_in_line-fact}
 
 -- ---- clear ticks follow one another

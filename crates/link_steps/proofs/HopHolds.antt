@@ -11,7 +11,7 @@ use Rattle.link_steps.specs.Admissible.{IsAdmissible}
 use Rattle.link_steps.specs.BusyPeriod.{HasWork}
 use Rattle.link_steps.specs.HopGuarantee.{LeavesInTime, HasLeftInTime, IsGuaranteed, HopGuarantee}
 use Rattle.link_steps.specs.Laws.{KeepsItsContract, RowsKeep}
-use Rattle.link_steps.specs.Lists.{Each}
+use Rattle.link_steps.specs.Lists.{Each, Among}
 use Rattle.link_steps.specs.Rows.{Row}
 use Rattle.link_steps.specs.Scan.{clock_of, scan_of, starts_of}
 use Rattle.link_steps.specs.Service.{Arrival, Start, starts_below}
@@ -21,7 +21,7 @@ use Rattle.link_steps.proofs.ChangeFacts.{Each-from_among}
 use Rattle.link_steps.proofs.Departures.{DepartsWithin, departs-within, departed-at, starts-once, IsEligibleStart, starts-eligible, leaves-once}
 use Rattle.link_steps.proofs.LegalOrder.{IsCarried, legal-order}
 use Rattle.link_steps.proofs.LegalRowFacts.{IsInOrder}
-use Rattle.link_steps.proofs.ListFacts.{Among, Each-among, Each-if}
+use Rattle.link_steps.proofs.ListFacts.{Each-among, Each-if}
 use Rattle.link_steps.proofs.ServiceFacts.{starts-fact}
 use Rattle.link_steps.proofs.WindowFits.{packets-have_work, window-fits}
 

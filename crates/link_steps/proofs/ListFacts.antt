@@ -6,7 +6,7 @@ use Rattle.std.specs.Prelude.{filter, find}
 use Rattle.std.specs.Option.{option_map}
 use Rattle.traffic_contract.specs.Admission.{total}
 use Rattle.traffic_contract.proofs.AdmissionFacts.{total-le}
-use Rattle.link_steps.specs.Lists.{change_first, without_first, Each}
+use Rattle.link_steps.specs.Lists.{change_first, without_first, Each, Among}
 
 -- ---- a fact of each element
 
@@ -160,11 +160,6 @@ Each-find P test (y ∷ xs) x each found =
     ]
 
 -- ---- membership
-
--- x is an element
-abbrev pub Among : {X : Type 0} → X → List X → Type 0
-Among x [] = ⊥
-Among x (y ∷ ys) = (x ≡ y) ⊎ Among x ys
 
 pub Each-among : {X : Type 0} (P : X → Type 0) (x : X) (xs : List X) → Each P xs → Among x xs → P x
 Each-among P x [] each among = absurd among

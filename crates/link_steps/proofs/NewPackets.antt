@@ -9,7 +9,7 @@ use Rattle.link_steps.specs.declared.shape.LinkShape.{LinkShape}
 use Rattle.link_steps.specs.BestEffort.{best_packet}
 use Rattle.link_steps.specs.Hold.{stays}
 use Rattle.link_steps.specs.Belonging.{AreNumbered}
-use Rattle.link_steps.specs.Lists.{Each}
+use Rattle.link_steps.specs.Lists.{Each, Among}
 use Rattle.link_steps.specs.Rows.{Row}
 use Rattle.link_steps.specs.Scan.{Scan, clock_of, scan_of, arrived_packet, with_arrival, without_expired, with_sources, with_best, best_step_at, after_tick, after}
 use Rattle.link_steps.specs.Service.{Arrival, here_at}
@@ -17,7 +17,7 @@ use Rattle.link_steps.specs.Sources.{SourceStep, Rests, Brings, Drops, step_of, 
 use Rattle.link_steps.specs.Effects.{Effect, Takes, Ticks, effect_of, with_effect}
 use Rattle.link_steps.proofs.EffectFacts.{by-effect}
 use Rattle.link_steps.proofs.AccountOfRows.{eligible-from, source_packets-from}
-use Rattle.link_steps.proofs.ListFacts.{Each-append, Among}
+use Rattle.link_steps.proofs.ListFacts.{Each-append}
 use Rattle.link_steps.proofs.ServiceFacts.{IsFrom}
 
 -- the packets of two lists that are numbered one after the other

@@ -3,11 +3,11 @@ use Rattle.std.proofs.Common.{◌≡◌, ℕ, zero, suc, ◌<◌, ◌≤◌, tru
 use Rattle.std.proofs.lemmas.Bool.{cases_lt, leb-true, le-leb, ltb-true, ltb-false, eqb-true, eq-eqb, and_parts, and_from, or_cases, or_parts, not-true, cond_both}
 use Rattle.std.proofs.lemmas.Option.{same_Some}
 use Rattle.std.specs.Prelude.{filter, nat_eq, nat_lt, nat_le, ◌&&◌, ◌||◌}
-use Rattle.link_steps.specs.Lists.{Each}
+use Rattle.link_steps.specs.Lists.{Each, Among}
 use Rattle.link_steps.specs.Service.{Arrival, Start, goes_before, sooner, first_in_line, has_started, is_waiting, is_busy, add_start, serve_tick, starts_below}
 use Rattle.link_steps.specs.ServiceOrder.{ComesBehind, AreByPriority, GoesBehind, AreInTurn, PacketsStartInOrder}
 use Rattle.link_steps.proofs.ChangeFacts.{Each-from_among, Each-passes}
-use Rattle.link_steps.proofs.ListFacts.{Each-both, Each-filter, Each-if, Among, Each-among}
+use Rattle.link_steps.proofs.ListFacts.{Each-both, Each-filter, Each-if, Each-among}
 use Rattle.link_steps.proofs.PacketRows.{Among-passes}
 use Rattle.link_steps.proofs.ServiceFacts.{first_in_line-fact}
 

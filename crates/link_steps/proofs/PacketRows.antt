@@ -15,7 +15,7 @@ use Rattle.link_steps.specs.Admissible.{IsAdmissible}
 use Rattle.link_steps.specs.Belonging.{own_packets, eligible_of, TellsPackets, IsRowOf, HasRow, PacketsHaveRows}
 use Rattle.link_steps.specs.BestEffort.{best_packet}
 use Rattle.link_steps.specs.Hold.{expires, stays}
-use Rattle.link_steps.specs.Lists.{change_first, without_first, Each, Any}
+use Rattle.link_steps.specs.Lists.{change_first, without_first, Each, Any, Among}
 use Rattle.link_steps.specs.Rows.{Row, new_row}
 use Rattle.link_steps.specs.Scan.{Scan, clock_of, is_row_of, arrived_packet, arrived_row, with_arrival, without_expired, with_sources, with_best, best_step_at, after_tick, after, scan_of}
 use Rattle.link_steps.specs.Service.{Arrival, here_at}
@@ -25,7 +25,7 @@ use Rattle.link_steps.proofs.EffectFacts.{EffectFits, each-admissible}
 use Rattle.link_steps.proofs.ChangeFacts.{Each-from_among}
 use Rattle.link_steps.proofs.LegalOrder.{ScanInOrder, legal-order}
 use Rattle.link_steps.proofs.LegalRowFacts.{IsInOrder}
-use Rattle.link_steps.proofs.ListFacts.{Each-append, Each-both, Each-find, Each-if, Among, Each-among}
+use Rattle.link_steps.proofs.ListFacts.{Each-append, Each-both, Each-find, Each-if, Each-among}
 use Rattle.link_steps.proofs.RowPackets.{IsLedUpTo, IsHeld, IsBeside, lead-cases}
 use Rattle.link_steps.proofs.SourceHistory.{ScanServed, legal-served}
 use Rattle.link_steps.proofs.SourcesServed.{HasSource}

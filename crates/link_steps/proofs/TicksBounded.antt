@@ -21,7 +21,7 @@ use Rattle.link_steps.specs.Admissible.{IsAdmissible}
 use Rattle.link_steps.specs.Belonging.{own_packets}
 use Rattle.link_steps.specs.Buffer.{stay_of, slots_of, kept_units, has_lead, held_packets}
 use Rattle.link_steps.specs.Hold.{expires, stays}
-use Rattle.link_steps.specs.Lists.{Each}
+use Rattle.link_steps.specs.Lists.{Each, Among}
 use Rattle.link_steps.specs.Regulator.{waits_until, eligible_next}
 use Rattle.link_steps.specs.Reservation.{Reservation}
 use Rattle.link_steps.specs.Rows.{Row, row_terms}
@@ -35,7 +35,7 @@ use Rattle.link_steps.proofs.ChangeFacts.{Each-from_among}
 use Rattle.link_steps.proofs.Departures.{starts-eligible, IsEligibleStart}
 use Rattle.link_steps.proofs.LegalOrder.{HasExpired, upto-newest, legal-order}
 use Rattle.link_steps.proofs.LegalRowFacts.{IsInOrder}
-use Rattle.link_steps.proofs.ListFacts.{Each-both, Each-filter, Each-if, Each-mapped, Among}
+use Rattle.link_steps.proofs.ListFacts.{Each-both, Each-filter, Each-if, Each-mapped}
 use Rattle.link_steps.proofs.NewPackets.{packets-numbered, same-number}
 use Rattle.link_steps.proofs.RowPackets.{IsHeld, RowsStand, stand-sources}
 use Rattle.link_steps.proofs.RowsStanding.{Stands, stand-effect, stand-expired}

@@ -10,7 +10,7 @@ use Rattle.link_steps.specs.Admissible.{IsAdmissible}
 use Rattle.link_steps.specs.Belonging.{own_packets, eligible_of, HasLevelOf, TellsPackets, IsRowOf, HasRow}
 use Rattle.link_steps.specs.Buffer.{has_lead}
 use Rattle.link_steps.specs.BusyPeriod.{is_eligible_in}
-use Rattle.link_steps.specs.Lists.{Each, Any}
+use Rattle.link_steps.specs.Lists.{Each, Any, Among}
 use Rattle.link_steps.specs.Rows.{Row}
 use Rattle.link_steps.specs.Scan.{clock_with, clock_of, scan_of}
 use Rattle.link_steps.specs.Service.{Arrival}
@@ -18,7 +18,7 @@ use Rattle.link_steps.specs.WindowRows.{BringsPacket, IsBrought, StandTogether}
 use Rattle.link_steps.proofs.AdmissionHolds.{last-pass, held_rows-pass}
 use Rattle.link_steps.proofs.ChangeFacts.{Each-from_among}
 use Rattle.link_steps.proofs.LegalOrder.{HasExpired, legal-order}
-use Rattle.link_steps.proofs.ListFacts.{Each-append, Each-if, Among, Each-among}
+use Rattle.link_steps.proofs.ListFacts.{Each-append, Each-if, Each-among}
 use Rattle.link_steps.proofs.NewPackets.{packets-after}
 use Rattle.link_steps.proofs.PacketRows.{Among-passes, packets-have_rows}
 use Rattle.link_steps.proofs.ServiceFacts.{IsFrom}

@@ -1,5 +1,5 @@
--- Words on lists: the first element that passes a test changed, or taken out, and a fact of each element, or of one.
-use Rattle.std.specs.Prelude.{Bool, if◌then◌else◌, List, [], ◌∷◌, ◌⊎◌}
+-- Words on lists: the first element that passes a test changed, or taken out, a fact of each element, or of one, and membership.
+use Rattle.std.specs.Prelude.{◌≡◌, Bool, if◌then◌else◌, List, [], ◌∷◌, ◌⊎◌}
 
 -- the list with the first element changed that passes a test
 unfoldable pub change_first : {X : Type 0} → (X → Bool) → (X → X) → List X → List X
@@ -20,3 +20,8 @@ Each P (x ∷ xs) = P x × Each P xs
 abbrev pub Any : {X : Type 0} → (X → Type 0) → List X → Type 0
 Any P [] = ⊥
 Any P (x ∷ xs) = P x ⊎ Any P xs
+
+-- x is an element
+abbrev pub Among : {X : Type 0} → X → List X → Type 0
+Among x [] = ⊥
+Among x (y ∷ ys) = (x ≡ y) ⊎ Among x ys

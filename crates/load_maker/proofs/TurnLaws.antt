@@ -1,5 +1,5 @@
 -- A plan has one run by turns.
-use Rattle.std.proofs.Common.{◌≡◌, ℕ, zero, suc, ◌+◌, ◌-◌, ◌%◌, ◌<◌, ◌≤◌, ◌⊎◌, inl, inr, Bool, true, false, Option, Some, None, IsSome, List, [], ◌∷◌, length, refl, sym, ap, ◌∙◌, subst, arith}
+use Rattle.std.proofs.Common.{◌≡◌, ℕ, zero, suc, ◌+◌, ◌-◌, ◌%◌, ◌<◌, ◌≤◌, ◌⊎◌, inl, inr, Option, Some, None, IsSome, List, [], ◌∷◌, length, refl, sym, ap, ◌∙◌, subst, arith}
 use Rattle.std.proofs.Math.Nat.{add-mod_left, mod-eq_of_lt}
 use Rattle.std.proofs.lemmas.Bool.{cases_eq, cases_lt, cases_order}
 use Rattle.std.proofs.lemmas.Nat.{mod_below}
@@ -14,15 +14,15 @@ use Rattle.call_script.specs.Plans.{IsPlan}
 use Rattle.call_script.specs.Scripts.{script_ask}
 use Rattle.call_script.specs.Tasks.{Network, network_of}
 use Rattle.call_script.specs.declared.entries.CallerEntry.{CallerEntry}
-use Rattle.interleave_core.proofs.ActorFacts.{plane-number}
-use Rattle.interleave_core.proofs.PlayFacts.{step-some}
-use Rattle.interleave_core.proofs.RunLegal.{asked-caller}
-use Rattle.interleave_core.proofs.RunOf.{none-run, step-is, step-run}
-use Rattle.interleave_core.proofs.StepFacts.{callers-few}
-use Rattle.interleave_core.proofs.TurnFacts.{steps-end}
-use Rattle.interleave_core.specs.Runs.{plane_no, next_for, IsRun, step}
-use Rattle.interleave_core.specs.Standing.{StepsTo}
-use Rattle.interleave_core.specs.Turns.{most_left}
+use Rattle.interleave_core.proofs.Keeping.ActorFacts.{plane-number}
+use Rattle.interleave_core.proofs.Schedules.PlayFacts.{step-some}
+use Rattle.interleave_core.proofs.Runs.RunLegal.{asked-caller}
+use Rattle.interleave_core.proofs.Runs.RunOf.{none-run, step-is, step-run}
+use Rattle.interleave_core.proofs.Keeping.StepFacts.{callers-few}
+use Rattle.interleave_core.proofs.Tasks.TurnFacts.{steps-end}
+use Rattle.interleave_core.specs.runs.Runs.{plane_no, next_for, IsRun, step}
+use Rattle.interleave_core.specs.schedules.Standing.{StepsTo}
+use Rattle.interleave_core.specs.runs.Turns.{most_left}
 use Rattle.load_maker.proofs.ScriptFacts.{actor-is}
 use Rattle.load_maker.specs.TurnRuns.{goes_on_at, further, IsItsTurn, NobodyIsLeft, GoesByTurns, IsTurnsRun, TurnsMakeOneRun}
 use Rattle.run_record.specs.Runs.{replies_to}
@@ -30,10 +30,6 @@ use Rattle.run_record.specs.declared.done.Done.{Done}
 use Rattle.net_units.proofs.NumberFacts.{same-actor}
 
 -- ---- actors without a step
-
-pub none-left : {X : Type 0} (next : Option X) → (IsSome next → ⊥) → next ≡ None
-none-left None not = refl
-none-left (Some x) not = absurd (not refl)
 
 some-or-none : {X : Type 0} (next : Option X) → IsSome next ⊎ (next ≡ None)
 some-or-none None = inr refl
@@ -185,17 +181,6 @@ turn-made network past run actor reply turns turn steps =
     let goes : GoesByTurns network (steps.done ∷ past) = (turns, own) in
     (subst (GoesByTurns network) (sym steps.is) goes, ap (λ (a : ActorNo). suc (actor_number a)) (sym steps.by) ∙ ap goes_on_at (sym steps.is))
 
-pub turn-fewer : (parts : PlanParts) (past run : List Done) (actor : ActorNo) (reply : Reply) → IsPlan parts → IsRun (network_of parts) past → IsItsTurn (network_of parts) past (actor_number actor) → StepsTo (network_of parts) actor past reply run → all_left (network_of parts) run < all_left (network_of parts) past
-turn-fewer parts past run actor reply plan is turn steps =
-    subst (λ r. all_left (network_of parts) r < all_left (network_of parts) past) (sym steps.goes) (all-fewer (network_of parts) past actor (plan-fits parts plan) is turn.left)
-
--- who has a step left is a caller or the plane
-pub caller-or-plane : (parts : PlanParts) (actor : ℕ) (run : List Done) → IsSome (next_for (network_of parts) actor run) → actor ≤ length parts.callers
-caller-or-plane parts actor run some =
-    let within = left-within (network_of parts) actor run some in
-    let plane = plane-number parts in
-    omega (arith, within, plane)
-
 pub none-by-turns : (network : Network) (run : List Done) → run ≡ [] → GoesByTurns network run × (0 ≡ goes_on_at run)
 unfolding GoesByTurns
 none-by-turns network run none = (subst (GoesByTurns network) (sym none) tt, ap goes_on_at (sym none))
@@ -227,10 +212,6 @@ one-more network past n none last j less =
       | inl same ↦ subst (λ m. next_for network (further network past m) past ≡ None) (sym same) last
       | inr apart ↦ none j (omega (arith, less, apart))
     ]
-
-pub false-not-true : (b : Bool) → b ≡ false → b ≡ true → ⊥
-false-not-true true not is = cc
-false-not-true false not is = cc
 
 -- ---- a plan has such a run
 

@@ -6,9 +6,9 @@ use Rattle.net_units.specs.declared.numbers.LinkNo.{LinkNo}
 use Rattle.link_steps.specs.declared.asks.Ask.{Ask}
 use Rattle.call_script.specs.Parts.{PlanParts}
 use Rattle.call_script.specs.Tasks.{network_of}
-use Rattle.interleave_core.specs.Runs.{next_for}
-use Rattle.interleave_core.specs.Standing.{EngineStands, IsGuaranteedRun}
-use Rattle.interleave_core.specs.Watching.{IsSeen, WatchStands}
+use Rattle.interleave_core.specs.runs.Runs.{next_for}
+use Rattle.interleave_core.specs.schedules.Standing.{EngineStands, IsGuaranteedRun}
+use Rattle.interleave_core.specs.schedules.Watching.{IsSeen, WatchStands}
 use Rattle.interleave_core.specs.declared.callers.Callers.{Callers}
 use Rattle.interleave_core.specs.declared.engine.Engine.{Engine}
 use Rattle.load_maker.specs.TurnRuns.{goes_on_at, GoesByTurns, IsItsTurn, IsTurnsRun, NobodyIsLeft}

@@ -1,15 +1,14 @@
 //! The run of a plan by turns.
 ghost use Rattle.std.specs.Prelude.{◌≡◌, ◌≤◌, ◌<◌, [], List, IfOk, IfSome, IfNone, OnOk, reverse};
 ghost use Rattle.call_script.specs.Tasks.{network_of};
-ghost use Rattle.interleave_core.specs.Standing.{IsGuaranteedRun};
-ghost use Rattle.interleave_core.specs.Watching.{WatchStands};
+ghost use Rattle.interleave_core.specs.schedules.Standing.{IsGuaranteedRun};
+ghost use Rattle.interleave_core.specs.schedules.Watching.{WatchStands};
 ghost use Rattle.load_maker.specs.TurnRuns.{IsTurnsRun, NobodyIsLeft, TurnsMakeOneRun};
 ghost use Rattle.load_maker.specs.SeenTurns.{HaveTurned, IsCircleAt, IsTurnOf, IsTurnsSeen};
-ghost use Rattle.net_units.specs.Numbers.{actor_at};
 ghost use Rattle.run_record.specs.declared.done.Done.{Done as Entry};
 
 use call_script::Plan;
-use interleave_core::{Callers, Engine, Watch, make_watched};
+use interleave_core::{Callers, Engine, Watch, actor_of, make_watched};
 use link_steps::Ask;
 use net_units::{ActorNo, LinkNo, OutOfMemory};
 use run_record::Record;
@@ -79,17 +78,6 @@ fn turn(engine: &Engine, plan: &Plan, next: usize) -> Option<(ActorNo, LinkNo, A
         }
     }
     None
-}
-
-// The actor of this number.
-fn actor_of(number: usize) -> ActorNo
-    requires { number < 65 }
-    ensures { result ≡ actor_at number }
-{
-    match ActorNo::new(number as u8) {
-        Some(actor) => actor,
-        None => unreachable!(),
-    }
 }
 
 /// A plan has a run by turns, and only one.

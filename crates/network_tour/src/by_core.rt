@@ -1,5 +1,5 @@
 //! The network by `Core`: one value has its links, its actors and the record of the run, and whoever holds it makes the steps.
-ghost use Rattle.interleave_core.specs.Standing.{CoreStands};
+ghost use Rattle.interleave_core.specs.schedules.Standing.{CoreStands};
 
 use crate::told::{Told, note};
 use byte_ends::SureSource;

@@ -20,8 +20,8 @@ use Rattle.tick_plane.specs.declared.flight.Flight.{Flight}
 use Rattle.tick_plane.proofs.WindowFacts.{WindowGoes, IsLate, window-goes, window-over}
 use Rattle.run_record.specs.Runs.{part_of}
 use Rattle.run_record.specs.declared.done.Done.{Done}
-use Rattle.interleave_core.specs.Runs.{plane_no, plane_at, IsNext, IsRun}
-use Rattle.interleave_core.proofs.RunLegal.{asked-plane, part-on, part-off, plane-by, run-stands}
+use Rattle.interleave_core.specs.runs.Runs.{plane_no, plane_at, IsNext, IsRun}
+use Rattle.interleave_core.proofs.Runs.RunLegal.{asked-plane, part-on, part-off, plane-by, run-stands}
 use Rattle.plane_workers.specs.Answered.{answered, replies_along, IsAnswered}
 use Rattle.plane_workers.specs.Windows.{LinksKept, IsAhead, LinksAhead, KeepsGap}
 

@@ -6,7 +6,7 @@ use Rattle.link_steps.specs.Replies.{reply_to}
 use Rattle.link_steps.specs.Scan.{clock_with}
 use Rattle.link_steps.specs.Split.{Link}
 use Rattle.link_steps.specs.declared.asks.Ask.{Ask}
-use Rattle.link_steps.specs.declared.asks.Ask.TheVariants.{Reserve, Relax, Deny, Submit, Release, Arrive, Tick, Pour}
+use Rattle.link_steps.specs.declared.asks.Ask.TheVariants.{Reserve}
 use Rattle.link_steps.specs.declared.replies.Entry.{Entry}
 use Rattle.link_steps.specs.declared.replies.Reply.{Reply}
 use Rattle.plane_workers.specs.Answered.{ticks_in, entry_after, answered, replies_along, IsAnswered}
@@ -50,13 +50,7 @@ module _ {X : Type 0} (rules : X → Link) (stands : X → List Entry → Type 0
 
 pub clock-step : (ask : Ask) (before : ℕ) → clock_with ask before ≡ before + clock_with ask 0
 clock-step (Reserve chan contract kind delay up_reach first next) before = omega arith
-clock-step (Relax chan level up_bound) before = omega arith
-clock-step (Deny chan) before = omega arith
-clock-step (Submit chan count gap size) before = omega arith
-clock-step (Release chan upstream) before = omega arith
-clock-step (Arrive packet) before = omega arith
-clock-step Tick before = omega arith
-clock-step (Pour count gap size) before = omega arith
+clock-step _ before = omega arith
 
 pub ticks-append : (asks more : List Ask) → ticks_in (asks ++ more) ≡ ticks_in asks + ticks_in more
 unfolding ticks_in

@@ -3,7 +3,7 @@ use Rattle.std.proofs.Common.{◌≡◌, ◌≢◌, ℕ, suc, ◌<◌, ◌≤◌
 use Rattle.std.proofs.lemmas.List.{drop_all, length-map}
 use Rattle.std.proofs.lemmas.Bool.{cases_Bool, cases_lt, eqb-true, eqb-false, eq-eqb, ne_eqb}
 use Rattle.std.proofs.lemmas.Option.{same_Some, slice_get_within, slice_get-map}
-use Rattle.interleave_core.proofs.Lookups.{held}
+use Rattle.interleave_core.proofs.Keeping.Lookups.{held}
 use Rattle.std.specs.List.{slice_get}
 use Rattle.std.specs.Prelude.{nat_eq, Result, Ok, Err, OnOk, false}
 use Rattle.std.specs.Result.{is_err}
@@ -15,7 +15,7 @@ use Rattle.link_steps.specs.declared.replies.Reply.{Reply}
 use Rattle.link_steps.specs.Replies.{reply_to}
 use Rattle.link_steps.specs.Split.{Link}
 use Rattle.link_steps.specs.Scan.{clock_with}
-use Rattle.link_steps.specs.declared.asks.Ask.TheVariants.{Reserve, Relax, Deny, Submit, Release, Arrive, Tick, Pour}
+use Rattle.link_steps.specs.declared.asks.Ask.TheVariants.{Reserve}
 use Rattle.plane_workers.specs.Answered.{IsAnswered, ticks_in, entry_after, answered}
 use Rattle.plane_workers.specs.Batches.{with_entry, IsMade, MadeInTurn, AreAhead, own_asks}
 use Rattle.plane_workers.specs.Windows.{IsAhead}
@@ -32,10 +32,6 @@ with-own hs n m e is = rw (eq-eqb m n is) refl
 
 with-other : (hs : ℕ → List Entry) (n m : ℕ) (e : Entry) → m ≢ n → with_entry hs n e m ≡ hs m
 with-other hs n m e off = rw (ne_eqb m n off) refl
-
--- no ask is left
-pub in-turn-none : (links : List Link) (hs : ℕ → List Entry) → MadeInTurn links hs [] [] hs
-in-turn-none links hs = λ n. refl
 
 -- one ask more, at the end
 pub in-turn-more : (links : List Link) (hs mid after : ℕ → List Entry) (asks : List (LinkNo × Ask)) (replies : List Reply) (to : LinkNo × Ask) (reply : Reply) → MadeInTurn links hs asks replies mid → IsMade links mid to reply after → MadeInTurn links hs (asks ++ to ∷ []) (replies ++ reply ∷ []) after
@@ -111,13 +107,7 @@ module _ {X : Type 0} (rules : X → Link) (stands : X → List Entry → Type 0
 
 one-tick : (ask : Ask) → clock_with ask 0 ≤ 1
 one-tick (Reserve chan contract kind delay up_reach first next) = omega arith
-one-tick (Relax chan level up_bound) = omega arith
-one-tick (Deny chan) = omega arith
-one-tick (Submit chan count gap size) = omega arith
-one-tick (Release chan upstream) = omega arith
-one-tick (Arrive packet) = omega arith
-one-tick Tick = omega arith
-one-tick (Pour count gap size) = omega arith
+one-tick _ = omega arith
 
 -- ---- the asks that are left
 

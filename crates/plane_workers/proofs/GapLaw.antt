@@ -36,10 +36,10 @@ use Rattle.tick_plane.specs.declared.flight.Flight.{Flight}
 use Rattle.tick_plane.proofs.FlightFacts.{flight-in}
 use Rattle.run_record.specs.Runs.{replies_to, part_of}
 use Rattle.run_record.specs.declared.done.Done.{Done}
-use Rattle.interleave_core.specs.Runs.{plane_no, plane_at, IsNext, IsRun}
-use Rattle.interleave_core.proofs.OnceFacts.{once-asked, packets-hold}
-use Rattle.interleave_core.proofs.Replying.{replies-expected}
-use Rattle.interleave_core.proofs.RunLegal.{caller-next, plane-next, part-on, part-off, part-admissible, run-stands}
+use Rattle.interleave_core.specs.runs.Runs.{plane_no, plane_at, IsNext, IsRun}
+use Rattle.interleave_core.proofs.Tasks.OnceFacts.{once-asked, packets-hold}
+use Rattle.interleave_core.proofs.Replies.Replying.{replies-expected}
+use Rattle.interleave_core.proofs.Runs.RunLegal.{caller-next, plane-next, part-on, part-off, part-admissible, run-stands}
 use Rattle.plane_workers.specs.Gaps.{IsSpaced, TaskSpaced, AreSpaced, PacketsTakeTheirTime}
 
 -- where packets go on from a link, it takes the gap at least

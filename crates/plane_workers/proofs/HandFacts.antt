@@ -13,11 +13,11 @@ use Rattle.call_script.specs.Tasks.{network_of}
 use Rattle.tick_plane.specs.Kept.{KeptPlane}
 use Rattle.tick_plane.specs.Planes.{next_due, plane_after, plane_ask, plane_expects, IsDueLater}
 use Rattle.run_record.specs.declared.done.Done.{Done}
-use Rattle.interleave_core.specs.Runs.{IsNext}
-use Rattle.interleave_core.specs.Turns.{plane_most}
-use Rattle.interleave_core.specs.Watching.{IsNextSeen}
-use Rattle.interleave_core.proofs.Lookups.{held}
-use Rattle.interleave_core.proofs.StepFacts.{run-more}
+use Rattle.interleave_core.specs.runs.Runs.{IsNext}
+use Rattle.interleave_core.specs.runs.Turns.{plane_most}
+use Rattle.interleave_core.specs.schedules.Watching.{IsNextSeen}
+use Rattle.interleave_core.proofs.Keeping.Lookups.{held}
+use Rattle.interleave_core.proofs.Keeping.StepFacts.{run-more}
 use Rattle.plane_workers.specs.Desks.{rules_at, stands_at, left_at}
 use Rattle.plane_workers.specs.Windows.{GoesOnBy, IsWithin}
 use Rattle.plane_workers.specs.declared.desk.Desk.{Desk}

@@ -27,16 +27,16 @@ use Rattle.call_script.specs.declared.operations.Op.{Op}
 use Rattle.tick_plane.specs.Kept.{KeptPlane}
 use Rattle.tick_plane.specs.Planes.{Plane}
 use Rattle.run_record.specs.declared.done.Done.{Done}
-use Rattle.interleave_core.specs.Runs.{plane_no, plane_at, next_for, IsRun}
-use Rattle.interleave_core.specs.Schedules.{FollowsTurns, repeated}
-use Rattle.interleave_core.specs.Standing.{AreCallers, CallersStand, LinksStand, PlaneStands, IsGuaranteedRun}
-use Rattle.interleave_core.specs.Watching.{WatchStands}
+use Rattle.interleave_core.specs.runs.Runs.{plane_no, plane_at, next_for, IsRun}
+use Rattle.interleave_core.specs.schedules.Schedules.{FollowsTurns, repeated}
+use Rattle.interleave_core.specs.schedules.Standing.{AreCallers, CallersStand, LinksStand, PlaneStands, IsGuaranteedRun}
+use Rattle.interleave_core.specs.schedules.Watching.{WatchStands}
 use Rattle.interleave_core.specs.declared.callers.Callers.{Callers}
 use Rattle.interleave_core.specs.declared.engine.Engine.{Engine}
-use Rattle.interleave_core.proofs.ActorFacts.{plane-number}
-use Rattle.interleave_core.proofs.StepFacts.{callers-few}
-use Rattle.interleave_core.proofs.GuaranteeLaw.{guaranteed-throughout}
-use Rattle.interleave_core.proofs.RunLegal.{asked-plane}
+use Rattle.interleave_core.proofs.Keeping.ActorFacts.{plane-number}
+use Rattle.interleave_core.proofs.Keeping.StepFacts.{callers-few}
+use Rattle.interleave_core.proofs.Channels.GuaranteeLaw.{guaranteed-throughout}
+use Rattle.interleave_core.proofs.Runs.RunLegal.{asked-plane}
 use Rattle.plane_workers.specs.Gaps.{IsSpaced, TaskSpaced, AreSpaced}
 use Rattle.plane_workers.specs.Seen.{GoesTo, HasPlayedOut, SeenBetween}
 use Rattle.plane_workers.specs.Windows.{GoesOnBy, LinksKept, KeepsGap}

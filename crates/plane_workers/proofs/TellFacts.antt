@@ -25,18 +25,18 @@ use Rattle.tick_plane.specs.declared.flight.Flight.{Flight}
 use Rattle.tick_plane.proofs.WindowFacts.{window-goes, window-holds}
 use Rattle.run_record.specs.Runs.{part_of}
 use Rattle.run_record.specs.declared.done.Done.{Done}
-use Rattle.interleave_core.specs.Linked.{IsLinkThere}
-use Rattle.interleave_core.specs.Runs.{plane_no, plane_at, IsNext, IsRun}
-use Rattle.interleave_core.specs.Schedules.{repeated, FollowsTurns}
-use Rattle.interleave_core.specs.Turns.{plane_most}
-use Rattle.interleave_core.proofs.ActorFacts.{plane-number}
-use Rattle.interleave_core.proofs.LinksAsked.{asks-linked}
-use Rattle.interleave_core.proofs.PlayFacts.{step-follows}
-use Rattle.interleave_core.proofs.Replying.{replies-expected}
-use Rattle.interleave_core.proofs.RunLegal.{asked-plane, plane-by, replies-off, run-stands}
-use Rattle.interleave_core.proofs.RunOf.{step-is}
-use Rattle.interleave_core.proofs.ScheduleFacts.{follows-none, follows-more}
-use Rattle.interleave_core.proofs.TurnFacts.{with-fewer}
+use Rattle.interleave_core.specs.runs.Linked.{IsLinkThere}
+use Rattle.interleave_core.specs.runs.Runs.{plane_no, plane_at, IsNext, IsRun}
+use Rattle.interleave_core.specs.schedules.Schedules.{repeated, FollowsTurns}
+use Rattle.interleave_core.specs.runs.Turns.{plane_most}
+use Rattle.interleave_core.proofs.Keeping.ActorFacts.{plane-number}
+use Rattle.interleave_core.proofs.Tasks.LinksAsked.{asks-linked}
+use Rattle.interleave_core.proofs.Schedules.PlayFacts.{step-follows}
+use Rattle.interleave_core.proofs.Replies.Replying.{replies-expected}
+use Rattle.interleave_core.proofs.Runs.RunLegal.{asked-plane, plane-by, replies-off, run-stands}
+use Rattle.interleave_core.proofs.Runs.RunOf.{step-is}
+use Rattle.interleave_core.proofs.Schedules.ScheduleFacts.{follows-none, follows-more}
+use Rattle.interleave_core.proofs.Tasks.TurnFacts.{with-fewer}
 use Rattle.plane_workers.specs.Answered.{replies_along}
 use Rattle.plane_workers.specs.Seen.{GoesTo}
 use Rattle.plane_workers.specs.Windows.{IsWithin, GoesOnBy}

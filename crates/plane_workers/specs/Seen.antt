@@ -9,9 +9,9 @@ use Rattle.call_script.specs.Parts.{PlanParts}
 use Rattle.call_script.specs.Tasks.{Network, network_of}
 use Rattle.tick_plane.specs.Kept.{KeptPlane}
 use Rattle.run_record.specs.declared.done.Done.{Done}
-use Rattle.interleave_core.specs.Schedules.{StepsOut}
-use Rattle.interleave_core.specs.Standing.{IsGuaranteedRun}
-use Rattle.interleave_core.specs.Watching.{IsSeen}
+use Rattle.interleave_core.specs.schedules.Schedules.{StepsOut}
+use Rattle.interleave_core.specs.schedules.Standing.{IsGuaranteedRun}
+use Rattle.interleave_core.specs.schedules.Watching.{IsSeen}
 use Rattle.interleave_core.specs.declared.callers.Callers.{Callers}
 use Rattle.plane_workers.specs.Windows.{GoesOnBy, IsBetween, IsWithin}
 

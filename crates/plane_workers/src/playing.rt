@@ -1,11 +1,11 @@
 //! Runs that are played by a schedule, the plane's rounds by several workers.
 ghost use Rattle.std.specs.Prelude.{◌≡◌, ◌+◌, ◌<◌, ◌≤◌, [], List, IfOk, IfErr, OnOk, length, reverse};
 ghost use Rattle.call_script.specs.Tasks.{network_of};
-ghost use Rattle.interleave_core.specs.Schedules.{IsActorOf, IsFaultOf, IsPlayed, IsWanted};
-ghost use Rattle.interleave_core.specs.Standing.{IsGuaranteedRun};
-ghost use Rattle.interleave_core.specs.Watching.{HavePlayedOut, IsPlayedSeen, PlaysOut, WatchStands};
+ghost use Rattle.interleave_core.specs.schedules.Schedules.{IsActorOf, IsFaultOf, IsPlayed};
+ghost use Rattle.interleave_core.specs.schedules.Standing.{IsGuaranteedRun};
+ghost use Rattle.interleave_core.specs.schedules.Watching.{HavePlayedOut, IsPlayedSeen, PlaysOut, WatchStands};
 ghost use Rattle.link_steps.specs.Lists.{Each};
-ghost use Rattle.net_units.specs.Numbers.{actor_number, actor_at};
+ghost use Rattle.net_units.specs.Numbers.{actor_at};
 ghost use Rattle.plane_workers.specs.Seen.{HasPlayedOut};
 ghost use Rattle.run_record.specs.declared.done.Done.{Done as Step};
 
@@ -13,7 +13,7 @@ use crate::desk::desks_of;
 use crate::gap::least_gap;
 use crate::window::make_rounds;
 use call_script::{Plan, Schedule};
-use interleave_core::{Callers, Engine, PlayFault, Watch, make_watched, play_watched};
+use interleave_core::{Callers, Engine, PlayFault, Watch, actor_of, make_watched, play_watched};
 use net_units::{ActorNo, Gate, OutOfMemory};
 use run_record::Record;
 use std::alloc::Global;
@@ -134,15 +134,4 @@ fn make_all_rounds<R: Threads + Sync, W: Watch, G: Gate + Sync>(
         rt, alloc, plan, &mut plane, &mut desks, watch, actor, gap, rounds, workers, gate,
     )?;
     Ok(callers)
-}
-
-// The actor of this number.
-fn actor_of(number: usize) -> ActorNo
-    requires { number < 65 }
-    ensures { result ≡ actor_at number }
-{
-    match ActorNo::new(number as u8) {
-        Some(actor) => actor,
-        None => unreachable!(),
-    }
 }

@@ -3,7 +3,7 @@ ghost use Rattle.std.specs.Prelude.{◌≡◌, ◌≢◌, ℕ, ◌+◌, ◌<◌,
 ghost use Rattle.std.specs.List.{slice_get};
 ghost use Rattle.net_units.specs.Numbers.{actor_number};
 ghost use Rattle.call_script.specs.Tasks.{network_of};
-ghost use Rattle.interleave_core.specs.Turns.{plane_most};
+ghost use Rattle.interleave_core.specs.runs.Turns.{plane_most};
 ghost use Rattle.plane_workers.specs.Desks.{rules_at, stands_at, left_at};
 ghost use Rattle.plane_workers.specs.Seen.{GoesTo, SeenWithin};
 ghost use Rattle.run_record.specs.declared.done.Done.{Done as Entry};

@@ -5,7 +5,7 @@ use Rattle.std.proofs.lemmas.Bool.{ltb-true, ltb-false}
 use Rattle.std.proofs.lemmas.Option.{slice_get_read, slice_get_past}
 use Rattle.std.specs.Prelude.{nat_lt}
 use Rattle.std.specs.List.{slice_get}
-use Rattle.link_steps.proofs.ListFacts.{Among}
+use Rattle.link_steps.specs.Lists.{Among}
 use Rattle.link_steps.proofs.ListParts.{Among-turned, Among-reverse, Among-at, mapped-at}
 
 -- ---- a list turned round

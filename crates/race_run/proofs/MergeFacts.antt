@@ -8,8 +8,8 @@ use Rattle.std.proofs.lemmas.List.Sorted.{Contains-permutation, length_permutati
 use Rattle.std.proofs.lemmas.Option.{same_Some, get_or_from_slice_get}
 use Rattle.std.specs.List.{slice_get}
 use Rattle.std.specs.Prelude.{nat_lt}
-use Rattle.link_steps.specs.Lists.{Each}
-use Rattle.link_steps.proofs.ListFacts.{Among, Each-among, Each-append, Each-if}
+use Rattle.link_steps.specs.Lists.{Each, Among}
+use Rattle.link_steps.proofs.ListFacts.{Each-among, Each-append, Each-if}
 use Rattle.step_stamp.specs.Marks.{RisesFrom, StampsRise}
 use Rattle.link_ledger.specs.Journals.{marks_in}
 use Rattle.link_ledger.specs.Tokens.{Token}
@@ -17,8 +17,8 @@ use Rattle.link_ledger.specs.declared.entries.Entry.{Entry}
 use Rattle.link_ledger.specs.declared.entries.Journal.{Journal}
 use Rattle.call_script.specs.Tasks.{Network}
 use Rattle.run_record.specs.declared.done.Done.{Done}
-use Rattle.interleave_core.specs.Weave.{Stamped, put, put_all, woven_of, IsUnder, Falls, InOne, StandsIn, done_of}
-use Rattle.interleave_core.proofs.WeaveLaw.{journals-weave}
+use Rattle.interleave_core.specs.runs.Weave.{Stamped, put, put_all, woven_of, IsUnder, Falls, InOne, StandsIn, done_of}
+use Rattle.interleave_core.proofs.Runs.WeaveLaw.{journals-weave}
 use Rattle.race_run.specs.Merging.{is_before, places_from, sources_from, places_of, IsInside, IsThere, AreThere}
 use Rattle.race_run.specs.Whole.{IsWhole, stamped_on, stamped_in, weave_of}
 use Rattle.race_run.specs.declared.merging.Place.{Place}

@@ -6,7 +6,7 @@ use Rattle.atomic_table.specs.Seated.{TableId}
 use Rattle.net_units.specs.Numbers.{actor_number}
 use Rattle.net_units.specs.declared.numbers.ActorNo.{ActorNo}
 use Rattle.link_steps.specs.Lists.{Each}
-use Rattle.link_steps.specs.Split.{Link, SplitFits}
+use Rattle.link_steps.specs.Split.{Link}
 use Rattle.step_stamp.specs.Lists.{up_to}
 use Rattle.step_stamp.specs.Opening.{AreLinks, ArePasses}
 use Rattle.step_stamp.specs.Seats.{seat_actor}
@@ -23,7 +23,7 @@ use Rattle.call_script.specs.Parts.{PlanParts}
 use Rattle.call_script.specs.Plans.{IsPlan}
 use Rattle.call_script.specs.Splits.{entry_link, groups_in}
 use Rattle.call_script.specs.Tasks.{network_of}
-use Rattle.interleave_core.specs.Runs.{plane_no}
+use Rattle.interleave_core.specs.runs.Runs.{plane_no}
 use Rattle.race_run.specs.Callers.{IsNetworkOf}
 use Rattle.race_run.specs.Pieces.{AreNew, IsAtRound}
 use Rattle.race_run.specs.Rounds.{PlaneIsAt}
@@ -70,9 +70,6 @@ module _ (table : TableId) (owners : List ActorNo) (links : List Link) (parts : 
 
   pub links-few : length links ≤ 32
   links-few = (let fits = (plan-fits parts plan).few in let same = ap length network.links_are in omega (arith, fits, same))
-
-  pub links-split : Each SplitFits links
-  links-split = subst (Each SplitFits) (sym network.links_are) (plan-fits parts plan).splits
 
   module _ (n : ℕ) (passes : List PassSeat) (of : ArePasses table n n passes) where
     pub seats-as : (seats : List LinkSeat) → AreLinks table n (length parts.links) seats → AreLinks table (length passes) (length links) seats

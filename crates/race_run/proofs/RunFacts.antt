@@ -1,14 +1,10 @@
 -- A run is played by its list of actors in maximal runs, and all of these are actors of its plan.
-use Rattle.std.proofs.Common.{◌≡◌, ℕ, zero, suc, ◌≤◌, List, [], ◌∷◌, ◌++◌, map, reverse, length, Option, Some, None, refl, sym, ap, ◌∙◌, subst, inl, inr, arith}
-use Rattle.std.proofs.lemmas.Bool.{cases_lt, ne_eqb}
+use Rattle.std.proofs.Common.{◌≡◌, ℕ, zero, suc, ◌≤◌, List, [], ◌∷◌, ◌++◌, map, reverse, length, Option, Some, None, refl, sym, ap, ◌∙◌, subst, arith}
 use Rattle.std.proofs.lemmas.List.{reverse-append, reverse-reverse}
-use Rattle.std.proofs.lemmas.Option.{slice_get_past}
 use Rattle.std.specs.Prelude.{IsSome}
 use Rattle.net_units.specs.Numbers.{actor_number}
 use Rattle.net_units.specs.declared.numbers.ActorNo.{ActorNo}
-use Rattle.net_units.specs.declared.numbers.LinkNo.{LinkNo}
 use Rattle.link_steps.specs.Lists.{Each}
-use Rattle.link_steps.specs.declared.asks.Ask.{Ask}
 use Rattle.link_steps.proofs.ListFacts.{Each-map}
 use Rattle.call_script.specs.Parts.{PlanParts}
 use Rattle.call_script.specs.Plans.{IsPlan}
@@ -17,18 +13,18 @@ use Rattle.call_script.specs.declared.schedule.Do.{Do}
 use Rattle.call_script.proofs.FitFacts.{plan-fits}
 use Rattle.call_script.proofs.OwnerFacts.{all-owned}
 use Rattle.run_record.specs.declared.done.Done.{Done}
-use Rattle.interleave_core.specs.Laws.{actor_of}
-use Rattle.interleave_core.specs.Runs.{plane_no, next_for, IsRun}
-use Rattle.interleave_core.specs.Schedules.{FollowsTurns, IsActorOf, turns_of, repeated}
-use Rattle.interleave_core.specs.Standing.{IsGuaranteedRun}
-use Rattle.interleave_core.proofs.GuaranteeLaw.{guaranteed-throughout}
-use Rattle.interleave_core.proofs.RunLength.{asked-below}
-use Rattle.interleave_core.proofs.RunOf.{step-is}
-use Rattle.interleave_core.proofs.ScheduleFacts.{follows-none, follows-more, follows-one, turns-append, turns-one}
+use Rattle.interleave_core.specs.runs.Laws.{actor_of}
+use Rattle.interleave_core.specs.runs.Runs.{plane_no, next_for, IsRun}
+use Rattle.interleave_core.specs.schedules.Schedules.{FollowsTurns, IsActorOf, turns_of, repeated}
+use Rattle.interleave_core.specs.schedules.Standing.{IsGuaranteedRun}
+use Rattle.interleave_core.proofs.Channels.GuaranteeLaw.{guaranteed-throughout}
+use Rattle.interleave_core.proofs.Runs.RunLength.{asked-below}
+use Rattle.interleave_core.proofs.Runs.RunOf.{step-is}
+use Rattle.interleave_core.proofs.Schedules.ScheduleFacts.{follows-none, follows-more, follows-one, turns-append, turns-one}
 use Rattle.race_run.specs.Turns.{AreMaximalRuns, IsUnwritten, actors_of}
 use Rattle.race_run.proofs.Lists.{turned-map}
 use Rattle.link_steps.proofs.ListParts.{Each-reverse}
-use Rattle.interleave_core.proofs.ActorFacts.{plane-number}
+use Rattle.interleave_core.proofs.Keeping.ActorFacts.{plane-number}
 
 -- ---- played
 

@@ -11,9 +11,6 @@ use Rattle.call_script.specs.declared.tasks.Task.{Task}
 use Rattle.call_script.specs.declared.tasks.Task.TheVariants.{Opens, Sends, Closes, Moves}
 use Rattle.race_run.specs.Callers.{LeavesOpen, LeavesUnsent}
 
-chan_of : Request → ℕ
-chan_of request = channel_number request.chan
-
 -- a task that names the channel isn't off it
 pub data Names (request : Request) : Task → Type 0 where
   AnOpen : Names request (Opens request)

@@ -1,7 +1,7 @@
 -- The plane's last rounds: a pass's stamps rise above what it has seen, it has seen those of all callers, and so the stamps of
 -- what it asks then are above all of these.
 use Rattle.std.proofs.Common.{◌≡◌, ℕ, ◌+◌, ◌<◌, ◌≤◌, List, [], ◌∷◌, ◌++◌, length, map, take, get_or, reverse, refl, sym, ap, ◌∙◌, subst, add-one, arith}
-use Rattle.std.proofs.lemmas.List.{append-nil, append_assoc, length-map, map-append}
+use Rattle.std.proofs.lemmas.List.{append_assoc, length-map, map-append}
 use Rattle.std.proofs.Math.Seq.{take-suc}
 use Rattle.link_steps.specs.Lists.{Each}
 use Rattle.link_steps.proofs.ListFacts.{Each-if, Each-append}
@@ -21,9 +21,6 @@ use Rattle.race_run.specs.Pieces.{IsAtRound}
 use Rattle.race_run.specs.Tail.{own_in, AreUpTo, AreAbove, GoesLast, TailIsLast}
 
 -- ---- stamps above what was seen
-
-pub adds-none : (pass : Token) → AddsAbove (last_seen pass) pass pass
-adds-none pass = record { entries = []; own = sym (append-nil pass.own); above = tt; seen = omega arith }
 
 pub adds-more : (least : ℕ) (pass between pass' : Token) → AddsAbove least pass between → AddsAbove (last_seen between) between pass' → AddsAbove least pass pass'
 adds-more least pass between pass' one other =

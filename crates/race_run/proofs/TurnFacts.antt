@@ -11,13 +11,13 @@ use Rattle.net_units.specs.declared.numbers.ActorNo.{ActorNo}
 use Rattle.link_steps.specs.Lists.{Each}
 use Rattle.link_steps.proofs.ListFacts.{Each-append}
 use Rattle.call_script.specs.declared.schedule.Do.{Do}
-use Rattle.interleave_core.specs.Schedules.{lined_turns, turns_of, repeated}
-use Rattle.interleave_core.proofs.ScheduleFacts.{turns-append, turns-one, repeated-more}
+use Rattle.interleave_core.specs.schedules.Schedules.{lined_turns, turns_of, repeated}
+use Rattle.interleave_core.proofs.Schedules.ScheduleFacts.{turns-append, turns-one, repeated-more}
 use Rattle.race_run.specs.Turns.{BeginsOtherThan, Alternate, IsUnwritten, AreMaximalRuns, ends_with}
 use Rattle.call_script.proofs.Walks.{before-at}
 use Rattle.run_record.specs.declared.done.Done.{Done}
 use Rattle.race_run.specs.Turns.{actors_of}
-use Rattle.interleave_core.specs.Laws.{actor_of}
+use Rattle.interleave_core.specs.runs.Laws.{actor_of}
 use Rattle.net_units.proofs.NumberFacts.{same-actor}
 
 abbrev pub one_more : Do → Do
@@ -139,12 +139,6 @@ ends-at actor (item ∷ []) zero last found is = ap (λ (i : Do). nat_eq (actor_
 ends-at actor (item ∷ []) (suc n) last found is = absurd (omega (arith, is))
 ends-at actor (item ∷ next ∷ items) zero last found is = absurd (omega (arith, is))
 ends-at actor (item ∷ next ∷ items) (suc n) last found is = ends-at actor (next ∷ items) n last found (omega (arith, is))
-
-pub ends-none : (actor : ActorNo) (items : List Do) (n : ℕ) → slice_get items n ≡ None → n ≡ length items - 1 → ends_with actor items ≡ false
-ends-none actor [] n none is = refl
-ends-none actor (item ∷ items) zero none is = absurd (let clash : Some item ≡ None = none in cc)
-ends-none actor (item ∷ []) (suc n) none is = absurd (omega (arith, is))
-ends-none actor (item ∷ next ∷ items) (suc n) none is = ends-none actor (next ∷ items) n none (omega (arith, is))
 
 -- one step more fits a count
 pub count-fits : (items : List Do) (n : ℕ) (last : Do) → length items ≡ suc n → last ≡ get_or items n last → length (turns_of items) < 2 ^ 64 - 1 → last.count + 1 < 2 ^ 64

@@ -9,8 +9,8 @@ use Rattle.net_units.specs.Numbers.{actor_number, link_number}
 use Rattle.net_units.specs.declared.numbers.ActorNo.{ActorNo}
 use Rattle.net_units.specs.declared.numbers.LinkNo.{LinkNo}
 use Rattle.link_steps.specs.Legal.{IsLegal}
-use Rattle.link_steps.specs.Lists.{Each}
-use Rattle.link_steps.proofs.ListFacts.{Among, Each-append, Each-if, Each-map, Each-from}
+use Rattle.link_steps.specs.Lists.{Each, Among}
+use Rattle.link_steps.proofs.ListFacts.{Each-append, Each-if, Each-map, Each-from}
 use Rattle.link_steps.proofs.ChangeFacts.{Each-from_among}
 use Rattle.link_steps.proofs.JournalFacts.{journals-are-histories}
 use Rattle.step_stamp.specs.Marks.{RisesFrom, StampsRise}
@@ -26,10 +26,10 @@ use Rattle.shared_network.specs.Closing.{StandsIn as StandsAt, number_of}
 use Rattle.shared_network.specs.Gathering.{token_actor}
 use Rattle.shared_network.proofs.LinkNumbers.{numbered-length, numbered-at}
 use Rattle.call_script.specs.Tasks.{Network}
-use Rattle.interleave_core.specs.Parts.{IsAsked, next_after, reply_of}
-use Rattle.interleave_core.specs.Runs.{plane_no, IsRun, next_for}
-use Rattle.interleave_core.specs.Weave.{Stamped, IsUnder, Falls, IsUnlike, AreStampedApart, PairsApart, AreOf, AreJournals, AreAsked, InOne, StandsIn, done_of, entry_in}
-use Rattle.interleave_core.proofs.WeaveLaw.{journals-weave}
+use Rattle.interleave_core.specs.runs.Parts.{IsAsked, next_after, reply_of}
+use Rattle.interleave_core.specs.runs.Runs.{plane_no, IsRun, next_for}
+use Rattle.interleave_core.specs.runs.Weave.{Stamped, IsUnder, Falls, IsUnlike, AreStampedApart, PairsApart, AreOf, AreJournals, AreAsked, InOne, StandsIn, done_of, entry_in}
+use Rattle.interleave_core.proofs.Runs.WeaveLaw.{journals-weave}
 use Rattle.race_run.specs.Whole.{IsWhole, HasMadeAll, own_done, stamped_on, stamped_in, weave_of}
 use Rattle.race_run.proofs.Lists.{turned-map, among-turned_map, turned_map-among}
 use Rattle.link_steps.proofs.ListParts.{Each-reverse, comes-from, mapped-at, Each-at, Each-by_place}
@@ -37,9 +37,6 @@ use Rattle.step_stamp.proofs.ListFacts.{get-has, has-get}
 use Rattle.net_units.proofs.NumberFacts.{same-link}
 
 -- ---- stamps that rise, turned round
-
-IsAbove : ℕ → Stamped → Type 0
-IsAbove low x = low < x.stamp
 
 falls-last : (xs : List Stamped) (x : Stamped) → Falls xs → Each (λ (y : Stamped). x.stamp < y.stamp) xs → Falls (xs ++ x ∷ [])
 falls-last [] x falls above = (tt, tt)

@@ -7,8 +7,8 @@ use Rattle.tick_plane.specs.Kept.{KeptPlane}
 use Rattle.link_ledger.specs.Tokens.{Token}
 use Rattle.shared_network.specs.Planes.{IsPlanes, rounds_in}
 use Rattle.call_script.specs.Tasks.{Network}
-use Rattle.interleave_core.specs.Runs.{plane_no}
-use Rattle.interleave_core.specs.Turns.{plane_most}
+use Rattle.interleave_core.specs.runs.Runs.{plane_no}
+use Rattle.interleave_core.specs.runs.Turns.{plane_most}
 
 -- the pass is the plane's, and has made the plane's steps so far and no others
 pub record PlaneIsOn (network : Network) (plane : KeptPlane) (pass : Token) : Type 0 where

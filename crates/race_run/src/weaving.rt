@@ -1,9 +1,9 @@
 //! The run that journals and passes tell.
 ghost use Rattle.std.specs.Prelude.{◌≡◌, ℕ, IfOk, None, true, length, reverse};
 ghost use Rattle.call_script.specs.Tasks.{network_of};
-ghost use Rattle.interleave_core.specs.Runs.{next_for};
-ghost use Rattle.interleave_core.specs.Schedules.{IsActorOf, IsPlayed};
-ghost use Rattle.interleave_core.specs.Standing.{IsGuaranteedRun};
+ghost use Rattle.interleave_core.specs.runs.Runs.{next_for};
+ghost use Rattle.interleave_core.specs.schedules.Schedules.{IsActorOf, IsPlayed};
+ghost use Rattle.interleave_core.specs.schedules.Standing.{IsGuaranteedRun};
 ghost use Rattle.link_steps.specs.Lists.{Each};
 ghost use Rattle.race_run.specs.Turns.{AreMaximalRuns, IsWritable, actors_of};
 ghost use Rattle.race_run.specs.Whole.{IsWhole, weave_of};

@@ -8,15 +8,16 @@ use Rattle.link_steps.specs.Scan.{clock_of, starts_of}
 use Rattle.link_steps.specs.Service.{Arrival, Start, leaves_at}
 use Rattle.link_steps.specs.SourceGuarantee.{arrival_of}
 use Rattle.link_steps.specs.Split.{Link}
-use Rattle.link_steps.proofs.ListFacts.{Among, Each-among}
+use Rattle.link_steps.specs.Lists.{Among}
+use Rattle.link_steps.proofs.ListFacts.{Each-among}
 use Rattle.setup_protocol.specs.declared.request.Request.{Request}
 use Rattle.channel_laws.specs.Channels.{is_of_channel, AreNumberedAfter}
 use Rattle.call_script.specs.Tasks.{Network}
 use Rattle.run_record.specs.Runs.{part_of}
 use Rattle.run_record.specs.declared.done.Done.{Done}
-use Rattle.interleave_core.specs.Hops.{packets_on}
-use Rattle.interleave_core.specs.Paths.{HopAt, clock_at, starts_at, departs_at}
-use Rattle.interleave_core.specs.Guarantee.{HasLeft}
+use Rattle.interleave_core.specs.channels.Hops.{packets_on}
+use Rattle.interleave_core.specs.channels.Paths.{HopAt, clock_at, starts_at, departs_at}
+use Rattle.interleave_core.specs.channels.Guarantee.{HasLeft}
 use Rattle.trace_audit.proofs.RunDeparts.{numbers-above}
 
 -- ---- one hop

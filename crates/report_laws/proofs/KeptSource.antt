@@ -11,13 +11,13 @@ use Rattle.link_steps.specs.declared.shape.LinkShape.{LinkShape}
 use Rattle.link_steps.specs.Admissible.{IsAdmissible}
 use Rattle.link_steps.specs.Belonging.{own_packets, IsRowOf, HasRow}
 use Rattle.link_steps.specs.Buffer.{has_lead}
-use Rattle.link_steps.specs.Lists.{Any}
+use Rattle.link_steps.specs.Lists.{Any, Among}
 use Rattle.link_steps.specs.Rows.{Row, offered_by}
 use Rattle.link_steps.specs.Scan.{clock_of, scan_of}
 use Rattle.link_steps.specs.Service.{Arrival}
 use Rattle.link_steps.specs.SourceGuarantee.{SourceKeeps}
 use Rattle.link_steps.proofs.ChangeFacts.{Each-if_passes}
-use Rattle.link_steps.proofs.ListFacts.{Among, Each-among}
+use Rattle.link_steps.proofs.ListFacts.{Each-among}
 use Rattle.link_steps.proofs.PacketRows.{packets-have_rows}
 use Rattle.link_steps.proofs.RowPackets.{IsHeld, IsBeside}
 use Rattle.channel_laws.specs.Channels.{HopTerms, is_of_channel, channel_packets, channel_of, offers_to, AllOfferTerms, RowTells, IsElsewhere, IsOnly}

@@ -11,7 +11,8 @@ use Rattle.hop_reservation.specs.declared.route.Hop.{Hop}
 use Rattle.relaxation.specs.Allotment.{bound_at_end}
 use Rattle.link_steps.specs.Service.{Start, leaves_at}
 use Rattle.link_steps.specs.Split.{Link}
-use Rattle.link_steps.proofs.ListFacts.{Among, Each-among}
+use Rattle.link_steps.specs.Lists.{Among}
+use Rattle.link_steps.proofs.ListFacts.{Each-among}
 use Rattle.link_steps.proofs.ListParts.{Among-reverse, stands-at}
 use Rattle.link_steps.proofs.PacketRows.{Among-passes}
 use Rattle.setup_protocol.specs.Hops.{RequestFits}
@@ -31,17 +32,17 @@ use Rattle.run_record.specs.Rows.{rows_of}
 use Rattle.run_record.specs.Runs.{part_of}
 use Rattle.run_record.specs.declared.done.Done.{Done}
 use Rattle.run_record.specs.declared.rows.HopRow.{HopRow}
-use Rattle.interleave_core.specs.Guarantee.{SourceKept, HasLeft, ChannelGuaranteed}
-use Rattle.interleave_core.specs.Hops.{packets_on, terms_at, ChannelAsked}
-use Rattle.interleave_core.specs.Paths.{HopAt, clock_at, packets_at, arrived_at, delay_of, bound_of}
-use Rattle.interleave_core.specs.Runs.{IsRun}
-use Rattle.interleave_core.proofs.ChannelsAt.{packet-offered}
-use Rattle.interleave_core.proofs.GuaranteeLaw.{channel-guaranteed}
-use Rattle.interleave_core.proofs.HopsAt.{hop-at}
-use Rattle.interleave_core.proofs.RunCloses.{owned-once}
-use Rattle.interleave_core.proofs.RunGoes.{owned-asked}
-use Rattle.interleave_core.proofs.RunLegal.{part-admissible}
-use Rattle.interleave_core.proofs.VerdictHolds.{verdicts-follow}
+use Rattle.interleave_core.specs.channels.Guarantee.{SourceKept, HasLeft, ChannelGuaranteed}
+use Rattle.interleave_core.specs.channels.Hops.{packets_on, terms_at, ChannelAsked}
+use Rattle.interleave_core.specs.channels.Paths.{HopAt, clock_at, packets_at, arrived_at, delay_of, bound_of}
+use Rattle.interleave_core.specs.runs.Runs.{IsRun}
+use Rattle.interleave_core.proofs.Channels.ChannelsAt.{packet-offered}
+use Rattle.interleave_core.proofs.Channels.GuaranteeLaw.{channel-guaranteed}
+use Rattle.interleave_core.proofs.Channels.HopsAt.{hop-at}
+use Rattle.interleave_core.proofs.Replies.RunCloses.{owned-once}
+use Rattle.interleave_core.proofs.Replies.RunGoes.{owned-asked}
+use Rattle.interleave_core.proofs.Runs.RunLegal.{part-admissible}
+use Rattle.interleave_core.proofs.Replies.VerdictHolds.{verdicts-follow}
 use Rattle.trace_audit.proofs.PacketOf.{fits-network}
 use Rattle.trace_audit.proofs.RunSound.{departures_of}
 use Rattle.trace_audit.proofs.SortFacts.{order-among}

@@ -12,7 +12,7 @@ use Rattle.link_steps.specs.declared.replies.Sent.{Sent}
 use Rattle.link_steps.specs.Scan.{clock_of, starts_of}
 use Rattle.link_steps.specs.Service.{leaves_at}
 use Rattle.link_steps.specs.Split.{Link}
-use Rattle.link_steps.proofs.ListFacts.{Among}
+use Rattle.link_steps.specs.Lists.{Among}
 use Rattle.link_steps.proofs.ListParts.{Among-reverse, stands-at}
 use Rattle.setup_protocol.specs.Setup.{offers_in, verdict_of, Accepts}
 use Rattle.setup_protocol.specs.declared.request.Request.{Request}
@@ -29,13 +29,13 @@ use Rattle.run_record.specs.Rows.{row_of, hop_among, links_of}
 use Rattle.run_record.specs.Runs.{part_of}
 use Rattle.run_record.specs.declared.done.Done.{Done}
 use Rattle.run_record.specs.declared.rows.HopRow.{HopRow}
-use Rattle.interleave_core.specs.Hops.{packets_on}
-use Rattle.interleave_core.specs.Runs.{IsRun}
-use Rattle.interleave_core.specs.Verdicts.{setup_replies}
-use Rattle.interleave_core.proofs.ChannelsAt.{packet-offered}
-use Rattle.interleave_core.proofs.HopsAt.{hop-at}
-use Rattle.interleave_core.proofs.RunCloses.{owned-once}
-use Rattle.interleave_core.proofs.RunGoes.{owned-asked}
+use Rattle.interleave_core.specs.channels.Hops.{packets_on}
+use Rattle.interleave_core.specs.runs.Runs.{IsRun}
+use Rattle.interleave_core.specs.replies.Verdicts.{setup_replies}
+use Rattle.interleave_core.proofs.Channels.ChannelsAt.{packet-offered}
+use Rattle.interleave_core.proofs.Channels.HopsAt.{hop-at}
+use Rattle.interleave_core.proofs.Replies.RunCloses.{owned-once}
+use Rattle.interleave_core.proofs.Replies.RunGoes.{owned-asked}
 use Rattle.trace_audit.proofs.HopOrder.{offers-in-order, hop-number}
 use Rattle.trace_audit.proofs.PacketOf.{own-channel, fits-network}
 use Rattle.trace_audit.proofs.RunRows.{departure-told, sent-at, run-split}

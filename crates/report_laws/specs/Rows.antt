@@ -4,7 +4,7 @@ use Rattle.std.specs.Prelude.{◌≡◌, ℕ, suc, ◌≤◌, true, Some, List, 
 use Rattle.std.specs.List.{slice_get}
 use Rattle.net_units.specs.Numbers.{channel_number}
 use Rattle.link_steps.specs.Service.{Start}
-use Rattle.link_steps.proofs.ListFacts.{Among}
+use Rattle.link_steps.specs.Lists.{Among}
 use Rattle.setup_protocol.specs.Setup.{Accepts}
 use Rattle.setup_protocol.specs.declared.request.Request.{Request}
 use Rattle.channel_laws.specs.Channels.{is_of_channel}
@@ -15,8 +15,8 @@ use Rattle.call_script.specs.declared.entries.RequestEntry.{RequestEntry}
 use Rattle.run_record.specs.Rows.{rows_of}
 use Rattle.run_record.specs.declared.done.Done.{Done}
 use Rattle.run_record.specs.declared.rows.HopRow.{HopRow}
-use Rattle.interleave_core.specs.Paths.{HopAt, clock_at, starts_at, departs_at}
-use Rattle.interleave_core.specs.Runs.{IsRun}
+use Rattle.interleave_core.specs.channels.Paths.{HopAt, clock_at, starts_at, departs_at}
+use Rattle.interleave_core.specs.runs.Runs.{IsRun}
 use Rattle.channel_report.specs.Verdicts.{verdict_in}
 
 -- the row is of the packet with this start, which has left a hop of the request's route

@@ -31,7 +31,6 @@ pub mod SplitBack
 pub mod TextBack
 pub mod LineFacts
 pub mod TextFacts
-pub mod WrittenFacts
 pub mod AuditFacts
 pub mod CsvRows
 pub mod LevelFields

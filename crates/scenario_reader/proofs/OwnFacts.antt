@@ -4,7 +4,7 @@ use Rattle.std.proofs.lemmas.Bool.{eq-eqb, or_left, or_right}
 use Rattle.std.proofs.lemmas.Option.{same_Some}
 use Rattle.std.specs.List.{list_any, slice_get}
 use Rattle.net_units.specs.Numbers.{actor_number, channel_number}
-use Rattle.link_steps.proofs.ListFacts.{Among}
+use Rattle.link_steps.specs.Lists.{Among}
 use Rattle.call_script.specs.Growing.{last_ops}
 use Rattle.call_script.specs.Parts.{Opening, openings_in, openings_of, opening_of}
 use Rattle.call_script.specs.Rules.{is_in}

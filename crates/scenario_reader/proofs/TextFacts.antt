@@ -23,7 +23,11 @@ use Rattle.scenario_reader.specs.PlanText.{caller_lines, plan_text, split_text, 
 use Rattle.scenario_reader.specs.Fields.{lines_if, text_if}
 use Rattle.scenario_reader.specs.line.Rounds.{rounds_fields, tail_fields, rounds_text}
 use Rattle.scenario_reader.specs.line.Schedule.{do_fields, schedule_fields, schedule_lines, do_text, schedule_text}
-use Rattle.scenario_reader.proofs.WrittenFacts.{text-of-lists}
+
+-- texts of texts
+text-of-lists : {X Y : Type 0} (text : Y → List ℕ) (items : X → List Y) (xs : List X) → flat_map text (flat_map items xs) ≡ flat_map (λ x. flat_map text (items x)) xs
+text-of-lists text items [] = refl
+text-of-lists text items (x ∷ xs) = flat_map-append text (items x) (flat_map items xs) ∙ ap (λ (rest : List ℕ). flat_map text (items x) ++ rest) (text-of-lists text items xs)
 
 -- a caller's line, and those of its operations
 pub caller-text : (links : List LinkEntry) (groups : List (List ℕ)) (requests : List RequestEntry) (caller : CallerEntry) → ended_line (caller_fields groups caller.name caller.group) ++ flat_map (op_text links requests) caller.ops ≡ caller_text links groups requests caller

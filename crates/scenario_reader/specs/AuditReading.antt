@@ -4,10 +4,9 @@
 -- `report` by the scenario's causes; a line that tells levels and isn't right by `Accept`; a line of the table that isn't a row by `Table`.
 -- Where the input ends before `report` the cause is `End`, and where it ends before the table's header `Table`, both at the line after the
 -- last one. A line that is cut is refused for it anywhere.
-use Rattle.std.specs.Prelude.{◌≡◌, ℕ, ◌≤◌, suc, Bool, true, false, nat_eq, ◌&&◌, if◌then◌else◌, Option, Some, None, Result, Ok, Err, List, [], ◌∷◌, ◌++◌, codes, length, replicate, slice_set}
+use Rattle.std.specs.Prelude.{ℕ, suc, Bool, nat_eq, ◌&&◌, if◌then◌else◌, Option, Some, None, Result, Ok, Err, List, [], ◌∷◌, ◌++◌, codes, length, replicate, slice_set}
 use Rattle.std.specs.Cmp.Lexicographic.{pointwise}
-use Rattle.std.specs.Io.KnownBytes.{Consumes}
-use Rattle.byte_ends.specs.WholeLines.{Ending, all_given, cut_short, too_long, Outlook, outlook, whole_lines}
+use Rattle.byte_ends.specs.WholeLines.{Ending, all_given, cut_short, too_long, Outlook, outlook}
 use Rattle.call_script.specs.Parts.{PlanParts}
 use Rattle.run_record.specs.declared.rows.HopRow.{HopRow}
 use Rattle.scenario_reader.specs.AuditLines.{Acceptance, acceptance_in, tells_acceptance}
@@ -15,6 +14,7 @@ use Rattle.scenario_reader.specs.AuditRows.{row_told, table_header}
 use Rattle.scenario_reader.specs.Drafts.{Said, nothing_said, with_item, is_complete, parts_said}
 use Rattle.scenario_reader.specs.Fields.{fields_of, are_fields, field_at}
 use Rattle.scenario_reader.specs.Grammar.{judge}
+use Rattle.scenario_reader.specs.Reading.{PassesFrom}
 use Rattle.scenario_reader.specs.declared.audit.place.Place.{Place}
 use Rattle.scenario_reader.specs.declared.audit.place.Place.TheVariants as place
 use Rattle.scenario_reader.specs.declared.cause.Cause.{Cause}
@@ -127,20 +127,7 @@ audit_reading most bytes = audit_on 0 (outlook most bytes) nothing_read
 
 -- ---- what was taken before a fault
 
--- a line that is let pass, and then those after it
-abbrev pub audits_and : Result AuditSaid Cause → (AuditSaid → Bool) → Bool
-audits_and (Ok after) go_on = go_on after
-audits_and (Err cause) go_on = false
-
--- each of these lines, the first of which is the one after `count`, is let pass, after what was read and the lines before it
-abbrev pub are_audited : ℕ → List (List ℕ) → AuditSaid → Bool
-are_audited count [] read = true
-are_audited count (line ∷ lines) read = audits_and (audit_line read (suc count) line) (λ after. are_audited (suc count) lines after)
-
 -- the bytes taken from a source, `left` being what it told before and after, are no more than may be read, and hold no
 -- whole line that is refused
-pub record LetsAuditPass (most : ℕ) (left left' : Option (List ℕ)) : Type 0 where
-  pub bytes : List ℕ
-  pub from_source : Consumes left left' bytes
-  pub few : length bytes ≤ most
-  pub passing : are_audited 0 (whole_lines most bytes) nothing_read ≡ true
+abbrev pub LetsAuditPass : ℕ → Option (List ℕ) → Option (List ℕ) → Type 0
+LetsAuditPass most left left' = PassesFrom audit_line nothing_read most left left'

@@ -14,7 +14,6 @@ pub mod Kept
 pub mod ReadSteps
 pub mod PlanText
 pub mod BothWays
-pub mod Written
 pub mod AuditLines
 pub mod AuditRows
 pub mod CsvRows

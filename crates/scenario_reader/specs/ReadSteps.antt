@@ -1,24 +1,38 @@
--- How a scenario is read line by line: after each line, what is to come of the bytes ahead, after what was read so
--- far, comes to the same. So the answer is a function of all bytes, where the source tells them.
-use Rattle.std.specs.Prelude.{◌≡◌, ℕ, ◌+◌, ◌≤◌, ◌++◌, length, Bool, true, false, List, Option, Some, None, IfSome, Result, Ok, Err, ⊤}
+-- How a text of lines, a scenario or an audit's input, is read line by line: after each line, what is to come of the bytes ahead, after
+-- what was read so far, comes to the same. So the answer is a function of all bytes, where the source tells them.
+use Rattle.std.specs.Prelude.{◌≡◌, ℕ, ◌+◌, ◌≤◌, ◌++◌, length, Bool, true, false, List, [], Option, Some, None, IfSome, Result, Ok, Err, ⊤}
 use Rattle.std.specs.Io.KnownBytes.{Consumes, IsAtEnd}
 use Rattle.byte_ends.specs.Cutting.{Cutting, IsCutting, IsOf, allowance}
-use Rattle.byte_ends.specs.WholeLines.{all_given, outlook, whole_lines}
+use Rattle.byte_ends.specs.WholeLines.{Outlook, all_given, outlook, whole_lines}
 use Rattle.byte_ends.specs.Faults.{FaultsRise}
 use Rattle.call_script.specs.Parts.{PlanParts}
 use Rattle.call_script.specs.declared.schedule.Schedule.{Schedule}
-use Rattle.scenario_reader.specs.Drafts.{Said, with_item}
+use Rattle.scenario_reader.specs.Drafts.{Said, nothing_said, with_item}
 use Rattle.scenario_reader.specs.Grammar.{judge}
-use Rattle.scenario_reader.specs.Reading.{Reading, PlanRead, BadLine, TooManyBytes, at_end, reading_on, reading, are_let_pass}
+use Rattle.scenario_reader.specs.Reading.{Reading, PlanRead, BadLine, TooManyBytes, reading_on, reading, are_let_pass, said_line}
+use Rattle.scenario_reader.specs.declared.cause.Cause.{Cause}
 use Rattle.scenario_reader.specs.declared.item.Item.{Item}
 use Rattle.scenario_reader.specs.declared.reader.ReadRefusal.{ReadRefusal}
 use Rattle.scenario_reader.specs.declared.reader.ReadRefusal.TheVariants as refusal
 use Rattle.scenario_reader.specs.declared.reader.TheConstants.{MOST_BYTES}
 
+-- a language of lines: what was said before the first line; what was said once a line was, too, or its cause; what is to come of bytes
+-- after so many lines that say this; and what a refused line and too many bytes come to
+pub record Language (Words Whole : Type 0) : Type 0 where
+  pub first : Words
+  pub says : Words → ℕ → List ℕ → Result Words Cause
+  pub on : ℕ → Outlook → Words → Whole
+  pub refused : ℕ → Cause → Whole
+  pub over : Whole
+
+-- that of scenarios
+abbrev pub scenarios : Language Said Reading
+scenarios = record { first = nothing_said; says = said_line; on = reading_on; refused = BadLine; over = TooManyBytes }
+
 -- what the bytes ahead come to after what was said, where the source tells those that it has left
-abbrev pub reading_ahead : Cutting → Said → Option (List ℕ) → Option Reading
-reading_ahead t said None = None
-reading_ahead t said (Some left) = Some (reading_on t.number (outlook (allowance t) (t.pending ++ left)) said)
+abbrev pub ahead : {W R : Type 0} → Language W R → Cutting → W → Option (List ℕ) → Option R
+ahead k t said None = None
+ahead k t said (Some left) = Some (k.on t.number (outlook (allowance t) (t.pending ++ left)) said)
 
 -- a line was judged and what it says was added, or it was refused, or memory ran out
 abbrev pub AddsLine : Result (Unit {0}) ReadRefusal → ℕ → List ℕ → Said → Said → Type 0
@@ -30,63 +44,70 @@ AddsLine (Err (refusal.TooLong _)) number line said after = ⊥
 
 -- bytes were taken, and what they say was added: whatever stands after them, the lines that were ahead are let pass
 -- exactly where those that are ahead now are
-pub record PassesOn (s t : Cutting) (said after : Said) (left left' : Option (List ℕ)) : Type 0 where
+pub record PassesOn {W R : Type 0} (k : Language W R) (s t : Cutting) (said after : W) (left left' : Option (List ℕ)) : Type 0 where
   pub bytes : List ℕ
   pub from_source : Consumes left left' bytes
   pub counted : t.taken ≡ s.taken + length bytes
-  pub same : (more : List ℕ) → are_let_pass s.number (whole_lines (allowance s) (s.pending ++ (bytes ++ more))) said ≡ are_let_pass t.number (whole_lines (allowance t) (t.pending ++ more)) after
+  pub same : (more : List ℕ) → are_let_pass k.says s.number (whole_lines (allowance s) (s.pending ++ (bytes ++ more))) said ≡ are_let_pass k.says t.number (whole_lines (allowance t) (t.pending ++ more)) after
 
 -- bytes were taken, no more in all than may be, and no whole line that is refused is ahead in them
-pub record StopsPassing (s : Cutting) (said : Said) (left left' : Option (List ℕ)) : Type 0 where
+pub record StopsPassing {W R : Type 0} (k : Language W R) (s : Cutting) (said : W) (left left' : Option (List ℕ)) : Type 0 where
   pub bytes : List ℕ
   pub from_source : Consumes left left' bytes
   pub few : s.taken + length bytes ≤ s.most
-  pub passing : are_let_pass s.number (whole_lines (allowance s) (s.pending ++ bytes)) said ≡ true
+  pub passing : are_let_pass k.says s.number (whole_lines (allowance s) (s.pending ++ bytes)) said ≡ true
 
 -- the source failed where neither a whole line that is refused nor a byte too many had been taken from it
-pub record FailsWhileReading (s : Cutting) (said : Said) (left left' : Option (List ℕ)) (faults faults' : ℕ) : Type 0 where
+pub record FailsWhileReading {W R : Type 0} (k : Language W R) (s : Cutting) (said : W) (left left' : Option (List ℕ)) (faults faults' : ℕ) : Type 0 where
   pub rises : FaultsRise faults faults'
-  pub stops : StopsPassing s said left left'
+  pub stops : StopsPassing k s said left left'
 
 -- one line more was read and added
-pub record ReadsOn (s t : Cutting) (said after : Said) (left left' : Option (List ℕ)) : Type 0 where
+pub record ReadsOn {W R : Type 0} (k : Language W R) (s t : Cutting) (said after : W) (left left' : Option (List ℕ)) : Type 0 where
   pub number : t.number ≡ s.number + 1
   pub most : t.most ≡ s.most
   pub cutting : IsCutting t
   pub source : IsOf t left'
-  pub passes : PassesOn s t said after left left'
-  pub same : IfSome (reading_ahead s said left) (λ r. reading_ahead t after left' ≡ Some r)
+  pub passes : PassesOn k s t said after left left'
+  pub same : IfSome (ahead k s said left) (λ r. ahead k t after left' ≡ Some r)
 
 -- the input was at its end
-pub record ComesToEnd (s t : Cutting) (said after : Said) (left left' : Option (List ℕ)) : Type 0 where
+pub record ComesToEnd {W R : Type 0} (k : Language W R) (s t : Cutting) (said after : W) (left left' : Option (List ℕ)) : Type 0 where
   pub number : t.number ≡ s.number
   pub same : after ≡ said
   pub nothing_left : IsAtEnd left'
-  pub ends : IfSome (reading_ahead s said left) (λ r. r ≡ at_end all_given s.number said)
+  pub ends : IfSome (ahead k s said left) (λ r. r ≡ k.on s.number (record { lines = []; ending = all_given }) said)
 
--- what reading one line more answers: whether there was one, or why the scenario is refused
-abbrev pub ReadsLine : Result Bool ReadRefusal → Cutting → Cutting → Said → Said → Option (List ℕ) → Option (List ℕ) → ℕ → ℕ → Type 0
-ReadsLine (Ok true) s t said after left left' faults faults' = ReadsOn s t said after left left'
-ReadsLine (Ok false) s t said after left left' faults faults' = ComesToEnd s t said after left left'
-ReadsLine (Err refusal.Memory) s t said after left left' faults faults' = ⊤
-ReadsLine (Err refusal.ReadFault) s t said after left left' faults faults' = FailsWhileReading s said left left' faults faults'
-ReadsLine (Err (refusal.TooLong taken)) s t said after left left' faults faults' = IfSome (reading_ahead s said left) (λ r. r ≡ TooManyBytes) × (taken ≡ s.most + 1)
-ReadsLine (Err (refusal.Refused line cause)) s t said after left left' faults faults' = IfSome (reading_ahead s said left) (λ r. r ≡ BadLine line cause)
+-- what reading one line more answers: whether there was one, or why the input is refused
+abbrev pub ReadsLine : {W R : Type 0} → Language W R → Result Bool ReadRefusal → Cutting → Cutting → W → W → Option (List ℕ) → Option (List ℕ) → ℕ → ℕ → Type 0
+ReadsLine k (Ok true) s t said after left left' faults faults' = ReadsOn k s t said after left left'
+ReadsLine k (Ok false) s t said after left left' faults faults' = ComesToEnd k s t said after left left'
+ReadsLine k (Err refusal.Memory) s t said after left left' faults faults' = ⊤
+ReadsLine k (Err refusal.ReadFault) s t said after left left' faults faults' = FailsWhileReading k s said left left' faults faults'
+ReadsLine k (Err (refusal.TooLong taken)) s t said after left left' faults faults' = IfSome (ahead k s said left) (λ r. r ≡ k.over) × (taken ≡ s.most + 1)
+ReadsLine k (Err (refusal.Refused line cause)) s t said after left left' faults faults' = IfSome (ahead k s said left) (λ r. r ≡ k.refused line cause)
 
--- what a reading answers
+-- what all bytes come to
+abbrev pub whole : {W R : Type 0} → Language W R → List ℕ → R
+whole k bytes = k.on 0 (outlook MOST_BYTES bytes) k.first
+
+-- what is ahead comes to what all bytes come to, where the source told them
+abbrev pub Foretells : {W R : Type 0} → Language W R → Option (List ℕ) → Option R → Type 0
+Foretells k None now = ⊤
+Foretells k (Some bytes) now = now ≡ Some (whole k bytes)
+
+-- a refusal is that of the reading
+abbrev pub Refuses : {W R : Type 0} → Language W R → ReadRefusal → R → Type 0
+Refuses k (refusal.Refused line cause) r = r ≡ k.refused line cause
+Refuses k (refusal.TooLong taken) r = (r ≡ k.over) × (taken ≡ MOST_BYTES + 1)
+Refuses k refusal.Memory r = ⊤
+Refuses k refusal.ReadFault r = ⊤
+
+-- what a reading of a scenario answers
 abbrev pub AnswersReading : Result (PlanParts × Schedule) ReadRefusal → Reading → Type 0
 AnswersReading (Ok read) r = r ≡ PlanRead read.0 read.1
-AnswersReading (Err (refusal.Refused line cause)) r = r ≡ BadLine line cause
-AnswersReading (Err (refusal.TooLong taken)) r = (r ≡ TooManyBytes) × (taken ≡ MOST_BYTES + 1)
-AnswersReading (Err refusal.Memory) r = ⊤
-AnswersReading (Err refusal.ReadFault) r = ⊤
+AnswersReading (Err why) r = Refuses scenarios why r
 
 -- where the source tells its bytes, the answer is that of the reading of them
 abbrev pub TellsReading : Result (PlanParts × Schedule) ReadRefusal → Option (List ℕ) → Type 0
-TellsReading answer None = ⊤
-TellsReading answer (Some bytes) = AnswersReading answer (reading MOST_BYTES bytes)
-
--- what is ahead comes to what all bytes come to, where the source told them
-abbrev pub ForetellsReading : Option (List ℕ) → Option Reading → Type 0
-ForetellsReading None now = ⊤
-ForetellsReading (Some bytes) now = now ≡ Some (reading MOST_BYTES bytes)
+TellsReading answer left = IfSome left (λ bytes. AnswersReading answer (reading MOST_BYTES bytes))

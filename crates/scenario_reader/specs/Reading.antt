@@ -44,20 +44,35 @@ reading_on count rest said = reading_of count rest.lines rest.ending said
 unfoldable pub reading : ℕ → List ℕ → Reading
 reading most bytes = reading_on 0 (outlook most bytes) nothing_said
 
--- a line that is let pass, and then those after it
-abbrev pub passes_and : Result Item Cause → Said → (Said → Bool) → Bool
-passes_and (Ok item) said go_on = go_on (with_item item said)
-passes_and (Err cause) said go_on = false
+-- ---- what was taken before a fault
 
--- each of these lines, the first of which is the one after `count`, is let pass, after what was said and the lines before it
-abbrev pub are_let_pass : ℕ → List (List ℕ) → Said → Bool
-are_let_pass count [] said = true
-are_let_pass count (line ∷ lines) said = passes_and (judge said (suc count) line) said (λ after. are_let_pass (suc count) lines after)
+-- what was said once the line of this number was, too, or its cause
+abbrev pub with_judged : Said → Result Item Cause → Result Said Cause
+with_judged said (Ok item) = Ok (with_item item said)
+with_judged said (Err cause) = Err cause
+
+abbrev pub said_line : Said → ℕ → List ℕ → Result Said Cause
+said_line said number line = with_judged said (judge said number line)
+
+-- a line that is let pass, and then those after it
+abbrev pub passes_and : {X : Type 0} → Result X Cause → (X → Bool) → Bool
+passes_and (Ok after) go_on = go_on after
+passes_and (Err cause) go_on = false
+
+-- each of these lines, the first of which is the one after `count`, is let pass, after what was said and the lines before it, where
+-- `says` tells what was said after a line
+abbrev pub are_let_pass : {X : Type 0} → (X → ℕ → List ℕ → Result X Cause) → ℕ → List (List ℕ) → X → Bool
+are_let_pass says count [] said = true
+are_let_pass says count (line ∷ lines) said = passes_and (says said (suc count) line) (λ after. are_let_pass says (suc count) lines after)
 
 -- the bytes taken from a source, `left` being what it told before and after, are no more than may be read, and hold no
 -- whole line that is refused
-pub record LetsPass (most : ℕ) (left left' : Option (List ℕ)) : Type 0 where
+pub record PassesFrom {X : Type 0} (says : X → ℕ → List ℕ → Result X Cause) (first : X) (most : ℕ) (left left' : Option (List ℕ)) : Type 0 where
   pub bytes : List ℕ
   pub from_source : Consumes left left' bytes
   pub few : length bytes ≤ most
-  pub passing : are_let_pass 0 (whole_lines most bytes) nothing_said ≡ true
+  pub passing : are_let_pass says 0 (whole_lines most bytes) first ≡ true
+
+-- the same of a scenario
+abbrev pub LetsPass : ℕ → Option (List ℕ) → Option (List ℕ) → Type 0
+LetsPass most left left' = PassesFrom said_line nothing_said most left left'

@@ -1,10 +1,10 @@
 //! Judging a line after what was read before it.
 //!
 //! Each kind of line has a form, a list of rules in the order in which they are judged, and what it says.
-ghost use Rattle.std.specs.Prelude.{◌≡◌, Some, Ok, IfOk};
+ghost use Rattle.std.specs.Prelude.{◌≡◌, Some, IfOk};
 ghost use Rattle.scenario_reader.specs.Causes.{AnswersWithRoom};
 ghost use Rattle.scenario_reader.specs.Fields.{fields_of};
-ghost use Rattle.scenario_reader.specs.line.Table.{MayAdd, may_stand, line_word, judge_as};
+ghost use Rattle.scenario_reader.specs.line.Table.{MayAdd};
 ghost use Rattle.scenario_reader.specs.Grammar.{judge_word, judge_after, judge, is_passed_over};
 
 use crate::cause::{Cause, LineFault};

@@ -4,7 +4,7 @@ ghost use Rattle.std.specs.Io.KnownBytes.{IsAtEnd};
 ghost use Rattle.byte_ends.specs.Cutting.{IsCutting, IsOf};
 ghost use Rattle.byte_ends.specs.Faults.{FaultsRise};
 ghost use Rattle.scenario_reader.specs.Kept.{IsScheduleOf};
-ghost use Rattle.scenario_reader.specs.ReadSteps.{AddsLine, ReadsLine, TellsReading};
+ghost use Rattle.scenario_reader.specs.ReadSteps.{AddsLine, ReadsLine, TellsReading, scenarios};
 ghost use Rattle.scenario_reader.specs.Reading.{LetsPass};
 ghost use Rattle.scenario_reader.specs.Words.{refusal_text};
 
@@ -89,7 +89,7 @@ pub fn read_plan<S: Source>(alloc: Global, source: &mut S) -> Result<(Plan, Sche
 }
 
 // Reads the next line and adds what it says. It answers whether there was one.
-#[tactic(auto, using(crate::proofs::ReadFacts::passes_line))]
+#[tactic(auto, using(crate::proofs::ReadFacts::passes_said))]
 fn read_line<S: Source>(
     alloc: Global,
     lines: &mut Lines,
@@ -98,7 +98,7 @@ fn read_line<S: Source>(
 ) -> Result<bool, ReadRefusal>
     requires cutting { IsCutting lines.old }
     requires source { IsOf lines.old (S.left source.old) }
-    ensures reads { ReadsLine result lines.old lines.new draft.old draft.new (S.left source.old) (S.left source.new)
+    ensures reads { ReadsLine scenarios result lines.old lines.new draft.old draft.new (S.left source.old) (S.left source.new)
         (S.faults source.old) (S.faults source.new) }
     ensures counts { S.faults source.old ≤ S.faults source.new }
 {

@@ -1,10 +1,7 @@
 //! Writing a plan.
-ghost use Rattle.std.specs.Prelude.{◌≡◌, ◌≤◌, length, Err, OnOk, OnErr};
+ghost use Rattle.std.specs.Prelude.{◌≤◌, length};
 ghost use Rattle.std.specs.List.{flat_map};
-ghost use Rattle.std.specs.Io.KnownBytes.{Appends};
 ghost use Rattle.net_units.specs.Numbers.{actor_number};
-ghost use Rattle.byte_ends.specs.Faults.{FaultsRise};
-ghost use Rattle.byte_ends.specs.Gathering.{WritesPart};
 ghost use Rattle.link_steps.specs.Lists.{Each};
 ghost use Rattle.call_script.specs.declared.schedule.Do.{Do as Item};
 ghost use Rattle.scenario_reader.specs.PlanText.{plan_text, head_text, split_text, rest_text, caller_text, end_text};
@@ -14,9 +11,8 @@ ghost use Rattle.scenario_reader.specs.line.Group.{group_text};
 ghost use Rattle.scenario_reader.specs.line.Quota.{quota_text, quotas_text};
 ghost use Rattle.scenario_reader.specs.line.Schedule.{do_text, schedule_text};
 ghost use Rattle.scenario_reader.specs.line.Rounds.{rounds_text};
-ghost use Rattle.scenario_reader.specs.Written.{AddsText};
+ghost use Rattle.text_writer.specs.Telling.{Tells, WritesText};
 
-use crate::fault::ReportFault;
 use crate::line::caller::caller_line;
 use crate::line::group::group_line;
 use crate::line::header::header_line;
@@ -25,12 +21,12 @@ use crate::line::operation::op_line;
 use crate::line::quota::quota_line;
 use crate::line::rounds::{rounds_line, tail_line};
 use crate::line::schedule::{do_line, schedule_line};
-use crate::out::write_line;
 use byte_ends::{Gather, Sink};
 use call_script::{CallerEntry, Do, LinkEntry, Op, Plan, RequestEntry, Schedule};
 use link_steps::Quota;
 use net_units::Name;
 use std::alloc::Global;
+use text_writer::{ReportFault, finish, tell_line};
 
 /// Writes the one text of the plan: the header, the links, the groups, the quotas link by link, the callers each with its operations in their order, `rounds` and
 /// `tail`, and, where the schedule is written, `schedule` and its `do` lines. A request whose route was found has its two nodes in
@@ -45,15 +41,11 @@ pub fn write_plan<K: Sink>(
     sink: &mut K,
 ) -> Result<(), ReportFault>
     requires actors { Each (λ (item : Item). actor_number item.actor ≤ length plan.now.callers) schedule.now.items }
-    ensures text { OnOk result (Appends (K.written sink.old) (K.written sink.new) (plan_text plan.now schedule.now)) }
-    ensures fault { result ≡ Err ReportFault.WriteFault → FaultsRise (K.faults sink.old) (K.faults sink.new) }
-    ensures front { OnErr result (WritesPart (K.written sink.old) (K.written sink.new) (plan_text plan.now schedule.now)) }
-    ensures counts { K.faults sink.old ≤ K.faults sink.new }
+    ensures { WritesText result (K.written sink.old) (K.written sink.new) (K.faults sink.old) (K.faults sink.new) (plan_text plan.now schedule.now) }
 {
     let mut out = Gather::new(alloc)?;
     write_lines(alloc, &mut out, sink, plan, schedule)?;
-    out.finish(sink)?;
-    Ok(())
+    finish(out, sink)
 }
 
 // All lines.
@@ -64,7 +56,7 @@ fn write_lines<K: Sink>(
     plan: &Plan,
     schedule: &Schedule,
 ) -> Result<(), ReportFault>
-    ensures { AddsText result (K.written sink.old) (K.written sink.new) out.old out.new (K.faults sink.old) (K.faults sink.new) (plan_text plan.now schedule.now) }
+    ensures { Tells result (K.written sink.old) (K.written sink.new) out.old out.new (K.faults sink.old) (K.faults sink.new) (plan_text plan.now schedule.now) }
 {
     write_head(alloc, out, sink, plan)?;
     write_split(alloc, out, sink, plan.groups(), plan.links())?;
@@ -79,7 +71,7 @@ fn write_rest<K: Sink>(
     plan: &Plan,
     schedule: &Schedule,
 ) -> Result<(), ReportFault>
-    ensures { AddsText result (K.written sink.old) (K.written sink.new) out.old out.new (K.faults sink.old) (K.faults sink.new) (rest_text plan.now schedule.now) }
+    ensures { Tells result (K.written sink.old) (K.written sink.new) out.old out.new (K.faults sink.old) (K.faults sink.new) (rest_text plan.now schedule.now) }
 {
     write_callers(alloc, out, sink, plan, plan.callers())?;
     write_end(alloc, out, sink, plan, schedule)
@@ -92,9 +84,9 @@ fn write_head<K: Sink>(
     sink: &mut K,
     plan: &Plan,
 ) -> Result<(), ReportFault>
-    ensures { AddsText result (K.written sink.old) (K.written sink.new) out.old out.new (K.faults sink.old) (K.faults sink.new) (head_text plan.now) }
+    ensures { Tells result (K.written sink.old) (K.written sink.new) out.old out.new (K.faults sink.old) (K.faults sink.new) (head_text plan.now) }
 {
-    write_line(out, sink, header_line(alloc, plan.version()))?;
+    tell_line(out, sink, header_line(alloc, plan.version()))?;
     write_links(alloc, out, sink, plan.links())
 }
 
@@ -106,7 +98,7 @@ fn write_end<K: Sink>(
     plan: &Plan,
     schedule: &Schedule,
 ) -> Result<(), ReportFault>
-    ensures { AddsText result (K.written sink.old) (K.written sink.new) out.old out.new (K.faults sink.old) (K.faults sink.new) (end_text plan.now schedule.now) }
+    ensures { Tells result (K.written sink.old) (K.written sink.new) out.old out.new (K.faults sink.old) (K.faults sink.new) (end_text plan.now schedule.now) }
 {
     write_rounds(alloc, out, sink, plan.rounds(), plan.tail())?;
     write_schedule(alloc, out, sink, plan.callers(), schedule)
@@ -118,10 +110,10 @@ fn write_links<K: Sink>(
     sink: &mut K,
     links: &[LinkEntry],
 ) -> Result<(), ReportFault>
-    ensures { AddsText result (K.written sink.old) (K.written sink.new) out.old out.new (K.faults sink.old) (K.faults sink.new) (flat_map link_text links.now) }
+    ensures { Tells result (K.written sink.old) (K.written sink.new) out.old out.new (K.faults sink.old) (K.faults sink.new) (flat_map link_text links.now) }
 {
     for entry in links {
-        write_line(out, sink, link_line(alloc, entry))?;
+        tell_line(out, sink, link_line(alloc, entry))?;
     }
     Ok(())
 }
@@ -134,7 +126,7 @@ fn write_split<K: Sink>(
     groups: &[Name],
     links: &[LinkEntry],
 ) -> Result<(), ReportFault>
-    ensures { AddsText result (K.written sink.old) (K.written sink.new) out.old out.new (K.faults sink.old) (K.faults sink.new) (split_text groups.now links.now) }
+    ensures { Tells result (K.written sink.old) (K.written sink.new) out.old out.new (K.faults sink.old) (K.faults sink.new) (split_text groups.now links.now) }
 {
     write_groups(alloc, out, sink, groups)?;
     write_shares(alloc, out, sink, groups, links)
@@ -146,10 +138,10 @@ fn write_groups<K: Sink>(
     sink: &mut K,
     groups: &[Name],
 ) -> Result<(), ReportFault>
-    ensures { AddsText result (K.written sink.old) (K.written sink.new) out.old out.new (K.faults sink.old) (K.faults sink.new) (flat_map group_text groups.now) }
+    ensures { Tells result (K.written sink.old) (K.written sink.new) out.old out.new (K.faults sink.old) (K.faults sink.new) (flat_map group_text groups.now) }
 {
     for name in groups {
-        write_line(out, sink, group_line(alloc, *name))?;
+        tell_line(out, sink, group_line(alloc, *name))?;
     }
     Ok(())
 }
@@ -162,7 +154,7 @@ fn write_shares<K: Sink>(
     groups: &[Name],
     links: &[LinkEntry],
 ) -> Result<(), ReportFault>
-    ensures { AddsText result (K.written sink.old) (K.written sink.new) out.old out.new (K.faults sink.old) (K.faults sink.new) (flat_map (quotas_text groups.now) links.now) }
+    ensures { Tells result (K.written sink.old) (K.written sink.new) out.old out.new (K.faults sink.old) (K.faults sink.new) (flat_map (quotas_text groups.now) links.now) }
 {
     for entry in links {
         write_quotas(alloc, out, sink, groups, entry)?;
@@ -179,7 +171,7 @@ fn write_quotas<K: Sink>(
     groups: &[Name],
     entry: &LinkEntry,
 ) -> Result<(), ReportFault>
-    ensures { AddsText result (K.written sink.old) (K.written sink.new) out.old out.new (K.faults sink.old) (K.faults sink.new) (quotas_text groups.now entry.now) }
+    ensures { Tells result (K.written sink.old) (K.written sink.new) out.old out.new (K.faults sink.old) (K.faults sink.new) (quotas_text groups.now entry.now) }
 {
     write_some_quotas(alloc, out, sink, groups, entry, entry.quotas.as_slice())
 }
@@ -193,10 +185,10 @@ fn write_some_quotas<K: Sink>(
     entry: &LinkEntry,
     quotas: &[Quota],
 ) -> Result<(), ReportFault>
-    ensures { AddsText result (K.written sink.old) (K.written sink.new) out.old out.new (K.faults sink.old) (K.faults sink.new) (flat_map (quota_text groups.now entry.now) quotas.now) }
+    ensures { Tells result (K.written sink.old) (K.written sink.new) out.old out.new (K.faults sink.old) (K.faults sink.new) (flat_map (quota_text groups.now entry.now) quotas.now) }
 {
     for quota in quotas {
-        write_line(out, sink, quota_line(alloc, groups, entry, quota))?;
+        tell_line(out, sink, quota_line(alloc, groups, entry, quota))?;
     }
     Ok(())
 }
@@ -209,7 +201,7 @@ fn write_callers<K: Sink>(
     plan: &Plan,
     callers: &[CallerEntry],
 ) -> Result<(), ReportFault>
-    ensures { AddsText result (K.written sink.old) (K.written sink.new) out.old out.new (K.faults sink.old) (K.faults sink.new) (flat_map (caller_text plan.now.links plan.now.groups plan.now.requests) callers.now) }
+    ensures { Tells result (K.written sink.old) (K.written sink.new) out.old out.new (K.faults sink.old) (K.faults sink.new) (flat_map (caller_text plan.now.links plan.now.groups plan.now.requests) callers.now) }
 {
     for caller in callers {
         write_caller(alloc, out, sink, plan, caller)?;
@@ -224,9 +216,9 @@ fn write_caller<K: Sink>(
     plan: &Plan,
     caller: &CallerEntry,
 ) -> Result<(), ReportFault>
-    ensures { AddsText result (K.written sink.old) (K.written sink.new) out.old out.new (K.faults sink.old) (K.faults sink.new) (caller_text plan.now.links plan.now.groups plan.now.requests caller.now) }
+    ensures { Tells result (K.written sink.old) (K.written sink.new) out.old out.new (K.faults sink.old) (K.faults sink.new) (caller_text plan.now.links plan.now.groups plan.now.requests caller.now) }
 {
-    write_line(
+    tell_line(
         out,
         sink,
         caller_line(alloc, plan.groups(), caller.name, caller.group),
@@ -249,7 +241,7 @@ fn write_ops<K: Sink>(
     requests: &[RequestEntry],
     ops: &[Op],
 ) -> Result<(), ReportFault>
-    ensures { AddsText result (K.written sink.old) (K.written sink.new) out.old out.new (K.faults sink.old) (K.faults sink.new) (flat_map (op_text links.now requests.now) ops.now) }
+    ensures { Tells result (K.written sink.old) (K.written sink.new) out.old out.new (K.faults sink.old) (K.faults sink.new) (flat_map (op_text links.now requests.now) ops.now) }
 {
     for op in ops {
         write_op(alloc, out, sink, links, requests, op)?;
@@ -265,10 +257,10 @@ fn write_op<K: Sink>(
     requests: &[RequestEntry],
     op: &Op,
 ) -> Result<(), ReportFault>
-    ensures { AddsText result (K.written sink.old) (K.written sink.new) out.old out.new (K.faults sink.old) (K.faults sink.new) (op_text links.now requests.now op.now) }
+    ensures { Tells result (K.written sink.old) (K.written sink.new) out.old out.new (K.faults sink.old) (K.faults sink.new) (op_text links.now requests.now op.now) }
 {
     match op_line(alloc, links, requests, op) {
-        Some(line) => write_line(out, sink, line),
+        Some(line) => tell_line(out, sink, line),
         None => Ok(()),
     }
 }
@@ -280,10 +272,10 @@ fn write_rounds<K: Sink>(
     rounds: u64,
     tail: u64,
 ) -> Result<(), ReportFault>
-    ensures { AddsText result (K.written sink.old) (K.written sink.new) out.old out.new (K.faults sink.old) (K.faults sink.new) (rounds_text rounds tail) }
+    ensures { Tells result (K.written sink.old) (K.written sink.new) out.old out.new (K.faults sink.old) (K.faults sink.new) (rounds_text rounds tail) }
 {
-    write_line(out, sink, rounds_line(alloc, rounds))?;
-    write_line(out, sink, tail_line(alloc, tail))
+    tell_line(out, sink, rounds_line(alloc, rounds))?;
+    tell_line(out, sink, tail_line(alloc, tail))
 }
 
 fn write_schedule<K: Sink>(
@@ -293,12 +285,12 @@ fn write_schedule<K: Sink>(
     callers: &[CallerEntry],
     schedule: &Schedule,
 ) -> Result<(), ReportFault>
-    ensures { AddsText result (K.written sink.old) (K.written sink.new) out.old out.new (K.faults sink.old) (K.faults sink.new) (schedule_text callers.now schedule.now) }
+    ensures { Tells result (K.written sink.old) (K.written sink.new) out.old out.new (K.faults sink.old) (K.faults sink.new) (schedule_text callers.now schedule.now) }
 {
     if !schedule.written {
         return Ok(());
     }
-    write_line(out, sink, schedule_line(alloc))?;
+    tell_line(out, sink, schedule_line(alloc))?;
     write_items(alloc, out, sink, callers, schedule.items.as_slice())
 }
 
@@ -309,10 +301,10 @@ fn write_items<K: Sink>(
     callers: &[CallerEntry],
     items: &[Do],
 ) -> Result<(), ReportFault>
-    ensures { AddsText result (K.written sink.old) (K.written sink.new) out.old out.new (K.faults sink.old) (K.faults sink.new) (flat_map (do_text callers.now) items.now) }
+    ensures { Tells result (K.written sink.old) (K.written sink.new) out.old out.new (K.faults sink.old) (K.faults sink.new) (flat_map (do_text callers.now) items.now) }
 {
     for item in items {
-        write_line(out, sink, do_line(alloc, callers, item))?;
+        tell_line(out, sink, do_line(alloc, callers, item))?;
     }
     Ok(())
 }

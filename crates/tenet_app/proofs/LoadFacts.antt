@@ -6,10 +6,10 @@ use Rattle.byte_ends.specs.Faults.{FaultsRise}
 use Rattle.call_script.specs.Parts.{PlanParts}
 use Rattle.call_script.specs.Tasks.{network_of}
 use Rattle.channel_report.specs.Summary.{summary_of}
-use Rattle.channel_report.specs.Telling.{WritesText}
-use Rattle.channel_report.specs.declared.fault.ReportFault.{ReportFault}
-use Rattle.channel_report.specs.declared.fault.ReportFault.TheVariants as fault
-use Rattle.interleave_core.specs.Standing.{IsGuaranteedRun}
+use Rattle.text_writer.specs.Telling.{WritesText}
+use Rattle.text_writer.specs.declared.fault.ReportFault.{ReportFault}
+use Rattle.text_writer.specs.declared.fault.ReportFault.TheVariants as fault
+use Rattle.interleave_core.specs.schedules.Standing.{IsGuaranteedRun}
 use Rattle.load_maker.proofs.TurnLaws.{turns-one-run}
 use Rattle.load_maker.specs.Made.{made_parts}
 use Rattle.load_maker.specs.TurnRuns.{IsTurnsRun}

@@ -5,10 +5,10 @@ use Rattle.std.specs.Io.KnownBytes.{Appends}
 use Rattle.std.specs.Prelude.{IsErrAnd}
 use Rattle.byte_ends.proofs.Gathering.{part-of-longer}
 use Rattle.byte_ends.specs.Gathering.{WritesPart}
-use Rattle.channel_report.specs.Telling.{IsWhy, WritesText}
-use Rattle.channel_report.specs.declared.fault.ReportFault.{ReportFault}
-use Rattle.channel_report.specs.declared.fault.ReportFault.TheVariants as fault
-use Rattle.channel_report.proofs.TellingFacts.{why-later}
+use Rattle.text_writer.specs.Telling.{IsWhy, WritesText}
+use Rattle.text_writer.specs.declared.fault.ReportFault.{ReportFault}
+use Rattle.text_writer.specs.declared.fault.ReportFault.TheVariants as fault
+use Rattle.text_writer.proofs.TextsTold.{why-later}
 
 -- the first was written whole
 pub then-written : (result : Result (Unit {0}) ReportFault) (a b c : Option (List ℕ)) (f f' f'' : ℕ) (text more : List ℕ) → Appends a b text × (f ≤ f') → WritesText result b c f' f'' more → WritesText result a c f f'' (text ++ more)

@@ -13,12 +13,12 @@ use Rattle.call_script.specs.Plans.{IsPlan}
 use Rattle.call_script.specs.Tasks.{network_of}
 use Rattle.call_script.specs.declared.schedule.Do.{Do}
 use Rattle.call_script.specs.declared.schedule.Schedule.{Schedule}
-use Rattle.channel_report.specs.Lines.{whole_line}
+use Rattle.text_writer.specs.Lines.{whole_line}
 use Rattle.channel_report.specs.Report.{report_of}
 use Rattle.channel_report.specs.Schedule.{schedule_of}
-use Rattle.interleave_core.specs.Runs.{next_for}
-use Rattle.interleave_core.specs.Schedules.{IsPlayed}
-use Rattle.interleave_core.specs.Standing.{IsGuaranteedRun}
+use Rattle.interleave_core.specs.runs.Runs.{next_for}
+use Rattle.interleave_core.specs.schedules.Schedules.{IsPlayed}
+use Rattle.interleave_core.specs.schedules.Standing.{IsGuaranteedRun}
 use Rattle.link_steps.specs.Lists.{Each}
 use Rattle.race_run.specs.Turns.{AreMaximalRuns, IsWritable, actors_of}
 use Rattle.race_run.specs.Whole.{IsWhole, weave_of}

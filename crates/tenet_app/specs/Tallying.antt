@@ -5,8 +5,8 @@ use Rattle.call_script.specs.Tasks.{network_of}
 use Rattle.call_script.specs.declared.schedule.Schedule.{Schedule}
 use Rattle.channel_report.specs.Tallied.{IsTalliedRun}
 use Rattle.channel_report.specs.declared.tally.Tally.{Tally}
-use Rattle.interleave_core.specs.Schedules.{IsPlayed}
-use Rattle.interleave_core.specs.Standing.{IsGuaranteedRun}
+use Rattle.interleave_core.specs.schedules.Schedules.{IsPlayed}
+use Rattle.interleave_core.specs.schedules.Standing.{IsGuaranteedRun}
 use Rattle.interleave_core.specs.declared.callers.Callers.{Callers}
 use Rattle.run_record.specs.declared.done.Done.{Done}
 

@@ -1,7 +1,7 @@
 //! The word `play`: from the bytes of a scenario to the bytes of its report.
 ghost use Rattle.std.specs.Prelude.{◌≡◌, ◌≤◌, List, IfOk, IfErr, reverse, string_bytes};
 ghost use Rattle.call_script.specs.Tasks.{network_of};
-ghost use Rattle.interleave_core.specs.Schedules.{IsActorOf, IsFaultOf};
+ghost use Rattle.interleave_core.specs.schedules.Schedules.{IsActorOf, IsFaultOf};
 ghost use Rattle.link_steps.specs.Lists.{Each};
 ghost use Rattle.tenet_app.specs.Playing.{AnswersPlan, CountsRise, Plays, TellsRefusal, WritesReport, refusal_line};
 ghost use Rattle.tenet_app.specs.Tallying.{IsTalliedPlay};

@@ -2,9 +2,9 @@
 //! its run.
 ghost use Rattle.std.specs.Prelude.{◌≡◌, ◌≤◌, ◌↔◌, IsSome, OnOk, reverse};
 ghost use Rattle.call_script.specs.Tasks.{network_of};
-ghost use Rattle.channel_report.specs.Telling.{WritesText};
-ghost use Rattle.interleave_core.specs.Runs.{IsRun};
-ghost use Rattle.interleave_core.specs.Schedules.{IsActorOf};
+ghost use Rattle.text_writer.specs.Telling.{WritesText};
+ghost use Rattle.interleave_core.specs.runs.Runs.{IsRun};
+ghost use Rattle.interleave_core.specs.schedules.Schedules.{IsActorOf};
 ghost use Rattle.link_steps.specs.Lists.{Each};
 ghost use Rattle.race_run.specs.Whole.{IsWhole};
 ghost use Rattle.tenet_app.specs.Playing.{CountsRise};

@@ -1,7 +1,7 @@
 //! The words `play --workers N`: as `play`, with the rounds of the plane made by several workers.
 ghost use Rattle.std.specs.Prelude.{◌≡◌, ◌≤◌, IfErr, IfOk, IfSome, map, string_bytes};
 ghost use Rattle.call_script.specs.Tasks.{network_of};
-ghost use Rattle.interleave_core.specs.Schedules.{IsActorOf, IsFaultOf};
+ghost use Rattle.interleave_core.specs.schedules.Schedules.{IsActorOf, IsFaultOf};
 ghost use Rattle.link_steps.specs.Lists.{Each};
 ghost use Rattle.tenet_app.specs.Making.{number_from};
 ghost use Rattle.tenet_app.specs.Playing.{AnswersPlan, CountsRise, Plays};

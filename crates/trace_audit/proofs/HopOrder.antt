@@ -11,7 +11,7 @@ use Rattle.hop_reservation.specs.Routes.{IsRoute, link_of}
 use Rattle.hop_reservation.specs.declared.route.Hop.{Hop}
 use Rattle.hop_reservation.proofs.RouteFacts.{index-apart}
 use Rattle.link_steps.specs.declared.asks.Ask.{Ask}
-use Rattle.link_steps.specs.declared.asks.Ask.TheVariants.{Reserve, Relax, Deny, Submit, Release, Arrive, Tick, Pour}
+use Rattle.link_steps.specs.declared.asks.Ask.TheVariants.{Reserve, Relax, Deny}
 use Rattle.link_steps.specs.declared.replies.Reply.{Reply}
 use Rattle.link_steps.specs.declared.replies.Reply.TheVariants as Is
 use Rattle.setup_protocol.specs.Setup.{is_offer, level_in, offers_in, next_ask}
@@ -26,15 +26,15 @@ use Rattle.call_script.specs.declared.tasks.Task.{Task}
 use Rattle.run_record.specs.Rows.{offer_by, is_to, links_of, place_in, hop_among}
 use Rattle.run_record.specs.Runs.{replies_to}
 use Rattle.run_record.specs.declared.done.Done.{Done}
-use Rattle.interleave_core.specs.Answers.{IsReplyOf}
-use Rattle.interleave_core.specs.Runs.{plane_no, plane_at, IsNext, IsRun}
-use Rattle.interleave_core.specs.Verdicts.{is_setup_ask, setup_replies}
-use Rattle.interleave_core.proofs.Replying.{asks-answered}
-use Rattle.interleave_core.proofs.RunCloses.{owned-once}
-use Rattle.interleave_core.proofs.RunGoes.{ScriptOnce, IsBegun, task-off, tasks-off, plane-off-ask, off-standing, mild-tasks}
-use Rattle.interleave_core.proofs.RunLegal.{plane-next, caller-next}
-use Rattle.interleave_core.proofs.SetupOnce.{reserves}
-use Rattle.interleave_core.proofs.VerdictHolds.{VerdictAt, Before, Under, After, verdict-run}
+use Rattle.interleave_core.specs.replies.Answers.{IsReplyOf}
+use Rattle.interleave_core.specs.runs.Runs.{plane_no, plane_at, IsNext, IsRun}
+use Rattle.interleave_core.specs.replies.Verdicts.{is_setup_ask, setup_replies}
+use Rattle.interleave_core.proofs.Replies.Replying.{asks-answered}
+use Rattle.interleave_core.proofs.Replies.RunCloses.{owned-once}
+use Rattle.interleave_core.proofs.Replies.RunGoes.{ScriptOnce, IsBegun, task-off, tasks-off, plane-off-ask, off-standing, mild-tasks}
+use Rattle.interleave_core.proofs.Runs.RunLegal.{plane-next, caller-next}
+use Rattle.interleave_core.proofs.Tasks.SetupOnce.{reserves}
+use Rattle.interleave_core.proofs.Replies.VerdictHolds.{VerdictAt, Before, Under, After, verdict-run}
 use Rattle.tick_plane.specs.Planes.{next_due}
 
 -- ---- an offer to the channel
@@ -125,11 +125,7 @@ offer-to : (c : ℕ) (ask : Ask) (reply : Reply) → is_setup_ask c ask ≡ true
 offer-to c (Reserve chan contract kind delay up_reach first next) (Is.Offer level reach) own offer answers = own
 offer-to c (Relax chan level up_bound) (Is.Offer l reach) own offer answers = absurd answers
 offer-to c (Deny chan) (Is.Offer l reach) own offer answers = cc
-offer-to c (Submit chan count gap size) reply own offer answers = absurd (false≢true own)
-offer-to c (Release chan upstream) reply own offer answers = absurd (false≢true own)
-offer-to c (Arrive packet) reply own offer answers = absurd (false≢true own)
-offer-to c Tick reply own offer answers = absurd (false≢true own)
-offer-to c (Pour count gap size) reply own offer answers = absurd (false≢true own)
+offer-to c _ (Is.Offer level reach) own offer answers = absurd (false≢true own)
 offer-to c _ _ own offer answers = absurd (false≢true offer)
 
 offers-same : (c : ℕ) (past : List Done) (done : Done) → IsReplyOf done.ask done.reply → is_to c (offer_by done.ask done.reply) ≡ false → offers_in (setup_replies c (done ∷ past)) ≡ offers_in (setup_replies c past)

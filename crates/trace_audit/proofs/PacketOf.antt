@@ -8,10 +8,9 @@ use Rattle.net_units.specs.Allotted.{levels_of}
 use Rattle.net_units.specs.Numbers.{link_number, actor_number, channel_number}
 use Rattle.net_units.specs.declared.levels.Levels.{Levels}
 use Rattle.hop_reservation.specs.declared.route.Hop.{Hop}
-use Rattle.link_steps.specs.Lists.{Each}
+use Rattle.link_steps.specs.Lists.{Each, Among}
 use Rattle.link_steps.specs.Service.{Arrival}
 use Rattle.link_steps.specs.Split.{Link}
-use Rattle.link_steps.proofs.ListFacts.{Among}
 use Rattle.link_steps.proofs.ListParts.{comes-from, stands-at}
 use Rattle.link_steps.proofs.PacketRows.{Among-passes}
 use Rattle.setup_protocol.specs.Hops.{RequestFits}
@@ -30,18 +29,18 @@ use Rattle.call_script.proofs.FitFacts.{request-fits, plan-fits}
 use Rattle.call_script.proofs.OperationFacts.{tasks-hold}
 use Rattle.call_script.proofs.OwnerFacts.{owned-by}
 use Rattle.run_record.specs.declared.done.Done.{Done}
-use Rattle.interleave_core.specs.Hops.{packets_on, ChannelAsked}
-use Rattle.interleave_core.specs.Paths.{HopAt, packets_at}
-use Rattle.interleave_core.specs.Runs.{IsRun}
-use Rattle.interleave_core.specs.Verdicts.{setup_replies}
-use Rattle.interleave_core.proofs.AcceptedOnly.{taken-accepted}
-use Rattle.interleave_core.proofs.ChannelsAt.{packet-offered}
-use Rattle.interleave_core.proofs.GuaranteeLaw.{unnamed-packet}
-use Rattle.interleave_core.proofs.HopsAt.{hop-at, HaveLevelsAt}
-use Rattle.interleave_core.proofs.ReadyRun.{counts-first}
-use Rattle.interleave_core.proofs.RunCloses.{owned-once}
-use Rattle.interleave_core.proofs.RunGoes.{owned-asked, accepted-levels}
-use Rattle.interleave_core.proofs.VerdictHolds.{verdicts-follow}
+use Rattle.interleave_core.specs.channels.Hops.{packets_on, ChannelAsked}
+use Rattle.interleave_core.specs.channels.Paths.{HopAt, packets_at}
+use Rattle.interleave_core.specs.runs.Runs.{IsRun}
+use Rattle.interleave_core.specs.replies.Verdicts.{setup_replies}
+use Rattle.interleave_core.proofs.Channels.AcceptedOnly.{taken-accepted}
+use Rattle.interleave_core.proofs.Channels.ChannelsAt.{packet-offered}
+use Rattle.interleave_core.proofs.Channels.GuaranteeLaw.{unnamed-packet}
+use Rattle.interleave_core.proofs.Channels.HopsAt.{hop-at, HaveLevelsAt}
+use Rattle.interleave_core.proofs.Flights.ReadyRun.{counts-first}
+use Rattle.interleave_core.proofs.Replies.RunCloses.{owned-once}
+use Rattle.interleave_core.proofs.Replies.RunGoes.{owned-asked, accepted-levels}
+use Rattle.interleave_core.proofs.Replies.VerdictHolds.{verdicts-follow}
 use Rattle.trace_audit.specs.RunLevels.{AreLevelsFor, AreLevelsOf}
 use Rattle.trace_audit.specs.Terms.{levels_given}
 

@@ -18,13 +18,13 @@ use Rattle.traffic_contract.proofs.KeepingFacts.{Keeps-prefix}
 use Rattle.hop_reservation.specs.Offers.{delay_over}
 use Rattle.hop_reservation.specs.declared.route.Hop.{Hop}
 use Rattle.hop_reservation.proofs.OfferFacts.{delay_over-push, delay_over-none}
-use Rattle.link_steps.specs.Lists.{Each}
-use Rattle.link_steps.proofs.ListFacts.{Among, map-same}
+use Rattle.link_steps.specs.Lists.{Each, Among}
+use Rattle.link_steps.proofs.ListFacts.{map-same}
 use Rattle.link_steps.proofs.ListParts.{stands-at}
 use Rattle.setup_protocol.specs.Requests.{kind_of}
 use Rattle.setup_protocol.specs.declared.request.Request.{Request}
 use Rattle.call_script.specs.Parts.{PlanParts}
-use Rattle.interleave_core.specs.Paths.{IsBehind}
+use Rattle.interleave_core.specs.channels.Paths.{IsBehind}
 use Rattle.run_record.specs.declared.rows.HopRow.{HopRow}
 use Rattle.trace_audit.specs.Above.{is_at, rows_at, ticks_above, tick_of, hop_before}
 use Rattle.trace_audit.specs.Bounds.{delay_before, arrival_of}

@@ -1,5 +1,5 @@
 -- The levels with which the requests of a plan were accepted in a run of it keep what the requests ask for.
-use Rattle.std.proofs.Common.{◌≡◌, ℕ, zero, suc, List, [], ◌∷◌, length, map, Option, Some, None, refl, sym, ap, ◌∙◌, subst}
+use Rattle.std.proofs.Common.{◌≡◌, ℕ, zero, suc, List, [], ◌∷◌, length, Option, Some, None, sym, ap, ◌∙◌, subst}
 use Rattle.std.proofs.lemmas.Option.{same_Some}
 use Rattle.std.specs.List.{slice_get}
 use Rattle.net_units.specs.Allotted.{levels_of}
@@ -11,17 +11,15 @@ use Rattle.setup_protocol.specs.Laws.{KeepsRequest}
 use Rattle.setup_protocol.specs.Setup.{Outcome, Accepts, Denies, verdict_of}
 use Rattle.call_script.specs.Parts.{PlanParts}
 use Rattle.call_script.specs.Plans.{IsPlan}
-use Rattle.call_script.specs.Scripts.{standing, outcome_in}
 use Rattle.call_script.specs.Tasks.{network_of}
 use Rattle.call_script.specs.declared.entries.RequestEntry.{RequestEntry}
 use Rattle.call_script.proofs.FitFacts.{plan-fits}
 use Rattle.call_script.proofs.OwnerFacts.{owned-by}
-use Rattle.run_record.specs.Runs.{replies_to}
 use Rattle.run_record.specs.declared.done.Done.{Done}
-use Rattle.interleave_core.specs.Runs.{IsRun}
-use Rattle.interleave_core.specs.Verdicts.{setup_replies}
-use Rattle.interleave_core.proofs.KeptRequest.{accepted-kept}
-use Rattle.interleave_core.proofs.VerdictHolds.{verdicts-follow}
+use Rattle.interleave_core.specs.runs.Runs.{IsRun}
+use Rattle.interleave_core.specs.replies.Verdicts.{setup_replies}
+use Rattle.interleave_core.proofs.Channels.KeptRequest.{accepted-kept}
+use Rattle.interleave_core.proofs.Replies.VerdictHolds.{verdicts-follow}
 use Rattle.call_script.specs.Accepted.{AreAccepted}
 use Rattle.trace_audit.specs.RunLevels.{AreLevelsFor, AreLevelsOf}
 use Rattle.trace_audit.specs.Terms.{levels_given}

@@ -11,9 +11,9 @@ use Rattle.net_units.specs.declared.levels.Levels.{Levels}
 use Rattle.hop_reservation.specs.declared.route.Hop.{Hop}
 use Rattle.hop_reservation.proofs.RouteFacts.{index-apart}
 use Rattle.link_steps.specs.declared.replies.Entry.{Entry}
-use Rattle.link_steps.specs.Lists.{Each}
+use Rattle.link_steps.specs.Lists.{Each, Among}
 use Rattle.link_steps.specs.Service.{Arrival}
-use Rattle.link_steps.proofs.ListFacts.{Among, Among-filter, Each-among, Each-if, filter-same}
+use Rattle.link_steps.proofs.ListFacts.{Among-filter, Each-among, Each-if, filter-same}
 use Rattle.link_steps.proofs.ChangeFacts.{Each-from_among}
 use Rattle.channel_laws.specs.Channels.{HopTerms, AllOfferTerms, offers_to, tick_of_packet, AreNumberedAfter}
 use Rattle.call_script.specs.Parts.{PlanParts}
@@ -25,8 +25,8 @@ use Rattle.call_script.proofs.OwnerFacts.{all-owned}
 use Rattle.run_record.specs.Runs.{part_of}
 use Rattle.run_record.specs.declared.done.Done.{Done}
 use Rattle.run_record.specs.declared.rows.HopRow.{HopRow}
-use Rattle.interleave_core.specs.Hops.{terms_at as asked_at}
-use Rattle.interleave_core.specs.Runs.{IsRun}
+use Rattle.interleave_core.specs.channels.Hops.{terms_at as asked_at}
+use Rattle.interleave_core.specs.runs.Runs.{IsRun}
 use Rattle.trace_audit.specs.Above.{is_at, rows_at, tick_of}
 use Rattle.trace_audit.specs.Departures.{AreCounted}
 use Rattle.trace_audit.specs.RunLevels.{AreLevelsOf}

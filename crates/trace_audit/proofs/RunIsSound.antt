@@ -17,12 +17,12 @@ use Rattle.link_steps.specs.declared.asks.Packet.{Packet}
 use Rattle.link_steps.specs.declared.replies.Entry.{Entry}
 use Rattle.link_steps.specs.declared.replies.Reply.TheVariants as Is
 use Rattle.link_steps.specs.declared.replies.Sent.{Sent}
-use Rattle.link_steps.specs.Lists.{Each}
+use Rattle.link_steps.specs.Lists.{Each, Among}
 use Rattle.link_steps.specs.Regulator.{waits_until}
 use Rattle.link_steps.specs.Scan.{clock_of}
 use Rattle.link_steps.specs.Service.{Arrival, leaves_at}
 use Rattle.link_steps.specs.Split.{Link}
-use Rattle.link_steps.proofs.ListFacts.{Among, Among-filter, Each-among}
+use Rattle.link_steps.proofs.ListFacts.{Among-filter, Each-among}
 use Rattle.link_steps.proofs.ListParts.{Among-turned}
 use Rattle.link_steps.proofs.ChangeFacts.{Each-from_among}
 use Rattle.link_steps.proofs.PacketRows.{Among-passes}
@@ -39,13 +39,13 @@ use Rattle.run_record.specs.Rows.{row_of, links_of, rows_of}
 use Rattle.run_record.specs.Runs.{part_of}
 use Rattle.run_record.specs.declared.done.Done.{Done}
 use Rattle.run_record.specs.declared.rows.HopRow.{HopRow}
-use Rattle.interleave_core.specs.Hops.{packets_on, terms_at as asked_at}
-use Rattle.interleave_core.specs.Paths.{packets_at}
-use Rattle.interleave_core.specs.Runs.{IsRun}
-use Rattle.interleave_core.proofs.HopLaw.{TwoHops}
-use Rattle.interleave_core.proofs.HopsAt.{hop-at}
-use Rattle.interleave_core.proofs.LegLaw.{leg-near}
-use Rattle.interleave_core.proofs.RunLegal.{part-admissible}
+use Rattle.interleave_core.specs.channels.Hops.{packets_on, terms_at as asked_at}
+use Rattle.interleave_core.specs.channels.Paths.{packets_at}
+use Rattle.interleave_core.specs.runs.Runs.{IsRun}
+use Rattle.interleave_core.proofs.Delays.HopLaw.{TwoHops}
+use Rattle.interleave_core.proofs.Channels.HopsAt.{hop-at}
+use Rattle.interleave_core.proofs.Flights.LegLaw.{leg-near}
+use Rattle.interleave_core.proofs.Runs.RunLegal.{part-admissible}
 use Rattle.trace_audit.specs.Above.{is_at, rows_at, tick_of}
 use Rattle.trace_audit.specs.Checks.{IsSound}
 use Rattle.trace_audit.specs.Departures.{HasNear, ticks_before, IsDeparture, AreDepartures}

@@ -10,19 +10,19 @@ use Rattle.link_steps.specs.Admissible.{IsAdmissible}
 use Rattle.net_units.specs.Numbers.{link_number, actor_number, channel_number}
 use Rattle.net_units.specs.declared.numbers.LinkNo.{LinkNo}
 use Rattle.link_steps.specs.declared.asks.Ask.{Ask}
-use Rattle.link_steps.specs.declared.asks.Ask.TheVariants.{Reserve, Relax, Deny, Submit, Release, Arrive, Tick, Pour}
+use Rattle.link_steps.specs.declared.asks.Ask.TheVariants.{Deny, Arrive, Tick}
 use Rattle.link_steps.specs.declared.asks.Packet.{Packet}
 use Rattle.link_steps.specs.declared.replies.Entry.{Entry}
 use Rattle.link_steps.specs.declared.replies.Reply.{Reply}
 use Rattle.link_steps.specs.declared.replies.Reply.TheVariants as Is
 use Rattle.link_steps.specs.declared.replies.Sent.{Sent}
 use Rattle.link_steps.specs.declared.shape.LinkShape.{LinkShape}
-use Rattle.link_steps.specs.Lists.{Each}
+use Rattle.link_steps.specs.Lists.{Each, Among}
 use Rattle.link_steps.specs.Replies.{arrive_to, reply_at, reply_to}
 use Rattle.link_steps.specs.Rows.{Row}
 use Rattle.link_steps.specs.Scan.{clock_of, scan_of, is_row_of}
 use Rattle.link_steps.specs.Split.{Link}
-use Rattle.link_steps.proofs.ListFacts.{Among, Each-if, Each-among, Each-without_first, Each-find}
+use Rattle.link_steps.proofs.ListFacts.{Each-if, Each-among, Each-without_first, Each-find}
 use Rattle.link_steps.proofs.ListParts.{Among-right}
 use Rattle.call_script.specs.Fits.{NetworkFits}
 use Rattle.call_script.specs.Tasks.{Network}
@@ -33,16 +33,16 @@ use Rattle.run_record.specs.declared.rows.HopRow.{HopRow}
 use Rattle.tick_plane.specs.declared.flight.Flight.{Flight}
 use Rattle.tick_plane.specs.Planes.{Plane, is_due, next_due, ask_due, flight_to, flight_in, plane_with, plane_of}
 use Rattle.tick_plane.proofs.FlightFacts.{made-flights}
-use Rattle.interleave_core.specs.Runs.{plane_no, plane_at, IsNext, IsRun}
-use Rattle.interleave_core.proofs.HopLaw.{flight-passes}
-use Rattle.interleave_core.proofs.CallerFacts.{IsCallers, standing-asks}
-use Rattle.interleave_core.proofs.FlightFacts.{run-flights}
-use Rattle.interleave_core.proofs.Replying.{asks-answered}
-use Rattle.interleave_core.proofs.SentRows.{sent-by}
+use Rattle.interleave_core.specs.runs.Runs.{plane_no, plane_at, IsNext, IsRun}
+use Rattle.interleave_core.proofs.Delays.HopLaw.{flight-passes}
+use Rattle.interleave_core.proofs.Tasks.CallerFacts.{IsCallers, standing-asks}
+use Rattle.interleave_core.proofs.Flights.FlightFacts.{run-flights}
+use Rattle.interleave_core.proofs.Replies.Replying.{asks-answered}
+use Rattle.interleave_core.proofs.Channels.SentRows.{sent-by}
 use Rattle.channel_laws.proofs.NumberedPackets.{HasNumber, packets-have_numbers}
 use Rattle.channel_laws.proofs.DepartedCount.{more-legal, start-among, gone-quiet, offered-sends}
-use Rattle.interleave_core.specs.Answers.{IsReplyOf}
-use Rattle.interleave_core.specs.Flights.{FlightsStand}
+use Rattle.interleave_core.specs.replies.Answers.{IsReplyOf}
+use Rattle.interleave_core.specs.channels.Flights.{FlightsStand}
 use Rattle.call_script.specs.Owners.{AllOwned}
 use Rattle.call_script.specs.Scripts.{standing}
 use Rattle.channel_laws.specs.Departing.{ticked, gone_of, TickSends, SendsOwn, SendsOther}
@@ -50,9 +50,9 @@ use Rattle.channel_laws.proofs.SentFacts.{sent-facts, tick-answer}
 use Rattle.link_steps.specs.Replies.{sent_of, tick_reply}
 use Rattle.link_steps.specs.Scan.{starts_of}
 use Rattle.link_steps.specs.Service.{Start, leaves_at}
-use Rattle.interleave_core.proofs.RunLegal.{RunStands, clock_at, run-stands, part-admissible, caller-next, plane-next, plane-off, plane-by, part-on, part-off}
-use Rattle.interleave_core.proofs.ChainLaw.{is-tick}
-use Rattle.interleave_core.proofs.LegLaw.{quiet-clock, entry-tick}
+use Rattle.interleave_core.proofs.Runs.RunLegal.{RunStands, clock_at, run-stands, part-admissible, caller-next, plane-next, plane-off, plane-by, part-on, part-off}
+use Rattle.interleave_core.proofs.Channels.ChainLaw.{is-tick}
+use Rattle.interleave_core.proofs.Flights.LegLaw.{quiet-clock, entry-tick}
 use Rattle.channel_laws.specs.Channels.{HopTerms, AllOfferTerms, offers_to}
 use Rattle.trace_audit.specs.Departures.{AreCounted}
 use Rattle.trace_audit.proofs.PathFacts.{filter-append}
@@ -281,14 +281,9 @@ ticked-clock : (a b x y : ℕ) (s t : Option Sent) (d e f g : Bool) → Is.Ticke
 ticked-clock a b x y s t d e f g same = cc
 
 asks-tick : (ask : Ask) (clock full : ℕ) (sent : Option Sent) (best_sent best_lost : Bool) → IsReplyOf ask (Is.Ticked clock full sent best_sent best_lost) → ask ≡ Tick
-asks-tick (Reserve chan contract kind delay up_reach first next) clock full sent best_sent best_lost answers = absurd answers
-asks-tick (Relax chan level up_bound) clock full sent best_sent best_lost answers = absurd answers
 asks-tick (Deny chan) clock full sent best_sent best_lost answers = cc
-asks-tick (Submit chan count gap size) clock full sent best_sent best_lost answers = absurd answers
-asks-tick (Release chan upstream) clock full sent best_sent best_lost answers = absurd answers
-asks-tick (Arrive packet) clock full sent best_sent best_lost answers = absurd answers
 asks-tick Tick clock full sent best_sent best_lost answers = refl
-asks-tick (Pour count gap size) clock full sent best_sent best_lost answers = absurd answers
+asks-tick _ clock full sent best_sent best_lost answers = absurd answers
 
 pub sent-at : (network : Network) (run : List Done) (done : Done) (link : Link) (clock full : ℕ) (sent : Sent) (best_sent best_lost : Bool) → NetworkFits network → AllOwned network → IsRun network run → Among done run → slice_get network.links (link_number done.link) ≡ Some link → done.reply ≡ Is.Ticked clock full (Some sent) best_sent best_lost → SentAt link.shape (part_of (link_number done.link) run) clock sent
 unfolding clock_of

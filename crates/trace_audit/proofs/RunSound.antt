@@ -17,7 +17,8 @@ use Rattle.link_steps.specs.Scan.{clock_of, starts_of}
 use Rattle.link_steps.specs.Service.{Arrival, Start, leaves_at}
 use Rattle.link_steps.specs.Split.{Link}
 use Rattle.link_steps.proofs.HopHolds.{guaranteed}
-use Rattle.link_steps.proofs.ListFacts.{Among, Each-among}
+use Rattle.link_steps.specs.Lists.{Among}
+use Rattle.link_steps.proofs.ListFacts.{Each-among}
 use Rattle.link_steps.proofs.ListParts.{comes-from, Among-reverse}
 use Rattle.link_steps.proofs.Departures.{starts-eligible}
 use Rattle.link_steps.proofs.PacketRows.{Among-passes}
@@ -36,11 +37,11 @@ use Rattle.run_record.specs.Rows.{row_of, hop_among, links_of, departures_in}
 use Rattle.run_record.specs.Runs.{part_of}
 use Rattle.run_record.specs.declared.done.Done.{Done}
 use Rattle.run_record.specs.declared.rows.HopRow.{HopRow}
-use Rattle.interleave_core.specs.Hops.{packets_on, terms_at as asked_at}
-use Rattle.interleave_core.specs.Paths.{packets_at}
-use Rattle.interleave_core.specs.Runs.{IsRun}
-use Rattle.interleave_core.specs.Verdicts.{setup_replies}
-use Rattle.interleave_core.proofs.RunLegal.{part-admissible}
+use Rattle.interleave_core.specs.channels.Hops.{packets_on, terms_at as asked_at}
+use Rattle.interleave_core.specs.channels.Paths.{packets_at}
+use Rattle.interleave_core.specs.runs.Runs.{IsRun}
+use Rattle.interleave_core.specs.replies.Verdicts.{setup_replies}
+use Rattle.interleave_core.proofs.Runs.RunLegal.{part-admissible}
 use Rattle.trace_audit.specs.Checks.{is_within_bound}
 use Rattle.trace_audit.specs.RunLevels.{AreLevelsOf}
 use Rattle.trace_audit.specs.Terms.{hop_terms, rate_of, terms_at, over_link, terms_of_row}

@@ -5,8 +5,8 @@ use Rattle.std.specs.Prelude.{filter}
 use Rattle.std.specs.Ordering.{nat_cmp}
 use Rattle.std.specs.declared.cmp.Ordering.TheVariants.{Less, Equal, Greater}
 use Rattle.net_units.specs.Numbers.{channel_number}
-use Rattle.link_steps.specs.Lists.{Each}
-use Rattle.link_steps.proofs.ListFacts.{Among, Each-if, Each-among}
+use Rattle.link_steps.specs.Lists.{Each, Among}
+use Rattle.link_steps.proofs.ListFacts.{Each-if, Each-among}
 use Rattle.link_steps.proofs.ChangeFacts.{Each-if_passes}
 use Rattle.run_record.specs.Rows.{comes_before, put_row, in_order}
 use Rattle.run_record.specs.declared.rows.HopRow.{HopRow}

@@ -14,7 +14,8 @@ use Rattle.traffic_contract.specs.Keeping.{Keeps}
 use Rattle.traffic_contract.proofs.LoadFacts.{ceil_quotient-some}
 use Rattle.hop_reservation.specs.Offers.{delay_over}
 use Rattle.hop_reservation.specs.declared.route.Hop.{Hop}
-use Rattle.link_steps.proofs.ListFacts.{Among, Among-filter, Each-among}
+use Rattle.link_steps.specs.Lists.{Among}
+use Rattle.link_steps.proofs.ListFacts.{Among-filter, Each-among}
 use Rattle.link_steps.proofs.ListParts.{Each-at, stands-at, comes-from, Among-reverse, Among-turned}
 use Rattle.link_steps.proofs.ChangeFacts.{Each-from_among}
 use Rattle.link_steps.proofs.PacketRows.{Among-passes}
@@ -71,15 +72,6 @@ settled plan levels row is accepted at = record {
   valid = (Each-at HasTerms plan.requests (channel_number row.chan) at.entry is.terms at.requested).contract;
   whole = (accepted.keep (channel_number row.chan) at.entry at.given at.requested at.accepted).have_levels.whole;
 }
-
--- a link of the plan sends something
-rate-some : (plan : PlanParts) (levels : List (Option Levels)) (row : HopRow) → IsPlan plan → (at : RowHop plan levels row) → 1 ≤ rate_of (slice_get plan.links (link_number at.hop.link))
-rate-some plan levels row is at =
-    let fits = request-fits plan (channel_number row.chan) at.entry is at.requested in
-    let hop = Each-at (IsHopOf (map (entry_link (groups_in plan)) plan.links)) at.entry.request.route at.index at.hop fits.hops at.stands in
-    let from = comes-from (entry_link (groups_in plan)) plan.links (link_number at.hop.link) hop.link hop.linked in
-    let rate = from.from.shape.rate_least in
-    subst (λ e. 1 ≤ rate_of e) (sym from.found) rate
 
 -- the row's place at its hop, and its times
 pub record RowStands (levels : List ℕ) (hop : Hop) (c i : ℕ) (rows : List HopRow) (row : HopRow) : Type 0 where

@@ -6,8 +6,8 @@ use Rattle.std.specs.Prelude.{nat_le, reverse}
 use Rattle.net_units.specs.Numbers.{channel_number}
 use Rattle.net_units.specs.declared.levels.Levels.{Levels}
 use Rattle.traffic_contract.specs.Eligible.{eligible}
-use Rattle.link_steps.specs.Lists.{Each}
-use Rattle.link_steps.proofs.ListFacts.{Among, Among-filter, Each-among}
+use Rattle.link_steps.specs.Lists.{Each, Among}
+use Rattle.link_steps.proofs.ListFacts.{Among-filter, Each-among}
 use Rattle.link_steps.proofs.ListParts.{Among-left, Among-right, Among-reverse, Among-turned, Each-parts}
 use Rattle.link_steps.proofs.ChangeFacts.{Each-from_among}
 use Rattle.link_steps.proofs.PacketRows.{Among-passes}

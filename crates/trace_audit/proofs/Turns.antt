@@ -8,7 +8,7 @@ use Rattle.std.specs.Prelude.{filter, find, nat_eq, reverse}
 use Rattle.net_units.specs.Numbers.{channel_number}
 use Rattle.traffic_contract.specs.Eligible.{eligible}
 use Rattle.link_steps.specs.declared.asks.Ask.{Ask}
-use Rattle.link_steps.specs.declared.asks.Ask.TheVariants.{Reserve, Relax, Deny, Submit, Release, Arrive, Tick, Pour}
+use Rattle.link_steps.specs.declared.asks.Ask.TheVariants.{Reserve, Arrive}
 use Rattle.link_steps.specs.declared.asks.Packet.{Packet}
 use Rattle.link_steps.specs.declared.replies.Entry.{Entry}
 use Rattle.link_steps.specs.declared.replies.Reply.{Reply}
@@ -17,21 +17,22 @@ use Rattle.link_steps.specs.declared.shape.LinkShape.{LinkShape}
 use Rattle.link_steps.specs.Buffer.{has_slot, slots_of}
 use Rattle.link_steps.specs.Hold.{stays}
 use Rattle.link_steps.specs.Admissible.{MayAnswer, IsAdmissible}
-use Rattle.link_steps.specs.Lists.{Each}
+use Rattle.link_steps.specs.Lists.{Each, Among}
 use Rattle.link_steps.specs.Regulator.{waits_until, eligible_next}
 use Rattle.link_steps.specs.Replies.{arrive_reply, arrive_to, reply_at}
 use Rattle.link_steps.specs.Rows.{Row, SourcePacket, is_for}
-use Rattle.link_steps.specs.Scan.{Scan, clock_with, clock_of, scan_of, is_row_of, arrived_packet, with_arrival, after_tick, after}
+use Rattle.link_steps.specs.Scan.{Scan, clock_with, clock_of, scan_of, is_row_of, arrived_packet, after_tick, after}
 use Rattle.link_steps.specs.Service.{Arrival, here_at}
 use Rattle.link_steps.specs.Sources.{source_step, source_tick, step_of, packet_of, taken_by, source_packets, arrival_at}
 use Rattle.link_steps.proofs.LegalChannels.{DifferInChannel, legal-channels, differ-filter}
-use Rattle.link_steps.proofs.ListFacts.{Among, Each-append, Each-filter, Each-find, Each-if}
+use Rattle.link_steps.proofs.ListFacts.{Each-append, Each-filter, Each-find, Each-if}
 use Rattle.link_steps.proofs.ReplyFacts.{arrive-tells}
 use Rattle.link_steps.proofs.RefusalFacts.{kept-rule}
 use Rattle.link_steps.specs.Refusals.{first_hop, uncommitted, wrong_number, past_count, big, full}
 use Rattle.link_steps.specs.Reservation.{Reservation}
 use Rattle.channel_laws.specs.Channels.{HopTerms, is_of_channel, channel_packets, tick_of_packet, channel_of, offers_with, offers_to, AllOfferTerms, RowTells, IsElsewhere, IsOnly, IsFree, HasOneRow}
 use Rattle.channel_laws.proofs.ChannelRows.{arrive-number, packets-on, packets-off, tick-packets, tick-free, others-elsewhere, sources-elsewhere, packet-elsewhere, row-of, find-passes, legal-stands}
+use Rattle.link_steps.proofs.EffectFacts.{packets-by}
 
 -- where a packet came from: a source, or the link before, from when it is due
 pub data CameFrom (terms : HopTerms) (c : ℕ) (h : List Entry) (p : Arrival) (due : ℕ) : Type 0 where
@@ -170,11 +171,9 @@ arrive-answer bounds t packet terms taken held e clock tick same =
 entry-arrive : (packet : Packet) (clock tick at : ℕ) → clock ≡ at → ◌≡◌ {A = Entry} (record { ask = Arrive packet; reply = Is.Taken at tick }) (record { ask = Arrive packet; reply = Is.Taken clock tick })
 entry-arrive packet clock tick at same = ap (λ n. record { ask = Arrive packet; reply = Is.Taken n tick }) (sym same)
 
-arrive-turns : (shape : LinkShape) (terms : HopTerms) (c : ℕ) (h : List Entry) (t : ℕ) (packet : Packet) (scan : Scan) (found : Option Row) (clock tick : ℕ) → find (is_row_of packet.chan) scan.rows ≡ found → Is.Taken clock tick ≡ arrive_to shape t scan.packets packet found → (channel_number packet.chan ≡ c → HasOneRow terms c scan) → TurnsStand terms c h t (channel_packets c scan.packets)
-    → TurnsStand terms c (record { ask = Arrive packet; reply = Is.Taken clock tick } ∷ h) t (channel_packets c (with_arrival t packet scan found).packets)
-unfolding with_arrival
-arrive-turns shape terms c h t packet scan None clock tick is same has stands = turns-kept terms c _ h t t (channel_packets c scan.packets) (channel_packets c scan.packets) (omega arith) refl stands
-arrive-turns shape terms c h t packet scan (Some row) clock tick is same has stands =
+arrive-turns : (shape : LinkShape) (terms : HopTerms) (c : ℕ) (h : List Entry) (t : ℕ) (packet : Packet) (scan : Scan) (row : Row) (clock tick : ℕ) → find (is_row_of packet.chan) scan.rows ≡ Some row → Is.Taken clock tick ≡ arrive_to shape t scan.packets packet (Some row) → HasOneRow terms c scan → TurnsStand terms c h t (channel_packets c scan.packets)
+    → TurnsStand terms c (record { ask = Arrive packet; reply = Is.Taken clock tick } ∷ h) t (channel_packets c (scan.packets ++ arrived_packet t (suc (length scan.packets)) packet row ∷ []))
+arrive-turns shape terms c h t packet scan row clock tick is same was stands =
     let chan : channel_of row ≡ channel_number packet.chan = row-of packet.chan row (find-passes (is_row_of packet.chan) row scan.rows is) in
     let number = arrive-number shape.bounds t packet row.terms (length row.ticks) _ _ clock tick same in
     let answer = arrive-answer shape.bounds t packet row.terms (length row.ticks) _ _ clock tick same in
@@ -182,7 +181,6 @@ arrive-turns shape terms c h t packet scan (Some row) clock tick is same has sta
     elim (cases_Bool (nat_eq (channel_of row) c)) [
       | inl on ↦
           (let own : channel_of row ≡ c = eqb-true (channel_of row) c on in
-          let was = has (sym chan ∙ own) in
           let one : row ≡ was.row = Each-find (IsOnly c was.row) (is_row_of packet.chan) scan.rows row was.only is own in
           let first : terms.first ≡ false = sym was.tells.first_is ∙ ap (λ r. r.terms.first) (sym one) ∙ takes.later in
           taken-more terms c _ h t t (channel_packets c scan.packets) _ row (arrived_packet t (suc (length scan.packets)) packet row) packet.due (omega arith)
@@ -197,36 +195,21 @@ arrive-turns shape terms c h t packet scan (Some row) clock tick is same has sta
 
 after-turns : (shape : LinkShape) (terms : HopTerms) (c : ℕ) (h : List Entry) (t : ℕ) (scan : Scan) (ask : Ask) (reply : Reply) → MayAnswer shape t scan ask reply → DifferInChannel scan.rows → HasOneRow terms c scan → TurnsStand terms c h t (channel_packets c scan.packets)
     → TurnsStand terms c (record { ask = ask; reply = reply } ∷ h) (clock_with ask t) (channel_packets c (after shape t scan ask reply).packets)
-unfolding after MayAnswer reply_at
-after-turns shape terms c h t scan (Reserve chan contract kind delay up_reach first next) (Is.Offer level reach) same differ has stands = turns-kept terms c _ h t t _ _ (omega arith) refl stands
-after-turns shape terms c h t scan (Relax chan level up_bound) (Is.Relaxed clock) same differ has stands = turns-kept terms c _ h t t _ _ (omega arith) refl stands
-after-turns shape terms c h t scan (Deny chan) Is.Denied same differ has stands = turns-kept terms c _ h t t _ _ (omega arith) refl stands
-after-turns shape terms c h t scan (Submit chan count gap size) (Is.Planned clock) same differ has stands = turns-kept terms c _ h t t _ _ (omega arith) refl stands
-after-turns shape terms c h t scan (Release chan upstream) (Is.Closing count cancelled) same differ has stands = turns-kept terms c _ h t t _ _ (omega arith) refl stands
-after-turns shape terms c h t scan (Pour count gap size) (Is.Planned clock) same differ has stands = turns-kept terms c _ h t t _ _ (omega arith) refl stands
-after-turns shape terms c h t scan (Arrive packet) (Is.Taken clock tick) same differ has stands = arrive-turns shape terms c h t packet scan (find (is_row_of packet.chan) scan.rows) clock tick refl same (λ chan. has) stands
-after-turns shape terms c h t scan Tick reply same differ has stands = tick-turns shape terms c _ h t scan differ has stands
-after-turns shape terms c h t scan _ _ same differ has stands = turns-kept terms c _ h t t _ _ (omega arith) refl stands
+unfolding MayAnswer reply_at
+after-turns shape terms c h t scan ask reply same differ has stands =
+    packets-by (λ a r clock packets. MayAnswer shape t scan a r → TurnsStand terms c (record { ask = a; reply = r } ∷ h) clock (channel_packets c packets)) shape t scan
+    (λ a r may. turns-kept terms c _ h t t _ _ (omega arith) refl stands)
+    (λ packet row clock tick found may. arrive-turns shape terms c h t packet scan row clock tick found (may ∙ ap (arrive_to shape t scan.packets packet) found) has stands)
+    (λ r may. tick-turns shape terms c _ h t scan differ has stands)
+    ask reply same
 
 -- where nothing was offered to the channel there is no packet of it
-arrive-none : (c t : ℕ) (packet : Packet) (scan : Scan) (found : Option Row) → find (is_row_of packet.chan) scan.rows ≡ found → IsFree c scan → channel_packets c (with_arrival t packet scan found).packets ≡ []
-unfolding with_arrival
-arrive-none c t packet scan None is free = free.packets
-arrive-none c t packet scan (Some row) is free =
-    let other : channel_of row ≢ c = Each-find (IsElsewhere c) (is_row_of packet.chan) scan.rows row free.rows is in
-    packets-off c scan.packets (arrived_packet t (suc (length scan.packets)) packet row) other ∙ free.packets
-
 after-none : (shape : LinkShape) (c t : ℕ) (scan : Scan) (ask : Ask) (reply : Reply) → IsFree c scan → channel_packets c (after shape t scan ask reply).packets ≡ []
-unfolding after
-after-none shape c t scan (Arrive packet) (Is.Taken clock tick) free = arrive-none c t packet scan (find (is_row_of packet.chan) scan.rows) refl free
-after-none shape c t scan Tick reply free = tick-free shape c t scan free ∙ free.packets
-after-none shape c t scan (Reserve chan contract kind delay up_reach first next) (Is.Offer level reach) free = free.packets
-after-none shape c t scan (Relax chan level up_bound) (Is.Relaxed clock) free = free.packets
-after-none shape c t scan (Deny chan) Is.Denied free = free.packets
-after-none shape c t scan (Submit chan count gap size) (Is.Planned clock) free = free.packets
-after-none shape c t scan (Release chan upstream) (Is.Closing count cancelled) free = free.packets
-after-none shape c t scan (Pour count gap size) (Is.Planned clock) free = free.packets
-after-none shape c t scan _ _ free = free.packets
+after-none shape c t scan ask reply free =
+    packets-by (λ a r clock packets. channel_packets c packets ≡ []) shape t scan (λ a r. free.packets)
+    (λ packet row clock tick found. packets-off c scan.packets (arrived_packet t (suc (length scan.packets)) packet row) (Each-find (IsElsewhere c) (is_row_of packet.chan) scan.rows row free.rows found) ∙ free.packets)
+    (λ r. tick-free shape c t scan free ∙ free.packets)
+    ask reply
 
 offers-up : (c n : ℕ) (ask : Ask) (reply : Reply) → n ≤ offers_with c n ask reply
 offers-up c n (Reserve chan contract kind delay up_reach first next) (Is.Offer level reach) =

@@ -14,8 +14,7 @@ use Rattle.net_units.specs.declared.levels.Levels.{Levels}
 use Rattle.traffic_contract.specs.Keeping.{Keeps}
 use Rattle.hop_reservation.specs.Offers.{delay_over}
 use Rattle.hop_reservation.specs.declared.route.Hop.{Hop}
-use Rattle.link_steps.specs.Lists.{Each}
-use Rattle.link_steps.proofs.ListFacts.{Among}
+use Rattle.link_steps.specs.Lists.{Each, Among}
 use Rattle.relaxation.specs.Allotment.{IsWithin}
 use Rattle.setup_protocol.specs.Laws.{KeepsRequest}
 use Rattle.setup_protocol.specs.Requests.{kind_of, jitter_of}

@@ -1,6 +1,6 @@
 //! Moves between two channels over that link, and what the callers of a run tell of them.
 ghost use Rattle.std.specs.Prelude.{OnOk};
-ghost use Rattle.interleave_core.specs.Standing.{CoreStands};
+ghost use Rattle.interleave_core.specs.schedules.Standing.{CoreStands};
 
 use call_script::Plan;
 use channel_move::Shifted;

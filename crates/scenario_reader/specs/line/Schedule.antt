@@ -12,11 +12,11 @@ use Rattle.scenario_reader.specs.Fields.{field_at, ended_line}
 use Rattle.scenario_reader.specs.Forms.{has_form, used_name_rule, number_rule}
 use Rattle.scenario_reader.specs.declared.form.Part.{Part}
 use Rattle.scenario_reader.specs.Kept.{IsDo}
-use Rattle.std.specs.Fmt.{decimal}
 use Rattle.std.specs.List.{flat_map, slice_get}
 use Rattle.call_script.specs.ActorNames.{name_of_actor}
 use Rattle.call_script.specs.declared.entries.CallerEntry.{CallerEntry}
 use Rattle.call_script.specs.declared.schedule.Schedule.{Schedule}
+use Rattle.text_writer.specs.Lines.{do_words}
 use Rattle.scenario_reader.specs.declared.cause.Cause.TheVariants as cause
 use Rattle.scenario_reader.specs.declared.form.Keyword.TheVariants as word
 use Rattle.scenario_reader.specs.declared.form.Part.TheVariants as part
@@ -70,7 +70,7 @@ pub record MayPutDo (said : Said) (what : Do) : Type 0 where
   pub is : IsDo said.callers what
 
 abbrev pub do_fields : List CallerEntry → Do → List (List ℕ)
-do_fields callers item = codes "do" ∷ name_of_actor (slice_get callers (actor_number item.actor)) ∷ decimal item.count ∷ []
+do_fields callers item = do_words (name_of_actor (slice_get callers (actor_number item.actor))) item.count
 
 abbrev pub schedule_fields : List (List ℕ)
 schedule_fields = codes "schedule" ∷ []

@@ -7,7 +7,8 @@ ghost use Rattle.call_script.specs.Accepted.{AreAccepted};
 ghost use Rattle.run_record.specs.SmallRows.{AreSmall};
 ghost use Rattle.scenario_reader.specs.AuditKept.{levels_given};
 ghost use Rattle.scenario_reader.specs.AuditReading.{AuditRead, LetsAuditPass, audit_line};
-ghost use Rattle.scenario_reader.specs.AuditSteps.{AddsAuditLine, AuditBytes, ReadsAuditLine, RefusesReading};
+ghost use Rattle.scenario_reader.specs.ReadSteps.{ReadsLine};
+ghost use Rattle.scenario_reader.specs.AuditSteps.{AddsAuditLine, AuditBytes, RefusesReading, audits};
 
 use crate::audit::draft::AuditDraft;
 use crate::audit::place::Place;
@@ -56,7 +57,7 @@ pub fn read_audit<S: Source>(
 }
 
 // Reads the next line and adds what it says. It answers whether there was one.
-#[tactic(auto, using(crate::proofs::AuditFacts::audits_line))]
+#[tactic(auto, using(crate::proofs::ReadFacts::passes_line))]
 fn read_line<S: Source>(
     alloc: Global,
     lines: &mut Lines,
@@ -65,7 +66,7 @@ fn read_line<S: Source>(
 ) -> Result<bool, ReadRefusal>
     requires cutting { IsCutting lines.old }
     requires source { IsOf lines.old (S.left source.old) }
-    ensures reads { ReadsAuditLine result lines.old lines.new draft.old draft.new (S.left source.old) (S.left source.new)
+    ensures reads { ReadsLine audits result lines.old lines.new draft.old draft.new (S.left source.old) (S.left source.new)
         (S.faults source.old) (S.faults source.new) }
     ensures counts { S.faults source.old ≤ S.faults source.new }
 {

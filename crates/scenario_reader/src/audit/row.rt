@@ -1,5 +1,5 @@
 //! Judging the rows of a table.
-ghost use Rattle.std.specs.Prelude.{◌≡◌, ◌<◌, IfOk, IfSome, length, option_map};
+ghost use Rattle.std.specs.Prelude.{◌≡◌, IfOk, IfSome, length, option_map};
 ghost use Rattle.std.specs.List.{list_all};
 ghost use Rattle.run_record.specs.SmallRows.{IsSmall};
 ghost use Rattle.scenario_reader.specs.AuditRows.{AreSmallNumbers, is_plain, is_row_text, link_in, numbers_of, numbers_rule, row_fields, row_told};

@@ -1,11 +1,10 @@
 //! The line of a caller: judging it, adding the caller, and its text.
-ghost use Rattle.std.specs.Prelude.{◌<◌, ◌≡◌, OnOk, OnErr, IfOk, string_bytes};
+ghost use Rattle.std.specs.Prelude.{◌≡◌, OnOk, OnErr, IfOk, string_bytes};
 ghost use Rattle.scenario_reader.specs.Causes.{Judges};
 ghost use Rattle.scenario_reader.specs.Fields.{fields_of, field_at, ended_line};
 ghost use Rattle.scenario_reader.specs.line.Caller.{is_caller_line, member_rule, group_in, caller_rule, caller_fields};
 ghost use Rattle.scenario_reader.specs.Drafts.{with_item};
 ghost use Rattle.scenario_reader.specs.line.Table.{MayAdd};
-ghost use Rattle.scenario_reader.specs.line.Group.{group_name};
 ghost use Rattle.scenario_reader.specs.declared.item.Item.TheVariants as item;
 
 use crate::cause::Cause;

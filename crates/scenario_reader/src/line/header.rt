@@ -1,5 +1,5 @@
 //! The header: judging it, adding it, and its text.
-ghost use Rattle.std.specs.Prelude.{◌≡◌, Some, Ok, IfOk, string_bytes, ◌<◌};
+ghost use Rattle.std.specs.Prelude.{◌≡◌, IfOk, string_bytes};
 ghost use Rattle.scenario_reader.specs.Fields.{fields_of, ended_line};
 ghost use Rattle.scenario_reader.specs.line.Header.{version_in, header_version, header_said, header_fields};
 ghost use Rattle.scenario_reader.specs.Drafts.{with_item};

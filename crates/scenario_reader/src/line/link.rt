@@ -1,5 +1,5 @@
 //! The line of a link: judging it, adding the link, and its text.
-ghost use Rattle.std.specs.Prelude.{ℕ, ◌≡◌, ◌≤◌, ◌<◌, IfOk, List, length, is_some, option_map, Some, OnOk, OnErr, IsTrue, map, ◌++◌, string_bytes, get_or};
+ghost use Rattle.std.specs.Prelude.{ℕ, ◌≡◌, ◌≤◌, ◌<◌, IfOk, List, length, is_some, option_map, OnOk, OnErr, IsTrue, map, ◌++◌, string_bytes, get_or};
 ghost use Rattle.net_units.specs.Limits.{most_best};
 ghost use Rattle.net_units.specs.Numbers.{link_at};
 ghost use Rattle.call_script.specs.Versions.{test_of};

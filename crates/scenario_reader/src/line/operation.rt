@@ -1,5 +1,5 @@
 //! The lines of a caller's operations on channels that it has opened: what they have in common, and a row for each kind.
-ghost use Rattle.std.specs.Prelude.{ℕ, ◌≡◌, ◌≤◌, List, is_some, Some, ◌<◌, OnOk, OnErr, IfOk, Ok, [], length, IfSome, IfNone, string_bytes};
+ghost use Rattle.std.specs.Prelude.{ℕ, ◌≡◌, ◌≤◌, List, is_some, Some, OnOk, OnErr, IfOk, [], length, IfSome, IfNone, string_bytes};
 ghost use Rattle.scenario_reader.specs.Causes.{Judges, States};
 ghost use Rattle.scenario_reader.specs.Drafts.{request_named, own_request, uses_said, with_item};
 ghost use Rattle.scenario_reader.specs.Forms.{used_name_rule};

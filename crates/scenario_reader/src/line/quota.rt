@@ -12,7 +12,6 @@ ghost use Rattle.call_script.specs.Growing.{add_quota};
 ghost use Rattle.scenario_reader.specs.line.Table.{MayAdd};
 ghost use Rattle.scenario_reader.specs.Decimal.{value_of};
 ghost use Rattle.std.specs.Fmt.{decimal};
-ghost use Rattle.scenario_reader.specs.line.Group.{group_name};
 ghost use Rattle.scenario_reader.specs.declared.item.Item.TheVariants as item;
 
 use crate::cause::Cause;

@@ -6,7 +6,6 @@ ghost use Rattle.scenario_reader.specs.Drafts.{last_caller, with_item};
 ghost use Rattle.scenario_reader.specs.Fields.{fields_of};
 ghost use Rattle.scenario_reader.specs.line.RequestFields.{open_in, HasNodes};
 ghost use Rattle.scenario_reader.specs.line.Request.{is_open_line, is_found, route_hops, after_route, open_fields_rule, open_limits_rule, open_rule, request_said, is_found_line, control_in, contract_told, contract_of, terms_rule, jitter_rule};
-ghost use Rattle.call_script.specs.Growing.{add_op};
 ghost use Rattle.scenario_reader.specs.line.Table.{MayAdd};
 ghost use Rattle.scenario_reader.specs.declared.item.Item.TheVariants as item;
 

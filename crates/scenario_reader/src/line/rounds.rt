@@ -1,5 +1,5 @@
 //! The lines `rounds` and `tail`: judging them, adding what they say, and their text.
-ghost use Rattle.std.specs.Prelude.{◌≡◌, ◌≤◌, ◌<◌, IfOk, string_bytes};
+ghost use Rattle.std.specs.Prelude.{◌≡◌, ◌≤◌, IfOk, string_bytes};
 ghost use Rattle.net_units.specs.Limits.{most_rounds};
 ghost use Rattle.scenario_reader.specs.Causes.{Judges};
 ghost use Rattle.scenario_reader.specs.Decimal.{value_of};

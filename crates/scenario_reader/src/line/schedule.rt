@@ -1,13 +1,10 @@
 //! The line `schedule` and its `do` lines: judging them, adding what they say, and their text.
-ghost use Rattle.std.specs.Prelude.{◌≤◌, ◌<◌, IfOk, ◌≡◌, OnOk, OnErr, string_bytes};
+ghost use Rattle.std.specs.Prelude.{◌≤◌, IfOk, ◌≡◌, OnOk, OnErr, string_bytes};
 ghost use Rattle.scenario_reader.specs.Causes.{States, Judges};
 ghost use Rattle.scenario_reader.specs.Fields.{fields_of, ended_line};
 ghost use Rattle.scenario_reader.specs.line.Schedule.{actor_rule, actor_named, actor_said, do_rule, do_said, schedule_rule, do_text, schedule_fields};
 ghost use Rattle.scenario_reader.specs.Drafts.{with_item};
 ghost use Rattle.scenario_reader.specs.line.Table.{MayAdd};
-ghost use Rattle.std.specs.List.{slice_get};
-ghost use Rattle.net_units.specs.Numbers.{actor_number};
-ghost use Rattle.call_script.specs.ActorNames.{name_of_actor};
 ghost use Rattle.scenario_reader.specs.declared.item.Item.TheVariants as item;
 
 use crate::cause::Cause;
@@ -95,17 +92,8 @@ pub(crate) fn do_line(
 ) -> Result<String, OutOfMemory>
     ensures { IfOk result (λ line. string_bytes line ≡ do_text callers.now item.now) }
 {
-    let actor = actor_name(callers, item.actor);
-    let count = item.count;
-    Ok(format!(in alloc; "do {actor} {count}\n")?)
-}
-
-// A caller's name, or the plane.
-fn actor_name(callers: &[CallerEntry], actor: ActorNo) -> &str
-    ensures { result.now ≡ name_of_actor (slice_get callers.now (actor_number actor)) }
-{
-    match callers.get(usize::from(actor.get())) {
-        Some(caller) => caller.name.as_str(),
-        None => "plane",
+    match callers.get(usize::from(item.actor.get())) {
+        Some(caller) => text_writer::do_line(alloc, caller.name.as_str(), item.count),
+        None => text_writer::do_line(alloc, "plane", item.count),
     }
 }

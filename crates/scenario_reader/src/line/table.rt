@@ -1,5 +1,5 @@
 //! The kinds of lines: the word that begins each, when it may stand, how it is judged, and how what it says is added.
-ghost use Rattle.std.specs.Prelude.{◌≡◌, Ok, ◌<◌, OnOk, OnErr, Some};
+ghost use Rattle.std.specs.Prelude.{◌≡◌, OnOk, OnErr};
 ghost use Rattle.scenario_reader.specs.Causes.{AnswersWithRoom};
 ghost use Rattle.scenario_reader.specs.Drafts.{has_quotas, with_item};
 ghost use Rattle.scenario_reader.specs.Fields.{fields_of};

@@ -4,12 +4,12 @@ use Rattle.std.specs.Prelude.{filter}
 use Rattle.traffic_contract.specs.Keeping.{keeps}
 use Rattle.channel_report.specs.Sources.{first_link, is_made}
 use Rattle.run_record.specs.Rows.{rows_of}
-use Rattle.interleave_core.proofs.Lookups.{found-at}
+use Rattle.interleave_core.proofs.Keeping.Lookups.{found-at}
 use Rattle.channel_report.specs.Channels.{established_line, told_channel}
 use Rattle.channel_report.proofs.ChannelFacts.{first-within, route-some, offered-is, refused-is, established-is}
 use Rattle.channel_report.proofs.LineFacts.{found-item}
 use Rattle.channel_report.proofs.LinkTallies.{nothing}
-use Rattle.channel_report.proofs.TellingFacts.{nothing-told}
+use Rattle.text_writer.proofs.TextsTold.{nothing-told}
 use Rattle.channel_report.proofs.channel_lines.tell_channel.Goals as goal
 
 pub returns-in_err-ticks : goal.returns-in_err-ticks

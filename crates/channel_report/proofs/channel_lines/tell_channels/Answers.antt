@@ -1,8 +1,8 @@
-use Rattle.std.proofs.Common.{◌<◌, length, reverse, refl, arith}
-use Rattle.interleave_core.proofs.Lookups.{held}
+use Rattle.std.proofs.Common.{◌<◌, length, reverse, refl}
+use Rattle.interleave_core.proofs.Keeping.Lookups.{held}
 use Rattle.run_record.specs.Rows.{rows_of}
 use Rattle.channel_report.specs.Channels.{channel_line}
-use Rattle.channel_report.proofs.TellingFacts.{item-failed, item-told}
+use Rattle.text_writer.proofs.TextsTold.{item-failed, item-told}
 use Rattle.channel_report.proofs.channel_lines.tell_channels.Goals as goal
 use Rattle.call_script.proofs.Walks.{read-at}
 
@@ -14,18 +14,13 @@ returns-in_err-tell_request g c = λ entries found.
     let entry = held requests number inside in
     let line = channel_line (rows_of entries) (reverse entries) in
     item-failed line requests number entry.item (line entry.item) _ (g.K.Sink.written c.loop-number.sink) _ c.args.gather.now c.loop-number.gather c.tell_request.new.gather _ (g.K.Sink.faults c.loop-number.sink) _
-    c.from_residual.result c.in_err-tell_request.field-0.0 c.from_residual.ensures.1 inside (read-at requests number entry.item entry.found) refl c.loop-number.invariant.counts (c.loop-number.invariant.told entries found) (c.in_err-tell_request.ensures entries entry.item found entry.found)
+    c.from_residual.result c.in_err-tell_request.field-0.0 c.from_residual.ensures.1 inside (read-at requests number entry.item entry.found) refl (c.loop-number.invariant entries found) (c.in_err-tell_request.ensures entries entry.item found entry.found)
 
 pub loop-number-preserved : goal.loop-number-preserved
-loop-number-preserved g c =
+loop-number-preserved g c = λ entries found.
     let requests = c.args.plan.now.requests in
     let number = c.loop-number.number in
     let inside : number < length requests = rw (← c.requests-number-end.ensures.value) c.loop-number-test.true in
     let entry = held requests number inside in
-    let any = c.requires in
-    record {
-      counts = omega (arith, c.loop-number.invariant.counts, (c.in_ok-tell_request.ensures any.0 entry.item any.1 entry.found).1);
-      told = λ entries found.
-          let line = channel_line (rows_of entries) (reverse entries) in
-          item-told line requests number entry.item (line entry.item) _ (g.K.Sink.written c.loop-number.sink) _ c.args.gather.now c.loop-number.gather c.tell_request.new.gather inside (read-at requests number entry.item entry.found) refl (c.loop-number.invariant.told entries found) (c.in_ok-tell_request.ensures entries entry.item found entry.found).0;
-    }
+    let line = channel_line (rows_of entries) (reverse entries) in
+    item-told line requests number entry.item (line entry.item) _ (g.K.Sink.written c.loop-number.sink) _ c.args.gather.now c.loop-number.gather c.tell_request.new.gather _ _ _ inside (read-at requests number entry.item entry.found) refl (c.loop-number.invariant entries found) (c.in_ok-tell_request.ensures entries entry.item found entry.found)

@@ -1,6 +1,6 @@
-use Rattle.std.proofs.Common.{◌≤◌, List, reverse, take}
+use Rattle.std.proofs.Common.{List, reverse, take}
 use Rattle.std.specs.List.{flat_map}
-use Rattle.byte_ends.specs.Gathering.{Gathers}
+use Rattle.text_writer.specs.Telling.{Told}
 use Rattle.run_record.specs.Rows.{rows_of}
 use Rattle.run_record.specs.declared.done.Done.{Done}
 use Rattle.channel_report.specs.Channels.{channel_line}
@@ -9,8 +9,5 @@ use Rattle.channel_report.proofs.channel_lines.tell_channels.Given as goal
 
 -- the lines so far are told
 abbrev pub invariant-loop-number : goal.invariant-loop-number
-invariant-loop-number g l = record {
-  counts : g.K.Sink.faults l.fn.sink ≤ g.K.Sink.faults l.sink;
-  told : (entries : List Done) → AreFound l.plan entries l.findings
-      → Gathers (g.K.Sink.written l.fn.sink) (g.K.Sink.written l.sink) l.fn.gather l.gather (flat_map (channel_line (rows_of entries) (reverse entries)) (take l.number l.plan.requests));
-}
+invariant-loop-number g l =
+    (entries : List Done) → AreFound l.plan entries l.findings → Told (g.K.Sink.written l.fn.sink) (g.K.Sink.written l.sink) l.fn.gather l.gather (g.K.Sink.faults l.fn.sink) (g.K.Sink.faults l.sink) (flat_map (channel_line (rows_of entries) (reverse entries)) (take l.number l.plan.requests))

@@ -1,5 +1,5 @@
 use Rattle.channel_report.specs.Report.{end_line}
-use Rattle.channel_report.proofs.TellingFacts.{nothing-told}
+use Rattle.text_writer.proofs.TextsTold.{nothing-told}
 use Rattle.channel_report.proofs.end_line.tell_end.Goals as goal
 
 pub returns-in_err-writeln : goal.returns-in_err-writeln

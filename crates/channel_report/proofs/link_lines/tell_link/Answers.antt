@@ -1,5 +1,5 @@
 use Rattle.channel_report.specs.Links.{told_link}
-use Rattle.channel_report.proofs.TellingFacts.{nothing-told}
+use Rattle.text_writer.proofs.TextsTold.{nothing-told}
 use Rattle.channel_report.proofs.link_lines.tell_link.Goals as goal
 
 pub returns-in_err-push_link : goal.returns-in_err-push_link

@@ -1,14 +1,12 @@
-use Rattle.std.proofs.Common.{◌≤◌, List, take}
+use Rattle.std.proofs.Common.{List, take}
 use Rattle.std.specs.List.{flat_map}
-use Rattle.byte_ends.specs.Gathering.{Gathers}
-use Rattle.interleave_core.specs.Standing.{CallersStand}
+use Rattle.text_writer.specs.Telling.{Told}
+use Rattle.interleave_core.specs.schedules.Standing.{CallersStand}
 use Rattle.run_record.specs.declared.done.Done.{Done}
 use Rattle.channel_report.specs.Moves.{op_line}
 use Rattle.channel_report.proofs.move_lines.tell_script.Given as goal
 
 -- the lines so far are told
 abbrev pub invariant-loop-op : goal.invariant-loop-op
-invariant-loop-op g l = record {
-  counts : g.K.Sink.faults l.fn.sink ≤ g.K.Sink.faults l.sink;
-  told : (run : List Done) → CallersStand l.plan l.callers run → Gathers (g.K.Sink.written l.fn.sink) (g.K.Sink.written l.sink) l.fn.gather l.gather (flat_map (op_line l.plan run) (take l.op-index l.ops));
-}
+invariant-loop-op g l =
+    (run : List Done) → CallersStand l.plan l.callers run → Told (g.K.Sink.written l.fn.sink) (g.K.Sink.written l.sink) l.fn.gather l.gather (g.K.Sink.faults l.fn.sink) (g.K.Sink.faults l.sink) (flat_map (op_line l.plan run) (take l.op-index l.ops))

@@ -2,7 +2,7 @@ use Rattle.std.proofs.Common.{◌++◌, length, reverse}
 use Rattle.run_record.specs.Rows.{rows_of}
 use Rattle.channel_report.specs.Channels.{channel_lines}
 use Rattle.channel_report.specs.Report.{end_line, link_lines, table_if}
-use Rattle.channel_report.proofs.TellingFacts.{first-failed, both-told}
+use Rattle.text_writer.proofs.TextsTold.{first-failed, both-told}
 use Rattle.channel_report.proofs.report.tell_carried.Goals as goal
 
 pub returns-in_err-tell_channels : goal.returns-in_err-tell_channels

@@ -4,7 +4,7 @@ use Rattle.channel_report.specs.Channels.{channel_lines}
 use Rattle.channel_report.specs.Report.{end_line, link_lines, table_if}
 use Rattle.channel_report.specs.Moves.{move_lines}
 use Rattle.channel_report.specs.Routes.{route_lines}
-use Rattle.channel_report.proofs.TellingFacts.{first-failed, both-told}
+use Rattle.text_writer.proofs.TextsTold.{first-failed, both-told}
 use Rattle.channel_report.proofs.report.tell_found.Goals as goal
 
 pub returns-in_err-tell_routes : goal.returns-in_err-tell_routes

@@ -3,7 +3,7 @@ use Rattle.run_record.specs.Rows.{rows_of}
 use Rattle.channel_report.specs.Channels.{channel_lines}
 use Rattle.channel_report.specs.Moves.{move_lines}
 use Rattle.channel_report.specs.Report.{end_line, link_lines, table_if}
-use Rattle.channel_report.proofs.TellingFacts.{first-failed, both-told}
+use Rattle.text_writer.proofs.TextsTold.{first-failed, both-told}
 use Rattle.channel_report.proofs.report.tell_moved.Goals as goal
 
 pub returns-in_err-tell_moves : goal.returns-in_err-tell_moves

@@ -1,7 +1,7 @@
 use Rattle.std.proofs.Common.{◌++◌, length, reverse, sym, subst}
 use Rattle.channel_report.specs.Report.{end_line, link_lines, table_if}
 use Rattle.channel_report.specs.Tallies.{AreLinkTallies}
-use Rattle.channel_report.proofs.TellingFacts.{first-failed, both-told}
+use Rattle.text_writer.proofs.TextsTold.{first-failed, both-told}
 use Rattle.channel_report.proofs.report.tell_network.Goals as goal
 
 pub returns-in_err-tell_links : goal.returns-in_err-tell_links

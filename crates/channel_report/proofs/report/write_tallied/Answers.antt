@@ -1,8 +1,8 @@
 -- What was found of the run is told.
 use Rattle.std.proofs.Common.{reverse, subst}
 use Rattle.channel_report.specs.Report.{report_of}
-use Rattle.channel_report.specs.Telling.{WritesText}
-use Rattle.channel_report.proofs.TellingFacts.{broken-off, ended, nothing-written}
+use Rattle.text_writer.specs.Telling.{WritesText}
+use Rattle.text_writer.proofs.TextsTold.{broken-off, ended, nothing-written}
 use Rattle.channel_report.proofs.report.write_tallied.Goals as goal
 
 pub tell_report-requires : goal.tell_report-requires

@@ -1,7 +1,7 @@
 use Rattle.std.specs.Prelude.{option_map}
 use Rattle.setup_protocol.specs.State.{outcome_of}
 use Rattle.channel_report.specs.Verdicts.{verdict_line}
-use Rattle.channel_report.proofs.TellingFacts.{nothing-told}
+use Rattle.text_writer.proofs.TextsTold.{nothing-told}
 use Rattle.channel_report.proofs.request_lines.tell_verdict.Goals as goal
 
 pub returns-in_err-push_verdict : goal.returns-in_err-push_verdict

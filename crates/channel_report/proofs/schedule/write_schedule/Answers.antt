@@ -1,5 +1,5 @@
 use Rattle.channel_report.specs.Schedule.{schedule_of}
-use Rattle.channel_report.proofs.TellingFacts.{ended}
+use Rattle.text_writer.proofs.TextsTold.{ended}
 use Rattle.channel_report.proofs.schedule.write_schedule.Goals as goal
 
 pub returns : goal.returns

@@ -3,7 +3,7 @@ use Rattle.std.proofs.Common.{reverse, ap, subst}
 use Rattle.std.proofs.lemmas.List.{reverse-reverse}
 use Rattle.channel_report.specs.Summary.{summary_of}
 use Rattle.channel_report.specs.Tallied.{IsTalliedRun}
-use Rattle.channel_report.specs.Telling.{WritesText}
+use Rattle.text_writer.specs.Telling.{WritesText}
 use Rattle.channel_report.proofs.summary.write_summary.Goals as goal
 
 pub write_tallied_summary-requires : goal.write_tallied_summary-requires

@@ -2,7 +2,7 @@
 use Rattle.std.proofs.Common.{reverse, ap, ◌∙◌}
 use Rattle.run_record.specs.Rows.{rows_of}
 use Rattle.channel_report.specs.Summary.{summary_of, sums_of, told_summary}
-use Rattle.channel_report.proofs.TellingFacts.{nothing-written}
+use Rattle.text_writer.proofs.TextsTold.{nothing-written}
 use Rattle.channel_report.proofs.summary.write_tallied_summary.Goals as goal
 
 pub sum_up-sums-requires : goal.sum_up-sums-requires
@@ -20,4 +20,4 @@ returns g c = λ run told.
     let found = c.in_ok-findings.ensures.found run told in
     let text = c.as_bytes.ensures.value ∙ c.in_ok-line.ensures ∙ ap (λ sums. told_summary c.args.number c.args.size sums c.in_ok-findings.findings.steps) (c.sum_up-sums.ensures entries found)
     ∙ ap (told_summary c.args.number c.args.size (sums_of (rows_of entries) (reverse entries) c.args.plan.now.requests)) found.steps in
-    rw text at c.put_line.ensures
+    rw text at c.write_line.ensures

@@ -1,5 +1,5 @@
 use Rattle.channel_report.specs.Table.{told_row}
-use Rattle.channel_report.proofs.TellingFacts.{nothing-told}
+use Rattle.text_writer.proofs.TextsTold.{nothing-told}
 use Rattle.channel_report.proofs.table.tell_row.Goals as goal
 
 pub returns-in_err-push_row : goal.returns-in_err-push_row

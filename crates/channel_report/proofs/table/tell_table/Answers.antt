@@ -1,6 +1,6 @@
 use Rattle.std.specs.List.{flat_map}
 use Rattle.channel_report.specs.Table.{header, told_row}
-use Rattle.channel_report.proofs.TellingFacts.{first-failed, both-told}
+use Rattle.text_writer.proofs.TextsTold.{first-failed, both-told}
 use Rattle.channel_report.proofs.table.tell_table.Goals as goal
 
 pub returns-in_err-tell_header : goal.returns-in_err-tell_header

@@ -1,8 +1,8 @@
 -- The next entry is the next step of its actor, and the callers stand after it.
 use Rattle.std.proofs.Common.{◌≡◌, ◌<◌, length, get_or, reverse, take, sym, subst}
 use Rattle.call_script.specs.Tasks.{network_of}
-use Rattle.interleave_core.specs.Standing.{CallersStand, IsNextStep}
-use Rattle.interleave_core.proofs.RunFronts.{front-run, front-more, front-next}
+use Rattle.interleave_core.specs.schedules.Standing.{CallersStand, IsNextStep}
+use Rattle.interleave_core.proofs.Runs.RunFronts.{front-run, front-more, front-next}
 use Rattle.interleave_core.proofs.callers.replay.Goals as goal
 
 pub take-requires : goal.take-requires

@@ -1,6 +1,6 @@
 use Rattle.std.proofs.Common.{reverse, take}
 use Rattle.call_script.specs.Plans.{IsPlan}
-use Rattle.interleave_core.specs.Standing.{CallersStand}
+use Rattle.interleave_core.specs.schedules.Standing.{CallersStand}
 use Rattle.interleave_core.proofs.callers.replay.Given as goal
 
 -- the callers stand after the entries so far

@@ -1,9 +1,9 @@
 -- The next entry is the next step of its actor; the callers stand after it, and it is seen.
 use Rattle.std.proofs.Common.{◌≡◌, ◌<◌, length, get_or, refl, reverse, take, sym, subst, ◌∙◌}
 use Rattle.call_script.specs.Tasks.{network_of}
-use Rattle.interleave_core.specs.Standing.{IsNextStep}
-use Rattle.interleave_core.specs.Watching.{IsNextSeen, IsSeen}
-use Rattle.interleave_core.proofs.RunFronts.{front-run, front-more, front-next}
+use Rattle.interleave_core.specs.schedules.Standing.{IsNextStep}
+use Rattle.interleave_core.specs.schedules.Watching.{IsNextSeen, IsSeen}
+use Rattle.interleave_core.proofs.Runs.RunFronts.{front-run, front-more, front-next}
 use Rattle.interleave_core.proofs.callers.replay_watched.Goals as goal
 
 pub loop-done-init : goal.loop-done-init

@@ -1,6 +1,6 @@
 use Rattle.std.proofs.Common.{◌≡◌, reverse, take}
 use Rattle.call_script.specs.Plans.{IsPlan}
-use Rattle.interleave_core.specs.Watching.{IsSeen}
+use Rattle.interleave_core.specs.schedules.Watching.{IsSeen}
 use Rattle.interleave_core.proofs.callers.replay_watched.Given as goal
 
 -- the callers stand after the entries so far, which were seen

@@ -1,4 +1,4 @@
-use Rattle.interleave_core.proofs.KeptRequest.{accepted-kept}
+use Rattle.interleave_core.proofs.Channels.KeptRequest.{accepted-kept}
 use Rattle.interleave_core.proofs.laws.accepted_requests_are_kept.Goals as goal
 
 pub returns : goal.returns

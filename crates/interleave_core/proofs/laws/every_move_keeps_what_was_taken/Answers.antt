@@ -1,4 +1,4 @@
-use Rattle.interleave_core.proofs.MoveLaw.{moves-keep}
+use Rattle.interleave_core.proofs.Moves.MoveLaw.{moves-keep}
 use Rattle.interleave_core.proofs.laws.every_move_keeps_what_was_taken.Goals as goal
 
 pub returns : goal.returns

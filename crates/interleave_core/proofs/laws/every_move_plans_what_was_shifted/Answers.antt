@@ -1,4 +1,4 @@
-use Rattle.interleave_core.proofs.Replying.{moves-plan}
+use Rattle.interleave_core.proofs.Replies.Replying.{moves-plan}
 use Rattle.interleave_core.proofs.laws.every_move_plans_what_was_shifted.Goals as goal
 
 pub returns : goal.returns

@@ -1,4 +1,4 @@
-use Rattle.interleave_core.proofs.TotalLaw.{none-lost}
+use Rattle.interleave_core.proofs.Moves.TotalLaw.{none-lost}
 use Rattle.interleave_core.proofs.laws.no_planned_packet_is_lost.Goals as goal
 
 pub returns : goal.returns

@@ -1,4 +1,4 @@
-use Rattle.interleave_core.proofs.SentRows.{sent-by}
+use Rattle.interleave_core.proofs.Channels.SentRows.{sent-by}
 use Rattle.interleave_core.proofs.laws.ticks_tell_what_has_left.Goals as goal
 
 pub returns : goal.returns

@@ -4,7 +4,7 @@ use Rattle.std.proofs.lemmas.Option.{slice_get_within}
 use Rattle.net_units.specs.Numbers.{link_number}
 use Rattle.link_steps.specs.Split.{SplitFits, whole}
 use Rattle.call_script.specs.Splits.{groups_in}
-use Rattle.interleave_core.proofs.SplitLinks.{unsplit, split-so, entry-split-fits}
+use Rattle.interleave_core.proofs.Keeping.SplitLinks.{unsplit, split-so, entry-split-fits}
 use Rattle.interleave_core.proofs.links.new_link.Goals as goal
 
 pub split-requires : goal.split-requires

@@ -5,7 +5,7 @@ use Rattle.link_quota.specs.Any.{any_rules, AnyStands}
 use Rattle.link_quota.specs.declared.any_link.AnyLink.{AnyLink}
 use Rattle.link_steps.specs.Replies.{reply_to}
 use Rattle.link_steps.specs.declared.replies.Entry.{Entry}
-use Rattle.interleave_core.proofs.Lookups.{get-set-same, if-ok, if-err}
+use Rattle.interleave_core.proofs.Keeping.Lookups.{get-set-same, if-ok, if-err}
 use Rattle.interleave_core.proofs.links.step_link.Goals as goal
 
 pub returns-clause-same : goal.returns-clause-same

@@ -1,6 +1,6 @@
 use Rattle.std.proofs.Common.{◌≤◌, take}
 use Rattle.link_steps.specs.Lists.{Each}
-use Rattle.interleave_core.specs.Resting.{RestsBy}
+use Rattle.interleave_core.specs.schedules.Resting.{RestsBy}
 use Rattle.interleave_core.proofs.links.ticks_at_rest.Given as goal
 
 -- the links so far rest for so many

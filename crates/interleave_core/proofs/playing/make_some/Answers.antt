@@ -1,7 +1,7 @@
 -- A stride is so many turns of the plane, and a step is one.
-use Rattle.std.proofs.Common.{◌≡◌, ◌<◌, length, sym, ap, ◌∙◌, arith}
-use Rattle.interleave_core.proofs.StrideFacts.{links-some, plays-once}
-use Rattle.interleave_core.proofs.WatchFacts.{plays-none, plays-one}
+use Rattle.std.proofs.Common.{length, sym, ap, ◌∙◌, arith}
+use Rattle.interleave_core.proofs.Watched.StrideFacts.{links-some, plays-once}
+use Rattle.interleave_core.proofs.Watched.WatchFacts.{plays-none, plays-one}
 use Rattle.interleave_core.proofs.playing.make_some.Goals as goal
 
 pub nonzero_div-most : goal.nonzero_div-most

@@ -1,8 +1,8 @@
 -- The record has the run that was seen.
 use Rattle.std.proofs.Common.{sym, subst, reverse, ap}
 use Rattle.call_script.specs.Tasks.{network_of}
-use Rattle.interleave_core.specs.Schedules.{IsPlayed}
-use Rattle.interleave_core.specs.Standing.{IsGuaranteedRun}
+use Rattle.interleave_core.specs.schedules.Schedules.{IsPlayed}
+use Rattle.interleave_core.specs.schedules.Standing.{IsGuaranteedRun}
 use Rattle.run_record.specs.Entries.{Entries}
 use Rattle.interleave_core.proofs.playing.play.Goals as goal
 

@@ -1,5 +1,5 @@
 use Rattle.std.proofs.Common.{◌≡◌}
-use Rattle.interleave_core.specs.Watching.{HavePlayedOut}
+use Rattle.interleave_core.specs.schedules.Watching.{HavePlayedOut}
 use Rattle.interleave_core.proofs.playing.play_all.Given as goal
 
 -- the actors so far have played out

@@ -1,6 +1,6 @@
-use Rattle.std.proofs.Common.{◌≡◌, ℕ, ◌-◌, ◌≤◌, List}
-use Rattle.interleave_core.specs.Schedules.{repeated}
-use Rattle.interleave_core.specs.Watching.{PlaysOn, WatchStands}
+use Rattle.std.proofs.Common.{◌≡◌, ◌-◌, ◌≤◌, List}
+use Rattle.interleave_core.specs.schedules.Schedules.{repeated}
+use Rattle.interleave_core.specs.schedules.Watching.{PlaysOn, WatchStands}
 use Rattle.run_record.specs.declared.done.Done.{Done}
 use Rattle.interleave_core.proofs.playing.play_item.Given as goal
 

@@ -1,6 +1,6 @@
 use Rattle.std.proofs.Common.{◌≡◌, [], take}
-use Rattle.interleave_core.specs.Schedules.{turns_of}
-use Rattle.interleave_core.specs.Watching.{PlaysOn}
+use Rattle.interleave_core.specs.schedules.Schedules.{turns_of}
+use Rattle.interleave_core.specs.schedules.Watching.{PlaysOn}
 use Rattle.interleave_core.proofs.playing.play_items.Given as goal
 
 -- the items so far are played

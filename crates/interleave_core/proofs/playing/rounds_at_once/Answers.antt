@@ -3,12 +3,12 @@ use Rattle.std.proofs.Common.{◌≡◌, length, sym, ap, ◌∙◌, arith}
 use Rattle.net_units.proofs.NumberFacts.{same-actor}
 use Rattle.net_units.specs.Numbers.{actor_number}
 use Rattle.call_script.specs.Tasks.{network_of}
-use Rattle.interleave_core.specs.Quiet.{the_plane}
-use Rattle.interleave_core.specs.Runs.{plane_no}
-use Rattle.interleave_core.proofs.ActorFacts.{plane-number}
-use Rattle.interleave_core.proofs.QuietRounds.{plane-is}
-use Rattle.interleave_core.proofs.RestFacts.{fewer-engine}
-use Rattle.interleave_core.proofs.StepFacts.{callers-few}
+use Rattle.interleave_core.specs.schedules.Quiet.{the_plane}
+use Rattle.interleave_core.specs.runs.Runs.{plane_no}
+use Rattle.interleave_core.proofs.Keeping.ActorFacts.{plane-number}
+use Rattle.interleave_core.proofs.Watched.QuietRounds.{plane-is}
+use Rattle.interleave_core.proofs.Watched.RestFacts.{fewer-engine}
+use Rattle.interleave_core.proofs.Keeping.StepFacts.{callers-few}
 use Rattle.interleave_core.proofs.playing.rounds_at_once.Goals as goal
 
 pub returns-clause-rests : goal.returns-clause-rests

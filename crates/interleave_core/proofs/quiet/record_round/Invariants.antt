@@ -1,5 +1,5 @@
 use Rattle.std.proofs.Common.{◌≡◌, reverse}
-use Rattle.interleave_core.specs.Quiet.{quiet_round}
+use Rattle.interleave_core.specs.schedules.Quiet.{quiet_round}
 use Rattle.interleave_core.proofs.quiet.record_round.Given as goal
 
 -- the ticks of the links so far are recorded

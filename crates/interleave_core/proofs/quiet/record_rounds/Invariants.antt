@@ -1,5 +1,5 @@
 use Rattle.std.proofs.Common.{◌≡◌, reverse}
-use Rattle.interleave_core.specs.Quiet.{quiet_rounds}
+use Rattle.interleave_core.specs.schedules.Quiet.{quiet_rounds}
 use Rattle.interleave_core.proofs.quiet.record_rounds.Given as goal
 
 -- the rounds so far are recorded

@@ -1,7 +1,7 @@
 -- The record has the run that was seen.
 use Rattle.std.proofs.Common.{sym, subst, reverse, ap}
 use Rattle.call_script.specs.Tasks.{network_of}
-use Rattle.interleave_core.specs.Standing.{IsGuaranteedRun}
+use Rattle.interleave_core.specs.schedules.Standing.{IsGuaranteedRun}
 use Rattle.run_record.specs.Entries.{Entries}
 use Rattle.load_maker.specs.TurnRuns.{IsTurnsRun}
 use Rattle.load_maker.proofs.turns.take_turns.Goals as goal

@@ -5,7 +5,7 @@ use Rattle.link_quota.specs.declared.any_link.AnyLink.{AnyLink}
 use Rattle.call_script.proofs.FitFacts.{plan-fits}
 use Rattle.call_script.specs.Tasks.{network_of}
 use Rattle.tick_plane.specs.Kept.{KeptPlane}
-use Rattle.interleave_core.proofs.StepFacts.{callers-few, has-few}
+use Rattle.interleave_core.proofs.Keeping.StepFacts.{callers-few, has-few}
 use Rattle.plane_workers.specs.declared.desk.Desk.{Desk}
 use Rattle.plane_workers.proofs.GapLaw.{packets-take}
 use Rattle.plane_workers.proofs.RoundFacts.{seen-first, rounds-out, plan-spaced}

@@ -1,7 +1,7 @@
 -- The callers have played out, and then the plane.
 use Rattle.std.proofs.Common.{length, refl, ◌∙◌}
 use Rattle.net_units.specs.Numbers.{actor_at}
-use Rattle.interleave_core.proofs.PlayFacts.{out-again, played-out}
+use Rattle.interleave_core.proofs.Schedules.PlayFacts.{out-again, played-out}
 use Rattle.plane_workers.proofs.playing.played_watched.Goals as goal
 
 pub make_all_rounds-requires-clause-stand : goal.make_all_rounds-requires-clause-stand

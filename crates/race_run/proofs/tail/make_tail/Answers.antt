@@ -1,5 +1,5 @@
 use Rattle.std.proofs.Common.{map, arith}
-use Rattle.interleave_core.proofs.StepFacts.{has-few}
+use Rattle.interleave_core.proofs.Keeping.StepFacts.{has-few}
 use Rattle.race_run.specs.Tail.{own_in}
 use Rattle.race_run.proofs.RaceFacts.{tail-left, tail-made}
 use Rattle.race_run.proofs.TailFacts.{at-same, goes-last}

@@ -1,8 +1,8 @@
 use Rattle.std.proofs.Common.{[], length, All, IsPermutation, IsSortedBy, reverse, sym, subst}
 use Rattle.link_steps.specs.Lists.{Each}
 use Rattle.call_script.specs.Tasks.{network_of}
-use Rattle.interleave_core.specs.Runs.{IsRun}
-use Rattle.interleave_core.specs.Schedules.{FollowsTurns, IsActorOf, turns_of}
+use Rattle.interleave_core.specs.runs.Runs.{IsRun}
+use Rattle.interleave_core.specs.schedules.Schedules.{FollowsTurns, IsActorOf, turns_of}
 use Rattle.race_run.specs.Merging.{AreThere, is_before, places_of, sources_from}
 use Rattle.race_run.specs.Turns.{AreMaximalRuns, IsWritable, actors_of}
 use Rattle.race_run.proofs.MergeFacts.{merge-weaves, whole-sorted, places-all-inside}

@@ -1,6 +1,6 @@
 use Rattle.std.proofs.Common.{◌≡◌, ◌+◌, ◌-◌, ◌≤◌}
 use Rattle.byte_ends.specs.Cutting.{IsCutting, IsOf}
-use Rattle.scenario_reader.specs.ReadSteps.{reading_ahead, ForetellsReading, PassesOn}
+use Rattle.scenario_reader.specs.ReadSteps.{Foretells, PassesOn, ahead, scenarios}
 use Rattle.scenario_reader.specs.Drafts.{nothing_said}
 use Rattle.scenario_reader.proofs.ReadFacts.{at_start}
 use Rattle.scenario_reader.specs.declared.reader.TheConstants.{MOST_BYTES}
@@ -14,8 +14,8 @@ invariant-loop-draft g l =
       most : l.lines.most ≡ MOST_BYTES;
       cutting : IsCutting l.lines;
       source : IsOf l.lines (left l.source);
-      same : ForetellsReading (left l.fn.source) (reading_ahead l.lines l.draft (left l.source));
-      passed : PassesOn at_start l.lines nothing_said l.draft (left l.fn.source) (left l.source);
+      same : Foretells scenarios (left l.fn.source) (ahead scenarios l.lines l.draft (left l.source));
+      passed : PassesOn scenarios at_start l.lines nothing_said l.draft (left l.fn.source) (left l.source);
       counts : g.S.Source.faults l.fn.source ≤ g.S.Source.faults l.source;
     }
 

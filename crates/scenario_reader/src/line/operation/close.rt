@@ -1,7 +1,6 @@
 //! The line that closes a request: judging it, and its text.
-ghost use Rattle.std.specs.Prelude.{Ok, ◌≡◌, IfOk, string_bytes, ◌<◌};
+ghost use Rattle.std.specs.Prelude.{◌≡◌, IfOk, string_bytes};
 ghost use Rattle.scenario_reader.specs.Causes.{States};
-ghost use Rattle.scenario_reader.specs.Drafts.{own_request};
 ghost use Rattle.scenario_reader.specs.Fields.{fields_of, ended_line};
 ghost use Rattle.scenario_reader.specs.line.Close.{close_rule, close_said, close_fields};
 

@@ -1,5 +1,5 @@
 //! The line of a move: judging it, and its text.
-ghost use Rattle.std.specs.Prelude.{ℕ, ◌≡◌, ◌||◌, List, Some, Ok, IfOk, string_bytes, ◌<◌};
+ghost use Rattle.std.specs.Prelude.{ℕ, ◌≡◌, List, Some, IfOk, string_bytes};
 ghost use Rattle.scenario_reader.specs.Causes.{States};
 ghost use Rattle.scenario_reader.specs.Drafts.{own_request};
 ghost use Rattle.scenario_reader.specs.Fields.{fields_of, ended_line};

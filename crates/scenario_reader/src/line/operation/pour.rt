@@ -1,5 +1,5 @@
 //! The line of a pour: judging it, and its text.
-ghost use Rattle.std.specs.Prelude.{Ok, ◌≡◌, IfOk, string_bytes, ◌<◌};
+ghost use Rattle.std.specs.Prelude.{◌≡◌, IfOk, string_bytes};
 ghost use Rattle.scenario_reader.specs.Causes.{States};
 ghost use Rattle.scenario_reader.specs.Fields.{fields_of, ended_line};
 ghost use Rattle.scenario_reader.specs.line.Pour.{pour_rule, pour_said, pour_fields};

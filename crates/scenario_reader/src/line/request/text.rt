@@ -1,5 +1,5 @@
 //! The text of a request.
-ghost use Rattle.std.specs.Prelude.{◌≡◌, ◌++◌, [], IfOk, OnOk, string_bytes, ◌<◌};
+ghost use Rattle.std.specs.Prelude.{◌≡◌, ◌++◌, [], IfOk, OnOk, string_bytes};
 ghost use Rattle.std.specs.List.{slice_get};
 ghost use Rattle.net_units.specs.Numbers.{link_number};
 ghost use Rattle.scenario_reader.specs.Fields.{ended_line, spaced};

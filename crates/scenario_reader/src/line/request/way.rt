@@ -1,5 +1,5 @@
 //! The way of a request: the links of its route, or the nodes between which it is to be found.
-ghost use Rattle.std.specs.Prelude.{ℕ, ◌≡◌, ◌+◌, ◌<◌, ◌≤◌, List, false, true, IfOk, option_map, unwrap_or, []};
+ghost use Rattle.std.specs.Prelude.{ℕ, ◌≡◌, ◌≤◌, List, false, true, IfOk, option_map, unwrap_or, []};
 ghost use Rattle.call_script.specs.declared.entries.LinkEntry.{LinkEntry as Linked};
 ghost use Rattle.call_script.specs.Rules.{meets, is_joined};
 ghost use Rattle.scenario_reader.specs.Causes.{Judges, JudgesWithRoom, States, unless};

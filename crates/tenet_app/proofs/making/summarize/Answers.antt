@@ -3,7 +3,7 @@ use Rattle.std.proofs.Common.{reverse, sym, subst}
 use Rattle.std.proofs.lemmas.List.{reverse-reverse}
 use Rattle.call_script.specs.Tasks.{network_of}
 use Rattle.channel_report.specs.Tallied.{IsTalliedRun}
-use Rattle.interleave_core.specs.Standing.{IsGuaranteedRun}
+use Rattle.interleave_core.specs.schedules.Standing.{IsGuaranteedRun}
 use Rattle.load_maker.specs.TurnRuns.{IsTurnsRun}
 use Rattle.tenet_app.proofs.LoadFacts.{plan-summarized}
 use Rattle.tenet_app.proofs.making.summarize.Goals as goal

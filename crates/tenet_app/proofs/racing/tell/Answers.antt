@@ -1,5 +1,5 @@
 use Rattle.std.proofs.Common.{inr, refl, subst}
-use Rattle.channel_report.specs.Telling.{IsWhy}
+use Rattle.text_writer.specs.Telling.{IsWhy}
 use Rattle.tenet_app.specs.Racing.{IsRaceOf}
 use Rattle.tenet_app.proofs.RaceFacts.{front-of-race}
 use Rattle.tenet_app.proofs.racing.tell.Goals as goal

@@ -1,6 +1,6 @@
 use Rattle.std.proofs.Common.{[], ◌∷◌, ◌++◌}
 use Rattle.std.specs.Prelude.{codes}
-use Rattle.channel_report.specs.Lines.{whole_line}
+use Rattle.text_writer.specs.Lines.{whole_line}
 use Rattle.channel_report.specs.Report.{report_of}
 use Rattle.channel_report.specs.Schedule.{schedule_of}
 use Rattle.tenet_app.proofs.RaceTexts.{then-written, stopped-within}

@@ -3,8 +3,8 @@ use Rattle.std.proofs.Common.{reverse, sym, subst, ap, ◌∙◌}
 use Rattle.std.proofs.lemmas.List.{reverse-reverse}
 use Rattle.call_script.specs.Tasks.{network_of}
 use Rattle.channel_report.specs.Report.{report_of}
-use Rattle.interleave_core.specs.Schedules.{IsPlayed}
-use Rattle.interleave_core.specs.Standing.{IsGuaranteedRun}
+use Rattle.interleave_core.specs.schedules.Schedules.{IsPlayed}
+use Rattle.interleave_core.specs.schedules.Standing.{IsGuaranteedRun}
 use Rattle.tenet_app.specs.Playing.{WritesReport}
 use Rattle.tenet_app.proofs.AnswerFacts.{of-report, of-missing}
 use Rattle.tenet_app.proofs.working.answer.Goals as goal

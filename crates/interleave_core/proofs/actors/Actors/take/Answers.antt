@@ -1,8 +1,8 @@
 -- The plane takes its reply, or the caller its own.
 use Rattle.std.proofs.Common.{◌≢◌, refl, length, arith}
 use Rattle.net_units.specs.Numbers.{actor_number}
-use Rattle.interleave_core.proofs.ActorFacts.{plane-left, plane-expected, plane-later, plane-taken, calls-next, calls-taken}
-use Rattle.interleave_core.proofs.Lookups.{when-ok}
+use Rattle.interleave_core.proofs.Keeping.ActorFacts.{plane-left, plane-expected, plane-later, plane-taken, calls-next, calls-taken}
+use Rattle.interleave_core.proofs.Keeping.Lookups.{when-ok}
 use Rattle.interleave_core.proofs.actors.Actors.take.Goals as goal
 
 pub take-requires-clause-left : goal.take-requires-clause-left

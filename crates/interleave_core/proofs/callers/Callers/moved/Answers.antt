@@ -2,8 +2,8 @@
 use Rattle.std.proofs.Common.{◌<◌, length, refl, ◌∙◌, arith}
 use Rattle.net_units.specs.Numbers.{actor_number}
 use Rattle.run_record.specs.Runs.{replies_to}
-use Rattle.interleave_core.proofs.OwnerVerdict.{owner-within, read-moved}
-use Rattle.interleave_core.proofs.Lookups.{found-at}
+use Rattle.interleave_core.proofs.Replies.OwnerVerdict.{owner-within, read-moved}
+use Rattle.interleave_core.proofs.Keeping.Lookups.{found-at}
 use Rattle.interleave_core.proofs.callers.Callers.moved.Goals as goal
 
 pub index-requires : goal.index-requires

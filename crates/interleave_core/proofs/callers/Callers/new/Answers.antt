@@ -1,20 +1,23 @@
 -- One caller more, and then all.
 use Rattle.std.proofs.Common.{sym, ap, subst, ◌∙◌, ◌≡◌, [], ◌∷◌, length, arith}
 use Rattle.std.proofs.lemmas.List.{length-append}
-use Rattle.interleave_core.proofs.ActorFacts.{CallersMade, one-made, all-made}
-use Rattle.interleave_core.proofs.StepFacts.{callers-few}
+use Rattle.interleave_core.proofs.Keeping.ActorFacts.{CallersMade, one-made, all-made}
+use Rattle.interleave_core.proofs.Keeping.StepFacts.{callers-few}
 use Rattle.net_units.specs.Numbers.{actor_number}
 use Rattle.interleave_core.proofs.callers.Callers.new.Goals as goal
 
-pub caller_of-requires : goal.caller_of-requires
-caller_of-requires c = omega (arith, callers-few c.args.plan.now c.callers-count.ensures.valid, ap length c.callers-count.ensures.value, c.loop-number-test.true)
+pub actor_of-requires : goal.actor_of-requires
+actor_of-requires c = omega (arith, callers-few c.args.plan.now c.callers-count.ensures.valid, ap length c.callers-count.ensures.value, c.loop-number-test.true)
 
 pub loop-number-preserved : goal.loop-number-preserved
-loop-number-preserved c = record {
-  count = omega (arith, ap length c.in_ok-push.ensures.items, length-append c.loop-number.by_number.items (c.in_ok-new.field-0 ∷ []), c.loop-number.invariant.count);
-  made = subst (CallersMade c.args.plan.now) (sym c.in_ok-push.ensures.items)
-      (one-made c.args.plan.now c.loop-number.by_number.items c.in_ok-new.field-0 c.loop-number.invariant.made (ap actor_number c.in_ok-new.ensures.caller ∙ c.caller_of.ensures ∙ sym c.loop-number.invariant.count) c.in_ok-new.ensures.stands);
-}
+loop-number-preserved c =
+    let own = ap actor_number (c.in_ok-new.ensures.caller ∙ c.actor_of.ensures) in
+    let few = callers-few c.args.plan.now c.callers-count.ensures.valid in
+    record {
+      count = omega (arith, ap length c.in_ok-push.ensures.items, length-append c.loop-number.by_number.items (c.in_ok-new.field-0 ∷ []), c.loop-number.invariant.count);
+      made = subst (CallersMade c.args.plan.now) (sym c.in_ok-push.ensures.items)
+          (one-made c.args.plan.now c.loop-number.by_number.items c.in_ok-new.field-0 c.loop-number.invariant.made (own ∙ omega (arith, few, ap length c.callers-count.ensures.value, c.loop-number-test.true, c.loop-number.invariant.count)) c.in_ok-new.ensures.stands);
+    }
 
 pub returns-clause-stand : goal.returns-clause-stand
 returns-clause-stand c =

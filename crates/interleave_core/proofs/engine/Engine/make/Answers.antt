@@ -5,10 +5,10 @@ use Rattle.std.specs.List.{slice_get}
 use Rattle.net_units.specs.Numbers.{actor_number}
 use Rattle.call_script.proofs.FitFacts.{plan-fits}
 use Rattle.call_script.specs.Tasks.{network_of}
-use Rattle.interleave_core.specs.Standing.{LinksStand, IsDueStep}
-use Rattle.interleave_core.proofs.EngineFacts.{asking-in, on-err}
-use Rattle.interleave_core.proofs.LinkFacts.{clock-small, links-with}
-use Rattle.interleave_core.proofs.StepFacts.{asked-within, fits-at, next-by, links-stepped, run-more}
+use Rattle.interleave_core.specs.schedules.Standing.{LinksStand, IsDueStep}
+use Rattle.interleave_core.proofs.Keeping.EngineFacts.{asking-in, on-err}
+use Rattle.interleave_core.proofs.Keeping.LinkFacts.{clock-small, links-with}
+use Rattle.interleave_core.proofs.Keeping.StepFacts.{asked-within, fits-at, next-by, links-stepped, run-more}
 use Rattle.run_record.specs.Runs.{part_of}
 use Rattle.run_record.specs.declared.done.Done.{Done}
 use Rattle.interleave_core.proofs.engine.Engine.make.Goals as goal

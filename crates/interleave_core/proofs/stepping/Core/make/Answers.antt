@@ -1,10 +1,10 @@
 -- The engine makes the step for the run that is recorded, and it is recorded.
 use Rattle.std.proofs.Common.{◌-◌, ap, refl, sym, ◌∙◌}
 use Rattle.call_script.specs.Tasks.{network_of}
-use Rattle.interleave_core.specs.Runs.{step}
-use Rattle.interleave_core.specs.Standing.{IsAboutTo, run_in}
-use Rattle.interleave_core.proofs.RunOf.{step-is}
-use Rattle.interleave_core.proofs.StepFacts.{recorded}
+use Rattle.interleave_core.specs.runs.Runs.{step}
+use Rattle.interleave_core.specs.schedules.Standing.{IsAboutTo, run_in}
+use Rattle.interleave_core.proofs.Runs.RunOf.{step-is}
+use Rattle.interleave_core.proofs.Keeping.StepFacts.{recorded}
 use Rattle.interleave_core.proofs.stepping.Core.make.Goals as goal
 
 pub returns-clause-made : goal.returns-clause-made

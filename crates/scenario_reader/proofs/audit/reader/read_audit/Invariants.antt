@@ -1,7 +1,8 @@
 use Rattle.std.proofs.Common.{◌≡◌, ◌+◌, ◌-◌, ◌≤◌}
 use Rattle.byte_ends.specs.Cutting.{IsCutting, IsOf}
 use Rattle.scenario_reader.specs.AuditReading.{nothing_read}
-use Rattle.scenario_reader.specs.AuditSteps.{audit_ahead, AuditsOn, ForetellsAudit}
+use Rattle.scenario_reader.specs.AuditSteps.{audits}
+use Rattle.scenario_reader.specs.ReadSteps.{Foretells, PassesOn, ahead}
 use Rattle.scenario_reader.proofs.ReadFacts.{at_start}
 use Rattle.scenario_reader.specs.declared.reader.TheConstants.{MOST_BYTES}
 use Rattle.scenario_reader.proofs.audit.reader.read_audit.Given as goal
@@ -14,8 +15,8 @@ invariant-loop-draft g l =
       most : l.lines.most ≡ MOST_BYTES;
       cutting : IsCutting l.lines;
       source : IsOf l.lines (left l.source);
-      same : ForetellsAudit (left l.fn.source) (audit_ahead l.lines l.draft (left l.source));
-      passed : AuditsOn at_start l.lines nothing_read l.draft (left l.fn.source) (left l.source);
+      same : Foretells audits (left l.fn.source) (ahead audits l.lines l.draft (left l.source));
+      passed : PassesOn audits at_start l.lines nothing_read l.draft (left l.fn.source) (left l.source);
       counts : g.S.Source.faults l.fn.source ≤ g.S.Source.faults l.source;
     }
 

@@ -1,0 +1,13 @@
+-- The rows and the packets of a channel at the links of its route, and what an accepted one is guaranteed.
+pub mod HopsAt
+pub mod RowsFollow
+pub mod ChannelsAt
+pub mod RowLevels
+pub mod AcceptedPath
+pub mod KeptRequest
+pub mod FarHolds
+pub mod ChainLaw
+pub mod LevelsHold
+pub mod AcceptedOnly
+pub mod SentRows
+pub mod GuaranteeLaw

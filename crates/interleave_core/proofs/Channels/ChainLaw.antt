@@ -1,0 +1,376 @@
+-- The fates of a channel's reservations in every run, by one induction with what its teardown was told.
+use Rattle.std.proofs.Common.{◌≡◌, ◌≢◌, ℕ, zero, suc, ◌≤◌, ◌⊎◌, true, List, [], ◌∷◌, ◌++◌, length, Option, Some, None, refl, sym, ap, ◌∙◌, subst, inl, inr, arith}
+use Rattle.std.proofs.lemmas.Bool.{cases_Bool, cases_lt, eqb-true, eqb-false}
+use Rattle.std.proofs.lemmas.Option.{same_Some}
+use Rattle.std.specs.List.{slice_get}
+use Rattle.std.specs.Prelude.{nat_eq, find}
+use Rattle.net_units.specs.Numbers.{link_number, actor_number, channel_number}
+use Rattle.net_units.specs.declared.numbers.LinkNo.{LinkNo}
+use Rattle.hop_reservation.specs.Routes.{link_of}
+use Rattle.link_steps.specs.declared.asks.Ask.{Ask}
+use Rattle.link_steps.specs.declared.asks.Ask.TheVariants.{Submit, Release, Tick}
+use Rattle.link_steps.specs.declared.replies.Phase.{Phase}
+use Rattle.link_steps.specs.declared.replies.Phase.TheVariants as Ph
+use Rattle.link_steps.specs.declared.replies.Reply.{Reply}
+use Rattle.link_steps.specs.declared.replies.Reply.TheVariants as Is
+use Rattle.link_steps.specs.Replies.{count_at_release, reply_at, release_to}
+use Rattle.link_steps.specs.Reservation.{Reservation, closing}
+use Rattle.link_steps.specs.Scan.{clock_of, scan_of, is_row_at_hop, after}
+use Rattle.setup_protocol.specs.Hops.{RequestFits}
+use Rattle.setup_protocol.specs.Setup.{Progress, Reserving, Undoing, Relaxing, Settled, Accepts, Denies, asked}
+use Rattle.setup_protocol.specs.Teardown.{first_count, told_count}
+use Rattle.setup_protocol.specs.declared.request.Request.{Request}
+use Rattle.run_record.specs.declared.done.Done.{Done}
+use Rattle.channel_laws.specs.Channels.{channel_packets, channel_of}
+use Rattle.call_script.specs.Fits.{NetworkFits}
+use Rattle.interleave_core.specs.channels.Hops.{packets_on, ChannelAsked}
+use Rattle.call_script.specs.declared.tasks.Task.{Task}
+use Rattle.call_script.specs.declared.tasks.Task.TheVariants.{Opens, Closes, Moves}
+use Rattle.call_script.specs.Tasks.{Network}
+use Rattle.tick_plane.specs.Planes.{next_due}
+use Rattle.run_record.specs.Runs.{part_of, replies_to}
+use Rattle.interleave_core.specs.runs.Runs.{plane_no, plane_at, IsNext, IsRun}
+use Rattle.call_script.specs.Scripts.{Learnt, Standing, task_ask, continued, resumed, standing, first_ask, ask_at}
+use Rattle.interleave_core.proofs.Tasks.CallerFacts.{StandingFits, nothing-asked, standing-more}
+use Rattle.channel_laws.proofs.ChannelRows.{own-count, legal-free, row-of, find-passes}
+use Rattle.channel_laws.proofs.HoldFates.{Fate, FateOpen, TellsAll, NotCommitted, held-released, released-count}
+use Rattle.hop_reservation.proofs.RouteFacts.{index-apart}
+use Rattle.setup_protocol.proofs.HopHolds.{IsComm, IsTail, HopStands, reserved_of}
+use Rattle.interleave_core.proofs.Channels.RowsFollow.{held_at, held-here, held-elsewhere, hop-reply, same-held}
+use Rattle.call_script.specs.Owners.{OwnedFully}
+use Rattle.interleave_core.proofs.Replies.RunCloses.{ClosesAt, AllComm, comm-later, run-closes, owned-once, head-same}
+use Rattle.interleave_core.proofs.Replies.RunGoes.{GoesAt, run-goes, owned-asked, tasks-off, plane-off-ask, off-standing, off-mild}
+use Rattle.interleave_core.proofs.Runs.RunLegal.{plane-next, caller-next, replies-by, replies-off, run-stands}
+use Rattle.channel_laws.specs.Reservations.{IsReleased}
+use Rattle.channel_laws.proofs.SendReplies.{release-committed}
+use Rattle.channel_laws.specs.Asks.{IsOff, IsMild}
+use Rattle.channel_laws.specs.Reservations.{held_by}
+use Rattle.channel_laws.proofs.TermsAfter.{held-submitted}
+use Rattle.interleave_core.proofs.Channels.FarHolds.{hop-tells, hop-fate, first-same, hop-comes, committed-comes, Frozen, frozen-later, NoRelease, IsLeaving, OwnKind, OwnOff, OwnAside, OwnSetup, OwnSend, OwnClose, own-kind}
+use Rattle.interleave_core.specs.channels.Paths.{HopAt, count_at}
+
+pub record Chain (network : Network) (request : Request) (owner : ℕ) (first : HopAt network request 0) (run : List Done) : Type 0 where
+  pub fates : 1 ≤ count_at network request 0 first run → (i : ℕ) (at : HopAt network request i) → Fate (count_at network request 0 first run) (count_at network request i at run) (held_at network request i at run)
+  pub told : (tasks : List Task) → slice_get network.scripts owner ≡ Some tasks → (task : Task) (rest : List Task) (told : ℕ) → (standing tasks (replies_to owner run)).tasks ≡ task ∷ rest → IsLeaving request task → first_count (standing tasks (replies_to owner run)).replies ≡ Some told → Frozen network request first run told
+  pub whole : (terms : Reservation) → held_at network request 0 first run ≡ Some terms → terms.phase ≡ Ph.Committed → (levels : List ℕ) × AllComm network request levels 0 run
+
+pub open-or-not : (held : Option Reservation) → ((terms : Reservation) × (held ≡ Some terms) × (terms.phase ≡ Ph.Committed)) ⊎ NotCommitted held
+open-or-not None = inr (λ terms is phase. (let clash : None ≡ Some terms = is in cc))
+open-or-not (Some terms) = by-phase terms.phase refl where
+  by-phase : (phase : Phase) → terms.phase ≡ phase → ((own : Reservation) × (Some terms ≡ Some own) × (own.phase ≡ Ph.Committed)) ⊎ NotCommitted (Some terms)
+  by-phase Ph.Committed is = inl (terms, refl, is)
+  by-phase Ph.Tentative is = inr (λ own same phase. (let clash : Ph.Tentative ≡ Ph.Committed = sym is ∙ ap (λ k. k.phase) (same_Some terms own same) ∙ phase in cc))
+  by-phase Ph.Closing is = inr (λ own same phase. (let clash : Ph.Closing ≡ Ph.Committed = sym is ∙ ap (λ k. k.phase) (same_Some terms own same) ∙ phase in cc))
+
+-- ---- the fates after an entry that tells its count
+
+tick-tells : (c least count : ℕ) (ask : Ask) → ask ≡ Tick → TellsAll c least count ask
+tick-tells c least count ask is = subst (TellsAll c least count) (sym is) tt
+
+pub is-tick : (ask : Ask) → (ask ≡ Tick) ⊎ (ask ≢ Tick)
+is-tick Tick = inl refl
+is-tick _ = inr (λ same. cc)
+
+pub fates-next : (network : Network) (request : Request) (owner : ℕ) (first : HopAt network request 0) (done : Done) (past : List Done) → NetworkFits network → RequestFits network.links request → ((run : List Done) → IsRun network run → ChannelAsked request run) → IsRun network past → (next : IsNext network past done) → Chain network request owner first past
+    → ((i : ℕ) (at : HopAt network request i) → link_number done.link ≡ link_number at.hop.link → TellsAll (channel_number request.chan) (count_at network request 0 first past) (count_at network request i at past) done.ask)
+    → 1 ≤ count_at network request 0 first (done ∷ past) → (i : ℕ) (at : HopAt network request i) → Fate (count_at network request 0 first (done ∷ past)) (count_at network request i at (done ∷ past)) (held_at network request i at (done ∷ past))
+fates-next network request owner first done past fits sound asked run next was tells some i at =
+    elim (is-tick done.ask) [
+      | inl tick ↦ elim (open-or-not (held_at network request 0 first past)) [
+        | inl opened ↦
+            (let comm = (was.whole opened.0 opened.1 opened.2).1 i at (omega arith) in
+            hop-fate network request i at done past (count_at network request 0 first (done ∷ past)) fits sound asked run next some (λ on. tick-tells (channel_number request.chan) _ _ done.ask tick) (FateOpen comm.terms comm.is comm.phase))
+        | inr quiet ↦ kept (first-same network request first done past fits (asked past run) run next (λ _. quiet))
+      ]
+      | inr other ↦ kept (first-same network request first done past fits (asked past run) run next (λ tick. absurd (other tick)))
+    ] where
+      kept : count_at network request 0 first (done ∷ past) ≡ count_at network request 0 first past → Fate (count_at network request 0 first (done ∷ past)) (count_at network request i at (done ∷ past)) (held_at network request i at (done ∷ past))
+      kept same =
+          subst (λ n. Fate n (count_at network request i at (done ∷ past)) (held_at network request i at (done ∷ past))) (sym same)
+          (hop-fate network request i at done past (count_at network request 0 first past) fits sound asked run next (subst (λ n. 1 ≤ n) same some) (tells i at) (was.fates (subst (λ n. 1 ≤ n) same some) i at))
+
+off-tells : (c least count : ℕ) (ask : Ask) → IsOff c ask → TellsAll c least count ask
+off-tells c least count (Release chan upstream) off = λ same. absurd (off same)
+off-tells c least count _ off = tt
+
+setup-tells : (c least count : ℕ) (ask : Ask) → NoRelease ask → TellsAll c least count ask
+setup-tells c least count (Release chan upstream) off = absurd off
+setup-tells c least count _ off = tt
+
+pub same-count : (network : Network) (request : Request) (i : ℕ) (one other : HopAt network request i) (run : List Done) → count_at network request i one run ≡ count_at network request i other run
+same-count network request i one other run =
+    let hop : one.hop ≡ other.hop = same_Some one.hop other.hop (sym one.stands ∙ other.stands) in
+    let link : one.link ≡ other.link = same_Some one.link other.link (sym one.linked ∙ ap (λ h. slice_get network.links (link_number h.link)) hop ∙ other.linked) in
+    ap (λ l. length (channel_packets (channel_number request.chan) (packets_on l (link_number one.hop.link) run))) link ∙ ap (λ h. length (channel_packets (channel_number request.chan) (packets_on other.link (link_number h.link) run))) hop
+
+first-hop-count : (network : Network) (request : Request) (first : HopAt network request 0) (i : ℕ) (at : HopAt network request i) (run : List Done) → i ≡ 0 → count_at network request i at run ≡ count_at network request 0 first run
+first-hop-count network request first zero at run is = same-count network request 0 at first run
+first-hop-count network request first (suc i) at run is = absurd (omega (arith, is))
+
+first-none : (replies : List Reply) → first_count replies ≡ None → replies ≡ []
+first-none [] is = refl
+first-none (reply ∷ replies) is = cc
+
+-- a release tells all that the first hop has taken
+close-tells : (network : Network) (request : Request) (first : HopAt network request 0) (done : Done) (past : List Done) (replies : List Reply) (k : ℕ) (here : HopAt network request k) → RequestFits network.links request → link_number done.link ≡ link_number here.hop.link → done.ask ≡ Release request.chan (first_count replies) → (replies ≡ [] → k ≡ 0) → ((told : ℕ) → first_count replies ≡ Some told → Frozen network request first past told)
+    → (i : ℕ) (at : HopAt network request i) → link_number done.link ≡ link_number at.hop.link → TellsAll (channel_number request.chan) (count_at network request 0 first past) (count_at network request i at past) done.ask
+close-tells network request first done past replies k here sound on is zeroth frozen i at at-link =
+    subst (TellsAll (channel_number request.chan) (count_at network request 0 first past) (count_at network request i at past)) (sym is) (λ same. by-first (first_count replies) refl) where
+      by-first : (upstream : Option ℕ) → first_count replies ≡ upstream → count_at network request 0 first past ≤ count_at_release upstream (count_at network request i at past)
+      by-first None none =
+          (let index : i ≡ k = index-apart request.route i k at.hop here.hop sound.route at.stands here.stands (sym at-link ∙ on) in
+          let e = zeroth (first-none replies none) in
+          let same = first-hop-count network request first i at past (omega (arith, index, e)) in omega (arith, same))
+      by-first (Some told) some = (let upto = (frozen told some).upto in omega (arith, upto))
+
+-- ---- the first hop committed
+
+mild-whole : (network : Network) (request : Request) (owner : ℕ) (first : HopAt network request 0) (done : Done) (past : List Done) → NetworkFits network → IsRun network past → IsMild (channel_number request.chan) done.ask → Chain network request owner first past → ((levels : List ℕ) → AllComm network request levels 0 past → AllComm network request levels 0 (done ∷ past))
+    → (terms : Reservation) → held_at network request 0 first (done ∷ past) ≡ Some terms → terms.phase ≡ Ph.Committed → (levels : List ℕ) × AllComm network request levels 0 (done ∷ past)
+mild-whole network request owner first done past fits run mild was later terms held phase =
+    let before = committed-comes terms (held_at network request 0 first past) phase (hop-comes network request 0 first done past terms fits run mild held) in
+    let all = was.whole terms before phase in (all.0, later all.0 all.1)
+
+send-later : (network : Network) (request : Request) (done : Done) (past : List Done) (count gap size : ℕ) (levels : List ℕ) → done.ask ≡ Submit request.chan count gap size → AllComm network request levels 0 past → AllComm network request levels 0 (done ∷ past)
+send-later network request done past count gap size levels is comm i at from =
+    elim (cases_Bool (nat_eq (link_number done.link) (link_number at.hop.link))) [
+      | inl on ↦ subst (IsComm Some request levels i) (sym (held-here network request i at done past (eqb-true (link_number done.link) (link_number at.hop.link) on) ∙ ap (λ a. held_by request.chan (after at.link.shape (clock_of (part_of (link_number at.hop.link) past)) (scan_of at.link.shape (part_of (link_number at.hop.link) past)) a done.reply).rows) is ∙ held-submitted at.link.shape request.chan request.chan (clock_of (part_of (link_number at.hop.link) past)) (scan_of at.link.shape (part_of (link_number at.hop.link) past)) count gap size done.reply)) (comm i at from)
+      | inr off ↦ subst (IsComm Some request levels i) (sym (held-elsewhere network request i at done past (eqb-false (link_number done.link) (link_number at.hop.link) off))) (comm i at from)
+    ]
+
+setup-whole : (network : Network) (request : Request) (first : HopAt network request 0) (run : List Done) (offers : List ℕ) (p : Progress) → ((i : ℕ) (at : HopAt network request i) → HopStands None Some request offers p i (held_at network request i at run)) → (terms : Reservation) → held_at network request 0 first run ≡ Some terms → terms.phase ≡ Ph.Committed → (levels : List ℕ) × AllComm network request levels 0 run
+setup-whole network request first run offers p stands terms held phase =
+    elim (cases_lt 0 (reserved_of offers p)) [
+      | inl less ↦ absurd (let tent = (stands 0 first).tent less in let same : tent.terms ≡ terms = same_Some tent.terms terms (sym tent.is ∙ held) in let clash : Ph.Tentative ≡ Ph.Committed = sym tent.phase ∙ ap (λ k. k.phase) same ∙ phase in cc)
+      | inr from ↦ by-progress p (λ i at. (stands i at).tail (omega (arith, from)))
+    ] where
+      by-progress : (q : Progress) → ((i : ℕ) (at : HopAt network request i) → IsTail None Some request q i (held_at network request i at run)) → (levels : List ℕ) × AllComm network request levels 0 run
+      by-progress (Reserving os reach) tails = absurd (let clash : None ≡ Some terms = sym (tails 0 first) ∙ held in cc)
+      by-progress (Undoing left deny) tails = absurd (let clash : None ≡ Some terms = sym (tails 0 first) ∙ held in cc)
+      by-progress (Relaxing left levels) tails = (levels, λ i at from. tails i at)
+      by-progress (Settled (Accepts levels delay)) tails = (levels, λ i at from. tails i at)
+      by-progress (Settled (Denies deny)) tails = absurd (let clash : None ≡ Some terms = sym (tails 0 first) ∙ held in cc)
+
+-- what the release at the first hop leaves
+record FirstReleased (network : Network) (request : Request) (first : HopAt network request 0) (done : Done) (past : List Done) : Type 0 where
+  count : ℕ
+  cancelled : ℕ
+  reply : done.reply ≡ Is.Closing count cancelled
+  counts : count ≡ count_at network request 0 first past
+  terms : Reservation
+  held : held_at network request 0 first (done ∷ past) ≡ Some terms
+  phase : terms.phase ≡ Ph.Closing
+
+first-released : (network : Network) (request : Request) (first : HopAt network request 0) (done : Done) (past : List Done) (levels : List ℕ) → NetworkFits network → ChannelAsked request past → IsRun network past → (next : IsNext network past done) → link_number done.link ≡ link_number first.hop.link → done.ask ≡ Release request.chan None → IsComm Some request levels 0 (held_at network request 0 first past) → FirstReleased network request first done past
+unfolding reply_at after
+first-released network request first done past levels fits asked run next on is comm =
+    let reply : done.reply ≡ release_to (clock_of (part_of (link_number first.hop.link) past)) None (find (is_row_at_hop request.chan true) (scan_of first.link.shape (part_of (link_number first.hop.link) past)).rows) = hop-reply network request 0 first done past next on ∙ ap (reply_at first.link (clock_of (part_of (link_number first.hop.link) past)) (scan_of first.link.shape (part_of (link_number first.hop.link) past))) is in
+    by-reply done.reply refl reply (subst IsReleased (sym reply) (release-committed (clock_of (part_of (link_number first.hop.link) past)) None request.chan _ comm.terms comm.is comm.first comm.phase)) where
+      by-reply : (r : Reply) → done.reply ≡ r → done.reply ≡ release_to (clock_of (part_of (link_number first.hop.link) past)) None (find (is_row_at_hop request.chan true) (scan_of first.link.shape (part_of (link_number first.hop.link) past)).rows) → IsReleased done.reply → FirstReleased network request first done past
+      by-reply (Is.Closing count cancelled) same reply released =
+          let from = released-count (clock_of (part_of (link_number first.hop.link) past)) None (find (is_row_at_hop request.chan true) (scan_of first.link.shape (part_of (link_number first.hop.link) past)).rows) count cancelled (sym same ∙ reply) in
+          let chan : channel_of from.row ≡ channel_number request.chan = Rattle.channel_laws.proofs.ChannelRows.row-at-hop request.chan true from.row (find-passes (is_row_at_hop request.chan true) from.row _ from.is) in
+          let tells = hop-tells network request 0 first past from.row (is_row_at_hop request.chan true) fits run asked from.is chan in
+          record {
+            count = count;
+            cancelled = cancelled;
+            reply = same;
+            counts = from.count_is ∙ sym (own-count from.row.ticks _ tells.eligible);
+            terms = closing count comm.terms;
+            held = held-here network request 0 first done past on ∙ ap (λ a. held_by request.chan (after first.link.shape (clock_of (part_of (link_number first.hop.link) past)) (scan_of first.link.shape (part_of (link_number first.hop.link) past)) a done.reply).rows) is ∙ ap (λ r. held_by request.chan (after first.link.shape (clock_of (part_of (link_number first.hop.link) past)) (scan_of first.link.shape (part_of (link_number first.hop.link) past)) (Release request.chan None) r).rows) same ∙ held-released request.chan true (clock_of (part_of (link_number first.hop.link) past)) count _ comm.terms comm.is comm.first;
+            phase = refl;
+          }
+      by-reply (Is.Offer level reach) same reply released = absurd (subst IsReleased same released)
+      by-reply (Is.Relaxed clock) same reply released = absurd (subst IsReleased same released)
+      by-reply Is.Denied same reply released = absurd (subst IsReleased same released)
+      by-reply (Is.Planned clock) same reply released = absurd (subst IsReleased same released)
+      by-reply (Is.Taken clock eligible) same reply released = absurd (subst IsReleased same released)
+      by-reply (Is.Ticked clock full sent best_sent best_lost) same reply released = absurd (subst IsReleased same released)
+      by-reply (Is.Refused refusal) same reply released = absurd (subst IsReleased same released)
+
+-- the first hop is frozen after a release
+close-frozen : (network : Network) (request : Request) (first : HopAt network request 0) (done : Done) (past : List Done) (levels : List ℕ) (replies : List Reply) (k : ℕ) (here : HopAt network request k) (told : ℕ) → NetworkFits network → ChannelAsked request past → IsRun network past → (next : IsNext network past done) → link_number done.link ≡ link_number here.hop.link → done.ask ≡ Release request.chan (first_count replies) → (replies ≡ [] → k ≡ 0) → IsComm Some request levels k (held_at network request k here past) → ((given : ℕ) → first_count replies ≡ Some given → Frozen network request first past given)
+    → first_count (replies ++ done.reply ∷ []) ≡ Some told → Frozen network request first (done ∷ past) told
+close-frozen network request first done past levels [] k here told fits asked run next on is zeroth comm frozen tells =
+    let hop : here.hop ≡ first.hop = same_Some here.hop first.hop (sym here.stands ∙ ap (slice_get request.route) (zeroth refl) ∙ first.stands) in
+    let own = first-released network request first done past levels fits asked run next (on ∙ ap link_of hop) is (subst (λ n. IsComm Some request levels n (held_at network request 0 first past)) (zeroth refl) (subst (IsComm Some request levels k) (same-held network request k 0 here first past (zeroth refl)) comm)) in
+    let given : own.count ≡ told = same_Some own.count told (ap (λ r. Some (told_count r)) (sym own.reply) ∙ tells) in
+    let same = first-same network request first done past fits asked run next (λ tick. absurd (let clash : Release request.chan None ≡ Tick = sym is ∙ tick in cc)) in
+    record {
+      upto = (let counts = own.counts in omega (arith, counts, given, same));
+      closes = λ terms held. ap (λ k. k.phase) (sym (same_Some own.terms terms (sym own.held ∙ held))) ∙ own.phase;
+    }
+close-frozen network request first done past levels (reply ∷ replies) k here told fits asked run next on is zeroth comm frozen tells =
+    frozen-later network request first done past told fits asked run next (subst (IsMild (channel_number request.chan)) (sym is) tt) (frozen told tells)
+
+close-whole : (network : Network) (request : Request) (first : HopAt network request 0) (done : Done) (past : List Done) (levels : List ℕ) (replies : List Reply) (k : ℕ) (here : HopAt network request k) → NetworkFits network → ChannelAsked request past → IsRun network past → (next : IsNext network past done) → link_number done.link ≡ link_number here.hop.link → done.ask ≡ Release request.chan (first_count replies) → (replies ≡ [] → k ≡ 0) → IsComm Some request levels k (held_at network request k here past) → ((given : ℕ) → first_count replies ≡ Some given → Frozen network request first past given)
+    → (terms : Reservation) → held_at network request 0 first (done ∷ past) ≡ Some terms → terms.phase ≡ Ph.Committed → ⊥
+close-whole network request first done past levels replies k here fits asked run next on is zeroth comm frozen terms held phase =
+    by-first (first_count (replies ++ done.reply ∷ [])) refl where
+      some-first : (rs : List Reply) → first_count (rs ++ done.reply ∷ []) ≡ None → ⊥
+      some-first [] none = cc
+      some-first (r ∷ rs) none = cc
+
+      by-first : (found : Option ℕ) → first_count (replies ++ done.reply ∷ []) ≡ found → ⊥
+      by-first None none = some-first replies none
+      by-first (Some told) some =
+          let closes = (close-frozen network request first done past levels replies k here told fits asked run next on is zeroth comm frozen some).closes terms held in
+          let clash : Ph.Committed ≡ Ph.Closing = sym phase ∙ closes in cc
+
+-- ---- what the owner's replies tell
+
+continued-told : (outcomes : List Learnt) (task head : Task) (tasks : List Task) (replies : List Reply) (next : Option (LinkNo × Ask)) (rest : List Task) (told : ℕ) → (continued outcomes task tasks replies next).tasks ≡ head ∷ rest → first_count (continued outcomes task tasks replies next).replies ≡ Some told → (task ≡ head) × (first_count replies ≡ Some told)
+continued-told outcomes task head tasks replies (Some to) rest told same first = (head-same task tasks head rest same, first)
+continued-told outcomes task head tasks replies None rest told same first = absurd (let clash : None ≡ Some told = first in cc)
+
+resumed-told : (outcomes : List Learnt) (task head : Task) (tasks : List Task) (replies : List Reply) (rest : List Task) (told : ℕ) → (resumed outcomes (task ∷ tasks) replies).tasks ≡ head ∷ rest → first_count (resumed outcomes (task ∷ tasks) replies).replies ≡ Some told → (task ≡ head) × (first_count replies ≡ Some told)
+unfolding resumed
+resumed-told outcomes task head tasks replies rest told same first = continued-told outcomes task head tasks replies (task_ask task replies) rest told same first
+
+-- ---- one entry more
+
+off-chain : (network : Network) (request : Request) (owner : ℕ) (first : HopAt network request 0) (done : Done) (past : List Done) → NetworkFits network → RequestFits network.links request → ((run : List Done) → IsRun network run → ChannelAsked request run) → IsRun network past → (next : IsNext network past done) → actor_number done.actor ≢ owner → IsOff (channel_number request.chan) done.ask → Chain network request owner first past → Chain network request owner first (done ∷ past)
+off-chain network request owner first done past fits sound asked run next other off was = record {
+  fates = fates-next network request owner first done past fits sound asked run next was (λ i at on. off-tells (channel_number request.chan) _ _ done.ask off);
+  told = λ tasks found task rest told same leaving given.
+      (let still = replies-off owner done past other in
+      frozen-later network request first done past told fits (asked past run) run next (off-mild (channel_number request.chan) done.ask off)
+      (was.told tasks found task rest told (subst (λ rs. (standing tasks rs).tasks ≡ task ∷ rest) still same) leaving (subst (λ rs. first_count (standing tasks rs).replies ≡ Some told) still given)));
+  whole = mild-whole network request owner first done past fits run (off-mild (channel_number request.chan) done.ask off) was (λ levels comm. comm-later network request levels 0 done past fits run off comm);
+}
+
+-- what the owner's entry leaves, by the task that asked
+record OwnLeaves (network : Network) (request : Request) (first : HopAt network request 0) (run : List Done) (done : Done) (past : List Done) (task : Task) (replies : List Reply) : Type 0 where
+  tells : (i : ℕ) (at : HopAt network request i) → link_number done.link ≡ link_number at.hop.link → TellsAll (channel_number request.chan) (count_at network request 0 first past) (count_at network request i at past) done.ask
+  told : (given : ℕ) → IsLeaving request task → first_count (replies ++ done.reply ∷ []) ≡ Some given → Frozen network request first run given
+  whole : (terms : Reservation) → held_at network request 0 first run ≡ Some terms → terms.phase ≡ Ph.Committed → (levels : List ℕ) × AllComm network request levels 0 run
+
+opens-stay : (request : Request) (task : Task) → task ≡ Opens request → IsLeaving request task → ⊥
+opens-stay request task own (inl closes) = (let clash : Opens request ≡ Closes request = sym own ∙ closes in cc)
+opens-stay request task own (inr moves) = (let clash : Opens request ≡ Moves request moves.new moves.gap moves.size = sym own ∙ moves.is in cc)
+
+own-leaves : (network : Network) (request : Request) (owner : ℕ) (first : HopAt network request 0) (done : Done) (past : List Done) (task : Task) (replies : List Reply) → NetworkFits network → RequestFits network.links request → ((run : List Done) → IsRun network run → ChannelAsked request run) → IsRun network past → (next : IsNext network past done) → Chain network request owner first past → ((given : ℕ) → IsLeaving request task → first_count replies ≡ Some given → Frozen network request first past given) → OwnKind network request done past task replies → OwnLeaves network request first (done ∷ past) done past task replies
+own-leaves network request owner first done past task replies fits sound asked run next was frozen (OwnOff other off) = record {
+  tells = λ i at on. off-tells (channel_number request.chan) _ _ done.ask off;
+  told = λ given is some. absurd (other is);
+  whole = mild-whole network request owner first done past fits run (off-mild (channel_number request.chan) done.ask off) was (λ levels comm. comm-later network request levels 0 done past fits run off comm);
+}
+own-leaves network request owner first done past task replies fits sound asked run next was frozen (OwnSetup later made own rows setup) = record {
+  tells = λ i at on. setup-tells (channel_number request.chan) _ _ done.ask setup;
+  told = λ given is some. absurd (opens-stay request task own is);
+  whole = setup-whole network request first (done ∷ past) _ _ rows.hops;
+}
+own-leaves network request owner first done past task replies fits sound asked run next was frozen (OwnSend count gap size own is) = record {
+  tells = λ i at on. subst (TellsAll (channel_number request.chan) (count_at network request 0 first past) (count_at network request i at past)) (sym is) tt;
+  told = λ given leaving some. absurd (own leaving);
+  whole = mild-whole network request owner first done past fits run (subst (IsMild (channel_number request.chan)) (sym is) tt) was (λ levels comm. send-later network request done past count gap size levels is comm);
+}
+own-leaves network request owner first done past task replies fits sound asked run next was frozen (OwnClose levels leaving k here on is zeroth comm) = record {
+  tells = close-tells network request first done past replies k here sound on is zeroth (λ given some. frozen given leaving some);
+  told = λ given closes some. close-frozen network request first done past levels replies k here given fits (asked past run) run next on is zeroth comm (λ g s. frozen g leaving s) some;
+  whole = λ terms held phase. absurd (close-whole network request first done past levels replies k here fits (asked past run) run next on is zeroth comm (λ g s. frozen g leaving s) terms held phase);
+}
+own-leaves network request owner first done past task replies fits sound asked run next was frozen (OwnAside reply one off) = record {
+  tells = λ i at on. off-tells (channel_number request.chan) _ _ done.ask off;
+  told = λ given leaving some. frozen-later network request first done past given fits (asked past run) run next (off-mild (channel_number request.chan) done.ask off) (frozen given leaving (ap first_count one ∙ sym (ap (λ rs. first_count (rs ++ done.reply ∷ [])) one) ∙ some));
+  whole = mild-whole network request owner first done past fits run (off-mild (channel_number request.chan) done.ask off) was (λ levels comm. comm-later network request levels 0 done past fits run off comm);
+}
+
+resumed-at : (at : Standing) (reply : Reply) (outcomes : List Learnt) (left : List Task) (replies : List Reply) → at ≡ record { tasks = left; replies = replies; outcomes = outcomes } → resumed at.outcomes at.tasks (at.replies ++ reply ∷ []) ≡ resumed outcomes left (replies ++ reply ∷ [])
+resumed-at at reply outcomes left replies is = ap (λ s. resumed s.outcomes s.tasks (s.replies ++ reply ∷ [])) is
+
+pub owner-now : (owner : ℕ) (done : Done) (past : List Done) (own tasks : List Task) (outcomes : List Learnt) (left : List Task) (replies : List Reply) → own ≡ tasks → actor_number done.actor ≡ owner → standing tasks (replies_to owner past) ≡ record { tasks = left; replies = replies; outcomes = outcomes }
+    → standing own (replies_to owner (done ∷ past)) ≡ resumed outcomes left (replies ++ done.reply ∷ [])
+owner-now owner done past own tasks outcomes left replies script by is =
+    ap (λ ts. standing ts (replies_to owner (done ∷ past))) script ∙ ap (standing tasks) (replies-by owner done past by) ∙ standing-more tasks done.reply (replies_to owner past) ∙ resumed-at (standing tasks (replies_to owner past)) done.reply outcomes left replies is
+
+told-at : (at now : Standing) (head : Task) (rest : List Task) (told : ℕ) → at ≡ now → at.tasks ≡ head ∷ rest → first_count at.replies ≡ Some told → (now.tasks ≡ head ∷ rest) × (first_count now.replies ≡ Some told)
+told-at at now head rest told same closes first = (sym (ap (λ s. s.tasks) same) ∙ closes, sym (ap (λ s. first_count s.replies) same) ∙ first)
+
+told-was : (at : Standing) (outcomes : List Learnt) (task : Task) (rest : List Task) (replies : List Reply) (given : ℕ) → at ≡ record { tasks = task ∷ rest; replies = replies; outcomes = outcomes } → first_count replies ≡ Some given → (at.tasks ≡ task ∷ rest) × (first_count at.replies ≡ Some given)
+told-was at outcomes task rest replies given is some = (ap (λ s. s.tasks) is, ap (λ s. first_count s.replies) is ∙ some)
+
+own-told : (network : Network) (request : Request) (owner : ℕ) (first : HopAt network request 0) (done : Done) (past : List Done) (tasks : List Task) (outcomes : List Learnt) (task : Task) (rest : List Task) (replies : List Reply) → slice_get network.scripts owner ≡ Some tasks → actor_number done.actor ≡ owner
+    → standing tasks (replies_to owner past) ≡ record { tasks = task ∷ rest; replies = replies; outcomes = outcomes } → OwnLeaves network request first (done ∷ past) done past task replies
+    → (own : List Task) → slice_get network.scripts owner ≡ Some own → (head : Task) (more : List Task) (told : ℕ) → (standing own (replies_to owner (done ∷ past))).tasks ≡ head ∷ more → IsLeaving request head → first_count (standing own (replies_to owner (done ∷ past))).replies ≡ Some told → Frozen network request first (done ∷ past) told
+own-told network request owner first done past tasks outcomes task rest replies found by is leaves own here head more told same leaving given =
+    let now = owner-now owner done past own tasks outcomes (task ∷ rest) replies (same_Some own tasks (sym here ∙ found)) by is in
+    let at = told-at _ _ head more told now same given in
+    let both = resumed-told outcomes task head rest (replies ++ done.reply ∷ []) more told at.0 at.1 in
+    leaves.told told (subst (IsLeaving request) (sym both.0) leaving) both.1
+
+own-chain : (network : Network) (request : Request) (owner : ℕ) (first : HopAt network request 0) (done : Done) (past : List Done) (tasks : List Task) (outcomes : List Learnt) (task : Task) (rest : List Task) (replies : List Reply) → NetworkFits network → RequestFits network.links request → ((run : List Done) → IsRun network run → ChannelAsked request run) → IsRun network past → (next : IsNext network past done) → slice_get network.scripts owner ≡ Some tasks → actor_number done.actor ≡ owner
+    → standing tasks (replies_to owner past) ≡ record { tasks = task ∷ rest; replies = replies; outcomes = outcomes } → OwnLeaves network request first (done ∷ past) done past task replies → Chain network request owner first past → Chain network request owner first (done ∷ past)
+own-chain network request owner first done past tasks outcomes task rest replies fits sound names run next found by is leaves was = record {
+  fates = fates-next network request owner first done past fits sound names run next was leaves.tells;
+  told = own-told network request owner first done past tasks outcomes task rest replies found by is leaves;
+  whole = leaves.whole;
+}
+
+frozen-was : (network : Network) (request : Request) (owner : ℕ) (first : HopAt network request 0) (past : List Done) (tasks : List Task) (outcomes : List Learnt) (task : Task) (rest : List Task) (replies : List Reply) → slice_get network.scripts owner ≡ Some tasks
+    → standing tasks (replies_to owner past) ≡ record { tasks = task ∷ rest; replies = replies; outcomes = outcomes } → Chain network request owner first past → (given : ℕ) → IsLeaving request task → first_count replies ≡ Some given → Frozen network request first past given
+frozen-was network request owner first past tasks outcomes task rest replies found is was given same some =
+    let both = told-was (standing tasks (replies_to owner past)) outcomes task rest replies given is some in was.told tasks found task rest given both.0 same both.1
+
+own-some : (network : Network) (request : Request) (owner : ℕ) (first : HopAt network request 0) (done : Done) (past : List Done) (tasks : List Task) (outcomes : List Learnt) (task : Task) (rest : List Task) (replies : List Reply) → NetworkFits network → RequestFits network.links request → ((run : List Done) → IsRun network run → ChannelAsked request run) → IsRun network past → (next : IsNext network past done) → slice_get network.scripts owner ≡ Some tasks → actor_number done.actor ≡ owner
+    → standing tasks (replies_to owner past) ≡ record { tasks = task ∷ rest; replies = replies; outcomes = outcomes } → OwnKind network request done past task replies → Chain network request owner first past → Chain network request owner first (done ∷ past)
+own-some network request owner first done past tasks outcomes task rest replies fits sound names run next found by is kind was =
+    own-chain network request owner first done past tasks outcomes task rest replies fits sound names run next found by is
+    (own-leaves network request owner first done past task replies fits sound names run next was (frozen-was network request owner first past tasks outcomes task rest replies found is was) kind) was
+
+own-next : (network : Network) (request : Request) (owner : ℕ) (first : HopAt network request 0) (done : Done) (past : List Done) (tasks : List Task) (outcomes : List Learnt) (left : List Task) (replies : List Reply) → NetworkFits network → RequestFits network.links request → ((run : List Done) → IsRun network run → ChannelAsked request run) → IsRun network past → (next : IsNext network past done) → slice_get network.scripts owner ≡ Some tasks → actor_number done.actor ≡ owner
+    → standing tasks (replies_to owner past) ≡ record { tasks = left; replies = replies; outcomes = outcomes } → first_ask left replies ≡ Some (done.link, done.ask) → StandingFits network.links (record { tasks = left; replies = replies; outcomes = outcomes }) → GoesAt network request past left replies outcomes → ClosesAt network request past (record { tasks = left; replies = replies; outcomes = outcomes }) → Chain network request owner first past → Chain network request owner first (done ∷ past)
+own-next network request owner first done past tasks outcomes [] replies fits sound names run next found by is asks stands goes closes was = absurd (nothing-asked replies (done.link, done.ask) asks)
+own-next network request owner first done past tasks outcomes (task ∷ rest) replies fits sound names run next found by is asks stands goes closes was =
+    own-some network request owner first done past tasks outcomes task rest replies fits sound names run next found by is (own-kind network request done past outcomes task rest replies fits sound run next stands goes asks closes) was
+
+chain-next : (network : Network) (request : Request) (owner : ℕ) (first : HopAt network request 0) (done : Done) (past : List Done) → NetworkFits network → RequestFits network.links request → OwnedFully network request owner → IsRun network past → (next : IsNext network past done) → Chain network request owner first past → Chain network request owner first (done ∷ past)
+chain-next network request owner first done past fits sound full run next was =
+    let once = owned-once network request owner full in
+    let asked = owned-asked network request owner fits sound once in
+    let inside = full.inside in
+    elim (cases_Bool (nat_eq (actor_number done.actor) (plane_no network))) [
+      | inl plane ↦
+          (let same = eqb-true (actor_number done.actor) (plane_no network) plane in
+          let asks = plane-next network past done next same in
+          off-chain network request owner first done past fits sound asked run next (λ own. (let clash : owner ≡ length network.scripts = sym own ∙ same in absurd (omega (arith, clash, inside))))
+          (plane-off-ask (channel_number request.chan) (next_due (plane_at network past)) (plane_at network past).ticked done.link done.ask asks.asks) was)
+      | inr caller ↦
+          (let asks = caller-next network past done next (eqb-false (actor_number done.actor) (plane_no network) caller) in
+          elim (cases_Bool (nat_eq (actor_number done.actor) owner)) [
+            | inl by ↦
+                (let e : actor_number done.actor ≡ owner = eqb-true (actor_number done.actor) owner by in
+                let found : slice_get network.scripts owner ≡ Some asks.tasks = ap (slice_get network.scripts) (sym e) ∙ asks.found in
+                own-next network request owner first done past asks.tasks (standing asks.tasks (replies_to owner past)).outcomes (standing asks.tasks (replies_to owner past)).tasks (standing asks.tasks (replies_to owner past)).replies fits sound asked run next found e refl
+                (subst (λ a. ask_at (standing asks.tasks (replies_to a past)) ≡ Some (done.link, done.ask)) e asks.asks)
+                ((run-stands network past fits run).callers owner asks.tasks found) ((run-goes network request owner past fits sound once run).at asks.tasks found) ((run-closes network request owner past fits sound full run).at asks.tasks found) was)
+            | inr off ↦
+                (let other = eqb-false (actor_number done.actor) owner off in
+                let others = off-standing (channel_number request.chan) asks.tasks (replies_to (actor_number done.actor) past) (full.others (actor_number done.actor) asks.tasks other asks.found) in
+                off-chain network request owner first done past fits sound asked run next other (tasks-off (channel_number request.chan) _ _ done.link done.ask others asks.asks) was)
+          ])
+    ]
+
+no-first : (tasks : List Task) (replies : List Reply) → replies ≡ [] → (told : ℕ) → first_count replies ≡ Some told → ⊥
+no-first tasks [] none told some = cc
+no-first tasks (r ∷ rs) none told some = cc
+
+pub run-chain : (network : Network) (request : Request) (owner : ℕ) (first : HopAt network request 0) (run : List Done) → NetworkFits network → RequestFits network.links request → OwnedFully network request owner → IsRun network run → Chain network request owner first run
+unfolding IsRun part_of scan_of replies_to standing
+run-chain network request owner first [] fits sound full is = record {
+  fates = λ some. absurd (omega (arith, some));
+  told = λ tasks found task rest told same leaving given. absurd (no-first tasks [] refl told given);
+  whole = λ terms held phase. absurd (let clash : None ≡ Some terms = held in cc);
+}
+run-chain network request owner first (done ∷ past) fits sound full is = chain-next network request owner first done past fits sound full is.0 is.1 (run-chain network request owner first past fits sound full is.0)
+
+-- the first hop after a release that the owner's task asks
+pub leaves-frozen : (network : Network) (request : Request) (owner : ℕ) (first : HopAt network request 0) (done : Done) (past : List Done) (tasks : List Task) (outcomes : List Learnt) (task : Task) (rest : List Task) (replies : List Reply) (given : ℕ) → NetworkFits network → RequestFits network.links request → OwnedFully network request owner → IsRun network past → (next : IsNext network past done) → slice_get network.scripts owner ≡ Some tasks
+    → standing tasks (replies_to owner past) ≡ record { tasks = task ∷ rest; replies = replies; outcomes = outcomes } → first_ask (task ∷ rest) replies ≡ Some (done.link, done.ask) → IsLeaving request task → first_count (replies ++ done.reply ∷ []) ≡ Some given → Frozen network request first (done ∷ past) given
+leaves-frozen network request owner first done past tasks outcomes task rest replies given fits sound full run next found is asks leaving some =
+    let once = owned-once network request owner full in
+    let was = run-chain network request owner first past fits sound full run in
+    let stands = subst (StandingFits network.links) is ((run-stands network past fits run).callers owner tasks found) in
+    let goes : GoesAt network request past (task ∷ rest) replies outcomes = subst (λ s. GoesAt network request past s.tasks s.replies s.outcomes) is ((run-goes network request owner past fits sound once run).at tasks found) in
+    let closes = subst (ClosesAt network request past) is ((run-closes network request owner past fits sound full run).at tasks found) in
+    (own-leaves network request owner first done past task replies fits sound (owned-asked network request owner fits sound once) run next was (frozen-was network request owner first past tasks outcomes task rest replies found is was) (own-kind network request done past outcomes task rest replies fits sound run next stands goes asks closes)).told given leaving some

@@ -1,0 +1,98 @@
+-- What a tick of the near hop's link does to the queue of a channel's flights to the far hop.
+use Rattle.std.proofs.Common.{◌≡◌, ◌≢◌, ℕ, suc, ◌+◌, Bool, true, false, ◌&&◌, List, [], ◌∷◌, ◌++◌, Option, Some, None, refl, sym, ap, ◌∙◌, subst, arith, append-nil}
+use Rattle.std.proofs.lemmas.Bool.{eq-eqb, ne_eqb, and_from}
+use Rattle.std.specs.Prelude.{nat_eq}
+use Rattle.net_units.specs.Numbers.{link_number, channel_number}
+use Rattle.net_units.specs.declared.numbers.LinkNo.{LinkNo}
+use Rattle.link_steps.specs.declared.replies.Entry.{Entry}
+use Rattle.link_steps.specs.declared.replies.Reply.{Reply}
+use Rattle.link_steps.specs.declared.replies.Reply.TheVariants as Is
+use Rattle.link_steps.specs.declared.replies.Sent.{Sent}
+use Rattle.link_steps.specs.declared.shape.LinkShape.{LinkShape}
+use Rattle.link_steps.specs.Admissible.{IsAdmissible}
+use Rattle.link_steps.specs.Replies.{tick_reply}
+use Rattle.link_steps.specs.Rows.{Row}
+use Rattle.link_steps.specs.Scan.{clock_of, scan_of}
+use Rattle.link_steps.specs.Service.{Arrival, leaves_at}
+use Rattle.link_steps.specs.Lists.{Among}
+use Rattle.link_steps.proofs.ListFacts.{Each-among}
+use Rattle.channel_laws.specs.Channels.{HopTerms, is_of_channel, channel_packets, RowTells}
+use Rattle.tick_plane.specs.declared.flight.Flight.{Flight}
+use Rattle.tick_plane.specs.Planes.{flight_to, flight_in}
+use Rattle.interleave_core.proofs.Flights.FlightQueue.{IsQueue, queue-waits, queue-other, queue-more}
+use Rattle.link_steps.proofs.PacketRows.{Among-passes}
+use Rattle.channel_laws.proofs.DepartedCount.{tick-sends, start-among}
+use Rattle.channel_laws.proofs.NumberedPackets.{HasNumber, packets-have_numbers}
+use Rattle.channel_laws.proofs.DepartedCount.{more-legal, level-channel}
+use Rattle.channel_laws.specs.Departing.{ticked, IsSent, gone_of, TickSends, SendsOwn, SendsOther}
+
+-- the flights of a channel to the link of a number
+abbrev pub leg : ℕ → ℕ → Flight → Bool
+leg c to f = nat_eq (channel_number f.packet.chan) c && nat_eq (link_number f.to) to
+
+-- the flights of channel c to link `to`, n of whose packets were taken there, after history h of the near link
+abbrev pub QueueOf : LinkShape → ℕ → ℕ → ℕ → List Entry → List Flight → Type 0
+QueueOf shape c to n h flights = IsQueue (leg c to) n (gone_of shape c h) 0 (clock_of h + shape.prop) flights
+
+-- the channel's packets are those of a row that sends to the link
+pub record SendsTo (shape : LinkShape) (c to : ℕ) (h : List Entry) : Type 0 where
+  pub terms : HopTerms
+  pub row : Row
+  pub tells : RowTells terms c row (channel_packets c (scan_of shape h).packets)
+  pub link : LinkNo
+  pub number : link_number link ≡ to
+  pub next : terms.next ≡ Some link
+
+other-leg : (c to : ℕ) (f : Flight) → channel_number f.packet.chan ≢ c → leg c to f ≡ false
+other-leg c to f off = rw (ne_eqb (channel_number f.packet.chan) c off) refl
+
+-- of another channel
+others-keep : (c to n dep hi : ℕ) (flights : List Flight) (reply : Reply) → ((sent : Sent) (clock full : ℕ) (best_sent best_lost : Bool) → reply ≡ Is.Ticked clock full (Some sent) best_sent best_lost → channel_number sent.packet.chan ≢ c) → IsQueue (leg c to) n dep 0 hi flights → IsQueue (leg c to) n dep 0 hi (flights ++ flight_in reply)
+others-keep c to n dep hi flights (Is.Ticked clock full None best_sent best_lost) off is = subst (IsQueue (leg c to) n dep 0 hi) (sym (append-nil flights)) is
+others-keep c to n dep hi flights (Is.Ticked clock full (Some sent) best_sent best_lost) off is = by-next sent.next where
+  by-next : (next : Option LinkNo) → IsQueue (leg c to) n dep 0 hi (flights ++ flight_to sent next)
+  by-next None = subst (IsQueue (leg c to) n dep 0 hi) (sym (append-nil flights)) is
+  by-next (Some l) = queue-other (leg c to) n dep 0 hi flights (record { to = l; round = sent.arrives; packet = sent.packet }) (other-leg c to (record { to = l; round = sent.arrives; packet = sent.packet }) (off sent clock full best_sent best_lost refl)) is
+others-keep c to n dep hi flights (Is.Offer level reach) off is = subst (IsQueue (leg c to) n dep 0 hi) (sym (append-nil flights)) is
+others-keep c to n dep hi flights (Is.Relaxed clock) off is = subst (IsQueue (leg c to) n dep 0 hi) (sym (append-nil flights)) is
+others-keep c to n dep hi flights Is.Denied off is = subst (IsQueue (leg c to) n dep 0 hi) (sym (append-nil flights)) is
+others-keep c to n dep hi flights (Is.Planned clock) off is = subst (IsQueue (leg c to) n dep 0 hi) (sym (append-nil flights)) is
+others-keep c to n dep hi flights (Is.Closing count cancelled) off is = subst (IsQueue (leg c to) n dep 0 hi) (sym (append-nil flights)) is
+others-keep c to n dep hi flights (Is.Taken clock eligible) off is = subst (IsQueue (leg c to) n dep 0 hi) (sym (append-nil flights)) is
+others-keep c to n dep hi flights (Is.Refused refusal) off is = subst (IsQueue (leg c to) n dep 0 hi) (sym (append-nil flights)) is
+
+-- where a start of the tick is of the channel, its packet goes to the link
+sent-next : (shape : LinkShape) (c to : ℕ) (h : List Entry) (sent : Sent) → IsAdmissible shape h → (is : IsSent shape h sent) → channel_number sent.packet.chan ≡ c → (sends : SendsTo shape c to (ticked shape h)) → sent.next ≡ Some sends.link
+unfolding clock_of
+sent-next shape c to h sent legal is chan sends =
+    let there : Among is.start.packet (scan_of shape (ticked shape h)).packets = start-among shape.rate (scan_of shape (ticked shape h)).packets (suc (clock_of h)) is.start is.among in
+    let same : channel_number sent.packet.chan ≡ channel_number is.start.packet.chan = ap (λ s. channel_number s.packet.chan) is.is in
+    let numbers = Each-among (HasNumber shape.bounds) is.start.packet _ (packets-have_numbers shape (ticked shape h) (more-legal shape h legal)) there in
+    let own = Among-passes (is_of_channel c) is.start.packet (scan_of shape (ticked shape h)).packets (level-channel shape c is.start.packet numbers is.level (sym same ∙ chan)) there in
+    ap (λ s. s.next) is.is ∙ Each-among (λ p. p.next ≡ sends.terms.next) is.start.packet _ sends.tells.nexts own ∙ sends.next
+
+-- a tick of the near link
+pub queue-ticks : (shape : LinkShape) (c to n : ℕ) (h : List Entry) (reply : Reply) (flights : List Flight) → IsAdmissible shape h → reply ≡ tick_reply shape (clock_of h) (scan_of shape h)
+    → ((p : Arrival) → Among p (scan_of shape (ticked shape h)).packets → is_of_channel c p ≡ true → SendsTo shape c to (ticked shape h))
+    → QueueOf shape c to n h flights → QueueOf shape c to n (ticked shape h) (flights ++ flight_in reply)
+unfolding clock_of
+queue-ticks shape c to n h reply flights legal same known is = by-sends (tick-sends shape c h reply legal same (λ p among chan. (let sends = known p among chan in (sends.terms, sends.row, sends.tells)))) where
+  by-sends : TickSends shape c h reply → QueueOf shape c to n (ticked shape h) (flights ++ flight_in reply)
+  by-sends (SendsOther off kept) =
+      subst (λ dep. IsQueue (leg c to) n dep 0 (suc (clock_of h) + shape.prop) (flights ++ flight_in reply)) (sym kept)
+      (others-keep c to n (gone_of shape c h) (suc (clock_of h) + shape.prop) flights reply off (queue-waits (leg c to) n (gone_of shape c h) 0 (clock_of h + shape.prop) (suc (clock_of h) + shape.prop) flights (omega arith) is))
+  by-sends (SendsOwn sent clock full best_sent best_lost told chan from number more) =
+      let there : Among from.start.packet (scan_of shape (ticked shape h)).packets = start-among shape.rate (scan_of shape (ticked shape h)).packets (suc (clock_of h)) from.start from.among in
+      let numbers = Each-among (HasNumber shape.bounds) from.start.packet _ (packets-have_numbers shape (ticked shape h) (more-legal shape h legal)) there in
+      let sends = known from.start.packet there (level-channel shape c from.start.packet numbers from.level (sym (ap (λ s. channel_number s.packet.chan) from.is) ∙ chan)) in
+      let next = sent-next shape c to h sent legal from chan sends in
+      let flight : Flight = record { to = sends.link; round = sent.arrives; packet = sent.packet } in
+      let new : flight_in reply ≡ record { to = sends.link; round = sent.arrives; packet = sent.packet } ∷ [] = ap flight_in told ∙ ap (flight_to sent) next in
+      let arrives : sent.arrives ≡ leaves_at shape.rate from.start + shape.prop = ap (λ s. s.arrives) from.is in
+      let leaves = from.leaves in
+      let round : sent.arrives ≡ suc (clock_of h) + shape.prop = omega (arith, arrives, leaves) in
+      let mine : leg c to (record { to = sends.link; round = sent.arrives; packet = sent.packet }) ≡ true = and_from (nat_eq (channel_number sent.packet.chan) c) (nat_eq (link_number sends.link) to) (eq-eqb (channel_number sent.packet.chan) c chan) (eq-eqb (link_number sends.link) to sends.number) in
+      subst (λ fs. IsQueue (leg c to) n (gone_of shape c (ticked shape h)) 0 (suc (clock_of h) + shape.prop) (flights ++ fs)) (sym new)
+      (subst (λ dep. IsQueue (leg c to) n dep 0 (suc (clock_of h) + shape.prop) (flights ++ record { to = sends.link; round = sent.arrives; packet = sent.packet } ∷ [])) (sym more)
+      (subst (λ hi. IsQueue (leg c to) n (suc (gone_of shape c h)) 0 hi (flights ++ record { to = sends.link; round = sent.arrives; packet = sent.packet } ∷ [])) round
+      (queue-more (leg c to) n (gone_of shape c h) 0 (clock_of h + shape.prop) flights (record { to = sends.link; round = sent.arrives; packet = sent.packet }) mine number (omega (arith, round)) is)))

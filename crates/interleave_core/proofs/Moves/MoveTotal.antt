@@ -1,0 +1,270 @@
+-- Once packets of a channel have moved off, those that its source has offered and those that were shifted are all that its submits
+-- planned: the first hop's release has cancelled as many as were shifted, and none is left.
+use Rattle.std.proofs.Common.{◌≡◌, ◌≢◌, ℕ, ◌+◌, Bool, true, false, List, [], ◌∷◌, ◌++◌, length, Option, Some, None, refl, sym, ap, ◌∙◌, subst, inl, inr, arith}
+use Rattle.std.proofs.lemmas.Bool.{cases_Bool, eqb-true, eqb-false, eq-eqb, ne_eqb}
+use Rattle.std.proofs.lemmas.Option.{same_Some}
+use Rattle.std.specs.List.{slice_get}
+use Rattle.std.specs.Prelude.{find, nat_eq, if◌then◌else◌}
+use Rattle.net_units.specs.Numbers.{link_number, actor_number, channel_number}
+use Rattle.net_units.specs.declared.numbers.ChanNo.{ChanNo}
+use Rattle.net_units.specs.declared.numbers.LinkNo.{LinkNo}
+use Rattle.hop_reservation.specs.Routes.{link_of}
+use Rattle.channel_move.specs.Moving.{shifted_in, told_by, first_told}
+use Rattle.channel_move.specs.declared.shifted.Shifted.{Shifted}
+use Rattle.link_steps.specs.declared.asks.Ask.{Ask}
+use Rattle.link_steps.specs.declared.asks.Ask.TheVariants.{Release}
+use Rattle.link_steps.specs.declared.replies.Entry.{Entry}
+use Rattle.link_steps.specs.declared.replies.Phase.TheVariants as Ph
+use Rattle.link_steps.specs.declared.replies.Reply.{Reply}
+use Rattle.link_steps.specs.declared.replies.Reply.TheVariants as Is
+use Rattle.link_steps.specs.declared.shape.LinkShape.{LinkShape}
+use Rattle.link_steps.specs.Admissible.{MayAnswer}
+use Rattle.link_steps.specs.Replies.{release_to, reply_at}
+use Rattle.link_steps.specs.Reservation.{Reservation, is_phase}
+use Rattle.link_steps.specs.Rows.{Row, left_at}
+use Rattle.link_steps.specs.Scan.{clock_of, scan_of, is_row_at_hop}
+use Rattle.setup_protocol.specs.Hops.{RequestFits}
+use Rattle.setup_protocol.specs.Teardown.{first_count}
+use Rattle.setup_protocol.specs.declared.request.Request.{Request}
+use Rattle.channel_laws.specs.Asks.{MayReplyTo, IsOff}
+use Rattle.channel_laws.specs.Reservations.{held_by}
+use Rattle.call_script.specs.Fits.{NetworkFits}
+use Rattle.call_script.specs.Owners.{OwnedFully}
+use Rattle.call_script.specs.Scripts.{Learnt, Standing, task_ask, continued, resumed, standing, first_ask, ask_at, moved_off}
+use Rattle.call_script.specs.Tasks.{Network}
+use Rattle.call_script.specs.declared.tasks.Task.{Task}
+use Rattle.call_script.specs.declared.tasks.Task.TheVariants.{Moves}
+use Rattle.run_record.specs.Runs.{replies_to, part_of}
+use Rattle.run_record.specs.declared.done.Done.{Done}
+use Rattle.tick_plane.specs.Planes.{next_due}
+use Rattle.interleave_core.specs.channels.Hops.{terms_at, ChannelAsked}
+use Rattle.interleave_core.specs.channels.Moves.{cancelled_with, cancelled_in, NoneIsLostInAMove}
+use Rattle.interleave_core.specs.channels.Paths.{HopAt}
+use Rattle.interleave_core.specs.runs.Runs.{plane_no, plane_at, IsNext, IsRun}
+use Rattle.interleave_core.proofs.Tasks.CallerFacts.{StandingFits, standing-more}
+use Rattle.interleave_core.proofs.Moves.Emptied.{uncancelled, none-left-closing}
+use Rattle.interleave_core.proofs.Channels.FarHolds.{Frozen, NoRelease, IsLeaving, OwnKind, OwnOff, OwnAside, OwnSetup, OwnSend, OwnClose, own-kind}
+use Rattle.interleave_core.proofs.Moves.MoveLaw.{MoveTold, Was, Now, continued-told, move-own, no-moves, run-moved}
+use Rattle.interleave_core.proofs.Channels.RowsFollow.{held_at, hop-may}
+use Rattle.interleave_core.proofs.Replies.RunCloses.{ClosesAt, owned-once, run-closes, head-same}
+use Rattle.interleave_core.proofs.Replies.RunGoes.{GoesAt, run-goes, owned-asked, tasks-off, plane-off-ask, off-standing}
+use Rattle.interleave_core.proofs.Runs.RunLegal.{plane-next, caller-next, replies-by, replies-off, run-stands, part-on, part-off, part-admissible}
+use Rattle.interleave_core.proofs.Moves.TotalLaw.{none-lost, release-cancels}
+
+-- ---- what an entry cancels
+
+off-cancelled : (c m : ℕ) (ask : Ask) (reply : Reply) → IsOff c ask → cancelled_with c m ask reply ≡ m
+off-cancelled c m (Release chan upstream) (Is.Closing count cancelled) off = rw (ne_eqb (channel_number chan) c off) refl
+off-cancelled c m _ _ off = refl
+
+no-release : (c m : ℕ) (ask : Ask) (reply : Reply) → NoRelease ask → cancelled_with c m ask reply ≡ m
+no-release c m (Release chan upstream) (Is.Closing count cancelled) none = absurd none
+no-release c m _ _ none = refl
+
+-- the release of the channel
+own-release : (chan : ChanNo) (m : ℕ) (upstream : Option ℕ) (reply : Reply) → cancelled_with (channel_number chan) m (Release chan upstream) reply ≡ m + shifted_in reply
+own-release chan m upstream (Is.Closing count cancelled) = rw (eq-eqb (channel_number chan) (channel_number chan) refl) refl
+own-release chan m upstream _ = omega arith
+
+-- a release past the first hop cancels none
+later-cancelled : (shape : LinkShape) (h : List Entry) (chan : ChanNo) (kept : ℕ) (reply : Reply) (c m : ℕ) → MayReplyTo shape h (Release chan (Some kept)) reply → cancelled_with c m (Release chan (Some kept)) reply ≡ m
+unfolding MayAnswer reply_at
+later-cancelled shape h chan kept (Is.Closing count cancelled) c m may = by (find (is_row_at_hop chan false) (scan_of shape h).rows) may where
+  added : (b : Bool) → cancelled ≡ 0 → (if b then m + cancelled else m) ≡ m
+  added true none = omega (arith, none)
+  added false none = refl
+
+  by : (found : Option Row) → Is.Closing count cancelled ≡ release_to (clock_of h) (Some kept) found → (if nat_eq (channel_number chan) c then m + cancelled else m) ≡ m
+  by None is = cc
+  by (Some row) is = added (nat_eq (channel_number chan) c) (release-cancels (Some kept) row.terms (length row.ticks) (length (left_at (clock_of h) row.plan)) count cancelled is)
+later-cancelled shape h chan kept _ c m may = refl
+
+-- ---- at the first hop
+
+-- how many packets of the request the first hop's releases have cancelled
+abbrev cancelled_at : (network : Network) → (request : Request) → HopAt network request 0 → List Done → ℕ
+cancelled_at network request first run = cancelled_in (channel_number request.chan) (part_of (link_number first.hop.link) run)
+
+entry-cancels : (network : Network) (request : Request) (first : HopAt network request 0) (done : Done) (past : List Done) → link_number done.link ≡ link_number first.hop.link
+    → cancelled_at network request first (done ∷ past) ≡ cancelled_with (channel_number request.chan) (cancelled_at network request first past) done.ask done.reply
+unfolding cancelled_in
+entry-cancels network request first done past on = ap (cancelled_in (channel_number request.chan)) (part-on (link_number first.hop.link) done past on)
+
+entry-same : (network : Network) (request : Request) (first : HopAt network request 0) (done : Done) (past : List Done) → ((m : ℕ) → link_number done.link ≡ link_number first.hop.link → cancelled_with (channel_number request.chan) m done.ask done.reply ≡ m)
+    → cancelled_at network request first (done ∷ past) ≡ cancelled_at network request first past
+entry-same network request first done past same =
+    elim (cases_Bool (nat_eq (link_number done.link) (link_number first.hop.link))) [
+      | inl on ↦ (let e = eqb-true (link_number done.link) (link_number first.hop.link) on in entry-cancels network request first done past e ∙ same (cancelled_at network request first past) e)
+      | inr off ↦ ap (cancelled_in (channel_number request.chan)) (part-off (link_number first.hop.link) done past (eqb-false (link_number done.link) (link_number first.hop.link) off))
+    ]
+
+-- two hops at one place
+same-place : (network : Network) (request : Request) (k : ℕ) (first : HopAt network request 0) (here : HopAt network request k) → k ≡ 0 → link_number first.hop.link ≡ link_number here.hop.link
+same-place network request k first here zeroth = ap link_of (same_Some first.hop here.hop (sym first.stands ∙ ap (slice_get request.route) (sym zeroth) ∙ here.stands))
+
+-- ---- one reply to the owner
+
+record ShiftedAt (request : Request) (n : ℕ) (at : Standing) : Type 0 where
+  told : (told : Shifted) → moved_off request.chan at.outcomes ≡ Some told → n ≡ told.shifted
+  way : (task : Task) (rest : List Task) (reply : Reply) (replies : List Reply) → at.tasks ≡ task ∷ rest → IsLeaving request task → at.replies ≡ reply ∷ replies → n ≡ shifted_in reply
+
+-- the first release of a task that leaves the channel
+first-cancels : (network : Network) (request : Request) (first : HopAt network request 0) (done : Done) (past : List Done) (task : Task) (replies : List Reply) → NetworkFits network → ChannelAsked request past → IsRun network past → IsNext network past done → IsLeaving request task → replies ≡ [] → OwnKind network request done past task replies
+    → cancelled_at network request first (done ∷ past) ≡ shifted_in done.reply
+first-cancels network request first done past task replies fits asked run next leaving none (OwnOff own off) = absurd (own leaving)
+first-cancels network request first done past task replies fits asked run next leaving none (OwnAside reply one off) = absurd (let clash : [] ≡ reply ∷ [] = sym none ∙ one in cc)
+first-cancels network request first done past task replies fits asked run next (inl closes) none (OwnSetup later made own rows setup) = absurd (let clash = sym closes ∙ own in cc)
+first-cancels network request first done past task replies fits asked run next (inr move) none (OwnSetup later made own rows setup) = absurd (let clash = sym move.is ∙ own in cc)
+first-cancels network request first done past task replies fits asked run next leaving none (OwnSend count gap size own is) = absurd (own leaving)
+first-cancels network request first done past task replies fits asked run next leaving none (OwnClose levels own k here on is zeroth comm) =
+    let place = same-place network request k first here (zeroth none) in
+    let before : cancelled_in (channel_number request.chan) (part_of (link_number here.hop.link) past) ≡ 0 =
+    uncancelled here.link.shape (terms_at request 0) request.chan (part_of (link_number here.hop.link) past) comm.terms (part-admissible network past (link_number here.hop.link) here.link fits run here.linked) (asked.once (link_number here.hop.link)) comm.is (ap (λ p. is_phase p Ph.Closing) comm.phase) in
+    let moved : cancelled_at network request first past ≡ 0 = ap (λ n. cancelled_in (channel_number request.chan) (part_of n past)) place ∙ before in
+    let now : cancelled_at network request first (done ∷ past) ≡ cancelled_at network request first past + shifted_in done.reply =
+    entry-cancels network request first done past (on ∙ sym place) ∙ ap (λ a. cancelled_with (channel_number request.chan) (cancelled_at network request first past) a done.reply) is ∙ own-release request.chan (cancelled_at network request first past) (first_count replies) done.reply in
+    omega (arith, moved, now)
+
+-- any other entry of the owner cancels none
+later-cancels : (network : Network) (request : Request) (first : HopAt network request 0) (done : Done) (past : List Done) (task : Task) (replies : List Reply) → NetworkFits network → IsRun network past → (next : IsNext network past done) → (IsLeaving request task → replies ≡ [] → ⊥) → OwnKind network request done past task replies
+    → cancelled_at network request first (done ∷ past) ≡ cancelled_at network request first past
+later-cancels network request first done past task replies fits run next later (OwnOff own off) = entry-same network request first done past (λ m on. off-cancelled (channel_number request.chan) m done.ask done.reply off)
+later-cancels network request first done past task replies fits run next later (OwnAside reply one off) = entry-same network request first done past (λ m on. off-cancelled (channel_number request.chan) m done.ask done.reply off)
+later-cancels network request first done past task replies fits run next later (OwnSetup more made own rows setup) = entry-same network request first done past (λ m on. no-release (channel_number request.chan) m done.ask done.reply setup)
+later-cancels network request first done past task replies fits run next later (OwnSend count gap size own is) = entry-same network request first done past (λ m on. no-release (channel_number request.chan) m done.ask done.reply (subst NoRelease (sym is) tt))
+later-cancels network request first done past task [] fits run next later (OwnClose levels own k here on is zeroth comm) = absurd (later own refl)
+later-cancels network request first done past task (reply ∷ replies) fits run next later (OwnClose levels own k here on is zeroth comm) =
+    let may = subst (λ a. MayReplyTo here.link.shape (part_of (link_number here.hop.link) past) a done.reply) is (hop-may network request k here done past fits run next on) in
+    entry-same network request first done past (λ m at. ap (λ a. cancelled_with (channel_number request.chan) m a done.reply) is ∙ told (first_count (reply ∷ replies)) m refl may) where
+      told : (count : Option ℕ) (m : ℕ) → count ≡ first_count (reply ∷ replies) → MayReplyTo here.link.shape (part_of (link_number here.hop.link) past) (Release request.chan count) done.reply → cancelled_with (channel_number request.chan) m (Release request.chan count) done.reply ≡ m
+      told None m some may = cc
+      told (Some kept) m some may = later-cancelled here.link.shape (part_of (link_number here.hop.link) past) request.chan kept done.reply (channel_number request.chan) m may
+
+-- what the first reply of a task that leaves tells, with one reply more
+way-now : (network : Network) (request : Request) (first : HopAt network request 0) (done : Done) (past : List Done) (task : Task) (rest : List Task) (replies : List Reply) (outcomes : List Learnt) → NetworkFits network → ChannelAsked request past → IsRun network past → (next : IsNext network past done) → OwnKind network request done past task replies
+    → ShiftedAt request (cancelled_at network request first past) (record { tasks = task ∷ rest; replies = replies; outcomes = outcomes }) → IsLeaving request task → (reply : Reply) (more : List Reply) → replies ++ done.reply ∷ [] ≡ reply ∷ more → cancelled_at network request first (done ∷ past) ≡ shifted_in reply
+way-now network request first done past task rest [] outcomes fits asked run next kind was leaving reply more same =
+    first-cancels network request first done past task [] fits asked run next leaving refl kind ∙ ap shifted_in (head done.reply [] reply more same) where
+      head : (a : Reply) (xs : List Reply) (b : Reply) (ys : List Reply) → a ∷ xs ≡ b ∷ ys → a ≡ b
+      head a xs b ys is = cc
+way-now network request first done past task rest (one ∷ replies) outcomes fits asked run next kind was leaving reply more same =
+    later-cancels network request first done past task (one ∷ replies) fits run next (λ own none. (let clash : one ∷ replies ≡ [] = none in cc)) kind
+    ∙ was.way task rest one replies refl leaving refl ∙ ap shifted_in (head one (replies ++ done.reply ∷ []) reply more same) where
+      head : (a : Reply) (xs : List Reply) (b : Reply) (ys : List Reply) → a ∷ xs ≡ b ∷ ys → a ≡ b
+      head a xs b ys is = cc
+
+-- what is held of the channel on a link
+abbrev held_on : ChanNo → LinkShape → ℕ → List Done → Option Reservation
+held_on chan shape n run = held_by chan (scan_of shape (part_of n run)).rows
+
+-- a task that leaves the channel doesn't begin once another has left it
+begins-not : (network : Network) (request : Request) (first : HopAt network request 0) (done : Done) (past : List Done) (task : Task) (replies : List Reply) (kept : ℕ) → Frozen network request first past kept → IsLeaving request task → replies ≡ [] → OwnKind network request done past task replies → ⊥
+begins-not network request first done past task replies kept frozen leaving none (OwnOff own off) = own leaving
+begins-not network request first done past task replies kept frozen leaving none (OwnAside reply one off) = (let clash : [] ≡ reply ∷ [] = sym none ∙ one in cc)
+begins-not network request first done past task replies kept frozen (inl closes) none (OwnSetup later made own rows setup) = (let clash = sym closes ∙ own in cc)
+begins-not network request first done past task replies kept frozen (inr move) none (OwnSetup later made own rows setup) = (let clash = sym move.is ∙ own in cc)
+begins-not network request first done past task replies kept frozen leaving none (OwnSend count gap size own is) = own leaving
+begins-not network request first done past task replies kept frozen leaving none (OwnClose levels own k here on is zeroth comm) =
+    let place = same-place network request k first here (zeroth none) in
+    let link : first.link ≡ here.link = same_Some first.link here.link (sym first.linked ∙ ap (slice_get network.links) place ∙ here.linked) in
+    let held : held_at network request 0 first past ≡ Some comm.terms = ap (λ l. held_on request.chan l.shape (link_number first.hop.link) past) link ∙ ap (λ n. held_on request.chan here.link.shape n past) place ∙ comm.is in
+    let clash : Ph.Closing ≡ Ph.Committed = sym (frozen.closes comm.terms held) ∙ comm.phase in
+    cc
+
+-- so nothing more is cancelled
+told-same : (network : Network) (request : Request) (first : HopAt network request 0) (done : Done) (past : List Done) (task : Task) (replies : List Reply) (kept : ℕ) → NetworkFits network → IsRun network past → (next : IsNext network past done) → Frozen network request first past kept → OwnKind network request done past task replies
+    → cancelled_at network request first (done ∷ past) ≡ cancelled_at network request first past
+told-same network request first done past task replies kept fits run next frozen kind =
+    later-cancels network request first done past task replies fits run next (λ leaving none. begins-not network request first done past task replies kept frozen leaving none kind) kind
+
+-- the first reply of a move tells what it has come to
+first-told-by : (replies : List Reply) (told : Shifted) → first_told replies ≡ Some told → (reply : Reply) × (more : List Reply) × (replies ≡ reply ∷ more) × (told_by reply ≡ told)
+first-told-by [] told is = cc
+first-told-by (reply ∷ replies) told is = (reply, replies, refl, same_Some (told_by reply) told is)
+
+module _ (network : Network) (request : Request) (owner : ℕ) (first : HopAt network request 0) (fits : NetworkFits network) (sound : RequestFits network.links request) (full : OwnedFully network request owner) where
+  abbrev RunShifted : List Done → Type 0
+  RunShifted run = (tasks : List Task) → slice_get network.scripts owner ≡ Some tasks → ShiftedAt request (cancelled_at network request first run) (standing tasks (replies_to owner run))
+
+  -- what the notes tell, with one reply more
+  own-told : (past : List Done) (done : Done) (tasks : List Task) (task : Task) (rest : List Task) (replies : List Reply) (outcomes : List Learnt) (told : Shifted) → IsRun network past → (next : IsNext network past done) → slice_get network.scripts owner ≡ Some tasks → standing tasks (replies_to owner past) ≡ record { tasks = task ∷ rest; replies = replies; outcomes = outcomes }
+      → ShiftedAt request (cancelled_at network request first past) (record { tasks = task ∷ rest; replies = replies; outcomes = outcomes }) → OwnKind network request done past task replies → MoveTold request task (replies ++ done.reply ∷ []) outcomes told → cancelled_at network request first (done ∷ past) ≡ told.shifted
+  own-told past done tasks task rest replies outcomes told run next found is was kind (Was before) =
+      let frozen = (run-moved network request owner first past fits sound full run).at tasks found told (ap (λ (s : Standing). moved_off request.chan s.outcomes) is ∙ before) in
+      told-same network request first done past task replies told.kept fits run next frozen kind ∙ was.told told before
+  own-told past done tasks task rest replies outcomes told run next found is was kind (Now old new gap size same chan tells) =
+      let closes = subst (ClosesAt network request past) is ((run-closes network request owner past fits sound full run).at tasks found) in
+      let leaving : IsLeaving request (Moves old new gap size) = move-own network request old new gap size rest past (record { tasks = task ∷ rest; replies = replies; outcomes = outcomes }) (ap (λ t. t ∷ rest) same) chan closes in
+      let by = first-told-by (replies ++ done.reply ∷ []) told tells in
+      way-now network request first done past task rest replies outcomes fits (owned-asked network request owner fits sound (owned-once network request owner full) past run) run next kind was (subst (IsLeaving request) (sym same) leaving) by.0 by.1 by.2 ∙ ap (λ (t : Shifted). t.shifted) by.3
+
+  own-continued : (past : List Done) (done : Done) (tasks : List Task) (task : Task) (rest : List Task) (replies : List Reply) (outcomes : List Learnt) (to : Option (LinkNo × Ask)) → IsRun network past → (next : IsNext network past done) → slice_get network.scripts owner ≡ Some tasks → standing tasks (replies_to owner past) ≡ record { tasks = task ∷ rest; replies = replies; outcomes = outcomes }
+      → ShiftedAt request (cancelled_at network request first past) (record { tasks = task ∷ rest; replies = replies; outcomes = outcomes }) → OwnKind network request done past task replies → ShiftedAt request (cancelled_at network request first (done ∷ past)) (continued outcomes task rest (replies ++ done.reply ∷ []) to)
+  own-continued past done tasks task rest replies outcomes (Some to) run next found is was kind = record {
+    told = λ told moved. own-told past done tasks task rest replies outcomes told run next found is was kind (Was moved);
+    way = λ own more reply others same leaving made. way-now network request first done past task rest replies outcomes fits (owned-asked network request owner fits sound (owned-once network request owner full) past run) run next kind was (subst (IsLeaving request) (sym (head-same task rest own more same)) leaving) reply others made;
+  }
+  own-continued past done tasks task rest replies outcomes None run next found is was kind = record {
+    told = λ told moved. own-told past done tasks task rest replies outcomes told run next found is was kind (continued-told request outcomes task rest (replies ++ done.reply ∷ []) None told moved);
+    way = λ own more reply others same leaving made. (let clash : [] ≡ reply ∷ others = made in cc);
+  }
+
+  own-resumed : (past : List Done) (done : Done) (tasks : List Task) (left : List Task) (replies : List Reply) (outcomes : List Learnt) → IsRun network past → (next : IsNext network past done) → slice_get network.scripts owner ≡ Some tasks → standing tasks (replies_to owner past) ≡ record { tasks = left; replies = replies; outcomes = outcomes } → first_ask left replies ≡ Some (done.link, done.ask)
+      → ShiftedAt request (cancelled_at network request first past) (record { tasks = left; replies = replies; outcomes = outcomes }) → ShiftedAt request (cancelled_at network request first (done ∷ past)) (resumed outcomes left (replies ++ done.reply ∷ []))
+  unfolding resumed
+  own-resumed past done tasks [] replies outcomes run next found is asks was = cc
+  own-resumed past done tasks (task ∷ rest) replies outcomes run next found is asks was =
+      let stands = subst (StandingFits network.links) is ((run-stands network past fits run).callers owner tasks found) in
+      let goes : GoesAt network request past (task ∷ rest) replies outcomes = subst (λ (s : Standing). GoesAt network request past s.tasks s.replies s.outcomes) is ((run-goes network request owner past fits sound (owned-once network request owner full) run).at tasks found) in
+      let closes = subst (ClosesAt network request past) is ((run-closes network request owner past fits sound full run).at tasks found) in
+      own-continued past done tasks task rest replies outcomes (task_ask task (replies ++ done.reply ∷ [])) run next found is was (own-kind network request done past outcomes task rest replies fits sound run next stands goes asks closes)
+
+  shifted-next : (past : List Done) (done : Done) → IsRun network past → (next : IsNext network past done) → RunShifted past → RunShifted (done ∷ past)
+  unfolding standing
+  shifted-next past done run next was tasks found =
+      elim (cases_Bool (nat_eq (actor_number done.actor) (plane_no network))) [
+        | inl plane ↦
+            (let same = eqb-true (actor_number done.actor) (plane_no network) plane in
+            let asks = plane-next network past done next same in
+            let inside = full.inside in
+            away (plane-off-ask (channel_number request.chan) (next_due (plane_at network past)) (plane_at network past).ticked done.link done.ask asks.asks) (λ own. (let clash : owner ≡ length network.scripts = sym own ∙ same in absurd (omega (arith, clash, inside)))))
+        | inr caller ↦
+            (let asks = caller-next network past done next (eqb-false (actor_number done.actor) (plane_no network) caller) in
+            elim (cases_Bool (nat_eq (actor_number done.actor) owner)) [
+              | inl by ↦
+                  (let e : actor_number done.actor ≡ owner = eqb-true (actor_number done.actor) owner by in
+                  let own : asks.tasks ≡ tasks = same_Some asks.tasks tasks (sym asks.found ∙ ap (slice_get network.scripts) e ∙ found) in
+                  let asked : ask_at (standing tasks (replies_to owner past)) ≡ Some (done.link, done.ask) = subst (λ ts. ask_at (standing ts (replies_to owner past)) ≡ Some (done.link, done.ask)) own (subst (λ a. ask_at (standing asks.tasks (replies_to a past)) ≡ Some (done.link, done.ask)) e asks.asks) in
+                  subst (ShiftedAt request (cancelled_at network request first (done ∷ past))) (sym (ap (standing tasks) (replies-by owner done past e) ∙ standing-more tasks done.reply (replies_to owner past)))
+                  (own-resumed past done tasks (standing tasks (replies_to owner past)).tasks (standing tasks (replies_to owner past)).replies (standing tasks (replies_to owner past)).outcomes run next found refl asked (was tasks found)))
+              | inr off ↦
+                  (let other = eqb-false (actor_number done.actor) owner off in
+                  let others = off-standing (channel_number request.chan) asks.tasks (replies_to (actor_number done.actor) past) (full.others (actor_number done.actor) asks.tasks other asks.found) in
+                  away (tasks-off (channel_number request.chan) _ _ done.link done.ask others asks.asks) other)
+            ])
+      ] where
+        away : IsOff (channel_number request.chan) done.ask → actor_number done.actor ≢ owner → ShiftedAt request (cancelled_at network request first (done ∷ past)) (standing tasks (replies_to owner (done ∷ past)))
+        away off other =
+            (let same = entry-same network request first done past (λ m on. off-cancelled (channel_number request.chan) m done.ask done.reply off) in
+            subst (λ n. ShiftedAt request n (standing tasks (replies_to owner (done ∷ past)))) (sym same) (subst (λ rs. ShiftedAt request (cancelled_at network request first past) (standing tasks rs)) (sym (replies-off owner done past other)) (was tasks found)))
+
+  none-shifted : (tasks : List Task) → ShiftedAt request 0 (standing tasks [])
+  unfolding standing
+  none-shifted tasks = record {
+    told = λ told moved. absurd (no-moves request tasks told moved);
+    way = λ task rest reply replies same leaving made. (let clash : [] ≡ reply ∷ replies = made in cc);
+  }
+
+  run-shifted : (run : List Done) → IsRun network run → RunShifted run
+  unfolding IsRun replies_to part_of cancelled_in
+  run-shifted [] is = λ tasks found. none-shifted tasks
+  run-shifted (done ∷ past) is = shifted-next past done is.0 is.1 (run-shifted past is.0)
+
+pub none-lost-in-moves : NoneIsLostInAMove
+none-lost-in-moves network request owner first run tasks told fits sound full is found moved =
+    let legal = part-admissible network run (link_number first.hop.link) first.link fits is first.linked in
+    let frozen = (run-moved network request owner first run fits sound full is).at tasks found told moved in
+    let all = none-lost first.link.shape (channel_number request.chan) (part_of (link_number first.hop.link) run) legal in
+    let left = none-left-closing first.link.shape request.chan (part_of (link_number first.hop.link) run) legal frozen.closes in
+    let cancelled = (run-shifted network request owner first fits sound full run is tasks found).told told moved in
+    omega (arith, all, left, cancelled)

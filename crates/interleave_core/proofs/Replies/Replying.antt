@@ -1,0 +1,404 @@
+-- In every run of a network whose channels each have one owner, each reply is one that its actor expects.
+use Rattle.std.proofs.Common.{◌++◌, Bool, arith}
+use Rattle.std.proofs.lemmas.Option.{slice_get_within}
+use Rattle.std.specs.Prelude.{find, nat_le}
+use Rattle.hop_reservation.specs.Routes.{link_of}
+use Rattle.channel_move.proofs.MoveFacts.{HopAsked, MoveAsks, AsksFirst, AsksSubmit, AsksRest, move-asks}
+use Rattle.channel_laws.proofs.ChannelRows.{find-passes}
+use Rattle.channel_laws.proofs.SendReplies.{found-at-hop}
+use Rattle.channel_laws.specs.Reservations.{held_by}
+use Rattle.link_steps.specs.declared.replies.Phase.TheVariants.{Committed}
+use Rattle.link_steps.specs.declared.shape.LinkShape.{LinkShape}
+use Rattle.link_steps.specs.Lists.{change_first}
+use Rattle.link_steps.specs.Replies.{submit_reply, submit_to}
+use Rattle.link_steps.specs.Reservation.{Reservation, is_phase}
+use Rattle.link_steps.specs.Rows.{Row, left_at, planned_from}
+use Rattle.link_steps.specs.Scan.{Scan, plan_row, after, is_row_at_hop}
+use Rattle.setup_protocol.specs.Hops.{RequestFits}
+use Rattle.setup_protocol.proofs.HopHolds.{IsComm}
+use Rattle.interleave_core.specs.channels.Moves.{plan_in, plan_at, EveryMovePlansTheShifted}
+use Rattle.interleave_core.proofs.Channels.HopsAt.{hop-at}
+use Rattle.channel_laws.specs.Unsent.{IsPlanned}
+use Rattle.channel_laws.proofs.UnsentPlans.{unsent-left}
+use Rattle.interleave_core.proofs.Replies.RunCloses.{AllComm, Unsent, IsUnjoined}
+use Rattle.interleave_core.proofs.Runs.RunLegal.{part-on}
+use Rattle.std.specs.Prelude.{◌≤◌}
+use Rattle.net_units.specs.declared.numbers.ChanNo.{ChanNo}
+use Rattle.channel_move.specs.Moving.{answers, answers_next, next_of_move}
+use Rattle.channel_move.proofs.MoveFacts.{move-ask-is}
+use Rattle.call_script.specs.Owners.{UsedOnce, OwnedFully}
+use Rattle.call_script.specs.Scripts.{move_between}
+use Rattle.interleave_core.proofs.Moves.SizesKept.{first-small}
+use Rattle.std.proofs.Common.{◌≡◌, ◌≢◌, ℕ, ◌⊎◌, true, List, [], ◌∷◌, length, Option, Some, None, refl, sym, ap, ◌∙◌, subst, inl, inr}
+use Rattle.std.proofs.lemmas.Bool.{cases_Bool, eqb-true, eqb-false}
+use Rattle.std.proofs.lemmas.Option.{same_Some}
+use Rattle.std.specs.List.{slice_get}
+use Rattle.std.specs.Prelude.{nat_eq}
+use Rattle.net_units.specs.Numbers.{link_number, actor_number, channel_number}
+use Rattle.net_units.specs.declared.numbers.ChanNo.{ChanNo}
+use Rattle.net_units.specs.declared.numbers.LinkNo.{LinkNo}
+use Rattle.hop_reservation.specs.Offers.{next_levels}
+use Rattle.link_steps.specs.declared.asks.Ask.{Ask}
+use Rattle.link_steps.specs.declared.asks.Ask.TheVariants.{Submit, Release, Arrive, Tick, Pour}
+use Rattle.link_steps.specs.declared.replies.Entry.{Entry}
+use Rattle.link_steps.specs.declared.replies.Refusal.TheVariants as Why
+use Rattle.link_steps.specs.declared.replies.Reply.{Reply}
+use Rattle.link_steps.specs.declared.replies.Reply.TheVariants as Is
+use Rattle.link_steps.specs.Lists.{Each}
+use Rattle.link_steps.specs.Replies.{tick_reply, reply_at, reply_to}
+use Rattle.link_steps.specs.Scan.{clock_of, scan_of}
+use Rattle.link_steps.specs.Split.{Link}
+use Rattle.setup_protocol.specs.Setup.{Progress, Reserving, Undoing, Relaxing, Settled, answers_reserve, answers_deny, answers_relax, is_expected, asked, next_ask, progress_of}
+use Rattle.setup_protocol.specs.Teardown.{is_closing, next_release}
+use Rattle.setup_protocol.specs.declared.request.Request.{Request}
+use Rattle.call_script.specs.Fits.{NetworkFits}
+use Rattle.call_script.specs.Owners.{TaskOff, SendsOnce, FullScript, IsOwned, IsUnnamed, AllOwned}
+use Rattle.call_script.specs.Scripts.{Standing, packets_ask, once_next, standing, first_ask, ask_at, answers_submit, first_expects}
+use Rattle.call_script.specs.Tasks.{Network}
+use Rattle.call_script.specs.declared.tasks.Task.{Task}
+use Rattle.call_script.specs.declared.tasks.Task.TheVariants.{Opens, Sends, Closes, Moves}
+use Rattle.channel_laws.specs.Reservations.{IsSendReply, IsReleased, IsArriveReply}
+use Rattle.channel_laws.proofs.ArriveReplies.{arrive-told, of-arrive}
+use Rattle.channel_laws.proofs.SendReplies.{pour-answered, of-released}
+use Rattle.interleave_core.specs.replies.Answers.{IsReserveReply, IsRelaxed, IsTicked, IsReplyOf}
+use Rattle.interleave_core.specs.runs.Laws.{EveryReplyIsExpected, EveryAskIsAnswered}
+use Rattle.interleave_core.specs.runs.Runs.{plane_no, plane_at, IsNext, IsRun}
+use Rattle.run_record.specs.Runs.{replies_to, part_of}
+use Rattle.run_record.specs.declared.done.Done.{Done}
+use Rattle.tick_plane.specs.Planes.{next_due, ask_due, answers_arrive, answers_tick, plane_expects}
+use Rattle.tick_plane.specs.declared.flight.Flight.{Flight}
+use Rattle.interleave_core.proofs.Replies.RunCloses.{IsUsualReply, FirstUsual, IfReleased, IfPlanned, ClosesAt, Early, Denied, Fresh, Open, Closing, MovingFrom, MovingOnto, Over, FirstOff, owned-once, run-closes, replies-usual, head-same}
+use Rattle.interleave_core.proofs.Replies.RunGoes.{off-standing, setup-expected}
+use Rattle.interleave_core.proofs.Runs.RunLegal.{AsksOf, plane-next, caller-next}
+use Rattle.setup_protocol.proofs.HopAsks.{of-hop}
+use Rattle.channel_laws.proofs.SentFacts.{tick-answer}
+use Rattle.interleave_core.proofs.Tasks.OnceFacts.{once-asked, packets-hold}
+
+-- ---- the tests and the facts say the same
+
+send-expected : (reply : Reply) → IsSendReply reply → answers_submit reply ≡ true
+send-expected (Is.Planned clock) is = refl
+send-expected (Is.Refused (Why.Busy left)) is = refl
+send-expected (Is.Refused (Why.TooBig size smax)) is = refl
+send-expected _ is = absurd is
+
+reserve-answered : (levels : ℕ) (reply : Reply) → answers_reserve levels reply ≡ true → IsReserveReply reply
+reserve-answered levels (Is.Offer level reach) is = tt
+reserve-answered levels (Is.Refused refusal) is = is
+reserve-answered levels _ is = cc
+
+deny-answered : (reply : Reply) → answers_deny reply ≡ true → reply ≡ Is.Denied
+deny-answered Is.Denied is = refl
+deny-answered _ is = cc
+
+relax-answered : (reply : Reply) → answers_relax reply ≡ true → IsRelaxed reply
+relax-answered (Is.Relaxed clock) is = tt
+relax-answered _ is = cc
+
+-- ---- the ask under way and its replies
+
+setup-answered : (request : Request) (p : Progress) (to : LinkNo) (ask : Ask) (reply : Reply) → asked request p ≡ Some (to, ask) → is_expected request p reply ≡ true → IsReplyOf ask reply
+setup-answered request (Reserving offers reach) to ask reply same is = of-hop (λ a. IsReplyOf a reply) (slice_get request.route (length offers)) _ to ask (λ hop. reserve-answered (next_levels request.route offers) reply is) same
+setup-answered request (Undoing left deny) to ask reply same is = of-hop (λ a. IsReplyOf a reply) _ _ to ask (λ hop. deny-answered reply is) same
+setup-answered request (Relaxing left levels) to ask reply same is = of-hop (λ a. IsReplyOf a reply) _ _ to ask (λ hop. relax-answered reply is) same
+setup-answered request (Settled outcome) to ask reply same is = cc
+
+-- what stands of a reply to a caller
+record Expected (tasks : List Task) (replies : List Reply) (ask : Ask) (reply : Reply) : Type 0 where
+  is : first_expects tasks replies reply ≡ true
+  answered : IsReplyOf ask reply
+
+opens-expected : (request : Request) (rest : List Task) (replies : List Reply) (to : LinkNo) (ask : Ask) (reply : Reply) → next_ask request replies ≡ Some (to, ask) → is_expected request (progress_of request replies) reply ≡ true → Expected (Opens request ∷ rest) replies ask reply
+opens-expected request rest replies to ask reply same is = record { is = is; answered = setup-answered request (progress_of request replies) to ask reply same is }
+
+sends-expected : (link : LinkNo) (chan : Option ChanNo) (count gap size : ℕ) (rest : List Task) (replies : List Reply) (to : LinkNo) (ask : Ask) (reply : Reply) → once_next link (packets_ask chan count gap size) replies ≡ Some (to, ask) → IsSendReply reply
+    → Expected (Sends link chan count gap size ∷ rest) replies ask reply
+sends-expected link chan count gap size rest replies to ask reply same is = record {
+  is = send-expected reply is;
+  answered = subst (λ a. IsReplyOf a reply) (once-asked link (packets_ask chan count gap size) replies to ask same).is (packets-hold (λ a. IsReplyOf a reply) chan count gap size (λ own. is) is);
+}
+
+closes-expected : (request : Request) (rest : List Task) (replies : List Reply) (to : LinkNo) (ask : Ask) (reply : Reply) → next_release request.chan request.route replies ≡ Some (to, ask) → IsReleased reply → Expected (Closes request ∷ rest) replies ask reply
+closes-expected request rest replies to ask reply same is = record { is = of-released (λ r. is_closing r ≡ true) reply (λ count cancelled. refl) is; answered = of-hop (λ a. IsReplyOf a reply) (slice_get request.route (length replies)) _ to ask (λ hop. is) same }
+
+pour-reply : (link : Link) (h : List Entry) (ask : Ask) (count gap size : ℕ) → ask ≡ Pour count gap size → IsSendReply (reply_to link h ask)
+unfolding reply_to reply_at
+pour-reply link h ask count gap size same = subst (λ a. IsSendReply (reply_to link h a)) (sym same) (pour-answered (clock_of h) link.shape.cap size _)
+
+planned-send : (reply : Reply) → IsPlanned reply → IsSendReply reply
+planned-send (Is.Planned clock) is = tt
+planned-send _ is = absurd is
+
+planned-answers : (chan own : ChanNo) (count gap size : ℕ) (reply : Reply) → IsPlanned reply → answers (Submit chan count gap size) reply ≡ true
+planned-answers chan own count gap size (Is.Planned clock) is = refl
+planned-answers chan own count gap size _ is = absurd is
+
+moves-expected : (old new : Request) (gap size : ℕ) (rest : List Task) (replies : List Reply) (to : LinkNo) (ask : Ask) (reply : Reply) → next_of_move (move_between old new gap size) replies ≡ Some (to, ask) → IfReleased ask reply → IfPlanned ask reply → Expected (Moves old new gap size ∷ rest) replies ask reply
+moves-expected old new gap size rest replies to ask reply same released planned = record {
+  is = ap (λ next. answers_next next reply) same ∙ move-ask-is (λ a. IfReleased a reply → IfPlanned a reply → answers a reply ≡ true) (move_between old new gap size) replies to ask (λ upstream is none. of-released (λ r. answers (Release old.chan upstream) r ≡ true) reply (λ count cancelled. refl) is) (λ count none is. planned-answers new.chan new.chan count gap size reply is) same released planned;
+  answered = move-ask-is (λ a. IfReleased a reply → IfPlanned a reply → IsReplyOf a reply) (move_between old new gap size) replies to ask (λ upstream is none. is) (λ count none is. planned-send reply is) same released planned;
+}
+
+-- ---- the owner of a channel opens it by its own request
+
+own-open : (network : Network) (request own : Request) (rest : List Task) (run : List Done) (at : Standing) → at.tasks ≡ Opens request ∷ rest → channel_number request.chan ≡ channel_number own.chan → ClosesAt network own run at → request ≡ own
+own-open network request own rest run at first same closes = by-state closes where
+  opened : (a b : Request) → Opens a ≡ Opens b → a ≡ b
+  opened a b is = cc
+
+  by-script : FullScript own (Opens request ∷ rest) → request ≡ own
+  by-script (inl off) = absurd (off.0 same)
+  by-script (inr open') = opened request own open'.0
+
+  by-sends : SendsOnce own (Opens request ∷ rest) → request ≡ own
+  by-sends (inl off) = absurd (off.0 same)
+  by-sends (inr (inl send)) = absurd (let clash : Opens request ≡ Sends send.0.hop.link (Some own.chan) send.0.count send.0.gap send.0.size = send.0.is in cc)
+  by-sends (inr (inr (inl close))) = absurd (let clash : Opens request ≡ Closes own = close.0 in cc)
+  by-sends (inr (inr (inr move))) = absurd (let clash : Opens request ≡ Moves own move.0.new move.0.gap move.0.size = move.0.is in cc)
+
+  by-used : UsedOnce own (Opens request ∷ rest) → request ≡ own
+  by-used (inl off) = absurd (off.0 same)
+  by-used (inr (inl onto)) = absurd (let clash : Opens request ≡ Moves onto.0.old own onto.0.gap onto.0.size = onto.0.is in cc)
+  by-used (inr (inr used)) = by-sends (inr used)
+
+  by-state : ClosesAt network own run at → request ≡ own
+  by-state (Early script none unsent) = by-script (subst (FullScript own) first script)
+  by-state (Denied sends off none) = absurd (let one : FirstOff (channel_number own.chan) (Opens request ∷ rest) = subst (FirstOff (channel_number own.chan)) first off in one same)
+  by-state (Fresh levels used fresh comm unsent) = by-used (subst (UsedOnce own) first used)
+  by-state (Open levels sends fresh comm) = by-sends (subst (SendsOnce own) first sends)
+  by-state (Closing levels more is others comm) = absurd (let clash : Opens request ≡ Closes own = head-same (Opens request) rest (Closes own) more (sym first ∙ is) in cc)
+  by-state (MovingFrom levels new gap size more is other closes comm) = absurd (let clash : Opens request ≡ Moves own new gap size = head-same (Opens request) rest (Moves own new gap size) more (sym first ∙ is) in cc)
+  by-state (MovingOnto levels old gap size more is other sends comm unsent) = absurd (let clash : Opens request ≡ Moves old own gap size = head-same (Opens request) rest (Moves old own gap size) more (sym first ∙ is) in cc)
+  by-state (Over others) = absurd (let each : Each (TaskOff (channel_number own.chan)) (Opens request ∷ rest) = subst (Each (TaskOff (channel_number own.chan))) first others in each.0 same)
+
+record OwnerIs (network : Network) (c actor : ℕ) : Type 0 where
+  own : IsOwned network c
+  same : actor ≡ own.owner
+
+owner-is : (network : Network) (c actor : ℕ) (tasks : List Task) → AllOwned network → slice_get network.scripts actor ≡ Some tasks → (Each (TaskOff c) tasks → ⊥) → OwnerIs network c actor
+owner-is network c actor tasks all found named = by-owner (all c) where
+  by-owner : IsOwned network c ⊎ IsUnnamed network c → OwnerIs network c actor
+  by-owner (inr none) = absurd (named (none actor tasks found))
+  by-owner (inl own) =
+      elim (cases_Bool (nat_eq actor own.owner)) [
+        | inl same ↦ record { own = own; same = eqb-true actor own.owner same }
+        | inr other ↦ absurd (named (subst (λ n. Each (TaskOff n) tasks) own.chan (own.full.others actor tasks (eqb-false actor own.owner other) found)))
+      ]
+
+-- ---- each reply to a caller
+
+-- what is known where a caller made the step
+record CallerStep (network : Network) (past : List Done) (done : Done) (tasks : List Task) : Type 0 where
+  fits : NetworkFits network
+  all : AllOwned network
+  run : IsRun network past
+  next : IsNext network past done
+  found : slice_get network.scripts (actor_number done.actor) ≡ Some tasks
+
+abbrev stand : List Done → Done → List Task → Standing
+stand past done tasks = standing tasks (replies_to (actor_number done.actor) past)
+
+-- its first task names a channel of its own
+named-own : (network : Network) (past : List Done) (done : Done) (tasks rest : List Task) (task : Task) (c : ℕ) → (step : CallerStep network past done tasks) → (stand past done tasks).tasks ≡ task ∷ rest → (TaskOff c task → ⊥) → OwnerIs network c (actor_number done.actor)
+named-own network past done tasks rest task c step first named =
+    owner-is network c (actor_number done.actor) tasks step.all step.found
+    (λ off. named (let each : Each (TaskOff c) (task ∷ rest) = subst (Each (TaskOff c)) first (off-standing c tasks (replies_to (actor_number done.actor) past) off) in each.0))
+
+usual-reply : (network : Network) (past : List Done) (done : Done) (tasks rest : List Task) (task : Task) (c : ℕ) → (step : CallerStep network past done tasks) → (is : OwnerIs network c (actor_number done.actor)) → (stand past done tasks).tasks ≡ task ∷ rest → IsUsualReply is.own.request task done.ask done.reply
+usual-reply network past done tasks rest task c step is first =
+    let own : slice_get network.scripts is.own.owner ≡ Some tasks = ap (slice_get network.scripts) (sym is.same) ∙ step.found in
+    let usual = replies-usual network is.own.request is.own.owner past done tasks step.fits is.own.sound is.own.full step.run step.next is.same own in
+    subst (λ ts. FirstUsual is.own.request ts done.ask done.reply) (ap (λ a. (standing tasks (replies_to a past)).tasks) (sym is.same) ∙ first) usual
+
+open-reply : (network : Network) (past : List Done) (done : Done) (tasks rest : List Task) (request : Request) → (step : CallerStep network past done tasks) → (stand past done tasks).tasks ≡ Opens request ∷ rest → is_expected request (progress_of request (stand past done tasks).replies) done.reply ≡ true
+open-reply network past done tasks rest request step first =
+    let is = named-own network past done tasks rest (Opens request) (channel_number request.chan) step first (λ off. off refl) in
+    let own : slice_get network.scripts is.own.owner ≡ Some tasks = ap (slice_get network.scripts) (sym is.same) ∙ step.found in
+    let first' : (standing tasks (replies_to is.own.owner past)).tasks ≡ Opens request ∷ rest = ap (λ a. (standing tasks (replies_to a past)).tasks) (sym is.same) ∙ first in
+    let closes = (run-closes network is.own.request is.own.owner past step.fits is.own.sound is.own.full step.run).at tasks own in
+    let same : request ≡ is.own.request = own-open network request is.own.request rest past (standing tasks (replies_to is.own.owner past)) first' (sym is.own.chan) closes in
+    let told = setup-expected network is.own.request is.own.owner past done tasks rest step.fits is.own.sound (owned-once network is.own.request is.own.owner is.own.full) step.run step.next is.same own (first' ∙ ap (λ r. Opens r ∷ rest) same) in
+    let mine : is_expected request (progress_of request (standing tasks (replies_to is.own.owner past)).replies) done.reply ≡ true = subst (λ r. is_expected r (progress_of r (standing tasks (replies_to is.own.owner past)).replies) done.reply ≡ true) (sym same) told in
+    ap (λ a. is_expected request (progress_of request (standing tasks (replies_to a past)).replies) done.reply) is.same ∙ mine
+
+caller-expected : (network : Network) (past : List Done) (done : Done) (tasks : List Task) → (step : CallerStep network past done tasks) → actor_number done.actor ≢ plane_no network → Expected (stand past done tasks).tasks (stand past done tasks).replies done.ask done.reply
+caller-expected network past done tasks step other = by-tasks (stand past done tasks).tasks refl asked' where
+  asks : AsksOf network past (actor_number done.actor) done.link done.ask
+  asks = caller-next network past done step.next other
+
+  asked' : first_ask (stand past done tasks).tasks (stand past done tasks).replies ≡ Some (done.link, done.ask)
+  asked' = subst (λ ts. ask_at (standing ts (replies_to (actor_number done.actor) past)) ≡ Some (done.link, done.ask)) (same_Some asks.tasks tasks (sym asks.found ∙ step.found)) asks.asks
+
+  -- the packets of a move are no larger than the contract of the channel that it joins
+  moved-small : {old new : Request} {gap size : ℕ} {rest : List Task} → (own : OwnerIs network (channel_number new.chan) (actor_number done.actor)) → (stand past done tasks).tasks ≡ Moves old new gap size ∷ rest → size ≤ own.own.request.contract.smax
+  moved-small {old} {new} {gap} {size} {rest} own is = first-small network past (actor_number done.actor) tasks old new gap size rest own.own.request step.fits step.all step.run step.found (subst (OwnedFully network own.own.request) (sym own.same) own.own.full) (sym own.own.chan) is
+
+  by-tasks : (ts : List Task) → (stand past done tasks).tasks ≡ ts → first_ask (stand past done tasks).tasks (stand past done tasks).replies ≡ Some (done.link, done.ask) → Expected (stand past done tasks).tasks (stand past done tasks).replies done.ask done.reply
+  by-tasks ts first asked = subst (λ xs. Expected xs (stand past done tasks).replies done.ask done.reply) (sym first) (by-first ts first (subst (λ xs. first_ask xs (stand past done tasks).replies ≡ Some (done.link, done.ask)) first asked)) where
+    by-first : (xs : List Task) → (stand past done tasks).tasks ≡ xs → first_ask xs (stand past done tasks).replies ≡ Some (done.link, done.ask) → Expected xs (stand past done tasks).replies done.ask done.reply
+    by-first [] is asked = cc
+    by-first (Opens request ∷ rest) is asked = opens-expected request rest (stand past done tasks).replies done.link done.ask done.reply asked (open-reply network past done tasks rest request step is)
+    by-first (Sends link (Some chan) count gap size ∷ rest) is asked =
+        (let own = named-own network past done tasks rest (Sends link (Some chan) count gap size) (channel_number chan) step is (λ off. off refl) in
+        sends-expected link (Some chan) count gap size rest (stand past done tasks).replies done.link done.ask done.reply asked
+        (usual-reply network past done tasks rest (Sends link (Some chan) count gap size) (channel_number chan) step own is (λ off. off (sym own.own.chan))))
+    by-first (Sends link None count gap size ∷ rest) is asked =
+        sends-expected link None count gap size rest (stand past done tasks).replies done.link done.ask done.reply asked
+        (subst IsSendReply (sym step.next.answered) (pour-reply step.next.link (part_of (link_number done.link) past) done.ask count gap size (sym (once-asked link (Pour count gap size) (stand past done tasks).replies done.link done.ask asked).is)))
+    by-first (Closes request ∷ rest) is asked =
+        (let own = named-own network past done tasks rest (Closes request) (channel_number request.chan) step is (λ off. off refl) in
+        closes-expected request rest (stand past done tasks).replies done.link done.ask done.reply asked (usual-reply network past done tasks rest (Closes request) (channel_number request.chan) step own is (sym own.own.chan)))
+    by-first (Moves old new gap size ∷ rest) is asked =
+        (let own-old = named-own network past done tasks rest (Moves old new gap size) (channel_number old.chan) step is (λ off. off.0 refl) in
+        let own-new = named-own network past done tasks rest (Moves old new gap size) (channel_number new.chan) step is (λ off. off.1 refl) in
+        let released = (usual-reply network past done tasks rest (Moves old new gap size) (channel_number old.chan) step own-old is).0 (sym own-old.own.chan) in
+        let planned = (usual-reply network past done tasks rest (Moves old new gap size) (channel_number new.chan) step own-new is).1 (sym own-new.own.chan) (moved-small own-new is) in
+        moves-expected old new gap size rest (stand past done tasks).replies done.link done.ask done.reply asked released planned)
+
+-- ---- each reply to the plane
+
+due-expected : (link : Link) (h : List Entry) (found : Option Flight) (ticked : ℕ) (to : LinkNo) (ask : Ask) (reply : Reply) → ask_due ticked found ≡ (to, ask) → reply ≡ reply_to link h ask → (plane_expects found reply ≡ true) × IsReplyOf ask reply
+due-expected link h None ticked to ask reply asks same =
+    let tick : Tick ≡ ask = ap (λ pair. pair.1) asks in
+    let is : reply ≡ tick_reply link.shape (clock_of h) (scan_of link.shape h) = same ∙ ap (reply_to link h) (sym tick) ∙ tick-answer link h in
+    (ap answers_tick is, subst (λ a. IsReplyOf a reply) tick (subst IsTicked (sym is) tt))
+due-expected link h (Some flight) ticked to ask reply asks same =
+    let arrive : Arrive flight.packet ≡ ask = ap (λ pair. pair.1) asks in
+    let told : IsArriveReply reply = arrive-told link h flight.packet reply (same ∙ ap (reply_to link h) (sym arrive)) in
+    (of-arrive (λ r. answers_arrive r ≡ true) reply (λ clock eligible. refl) (λ held slots. refl) (λ why. refl) told, subst (λ a. IsReplyOf a reply) arrive told)
+
+plane-expected : (network : Network) (past : List Done) (done : Done) → (next : IsNext network past done) → actor_number done.actor ≡ plane_no network → (plane_expects (next_due (plane_at network past)) done.reply ≡ true) × IsReplyOf done.ask done.reply
+plane-expected network past done next same =
+    let asks = plane-next network past done next same in
+    due-expected next.link (part_of (link_number done.link) past) (next_due (plane_at network past)) (plane_at network past).ticked done.link done.ask done.reply asks.asks next.answered
+
+-- ---- every run
+
+pub replies-expected : EveryReplyIsExpected
+replies-expected = record {
+  callers = λ network past done tasks fits all run next other found. (caller-expected network past done tasks (record { fits = fits; all = all; run = run; next = next; found = found }) other).is;
+  plane = λ network past done next same. (plane-expected network past done next same).0;
+}
+
+pub asks-answered : EveryAskIsAnswered
+asks-answered network past done fits all run next =
+    elim (cases_Bool (nat_eq (actor_number done.actor) (plane_no network))) [
+      | inl plane ↦ (plane-expected network past done next (eqb-true (actor_number done.actor) (plane_no network) plane)).1
+      | inr caller ↦
+          (let other = eqb-false (actor_number done.actor) (plane_no network) caller in
+          let asks = caller-next network past done next other in
+          (caller-expected network past done asks.tasks (record { fits = fits; all = all; run = run; next = next; found = asks.found }) other).answered)
+    ]
+
+-- ---- the submit of a move
+
+-- a move onto the request: it is established at all hops, and nothing was submitted on it
+record IsJoined (network : Network) (new request : Request) (run : List Done) : Type 0 where
+  same : new ≡ request
+  levels : List ℕ
+  comm : AllComm network request levels 0 run
+  unsent : Unsent request run
+
+onto-facts : (network : Network) (request old new : Request) (gap size : ℕ) (rest : List Task) (run : List Done) (at : Standing) → at.tasks ≡ Moves old new gap size ∷ rest → channel_number new.chan ≡ channel_number request.chan → IsUnjoined at.replies → ClosesAt network request run at → IsJoined network new request run
+onto-facts network request old new gap size rest run at first chan early closes = by-state closes where
+  new-same : (a b c d : Request) (g s h t : ℕ) → Moves a b g s ≡ Moves c d h t → b ≡ d
+  new-same a b c d g s h t is = cc
+
+  by-full : FullScript request (Moves old new gap size ∷ rest) → ⊥
+  by-full (inl off) = off.0.1 chan
+  by-full (inr own) = (let clash : Moves old new gap size ≡ Opens request = own.0 in cc)
+
+  by-sends : SendsOnce request (Moves old new gap size ∷ rest) → ⊥
+  by-sends (inl off) = off.0.1 chan
+  by-sends (inr (inl send)) = (let clash : Moves old new gap size ≡ Sends send.0.hop.link (Some request.chan) send.0.count send.0.gap send.0.size = send.0.is in cc)
+  by-sends (inr (inr (inl close))) = (let clash : Moves old new gap size ≡ Closes request = close.0 in cc)
+  by-sends (inr (inr (inr move))) = move.0.other (ap (λ r. channel_number r.chan) (sym (new-same old new request move.0.new gap size move.0.gap move.0.size move.0.is)) ∙ chan)
+
+  by-used : (levels : List ℕ) → UsedOnce request (Moves old new gap size ∷ rest) → AllComm network request levels 0 run → Unsent request run → IsJoined network new request run
+  by-used levels (inl off) comm unsent = absurd (off.0.1 chan)
+  by-used levels (inr (inl onto)) comm unsent = record { same = new-same old new onto.0.old request gap size onto.0.gap onto.0.size onto.0.is; levels = levels; comm = comm; unsent = unsent }
+  by-used levels (inr (inr used)) comm unsent = absurd (by-sends (inr used))
+
+  first-off : Each (TaskOff (channel_number request.chan)) (Moves old new gap size ∷ rest) → ⊥
+  first-off each = each.0.1 chan
+
+  by-state : ClosesAt network request run at → IsJoined network new request run
+  by-state (Early script none unsent) = absurd (by-full (subst (FullScript request) first script))
+  by-state (Denied used off none) = absurd (let one : FirstOff (channel_number request.chan) (Moves old new gap size ∷ rest) = subst (FirstOff (channel_number request.chan)) first off in one.1 chan)
+  by-state (Fresh levels used fresh comm unsent) = by-used levels (subst (UsedOnce request) first used) comm unsent
+  by-state (Open levels sends fresh comm) = absurd (by-sends (subst (SendsOnce request) first sends))
+  by-state (Closing levels more is others comm) = absurd (let clash : Moves old new gap size ≡ Closes request = head-same (Moves old new gap size) rest (Closes request) more (sym first ∙ is) in cc)
+  by-state (MovingFrom levels own-new own-gap own-size more is other sends comm) = absurd (other (ap (λ r. channel_number r.chan) (sym (new-same old new request own-new gap size own-gap own-size (head-same (Moves old new gap size) rest (Moves request own-new own-gap own-size) more (sym first ∙ is)))) ∙ chan))
+  by-state (MovingOnto levels own-old own-gap own-size more is other sends comm unsent) = record { same = new-same old new own-old request gap size own-gap own-size (head-same (Moves old new gap size) rest (Moves own-old request own-gap own-size) more (sym first ∙ is)); levels = levels; comm = comm; unsent = unsent early }
+  by-state (Over others) = absurd (first-off (subst (Each (TaskOff (channel_number request.chan))) first others))
+
+-- a submit that is planned appends its packets to the plan
+find-changed : (test : Row → Bool) (change : Row → Row) (rows : List Row) (row : Row) → test (change row) ≡ true → find test rows ≡ Some row → find test (change_first test change rows) ≡ Some (change row)
+unfolding change_first
+find-changed test change [] row holds found = cc
+find-changed test change (r ∷ rows) row holds found =
+    elim (cases_Bool (test r)) [
+      | inl yes_it ↦ (let same : r ≡ row = same_Some r row (rw yes_it at found) in rw yes_it (rw (ap (λ x. test (change x)) same ∙ holds) (ap (λ x. Some (change x)) same)))
+      | inr other ↦ (let rest = find-changed test change rows row holds (rw other at found) in rw (other, other) rest)
+    ]
+
+plan-planned : (shape : LinkShape) (t count gap size clock : ℕ) (chan : ChanNo) (scan : Scan) (row : Row) → find (is_row_at_hop chan true) scan.rows ≡ Some row → row.plan ≡ [] → plan_in (find (is_row_at_hop chan true) (after shape t scan (Submit chan count gap size) (Is.Planned clock)).rows) ≡ planned_from t gap size count
+unfolding after
+plan-planned shape t count gap size clock chan scan row found empty =
+    ap plan_in (find-changed (is_row_at_hop chan true) (plan_row t count gap size) scan.rows row (find-passes (is_row_at_hop chan true) row scan.rows found) found) ∙ ap (λ plan. plan ++ planned_from t gap size count) empty
+
+planned-clock : (t size : ℕ) (terms : Reservation) (left : ℕ) → IsPlanned (submit_reply t size terms left) → submit_reply t size terms left ≡ Is.Planned t
+unfolding submit_reply
+planned-clock t size terms left is =
+    elim (cases_Bool (is_phase terms.phase Committed)) [
+      | inl phase ↦ elim (cases_Bool (nat_eq left 0)) [
+        | inl free ↦ elim (cases_Bool (nat_le size terms.contract.smax)) [
+          | inl small ↦ rw (phase, free, small) refl
+          | inr large ↦ absurd (rw (phase, free, large) at is)
+        ]
+        | inr busy ↦ absurd (rw (phase, busy) at is)
+      ]
+      | inr other ↦ absurd (rw other at is)
+    ]
+
+-- where the channel is committed at the first hop and nothing was submitted
+joined-plans : (network : Network) (past : List Done) (done : Done) (new request : Request) (gap size count : ℕ) → NetworkFits network → RequestFits network.links request → IsRun network past → (next : IsNext network past done) → IsJoined network new request past → HopAsked request.route 0 done.link → done.ask ≡ Submit new.chan count gap size → IsPlanned done.reply
+    → (done.reply ≡ Is.Planned (clock_of (part_of (link_number done.link) past))) × (plan_at new.chan next.link.shape (part_of (link_number done.link) (done ∷ past)) ≡ planned_from (clock_of (part_of (link_number done.link) past)) gap size count)
+unfolding reply_to reply_at scan_of
+joined-plans network past done new request gap size count fits sound run next joined at asked planned =
+    let t = clock_of (part_of (link_number done.link) past) in
+    let here = hop-at network request 0 sound (slice_get_within request.route 0 at.hop at.stands) in
+    let on : link_number done.link ≡ link_number here.hop.link = ap link_number at.at ∙ ap link_of (same_Some at.hop here.hop (sym at.stands ∙ here.stands)) in
+    let link : here.link ≡ next.link = same_Some here.link next.link (sym here.linked ∙ ap (slice_get network.links) (sym on) ∙ next.linked) in
+    let comm : IsComm Some request joined.levels 0 (held_by request.chan (scan_of next.link.shape (part_of (link_number done.link) past)).rows) = subst (λ n. IsComm Some request joined.levels 0 (held_by request.chan (scan_of next.link.shape (part_of n past)).rows)) (sym on) (subst (λ (l : Link). IsComm Some request joined.levels 0 (held_by request.chan (scan_of l.shape (part_of (link_number here.hop.link) past)).rows)) link (joined.comm 0 here (omega arith))) in
+    let found = found-at-hop request.chan true (scan_of next.link.shape (part_of (link_number done.link) past)).rows comm.terms comm.is comm.first in
+    let empty = unsent-left next.link.shape request.chan (part_of (link_number done.link) past) found.0 (joined.unsent (link_number done.link)) found.1 in
+    let own : done.ask ≡ Submit request.chan count gap size = asked ∙ ap (λ r. Submit r.chan count gap size) joined.same in
+    let reply : done.reply ≡ submit_reply (clock_of (part_of (link_number done.link) past)) size found.0.terms (length (left_at (clock_of (part_of (link_number done.link) past)) found.0.plan)) = next.answered ∙ ap (reply_to next.link (part_of (link_number done.link) past)) own ∙ ap (submit_to (clock_of (part_of (link_number done.link) past)) size) found.1 in
+    let clock : done.reply ≡ Is.Planned (clock_of (part_of (link_number done.link) past)) = reply ∙ planned-clock (clock_of (part_of (link_number done.link) past)) size found.0.terms _ (subst IsPlanned reply planned) in (
+      clock,
+      ap (λ r. plan_at r.chan next.link.shape (part_of (link_number done.link) (done ∷ past))) joined.same
+          ∙ ap (plan_at request.chan next.link.shape) (part-on (link_number done.link) done past refl)
+          ∙ ap (λ a. plan_in (find (is_row_at_hop request.chan true) (after next.link.shape (clock_of (part_of (link_number done.link) past)) (scan_of next.link.shape (part_of (link_number done.link) past)) a done.reply).rows)) own
+          ∙ ap (λ r. plan_in (find (is_row_at_hop request.chan true) (after next.link.shape (clock_of (part_of (link_number done.link) past)) (scan_of next.link.shape (part_of (link_number done.link) past)) (Submit request.chan count gap size) r).rows)) clock
+          ∙ plan-planned next.link.shape (clock_of (part_of (link_number done.link) past)) count gap size (clock_of (part_of (link_number done.link) past)) request.chan (scan_of next.link.shape (part_of (link_number done.link) past)) found.0 found.1 empty,
+    )
+
+pub moves-plan : EveryMovePlansTheShifted
+moves-plan network past done tasks rest old new gap size count fits all run next other found first asked =
+    let step : CallerStep network past done tasks = record { fits = fits; all = all; run = run; next = next; found = found } in
+    let own = named-own network past done tasks rest (Moves old new gap size) (channel_number new.chan) step first (λ off. off.1 refl) in
+    let asks = caller-next network past done next other in
+    let asks' : first_ask (stand past done tasks).tasks (stand past done tasks).replies ≡ Some (done.link, done.ask) = subst (λ ts. ask_at (standing ts (replies_to (actor_number done.actor) past)) ≡ Some (done.link, done.ask)) (same_Some asks.tasks tasks (sym asks.found ∙ found)) asks.asks in
+    let move : next_of_move (move_between old new gap size) (stand past done tasks).replies ≡ Some (done.link, done.ask) = subst (λ ts. first_ask ts (stand past done tasks).replies ≡ Some (done.link, done.ask)) first asks' in
+    let closes = subst (λ a. ClosesAt network own.own.request past (standing tasks (replies_to a past))) (sym own.same) ((run-closes network own.own.request own.own.owner past fits own.own.sound own.own.full run).at tasks (ap (slice_get network.scripts) (sym own.same) ∙ found)) in
+    let small = first-small network past (actor_number done.actor) tasks old new gap size rest own.own.request fits all run found (subst (OwnedFully network own.own.request) (sym own.same) own.own.full) (sym own.own.chan) first in
+    let planned : IfPlanned done.ask done.reply = (usual-reply network past done tasks rest (Moves old new gap size) (channel_number new.chan) step own first).1 (sym own.own.chan) small in
+    by own closes (subst (λ a. IfPlanned a done.reply) asked planned) (move-asks (move_between old new gap size) (stand past done tasks).replies done.link done.ask move) where
+      by : (own : OwnerIs network (channel_number new.chan) (actor_number done.actor)) → ClosesAt network own.own.request past (stand past done tasks) → IsPlanned done.reply → MoveAsks (move_between old new gap size) (stand past done tasks).replies done.link done.ask
+          → (done.reply ≡ Is.Planned (clock_of (part_of (link_number done.link) past))) × (plan_at new.chan next.link.shape (part_of (link_number done.link) (done ∷ past)) ≡ planned_from (clock_of (part_of (link_number done.link) past)) gap size count)
+      by own closes planned (AsksFirst none at is) = absurd (let clash : Release old.chan None ≡ Submit new.chan count gap size = sym is ∙ asked in cc)
+      by own closes planned (AsksRest told made stage at is) = absurd (let clash : Release old.chan (Some told.kept) ≡ Submit new.chan count gap size = sym is ∙ asked in cc)
+      by own closes planned (AsksSubmit reply one some at is) =
+          (let joined = onto-facts network own.own.request old new gap size rest past (stand past done tasks) first (sym own.own.chan) (inr (reply, one)) closes in
+          joined-plans network past done new own.own.request gap size count fits own.own.sound run next joined (subst (λ r. HopAsked r.route 0 done.link) joined.same at) asked planned)

@@ -1,0 +1,9 @@
+-- Runs, and their parts on each link and for each actor.
+pub mod RunLegal
+pub mod RunOf
+pub mod PartLaws
+pub mod PartsRun
+pub mod Merge
+pub mod WeaveLaw
+pub mod RunFronts
+pub mod RunLength

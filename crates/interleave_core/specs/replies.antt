@@ -1,0 +1,3 @@
+-- Which replies an ask gets, and what a request comes to by them.
+pub mod Answers
+pub mod Verdicts

@@ -1,0 +1,7 @@
+-- Runs, their parts on each link and for each actor, their merge, how many steps they have, and the laws of them.
+pub mod Runs
+pub mod Parts
+pub mod Weave
+pub mod Laws
+pub mod Linked
+pub mod Turns

@@ -1,0 +1,6 @@
+-- How a schedule is played, what stands for the run meanwhile, and what watches it.
+pub mod Standing
+pub mod Schedules
+pub mod Watching
+pub mod Quiet
+pub mod Resting

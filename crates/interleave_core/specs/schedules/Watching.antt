@@ -1,0 +1,84 @@
+-- What watches a run sees each of its entries as the run is made. An engine and what watches it stand for one run where both do.
+-- `saw` tells which runs of a plan it has seen.
+use Rattle.std.specs.Prelude.{◌≡◌, ℕ, Some, List, ◌∷◌}
+use Rattle.net_units.specs.Numbers.{actor_number}
+use Rattle.net_units.specs.declared.numbers.ActorNo.{ActorNo}
+use Rattle.net_units.specs.declared.numbers.LinkNo.{LinkNo}
+use Rattle.link_steps.specs.declared.asks.Ask.{Ask}
+use Rattle.call_script.specs.Parts.{PlanParts}
+use Rattle.call_script.specs.Plans.{IsPlan}
+use Rattle.call_script.specs.Tasks.{network_of}
+use Rattle.call_script.specs.declared.schedule.Schedule.{Schedule}
+use Rattle.interleave_core.specs.schedules.Quiet.{RestsFor}
+use Rattle.interleave_core.specs.runs.Runs.{next_for, plane_at, IsNext, IsRun}
+use Rattle.interleave_core.specs.schedules.Schedules.{FollowsTurns, IsPlayed, PlayedOut, StepsOut}
+use Rattle.interleave_core.specs.schedules.Standing.{CallersStand, EngineStands, IsGuaranteedRun}
+use Rattle.interleave_core.specs.declared.callers.Callers.{Callers}
+use Rattle.interleave_core.specs.declared.engine.Engine.{Engine}
+use Rattle.run_record.specs.declared.done.Done.{Done}
+
+-- both stand for the run
+pub record WatchStands {W : Type 0} (saw : W → PlanParts → List Done → Type 0) (parts : PlanParts) (engine : Engine) (watch : W) (run : List Done) : Type 0 where
+  pub stands : EngineStands parts engine run
+  pub seen : saw watch parts run
+
+-- in that run this is what the actor asks next
+pub record IsAsked {W : Type 0} (saw : W → PlanParts → List Done → Type 0) (parts : PlanParts) (engine : Engine) (watch : W) (run : List Done) (actor : ActorNo) (to : LinkNo) (ask : Ask) : Type 0 where
+  pub stand : WatchStands saw parts engine watch run
+  pub asks : next_for (network_of parts) (actor_number actor) run ≡ Some (to, ask)
+
+-- ---- going on with a run
+
+-- by the actor's next step
+pub record GoesOn {W : Type 0} (saw : W → PlanParts → List Done → Type 0) (parts : PlanParts) (engine : Engine) (watch : W) (past : List Done) (actor : ActorNo) : Type 0 where
+  pub done : Done
+  pub next : IsNext (network_of parts) past done
+  pub by : done.actor ≡ actor
+  pub stand : WatchStands saw parts engine watch (done ∷ past)
+
+-- by these turns
+pub record PlaysOn {W : Type 0} (saw : W → PlanParts → List Done → Type 0) (parts : PlanParts) (engine : Engine) (watch : W) (past : List Done) (actors : List ActorNo) : Type 0 where
+  pub run : List Done
+  pub follows : FollowsTurns (network_of parts) past actors run
+  pub stand : WatchStands saw parts engine watch run
+
+-- by all steps that the actor has left
+pub record PlaysOut {W : Type 0} (saw : W → PlanParts → List Done → Type 0) (parts : PlanParts) (engine : Engine) (watch : W) (past : List Done) (actor : ActorNo) : Type 0 where
+  pub run : List Done
+  pub out : StepsOut (network_of parts) past actor run
+  pub stand : WatchStands saw parts engine watch run
+
+-- the first n actors have made all their steps, one after the other
+pub record HavePlayedOut {W : Type 0} (saw : W → PlanParts → List Done → Type 0) (parts : PlanParts) (engine : Engine) (watch : W) (n : ℕ) : Type 0 where
+  pub run : List Done
+  pub played : PlayedOut (network_of parts) n run
+  pub stand : WatchStands saw parts engine watch run
+
+-- ---- a run that was seen whole
+
+-- the next step of a run that was seen
+pub record IsNextSeen {W : Type 0} (saw : W → PlanParts → List Done → Type 0) (parts : PlanParts) (watch : W) (past : List Done) (done : Done) : Type 0 where
+  pub plan : IsPlan parts
+  pub run : IsRun (network_of parts) past
+  pub next : IsNext (network_of parts) past done
+  pub seen : saw watch parts past
+
+-- the next n rounds of a run that was seen are quiet, and the first of them has this number
+pub record IsRestSeen {W : Type 0} (saw : W → PlanParts → List Done → Type 0) (parts : PlanParts) (watch : W) (past : List Done) (first n : ℕ) : Type 0 where
+  pub plan : IsPlan parts
+  pub run : IsRun (network_of parts) past
+  pub rests : RestsFor (network_of parts) n past
+  pub at : (plane_at (network_of parts) past).round ≡ first
+  pub seen : saw watch parts past
+
+-- the callers stand for the run, and it was seen
+pub record IsSeen {W : Type 0} (saw : W → PlanParts → List Done → Type 0) (parts : PlanParts) (callers : Callers) (watch : W) (run : List Done) : Type 0 where
+  pub stand : CallersStand parts callers run
+  pub seen : saw watch parts run
+
+-- it is the schedule's, with the whole guarantee at its beginning and after each of its entries
+pub record IsPlayedSeen {W : Type 0} (saw : W → PlanParts → List Done → Type 0) (parts : PlanParts) (schedule : Schedule) (callers : Callers) (watch : W) : Type 0 where
+  pub run : List Done
+  pub played : IsPlayed (network_of parts) schedule run
+  pub guaranteed : IsGuaranteedRun parts run
+  pub seen : IsSeen saw parts callers watch run

@@ -1,0 +1,29 @@
+-- A text that is told to a sink in pieces, some of which are gathered before they are written. `written` is what the sink told before
+-- and after, `gathered` what was gathered before and after, and `faults` the sink's count. A text is told whole, or a prefix of what
+-- is due was written; a write failed only where the count of faults rose.
+use Rattle.std.specs.Prelude.{ℕ, ◌≤◌, Option, Result, Ok, Err, List, ◌++◌}
+use Rattle.std.specs.Io.KnownBytes.{Appends}
+use Rattle.byte_ends.specs.Faults.{FaultsRise}
+use Rattle.byte_ends.specs.Gathering.{Gathers, WritesPart}
+use Rattle.text_writer.specs.declared.fault.ReportFault.{ReportFault}
+use Rattle.text_writer.specs.declared.fault.ReportFault.TheVariants.{Memory, WriteFault}
+
+-- why a text wasn't told whole
+abbrev pub IsWhy : ReportFault → ℕ → ℕ → Type 0
+IsWhy Memory faults faults' = faults ≤ faults'
+IsWhy WriteFault faults faults' = FaultsRise faults faults'
+
+-- all of the text was gathered after what was gathered before
+pub record Told (written written' : Option (List ℕ)) (gathered gathered' : List ℕ) (faults faults' : ℕ) (text : List ℕ) : Type 0 where
+  pub gathers : Gathers written written' gathered gathered' text
+  pub counts : faults ≤ faults'
+
+-- the text was told; or a prefix of what was gathered before and of the text was written
+abbrev pub Tells : {X : Type 0} → Result X ReportFault → Option (List ℕ) → Option (List ℕ) → List ℕ → List ℕ → ℕ → ℕ → List ℕ → Type 0
+Tells (Ok done) written written' gathered gathered' faults faults' text = Told written written' gathered gathered' faults faults' text
+Tells (Err why) written written' gathered gathered' faults faults' text = WritesPart written written' (gathered ++ text) × IsWhy why faults faults'
+
+-- the text was written whole, or a prefix of it
+abbrev pub WritesText : {X : Type 0} → Result X ReportFault → Option (List ℕ) → Option (List ℕ) → ℕ → ℕ → List ℕ → Type 0
+WritesText (Ok done) written written' faults faults' text = Appends written written' text × (faults ≤ faults')
+WritesText (Err why) written written' faults faults' text = WritesPart written written' text × IsWhy why faults faults'
