@@ -7,7 +7,7 @@ use Rattle.std.proofs.Common.{refl}
 use Rattle.link_steps.specs.declared.asks.Ask.TheVariants.{Release}
 use Rattle.channel_laws.specs.Laws.{EntriesChangeTheirReservation, AsksAreAnswered, PlannedPacketsMayMove}
 use Rattle.channel_laws.proofs.ArriveReplies.{arrive-answered}
-use Rattle.channel_laws.proofs.SendReplies.{submit-committed, release-committed, pour-answered}
+use Rattle.channel_laws.proofs.SendReplies.{submit-committed, release-committed, best-answered}
 use Rattle.channel_laws.proofs.UnsentPlans.{unsent-left}
 use Rattle.channel_laws.proofs.UnsentSubmits.{unplanned-submit}
 use Rattle.channel_laws.proofs.FewLeft.{few-cancelled}
@@ -28,7 +28,7 @@ unfolding reply_to reply_at
 asks-answered = record {
   submits = λ link h chan terms count gap size held first phase. submit-committed (clock_of h) size chan (scan_of link.shape h).rows terms held first phase;
   releases = λ link h chan terms upstream held first phase. release-committed (clock_of h) upstream chan (scan_of link.shape h).rows terms held first phase;
-  pours = λ link h count gap size. pour-answered (clock_of h) link.shape.cap size _;
+  best = λ link h ask clock count gap size is. best-answered link h ask clock count gap size is;
   arrives = λ link h packet. arrive-answered link.shape (clock_of h) (scan_of link.shape h).packets packet _;
 }
 

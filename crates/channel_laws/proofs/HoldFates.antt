@@ -9,7 +9,7 @@ use Rattle.net_units.specs.Numbers.{channel_number}
 use Rattle.net_units.specs.declared.numbers.ChanNo.{ChanNo}
 use Rattle.net_units.specs.declared.numbers.Level.{Level}
 use Rattle.link_steps.specs.declared.asks.Ask.{Ask}
-use Rattle.link_steps.specs.declared.asks.Ask.TheVariants.{Reserve, Relax, Deny, Submit, Release, Arrive, Tick, Pour}
+use Rattle.link_steps.specs.declared.asks.Ask.TheVariants.{Reserve, Relax, Deny, Submit, Release, Arrive, Tick}
 use Rattle.link_steps.specs.declared.asks.Packet.{Packet}
 use Rattle.link_steps.specs.declared.replies.Phase.{Phase}
 use Rattle.link_steps.specs.declared.replies.Phase.TheVariants.{Tentative, Committed, Closing}
@@ -341,8 +341,8 @@ fate-after shape chan t scan (Release other upstream) (Is.Closing told cancelled
     (λ same. (let ticks = own from.row (row-at-hop other (names_first_hop upstream) from.row (find-passes (is_row_at_hop other (names_first_hop upstream)) from.row scan.rows from.is) ∙ same) (is_row_at_hop other (names_first_hop upstream)) from.is in
     let upto = tells same in let counted : told ≡ count_at_release upstream count = from.count_is ∙ ap (count_at_release upstream) ticks in subst (λ n. least ≤ n) (sym counted) upto)) fate)
 fate-after shape chan t scan (Arrive packet) (Is.Taken clock eligible) least count more differ is own grows second tells fate = fate-same least count more _ _ (arrival-held chan t packet scan (find (is_row_of packet.chan) scan.rows)) grows fate
-fate-after shape chan t scan (Pour many gap size) (Is.Planned clock) least count more differ is own grows second tells fate = fate-same least count more _ _ refl grows fate
 fate-after shape chan t scan Tick reply least count more differ is own grows second tells fate = tick-fate shape chan t scan least count more differ (λ row found. own row (row-of chan row (find-passes (is_row_of chan) row scan.rows found)) (is_row_of chan) found) grows fate
+fate-after shape chan t scan _ (Is.Planned clock) least count more differ is own grows second tells fate = fate-same least count more _ _ refl grows fate
 fate-after shape chan t scan _ _ least count more differ is own grows second tells fate = fate-same least count more _ _ refl grows fate
 
 -- ---- the packets at the first hop

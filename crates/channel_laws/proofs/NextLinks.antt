@@ -6,7 +6,7 @@ use Rattle.std.proofs.lemmas.Option.{same_Some}
 use Rattle.std.specs.Prelude.{filter, find, nat_eq, ◌&&◌, not, Bool}
 use Rattle.net_units.specs.declared.numbers.LinkNo.{LinkNo}
 use Rattle.link_steps.specs.declared.asks.Ask.{Ask}
-use Rattle.link_steps.specs.declared.asks.Ask.TheVariants.{Reserve, Relax, Deny, Submit, Release, Arrive, Tick, Pour}
+use Rattle.link_steps.specs.declared.asks.Ask.TheVariants.{Reserve, Relax, Deny, Submit, Release, Arrive, Tick}
 use Rattle.link_steps.specs.declared.asks.Packet.{Packet}
 use Rattle.link_steps.specs.declared.replies.Entry.{Entry}
 use Rattle.link_steps.specs.declared.replies.Reply.{Reply}
@@ -97,8 +97,8 @@ module _ (P : Option LinkNo → Type 0) (none : P None) where
   after-nexts shape t scan (Submit chan count gap size) (Is.Planned clock) named are = record { rows = Each-change_first RowNext (is_row_at_hop chan true) (plan_row t count gap size) scan.rows (λ r next. next) are.rows; packets = are.packets }
   after-nexts shape t scan (Release chan upstream) (Is.Closing count cancelled) named are = record { rows = Each-change_first RowNext (is_row_at_hop chan (names_first_hop upstream)) (close_row t count) scan.rows (λ r next. next) are.rows; packets = are.packets }
   after-nexts shape t scan (Arrive packet) (Is.Taken clock eligible) named are = arrival-nexts t packet scan (find (is_row_of packet.chan) scan.rows) refl are
-  after-nexts shape t scan (Pour count gap size) (Is.Planned clock) named are = record { rows = are.rows; packets = are.packets }
   after-nexts shape t scan Tick reply named are = tick-nexts shape t scan are
+  after-nexts shape t scan _ (Is.Planned clock) named are = record { rows = are.rows; packets = are.packets }
   after-nexts shape t scan _ _ named are = are
 
   -- ---- a history

@@ -3,7 +3,7 @@ use Rattle.std.proofs.Common.{ℕ, suc, true, List, [], ◌∷◌, length, map, 
 use Rattle.std.specs.Prelude.{find}
 use Rattle.net_units.specs.declared.numbers.Level.{Level}
 use Rattle.link_steps.specs.declared.asks.Ask.{Ask}
-use Rattle.link_steps.specs.declared.asks.Ask.TheVariants.{Reserve, Relax, Deny, Submit, Release, Arrive, Tick, Pour}
+use Rattle.link_steps.specs.declared.asks.Ask.TheVariants.{Reserve, Relax, Deny, Submit, Release, Arrive, Tick}
 use Rattle.channel_laws.specs.Asks.{MayReplyTo, OfferTells}
 use Rattle.link_steps.specs.Admissible.{MayAnswer}
 use Rattle.link_steps.specs.declared.asks.Packet.{Packet}
@@ -63,9 +63,9 @@ arrive-other shape t packets packet (Some row) =
     rules-other (first_hop row.terms ∷ uncommitted row.terms ∷ wrong_number packet.number (suc (length row.ticks)) ∷ past_count row.terms (length row.ticks) ∷ big row.terms packet.size ∷ full (held_packets row.lead (here_at shape.rate packets t)) (slots_of shape.bounds row.terms) ∷ [])
     (Is.Taken t (eligible_next row.terms row.ticks t packet.due)) tt
 
-pour-other : (t cap size left : ℕ) → IsOther (pour_reply t cap size left)
+best-other : (t cap size left : ℕ) → IsOther (pour_reply t cap size left)
 unfolding pour_reply
-pour-other t cap size left = rules-other (busy left ∷ too_big_for cap size ∷ []) (Is.Planned t) tt
+best-other t cap size left = rules-other (busy left ∷ too_big_for cap size ∷ []) (Is.Planned t) tt
 
 offer-at : (shape : LinkShape) (t : ℕ) (scan : Scan) (ask : Ask) (level reach : Level) → MayAnswer shape t scan ask (Is.Offer level reach) → OfferTells shape ask level
 unfolding MayAnswer reply_at
@@ -76,7 +76,7 @@ offer-at shape t scan (Submit chan count gap size) level reach same = absurd (su
 offer-at shape t scan (Release chan upstream) level reach same = absurd (subst IsOther (sym same) (release-other t upstream (find (is_row_at_hop chan (names_first_hop upstream)) scan.rows)))
 offer-at shape t scan (Arrive packet) level reach same = absurd (subst IsOther (sym same) (arrive-other shape t scan.packets packet (find (is_row_of packet.chan) scan.rows)))
 offer-at shape t scan Tick level reach same = absurd (subst IsOther (sym same) tt)
-offer-at shape t scan (Pour count gap size) level reach same = absurd (subst IsOther (sym same) (pour-other t shape.cap size (length (left_at t scan.best_plan))))
+offer-at shape t scan _ level reach same = absurd (subst IsOther (sym same) (best-other t shape.cap _ _))
 
 pub offer-answers : (shape : LinkShape) (h : List Entry) (ask : Ask) (level reach : Level) → MayReplyTo shape h ask (Is.Offer level reach) → OfferTells shape ask level
 offer-answers shape h ask level reach may = offer-at shape (clock_of h) (scan_of shape h) ask level reach may

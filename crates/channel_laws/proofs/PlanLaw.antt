@@ -4,7 +4,7 @@ use Rattle.std.proofs.Common.{◌≡◌, ℕ, suc, ◌+◌, Bool, true, List, []
 use Rattle.std.specs.Prelude.{filter, find}
 use Rattle.net_units.specs.Numbers.{channel_number}
 use Rattle.link_steps.specs.declared.asks.Ask.{Ask}
-use Rattle.link_steps.specs.declared.asks.Ask.TheVariants.{Reserve, Relax, Deny, Submit, Release, Arrive, Tick, Pour}
+use Rattle.link_steps.specs.declared.asks.Ask.TheVariants.{Reserve, Relax, Deny, Submit, Release, Arrive, Tick}
 use Rattle.link_steps.specs.declared.asks.Packet.{Packet}
 use Rattle.link_steps.specs.declared.replies.Reply.{Reply}
 use Rattle.link_steps.specs.declared.replies.Reply.TheVariants as Is
@@ -61,6 +61,6 @@ after-keeps Q law shape t scan (Deny chan) Is.Denied keeps each = Each-without_f
 after-keeps Q law shape t scan (Submit chan count gap size) (Is.Planned clock) keeps each = Each-change_found (On Q t) (is_row_at_hop chan true) (plan_row t count gap size) scan.rows keeps each
 after-keeps Q law shape t scan (Release chan upstream) (Is.Closing count cancelled) keeps each = Each-change_first (On Q t) _ _ scan.rows (λ r on. law.made t (channel_of r) r.terms.first r.plan on) each
 after-keeps Q law shape t scan (Arrive packet) (Is.Taken clock e) keeps each = arrival-keeps Q t packet scan (find (is_row_of packet.chan) scan.rows) each
-after-keeps Q law shape t scan (Pour count gap size) (Is.Planned clock) keeps each = each
 after-keeps Q law shape t scan Tick reply keeps each = sources-keep Q law shape.bounds (here_at shape.rate scan.packets t) t (length scan.packets) (filter (stays shape.bounds t) scan.rows) (Each-filter (On Q t) (stays shape.bounds t) scan.rows each)
+after-keeps Q law shape t scan _ (Is.Planned clock) keeps each = each
 after-keeps Q law shape t scan _ _ keeps each = each

@@ -1,17 +1,22 @@
 -- Where a channel's reservation is committed, a submit at its first hop is planned, or refused as busy or too big, and a
--- release is answered with a closing.
+-- release is answered with a closing. Best-effort packets are planned or refused so too.
 use Rattle.std.proofs.Common.{◌≡◌, ℕ, Bool, true, false, List, [], ◌∷◌, length, Option, Some, refl, sym, ap, ◌∙◌, subst, inl, inr}
 use Rattle.std.proofs.lemmas.Bool.{cases_Bool}
 use Rattle.std.proofs.lemmas.Option.{same_Some}
 use Rattle.std.specs.Prelude.{find, nat_eq, nat_le}
 use Rattle.net_units.specs.declared.numbers.ChanNo.{ChanNo}
+use Rattle.link_steps.specs.declared.asks.Ask.{Ask}
+use Rattle.link_steps.specs.declared.asks.Ask.TheVariants.{Pour}
+use Rattle.link_steps.specs.declared.replies.Entry.{Entry}
 use Rattle.link_steps.specs.declared.replies.Phase.TheVariants.{Committed}
 use Rattle.link_steps.specs.declared.replies.Reply.{Reply}
 use Rattle.link_steps.specs.declared.replies.Reply.TheVariants as Is
-use Rattle.link_steps.specs.Replies.{submit_reply, release_reply, submit_to, release_to, pour_reply}
+use Rattle.link_steps.specs.Effects.{PlansBest, effect_of}
+use Rattle.link_steps.specs.Replies.{submit_reply, release_reply, submit_to, release_to, pour_reply, reply_at, reply_to}
 use Rattle.link_steps.specs.Reservation.{Reservation, is_of, is_same}
 use Rattle.link_steps.specs.Rows.{Row, left_at}
-use Rattle.link_steps.specs.Scan.{is_row_at_hop, names_first_hop}
+use Rattle.link_steps.specs.Scan.{clock_of, is_row_at_hop, names_first_hop, scan_of}
+use Rattle.link_steps.specs.Split.{Link}
 use Rattle.channel_laws.specs.Reservations.{held_by, IsSendReply, IsReleased}
 
 -- a row of the channel, found by its channel, is found at its hop
@@ -64,10 +69,10 @@ pub of-released : (P : Reply → Type 0) (reply : Reply) → ((count cancelled :
 of-released P (Is.Closing count cancelled) closing is = closing count cancelled
 of-released P _ closing is = absurd is
 
--- a pour
-pub pour-answered : (t cap size left : ℕ) → IsSendReply (pour_reply t cap size left)
+-- best-effort packets
+best-replies : (t cap size left : ℕ) → IsSendReply (pour_reply t cap size left)
 unfolding pour_reply
-pour-answered t cap size left =
+best-replies t cap size left =
     elim (cases_Bool (nat_eq left 0)) [
       | inl free ↦ elim (cases_Bool (nat_le size cap)) [
         | inl small ↦ rw (free, small) tt
@@ -75,3 +80,8 @@ pour-answered t cap size left =
       ]
       | inr some ↦ rw some tt
     ]
+
+pub best-answered : (link : Link) (h : List Entry) (ask : Ask) (clock count gap size : ℕ) → effect_of (scan_of link.shape h) ask (Is.Planned clock) ≡ PlansBest count gap size → IsSendReply (reply_to link h ask)
+unfolding effect_of reply_to reply_at
+best-answered link h (Pour many apart large) clock count gap size is = best-replies (clock_of h) link.shape.cap large _
+best-answered link h _ clock count gap size is = cc

@@ -13,7 +13,7 @@ use Rattle.net_units.specs.declared.numbers.Level.{Level}
 use Rattle.net_units.specs.declared.numbers.LinkNo.{LinkNo}
 use Rattle.traffic_contract.specs.Contract.{Traffic}
 use Rattle.link_steps.specs.declared.asks.Ask.{Ask}
-use Rattle.link_steps.specs.declared.asks.Ask.TheVariants.{Reserve, Relax, Deny, Submit, Release, Arrive, Tick, Pour}
+use Rattle.link_steps.specs.declared.asks.Ask.TheVariants.{Reserve, Relax, Deny, Submit, Release, Arrive, Tick}
 use Rattle.link_steps.specs.declared.asks.Packet.{Packet}
 use Rattle.link_steps.specs.declared.replies.Phase.TheVariants.{Closing}
 use Rattle.link_steps.specs.declared.replies.Reply.{Reply}
@@ -148,8 +148,8 @@ held-off shape chan t scan (Deny other) Is.Denied off opened differ = other-with
 held-off shape chan t scan (Submit other count gap size) (Is.Planned clock) off opened differ = other-changed chan (is_row_at_hop other true) (plan_row t count gap size) scan.rows (apart-hop chan other true off) (λ r. refl)
 held-off shape chan t scan (Release other upstream) (Is.Closing count cancelled) off opened differ = other-changed chan (is_row_at_hop other (names_first_hop upstream)) (close_row t count) scan.rows (apart-hop chan other (names_first_hop upstream) off) (λ r. refl)
 held-off shape chan t scan (Arrive packet) (Is.Taken clock eligible) off opened differ = arrival-held chan t packet scan (find (is_row_of packet.chan) scan.rows)
-held-off shape chan t scan (Pour count gap size) (Is.Planned clock) off opened differ = refl
 held-off shape chan t scan Tick reply off opened differ = tick-held shape chan t scan opened differ
+held-off shape chan t scan _ (Is.Planned clock) off opened differ = refl
 held-off shape chan t scan _ _ off opened differ = refl
 
 -- ---- an entry of the channel
@@ -216,8 +216,8 @@ comes-mild shape chan t scan (Deny other) Is.Denied terms off differ is = comes-
 comes-mild shape chan t scan (Submit other count gap size) (Is.Planned clock) terms off differ is = comes-same terms _ _ (ap (find (is_of chan)) (map-change_first-same row_terms (is_row_at_hop other true) (plan_row t count gap size) (λ r. refl) scan.rows)) is
 comes-mild shape chan t scan (Release other upstream) (Is.Closing count cancelled) terms off differ is = comes-closed chan other (names_first_hop upstream) t count scan.rows terms is
 comes-mild shape chan t scan (Arrive packet) (Is.Taken clock eligible) terms off differ is = comes-same terms _ _ (arrival-held chan t packet scan (find (is_row_of packet.chan) scan.rows)) is
-comes-mild shape chan t scan (Pour count gap size) (Is.Planned clock) terms off differ is = Stays is
 comes-mild shape chan t scan Tick reply terms off differ is = comes-tick shape chan t scan terms differ is
+comes-mild shape chan t scan _ (Is.Planned clock) terms off differ is = Stays is
 comes-mild shape chan t scan _ _ terms off differ is = Stays is
 
 -- a submit

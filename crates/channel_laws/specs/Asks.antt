@@ -4,7 +4,7 @@ use Rattle.std.specs.Prelude.{◌≢◌, ℕ, ◌≤◌, List, length}
 use Rattle.net_units.specs.Numbers.{channel_number, level_number}
 use Rattle.net_units.specs.declared.numbers.Level.{Level}
 use Rattle.link_steps.specs.declared.asks.Ask.{Ask}
-use Rattle.link_steps.specs.declared.asks.Ask.TheVariants.{Reserve, Relax, Deny, Submit, Release, Arrive, Tick, Pour}
+use Rattle.link_steps.specs.declared.asks.Ask.TheVariants.{Reserve, Relax, Deny, Submit, Release}
 use Rattle.link_steps.specs.declared.replies.Entry.{Entry}
 use Rattle.link_steps.specs.declared.replies.Reply.{Reply}
 use Rattle.link_steps.specs.declared.shape.LinkShape.{LinkShape}
@@ -31,9 +31,7 @@ IsOff c (Relax chan level up_bound) = channel_number chan ≢ c
 IsOff c (Deny chan) = channel_number chan ≢ c
 IsOff c (Submit chan count gap size) = channel_number chan ≢ c
 IsOff c (Release chan upstream) = channel_number chan ≢ c
-IsOff c (Arrive packet) = Unit {0}
-IsOff c Tick = Unit {0}
-IsOff c (Pour count gap size) = Unit {0}
+IsOff c _ = Unit {0}
 
 -- it neither reserves, relaxes nor denies the channel
 abbrev pub IsMild : ℕ → Ask → Type 0

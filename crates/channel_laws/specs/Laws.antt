@@ -7,16 +7,17 @@ use Rattle.net_units.specs.declared.numbers.Level.{Level}
 use Rattle.net_units.specs.declared.numbers.LinkNo.{LinkNo}
 use Rattle.traffic_contract.specs.Contract.{Traffic}
 use Rattle.link_steps.specs.declared.asks.Ask.{Ask}
-use Rattle.link_steps.specs.declared.asks.Ask.TheVariants.{Reserve, Relax, Deny, Submit, Release, Arrive, Pour}
+use Rattle.link_steps.specs.declared.asks.Ask.TheVariants.{Reserve, Relax, Deny, Submit, Release, Arrive}
 use Rattle.link_steps.specs.declared.asks.Packet.{Packet}
 use Rattle.link_steps.specs.declared.replies.Entry.{Entry}
 use Rattle.link_steps.specs.declared.replies.Phase.TheVariants.{Committed}
-use Rattle.link_steps.specs.declared.replies.Reply.TheVariants.{Offer, Relaxed, Denied, Ticked}
+use Rattle.link_steps.specs.declared.replies.Reply.TheVariants.{Offer, Relaxed, Denied, Planned, Ticked}
 use Rattle.link_steps.specs.declared.replies.Sent.{Sent}
 use Rattle.link_steps.specs.declared.shape.LinkShape.{LinkShape}
 use Rattle.link_steps.specs.declared.replies.Reply.{Reply}
 use Rattle.link_steps.specs.Lists.{Each}
 use Rattle.link_steps.specs.Admissible.{IsAdmissible}
+use Rattle.link_steps.specs.Effects.{PlansBest, effect_of}
 use Rattle.link_steps.specs.Replies.{tick_reply, reply_to}
 use Rattle.link_steps.specs.Reservation.{Reservation, tentative, committed}
 use Rattle.link_steps.specs.Scan.{clock_of, scan_of, names_first_hop}
@@ -75,7 +76,8 @@ pub record EntriesChangeTheirReservation : Type 0 where
 pub record AsksAreAnswered : Type 0 where
   pub submits : (link : Link) (h : List Entry) (chan : ChanNo) (terms : Reservation) (count gap size : ℕ) → held_after link.shape chan h ≡ Some terms → terms.first ≡ true → terms.phase ≡ Committed → IsSendReply (reply_to link h (Submit chan count gap size))
   pub releases : (link : Link) (h : List Entry) (chan : ChanNo) (terms : Reservation) (upstream : Option ℕ) → held_after link.shape chan h ≡ Some terms → terms.first ≡ names_first_hop upstream → terms.phase ≡ Committed → IsReleased (reply_to link h (Release chan upstream))
-  pub pours : (link : Link) (h : List Entry) (count gap size : ℕ) → IsSendReply (reply_to link h (Pour count gap size))
+  -- an ask that plans best-effort packets where it is planned
+  pub best : (link : Link) (h : List Entry) (ask : Ask) (clock count gap size : ℕ) → effect_of (scan_of link.shape h) ask (Planned clock) ≡ PlansBest count gap size → IsSendReply (reply_to link h ask)
   pub arrives : (link : Link) (h : List Entry) (packet : Packet) → IsArriveReply (reply_to link h (Arrive packet))
 
 -- what moves the planned packets of one channel to another counts on

@@ -44,8 +44,8 @@ pub fn entries_change_their_reservation()
 {}
 
 /// Where a channel's reservation is committed, a submit at its first hop is planned, or refused as busy or too big, and a
-/// release of its hop is answered. A pour is planned, or refused as busy or too big. A packet
-/// that arrives is taken, or refused as full or stray.
+/// release of its hop is answered. Best-effort packets are planned, or refused as busy or
+/// too big. A packet that arrives is taken, or refused as full or stray.
 pub fn asks_are_answered()
     ensures { AsksAreAnswered }
 {}
