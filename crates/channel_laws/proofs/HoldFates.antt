@@ -1,6 +1,6 @@
 -- What an entry makes of the reservation of a channel of which so many packets come: it is committed, or it is closing
 -- with a count of at least so many, or it is gone and so many were taken.
-use Rattle.std.proofs.Common.{◌≡◌, ℕ, suc, ◌+◌, ◌≤◌, ◌⊎◌, Bool, true, false, not, List, [], ◌∷◌, ◌++◌, length, map, Option, Some, None, refl, sym, ap, ◌∙◌, subst, inl, inr, arith, append-nil}
+use Rattle.std.proofs.Common.{◌≡◌, ℕ, suc, ◌+◌, ◌≤◌, ◌⊎◌, Bool, true, false, List, [], ◌∷◌, ◌++◌, length, map, Option, Some, None, refl, sym, ap, ◌∙◌, subst, inl, inr, arith, append-nil}
 use Rattle.std.proofs.lemmas.Bool.{cases_Bool, eqb-true, eqb-false, and_parts}
 use Rattle.std.proofs.lemmas.List.Elements.{filter-append}
 use Rattle.std.proofs.lemmas.Option.{same_Some}
@@ -20,7 +20,7 @@ use Rattle.link_steps.specs.Buffer.{has_slot}
 use Rattle.link_steps.specs.Hold.{hold_ended, stays, expires}
 use Rattle.link_steps.specs.Admissible.{MayAnswer}
 use Rattle.link_steps.specs.Lists.{Each, change_first}
-use Rattle.link_steps.specs.Refusals.{first_hop, not_in_phase}
+use Rattle.link_steps.specs.Refusals.{not_in_phase}
 use Rattle.link_steps.specs.Replies.{relax_reply, deny_reply, count_at_release, release_reply, release_to, arrive_reply, arrive_to, reply_at}
 use Rattle.link_steps.specs.Reservation.{Reservation, is_same, is_phase, is_of, closing, tentative}
 use Rattle.link_steps.specs.Rows.{Row, row_terms, new_row, is_for, SourcePacket}
@@ -31,12 +31,13 @@ use Rattle.link_steps.proofs.AdmissionHolds.{rows_after-terms}
 use Rattle.link_steps.proofs.LegalChannels.{DifferInChannel}
 use Rattle.link_steps.proofs.LegalRowFacts.{IsInOrder, source-settled}
 use Rattle.link_steps.proofs.ListFacts.{Each-filter}
-use Rattle.link_steps.proofs.RefusalFacts.{kept-rule, unless-none}
+use Rattle.link_steps.proofs.RefusalFacts.{kept-rule}
 use Rattle.channel_laws.specs.Channels.{is_of_channel, channel_packets, channel_of, IsElsewhere}
 use Rattle.channel_laws.proofs.ChannelRows.{row-of, row-at-hop, others-elsewhere, packet-elsewhere, find-passes, packets-off, tick-packets}
+use Rattle.channel_laws.proofs.SendReplies.{same-hop}
 use Rattle.channel_laws.specs.Reservations.{held_by}
 use Rattle.channel_laws.proofs.TermsAfter.{other-changed, other-without, apart-row, apart-hop, none-held, reserved-other, pushed, arrival-held, held-submitted}
-use Rattle.link_steps.proofs.ReplyFacts.{closing-count}
+use Rattle.link_steps.proofs.ReplyFacts.{closing-count, relax-tells, deny-tells, arrive-tells}
 use Rattle.link_steps.proofs.EffectFacts.{packets-by}
 
 pub data Fate (least count : ℕ) (held : Option Reservation) : Type 0 where
@@ -221,16 +222,13 @@ held-released chan first t count (row ∷ rows) terms held is =
     elim (cases_Bool (is_of chan row.terms)) [
       | inl own ↦
           (let same : row.terms ≡ terms = same_Some row.terms terms (rw own at held) in
-          let hop : is_row_at_hop chan first row ≡ true = rw own (ap (λ k. is_same k.first first) same ∙ ap (λ b. is_same b first) is ∙ same-bool first) in
+          let hop : is_row_at_hop chan first row ≡ true = rw own (ap (λ k. is_same k.first first) same ∙ ap (λ b. is_same b first) is ∙ same-hop first) in
           rw (hop, own) (ap (λ k. Some (closing count k)) same))
       | inr off ↦
           (let rest = held-released chan first t count rows terms (rw off at held) is in
           let hop : is_row_at_hop chan first row ≡ false = rw off refl in
           rw (hop, off) rest)
-    ] where
-      same-bool : (b : Bool) → is_same b b ≡ true
-      same-bool true = refl
-      same-bool false = refl
+    ]
 
 pub record Released (upstream : Option ℕ) (found : Option Row) (count : ℕ) : Type 0 where
   pub row : Row
@@ -247,11 +245,8 @@ released-count t upstream (Some row) count cancelled same =
 -- ---- a relax or a deny changes a tentative row alone
 
 pub relaxed-tent : (t : ℕ) (level : Level) (up_bound clock : ℕ) (held : Option Reservation) (terms : Reservation) → Is.Relaxed clock ≡ relax_reply t level up_bound held → held ≡ Some terms → is_phase terms.phase Tentative ≡ true
-unfolding relax_reply
-relaxed-tent t level up_bound clock None terms same is = cc
-relaxed-tent t level up_bound clock (Some own) terms same is =
-    let rule = kept-rule (not_in_phase Tentative own) _ (Is.Relaxed clock) tt same in
-    ap (λ k. is_phase k.phase Tentative) (sym (same_Some own terms is)) ∙ unless-none (is_phase own.phase Tentative) _ rule.0
+relaxed-tent t level up_bound clock held terms same is =
+    ap (λ phase. is_phase phase Tentative) (relax-tells t terms level up_bound clock (same ∙ ap (relax_reply t level up_bound) is)).phase
 
 pub relaxed-none : (t : ℕ) (level : Level) (up_bound clock : ℕ) (held : Option Reservation) → Is.Relaxed clock ≡ relax_reply t level up_bound held → held ≡ None → ⊥
 unfolding relax_reply
@@ -259,11 +254,7 @@ relaxed-none t level up_bound clock None same is = cc
 relaxed-none t level up_bound clock (Some own) same is = cc
 
 pub denied-tent : (held : Option Reservation) (terms : Reservation) → Is.Denied ≡ deny_reply held → held ≡ Some terms → is_phase terms.phase Tentative ≡ true
-unfolding deny_reply
-denied-tent None terms same is = cc
-denied-tent (Some own) terms same is =
-    let rule = kept-rule (not_in_phase Tentative own) _ Is.Denied tt same in
-    ap (λ k. is_phase k.phase Tentative) (sym (same_Some own terms is)) ∙ unless-none (is_phase own.phase Tentative) _ rule.0
+denied-tent held terms same is = ap (λ phase. is_phase phase Tentative) (deny-tells terms (same ∙ ap deny_reply is))
 
 pub denied-none : (held : Option Reservation) → Is.Denied ≡ deny_reply held → held ≡ None → ⊥
 unfolding deny_reply
@@ -348,11 +339,8 @@ fate-after shape chan t scan _ _ least count more differ is own grows second tel
 -- ---- the packets at the first hop
 
 first-refuses : (bounds : List ℕ) (t : ℕ) (packet : Packet) (terms : Reservation) (taken held e clock eligible : ℕ) → Is.Taken clock eligible ≡ arrive_reply bounds t packet terms taken held e → terms.first ≡ true → ⊥
-unfolding arrive_reply
 first-refuses bounds t packet terms taken held e clock eligible same first =
-    let hop = kept-rule (first_hop terms) _ (Is.Taken clock eligible) tt same in
-    let later = unless-none (not terms.first) _ hop.0 in
-    let clash : false ≡ true = sym (ap not first) ∙ later in cc
+    (let clash : true ≡ false = sym first ∙ (arrive-tells bounds t packet terms taken held e clock eligible same).later in cc)
 
 -- other than by a tick, or where no row is committed, no packet of the channel comes there
 pub first-quiet : (shape : LinkShape) (chan : ChanNo) (t : ℕ) (scan : Scan) (ask : Ask) (reply : Reply) → DifferInChannel scan.rows → Each (IsInOrder shape t) scan.rows → MayAnswer shape t scan ask reply → ((row : Row) → channel_of row ≡ channel_number chan → (test : Row → Bool) → find test scan.rows ≡ Some row → row.terms.first ≡ true) → (ask ≡ Tick → NotCommitted (held_by chan scan.rows))

@@ -20,7 +20,7 @@ use Rattle.link_steps.specs.Split.{Link}
 use Rattle.channel_laws.specs.Reservations.{held_by, IsSendReply, IsReleased}
 
 -- a row of the channel, found by its channel, is found at its hop
-same-hop : (b : Bool) → is_same b b ≡ true
+pub same-hop : (b : Bool) → is_same b b ≡ true
 same-hop true = refl
 same-hop false = refl
 
@@ -70,18 +70,14 @@ of-released P (Is.Closing count cancelled) closing is = closing count cancelled
 of-released P _ closing is = absurd is
 
 -- best-effort packets
-best-replies : (t cap size left : ℕ) → IsSendReply (pour_reply t cap size left)
-unfolding pour_reply
-best-replies t cap size left =
-    elim (cases_Bool (nat_eq left 0)) [
-      | inl free ↦ elim (cases_Bool (nat_le size cap)) [
+pub best-answered : (link : Link) (h : List Entry) (ask : Ask) (clock count gap size : ℕ) → effect_of (scan_of link.shape h) ask (Is.Planned clock) ≡ PlansBest count gap size → IsSendReply (reply_to link h ask)
+unfolding effect_of reply_to reply_at pour_reply
+best-answered link h (Pour many apart large) clock count gap size is =
+    elim (cases_Bool (nat_eq (length (left_at (clock_of h) (scan_of link.shape h).best_plan)) 0)) [
+      | inl free ↦ elim (cases_Bool (nat_le large link.shape.cap)) [
         | inl small ↦ rw (free, small) tt
-        | inr large ↦ rw (free, large) tt
+        | inr wide ↦ rw (free, wide) tt
       ]
       | inr some ↦ rw some tt
     ]
-
-pub best-answered : (link : Link) (h : List Entry) (ask : Ask) (clock count gap size : ℕ) → effect_of (scan_of link.shape h) ask (Is.Planned clock) ≡ PlansBest count gap size → IsSendReply (reply_to link h ask)
-unfolding effect_of reply_to reply_at
-best-answered link h (Pour many apart large) clock count gap size is = best-replies (clock_of h) link.shape.cap large _
 best-answered link h _ clock count gap size is = cc
