@@ -6,7 +6,7 @@ use Rattle.std.specs.Prelude.{filter, find}
 use Rattle.std.specs.Option.{option_map}
 use Rattle.net_units.specs.declared.numbers.ChanNo.{ChanNo}
 use Rattle.link_steps.specs.declared.asks.Ask.{Ask}
-use Rattle.link_steps.specs.declared.asks.Ask.TheVariants.{Reserve, Relax, Deny, Submit, Release, Arrive, Tick, Pour}
+use Rattle.link_steps.specs.declared.asks.Ask.TheVariants.{Reserve, Relax, Deny, Submit, Release, Arrive, Tick}
 use Rattle.link_steps.specs.declared.asks.Packet.{Packet}
 use Rattle.link_steps.specs.declared.replies.Entry.{Entry}
 use Rattle.link_steps.specs.declared.replies.Refusal.TheVariants.{Full}
@@ -50,7 +50,7 @@ own-rows link group t scan (Arrive packet) (Is.Taken clock eligible) is =
     own-arrival link group t packet scan (find (is_row_of packet.chan) scan.rows) is
     ∙ ap (own_arriving t packet (own_rows link group scan.rows)) (sym (own-found link group (is_row_of packet.chan) (λ row. refl) (row-in link group packet.chan true is) scan.rows))
 own-rows link group t scan Tick reply is = cc
-own-rows link group t scan (Pour count gap size) reply is = cc
+own-rows link group t scan _ (Is.Planned clock) is = refl
 own-rows link group t scan _ _ is = refl
 
 -- its reply
@@ -69,8 +69,7 @@ own-reply link group t scan (Release chan upstream) reply splits is other same =
 own-reply link group t scan (Arrive packet) reply splits is other same =
     own-arrives link.shape t scan.packets packet (find (is_row_of packet.chan) scan.rows) reply other same
     ∙ ap (own_arrive t packet) (sym (own-found link group (is_row_of packet.chan) (λ row. refl) (row-in link group packet.chan true is) scan.rows))
-own-reply link group t scan Tick reply splits is other same = cc
-own-reply link group t scan (Pour count gap size) reply splits is other same = cc
+own-reply link group t scan _ reply splits is other same = cc
 
 -- ---- an ask that doesn't concern the group
 
@@ -91,7 +90,7 @@ others-rows link group t scan (Release chan upstream) (Is.Closing count cancelle
     others-changed link group (is_row_at_hop chan (names_first_hop upstream)) (close_row t count) (λ row at. row-in link group chan false is row (hop-of chan (names_first_hop upstream) row at)) (λ row. refl) scan.rows
 others-rows link group t scan (Arrive packet) (Is.Taken clock eligible) is = others-arrival link group t packet scan (find (is_row_of packet.chan) scan.rows) is
 others-rows link group t scan Tick reply is = cc
-others-rows link group t scan (Pour count gap size) (Is.Planned clock) is = refl
+others-rows link group t scan _ (Is.Planned clock) is = refl
 others-rows link group t scan _ _ is = refl
 
 -- ---- a history
@@ -109,14 +108,8 @@ record IsHeard (link : Link) (group : ℕ) (ask : Ask) (t : ℕ) (reply : Reply)
   enters : and_told ask reply told ≡ record { ask = ask; reply = reply } ∷ told
 
 heard : (link : Link) (group : ℕ) (ask : Ask) (t : ℕ) (reply : Reply) (told : List Entry) → is_of_group link group ask ≡ true → IsHeard link group ask t reply told
-heard link group (Reserve chan contract kind delay up_reach first next) t reply told is = record { heard = is; no_tick = refl; enters = refl }
-heard link group (Relax chan level up_bound) t reply told is = record { heard = is; no_tick = refl; enters = refl }
-heard link group (Deny chan) t reply told is = record { heard = is; no_tick = refl; enters = refl }
-heard link group (Submit chan count gap size) t reply told is = record { heard = is; no_tick = refl; enters = refl }
-heard link group (Release chan upstream) t reply told is = record { heard = is; no_tick = refl; enters = refl }
-heard link group (Arrive packet) t reply told is = record { heard = is; no_tick = refl; enters = refl }
 heard link group Tick t reply told is = cc
-heard link group (Pour count gap size) t reply told is = cc
+heard link group _ t reply told is = record { heard = is; no_tick = refl; enters = refl }
 
 -- with an ask of the group
 alone-own : (link : Link) (group : ℕ) (ask : Ask) (reply : Reply) (past : List Entry) (asks : List Ask) → is_split link.split ≡ true → is_of_group link group ask ≡ true → IsLegalAfter link past (record { ask = ask; reply = reply }) → LosesNone link group past (record { ask = ask; reply = reply }) → IsAlone link group past asks → IsAlone link group (record { ask = ask; reply = reply } ∷ past) (ask ∷ asks)
@@ -154,14 +147,8 @@ record IsUnheard (link : Link) (group : ℕ) (ask : Ask) (t : ℕ) : Type 0 wher
   no_tick : clock_with ask t ≡ t
 
 unheard : (link : Link) (group : ℕ) (ask : Ask) (t : ℕ) → concerns link group ask ≡ false → IsUnheard link group ask t
-unheard link group (Reserve chan contract kind delay up_reach first next) t is = record { untold = is; no_tick = refl }
-unheard link group (Relax chan level up_bound) t is = record { untold = is; no_tick = refl }
-unheard link group (Deny chan) t is = record { untold = is; no_tick = refl }
-unheard link group (Submit chan count gap size) t is = record { untold = is; no_tick = refl }
-unheard link group (Release chan upstream) t is = record { untold = is; no_tick = refl }
-unheard link group (Arrive packet) t is = record { untold = is; no_tick = refl }
 unheard link group Tick t is = cc
-unheard link group (Pour count gap size) t is = record { untold = is; no_tick = refl }
+unheard link group _ t is = record { untold = is; no_tick = refl }
 
 alone-others : (link : Link) (group : ℕ) (ask : Ask) (reply : Reply) (past : List Entry) (asks : List Ask) → concerns link group ask ≡ false → IsAlone link group past asks → IsAlone link group (record { ask = ask; reply = reply } ∷ past) asks
 unfolding clock_of scan_of
@@ -175,14 +162,8 @@ alone-others link group ask reply past asks is before =
 
 -- what concerns the group is an ask of it, or a tick
 either : (link : Link) (group : ℕ) (ask : Ask) → concerns link group ask ≡ true → (is_of_group link group ask ≡ true) ⊎ (ask ≡ Tick)
-either link group (Reserve chan contract kind delay up_reach first next) is = inl is
-either link group (Relax chan level up_bound) is = inl is
-either link group (Deny chan) is = inl is
-either link group (Submit chan count gap size) is = inl is
-either link group (Release chan upstream) is = inl is
-either link group (Arrive packet) is = inl is
 either link group Tick is = inr refl
-either link group (Pour count gap size) is = cc
+either link group _ is = inl is
 
 -- so it is of every legal history
 alone : (link : Link) (group : ℕ) (h : List Entry) → is_split link.split ≡ true → IsLegal link h → LosesNothing link group h → IsAlone link group h (asks_of link group h)

@@ -297,7 +297,7 @@ impl QuotaLink {
             Ask::Deny { chan } => self.settle(*chan, ask),
             Ask::Release { chan, .. } => self.settle(*chan, ask),
             Ask::Tick => self.tick(ask),
-            Ask::Submit { .. } | Ask::Arrive { .. } | Ask::Pour { .. } => self.carry(ask),
+            _ => self.carry(ask),
         }
     }
 }
