@@ -21,14 +21,14 @@ use Rattle.call_script.specs.Groups.{have_own_groups, quota_is_there, quotas_fit
 use Rattle.setup_protocol.specs.Hops.{IsHopOf, RequestFits}
 use Rattle.call_script.specs.Parts.{PlanParts, FollowsLink}
 use Rattle.call_script.specs.Plans.{HasTerms, IsPlan}
-use Rattle.call_script.specs.Rules.{have_links, has_link, route_is_there, request_in_range, op_in_range, rounds_in_range, are_in_range, are_few, takes_best_effort, pour_is_taken, pours_are_taken, same_contract, same_ends, may_move, move_is_fit}
+use Rattle.call_script.specs.Rules.{have_links, has_link, route_is_there, request_in_range, op_in_range, rounds_in_range, are_in_range, are_few, takes_best_effort, pour_is_taken, pours_are_taken, same_contract, same_ends, may_move, move_is_fit, packets_in_range}
 use Rattle.call_script.specs.Splits.{entry_link, groups_in}
 use Rattle.call_script.specs.Tasks.{request_of, send_on, task_for, move_for, task_of, with_task, tasks_of, script_of, network_of}
 use Rattle.call_script.specs.declared.entries.CallerEntry.{CallerEntry}
 use Rattle.call_script.specs.declared.entries.LinkEntry.{LinkEntry}
 use Rattle.call_script.specs.declared.entries.RequestEntry.{RequestEntry}
 use Rattle.call_script.specs.declared.operations.Op.{Op}
-use Rattle.call_script.specs.declared.operations.Op.TheVariants.{Open, Send, Close, Pour, Move}
+use Rattle.call_script.specs.declared.operations.Op.TheVariants.{Open, Send, Close, Move}
 use Rattle.call_script.specs.declared.tasks.Task.{Task}
 use Rattle.call_script.specs.declared.tasks.Task.TheVariants.{Sends}
 use Rattle.call_script.proofs.RuleFacts.{both, not-true, each-of, packets-fit, keeps-rules, used-in, moves-in}
@@ -112,10 +112,11 @@ sends-fit parts n count gap size chan plan range (Some request) is =
     let at = comes-from request_of parts.requests n request is in
     send-fits (map (entry_link (groups_in parts)) parts.links) request count gap size (subst (RequestFits (map (entry_link (groups_in parts)) parts.links)) at.is (request-fits parts n at.from plan at.found)) range
 
-pour-fits : (groups : List ℕ) (links : List LinkEntry) (link : LinkNo) (count gap size : ℕ) → takes_best_effort (slice_get links (link_number link)) ≡ true → op_in_range (Pour link count gap size) ≡ true → TaskFitsIf (map (entry_link groups) links) (task_of [] (Pour link count gap size))
+-- best-effort packets are asked for at a link that takes them
+best-fits : (groups : List ℕ) (links : List LinkEntry) (link : LinkNo) (count gap size : ℕ) → takes_best_effort (slice_get links (link_number link)) ≡ true → packets_in_range count gap size ≡ true → TaskFitsIf (map (entry_link groups) links) (Some (Sends link None count gap size))
 unfolding TaskFitsIf
-pour-fits groups links link count gap size taken range = by (slice_get links (link_number link)) refl taken where
-  by : (found : Option LinkEntry) → slice_get links (link_number link) ≡ found → takes_best_effort found ≡ true → TaskFitsIf (map (entry_link groups) links) (task_of [] (Pour link count gap size))
+best-fits groups links link count gap size taken range = by (slice_get links (link_number link)) refl taken where
+  by : (found : Option LinkEntry) → slice_get links (link_number link) ≡ found → takes_best_effort found ≡ true → TaskFitsIf (map (entry_link groups) links) (Some (Sends link None count gap size))
   by None is none = cc
   by (Some entry) is some = record { link = entry_link groups entry; linked = slice_get-map (entry_link groups) links (link_number link) ∙ ap (option_map (entry_link groups)) is; packets = (leb-true 1 entry.shape.best some, packets-fit count gap size range) }
 
@@ -151,12 +152,12 @@ op-fits : (parts : PlanParts) (op : Op) → IsPlan parts → op_in_range op ≡ 
 op-fits parts (Open chan) plan range taken fit = of-request parts _ (channel_number chan) plan (λ request fits. fits) (slice_get (map request_of parts.requests) (channel_number chan)) refl
 op-fits parts (Send chan count gap size) plan range taken fit = sends-fit parts (channel_number chan) count gap size chan plan range (slice_get (map request_of parts.requests) (channel_number chan)) refl
 op-fits parts (Close chan) plan range taken fit = of-request parts _ (channel_number chan) plan (λ request fits. fits) (slice_get (map request_of parts.requests) (channel_number chan)) refl
-op-fits parts (Pour link count gap size) plan range taken fit = pour-fits (groups_in parts) parts.links link count gap size taken range
 op-fits parts (Move old new) plan range taken fit =
     let split = both (may_move parts.links (slice_get parts.requests (channel_number old)) (slice_get parts.requests (channel_number new))) (not (nat_eq (channel_number old) (channel_number new))) fit in
     subst (λ f. TaskFitsIf (map (entry_link (groups_in parts)) parts.links) (move_for f (slice_get (map request_of parts.requests) (channel_number new)))) (sym (slice_get-map request_of parts.requests (channel_number old)))
     (subst (λ f. TaskFitsIf (map (entry_link (groups_in parts)) parts.links) (move_for (option_map request_of (slice_get parts.requests (channel_number old))) f)) (sym (slice_get-map request_of parts.requests (channel_number new)))
     (move-fits parts (channel_number old) (channel_number new) plan (eqb-false (channel_number old) (channel_number new) (not-true (nat_eq (channel_number old) (channel_number new)) split.1)) (slice_get parts.requests (channel_number old)) (slice_get parts.requests (channel_number new)) refl refl split.0))
+op-fits parts _ plan range taken fit = best-fits (groups_in parts) parts.links _ _ _ _ taken range
 
 ops-fit : (parts : PlanParts) (ops : List Op) → IsPlan parts → list_all op_in_range ops ≡ true → list_all (pour_is_taken parts.links) ops ≡ true → list_all (move_is_fit parts.links parts.requests) ops ≡ true → Each (TaskFits (map (entry_link (groups_in parts)) parts.links)) (tasks_of (map request_of parts.requests) ops)
 unfolding tasks_of

@@ -1,13 +1,12 @@
 -- The rules on groups and quotas in their parts, and how they stay as the parts of a plan grow.
-use Rattle.std.proofs.Common.{◌≡◌, ℕ, zero, suc, ◌+◌, ◌-◌, ◌<◌, ◌≤◌, Bool, true, false, not, List, [], ◌∷◌, ◌++◌, length, get_or, refl, sym, ap, ◌∙◌, subst, nat_eq, arith}
+use Rattle.std.proofs.Common.{◌≡◌, ℕ, zero, suc, ◌+◌, ◌-◌, ◌<◌, ◌≤◌, Bool, true, false, List, [], ◌∷◌, ◌++◌, length, get_or, refl, sym, ap, ◌∙◌, subst, arith}
 use Rattle.std.proofs.lemmas.Bool.{and_from, and_parts, le-leb, leb-true}
 use Rattle.std.specs.List.{All, list_all}
-use Rattle.std.specs.Prelude.{◌&&◌, ◌||◌, nat_le}
+use Rattle.std.specs.Prelude.{◌&&◌, nat_le}
 use Rattle.net_units.specs.LevelBounds.{bound_at}
 use Rattle.link_steps.proofs.LegalAdmissible.{whole-fits}
 use Rattle.link_steps.specs.Room.{all_from}
 use Rattle.link_steps.specs.Shape.{blocking_of}
-use Rattle.link_steps.specs.declared.quota.Quota.{Quota}
 use Rattle.link_steps.specs.declared.shape.LinkShape.{LinkShape}
 use Rattle.call_script.specs.Groups.{are_of_version, quotas_have_version, group_has_version, groups_have_version, have_own_groups, groups_have_names, quota_is_there, group_is_there, groups_are_there, quota_in_range, quotas_are_in_range, groups_are_few, level_fits, quotas_fit, quotas_are_fit, KeepGroups}
 use Rattle.call_script.specs.Growing.{add_op, new_caller}

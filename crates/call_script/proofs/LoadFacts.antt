@@ -1,5 +1,5 @@
 -- The load of a script, of operations one after the other, and of the operations of all callers.
-use Rattle.std.proofs.Common.{◌≡◌, Option, Some, None, ℕ, zero, suc, ◌+◌, ◌*◌, ◌≤◌, ◌<◌, Bool, true, List, [], ◌∷◌, ◌++◌, length, drop, set, max, get_or, refl, sym, ap, ◌∙◌, append_assoc, inl, inr, arith}
+use Rattle.std.proofs.Common.{◌≡◌, Some, None, ℕ, ◌+◌, ◌*◌, ◌≤◌, ◌<◌, Bool, true, List, [], ◌∷◌, ◌++◌, length, drop, get_or, refl, sym, ap, ◌∙◌, append_assoc, inl, inr, arith}
 use Rattle.std.proofs.lemmas.Bool.{and_parts, cases_Bool, lt-leb, le-leb, leb-true, leb-false}
 use Rattle.std.proofs.lemmas.List.{drop_all}
 use Rattle.std.proofs.lemmas.Option.{same_Some}
@@ -9,11 +9,9 @@ use Rattle.net_units.specs.Limits.{most_packets}
 use Rattle.call_script.specs.Loads.{within_load}
 use Rattle.call_script.proofs.Walks.{left-at}
 use Rattle.std.proofs.lemmas.List.{append-nil}
-use Rattle.link_steps.proofs.ListFacts.{Each-append}
 use Rattle.link_steps.specs.Lists.{Each}
 use Rattle.net_units.specs.Numbers.{channel_number}
-use Rattle.std.specs.List.{slice_get}
-use Rattle.call_script.specs.Growing.{add_op, new_caller, with_its_op}
+use Rattle.call_script.specs.Growing.{add_op, new_caller}
 use Rattle.call_script.specs.Operations.{attributes_of}
 use Rattle.call_script.specs.Rules.{hops_of, amount_in, load_over, load_of, loads_with, loads_after, ops_load, ops_over, load_in, loads_in}
 use Rattle.call_script.specs.declared.attributes.Way.{Way}

@@ -17,7 +17,7 @@ use Rattle.call_script.specs.declared.attributes.Way.{Way}
 use Rattle.call_script.specs.declared.attributes.Way.TheVariants.{Nowhere, OverRoute, OverLink}
 use Rattle.call_script.specs.declared.entries.RequestEntry.{RequestEntry}
 use Rattle.call_script.specs.declared.operations.Op.{Op}
-use Rattle.call_script.specs.declared.operations.Op.TheVariants.{Open, Send, Close, Pour, Move}
+use Rattle.call_script.specs.declared.operations.Op.TheVariants.{Open, Send, Close, Move}
 use Rattle.call_script.specs.declared.roles.Role.{Role}
 use Rattle.call_script.specs.declared.roles.Role.TheVariants as role
 use Rattle.call_script.specs.declared.tasks.Task.{Task}
@@ -71,13 +71,13 @@ task-holds N P requests holds (Close chan) names = found (slice_get requests (ch
   found : (request : Option Request) → slice_get requests (channel_number chan) ≡ request → TaskIf P (option_map (λ (r : Request). Closes r) request)
   found None is = tt
   found (Some request) is = holds.closes (channel_number chan) request names.uses is
-task-holds N P requests holds (Pour link count gap size) names = holds.pours link count gap size
 task-holds N P requests holds (Move old new) names = found (slice_get requests (channel_number old)) (slice_get requests (channel_number new)) refl refl where
   found : (from to : Option Request) → slice_get requests (channel_number old) ≡ from → slice_get requests (channel_number new) ≡ to
       → TaskIf P (move_for from to)
   found None to was is = tt
   found (Some from) None was is = tt
   found (Some from) (Some to) was is = holds.moves (channel_number old) (channel_number new) from to names.uses names.joins was is
+task-holds N P requests holds _ names = holds.pours _ _ _ _
 
 -- with it what holds of the tasks that follow holds of all
 pub with-task : (P : Task → Type 0) (Q : List Task → Type 0) (task : Option Task) (tasks : List Task) → TaskIf P task
@@ -166,7 +166,6 @@ op-is c (Close chan) apart = elim (cases_Bool (nat_eq (channel_number chan) c)) 
       Closing (ap Some is) (ap Some is) (λ requests. ap (λ (n : ℕ). option_map (λ (r : Request). Closes r) (slice_get requests n)) is))
   | inr other ↦ IsOff (record { opens = tt; uses = eqb-false (channel_number chan) c other; joins = tt })
 ]
-op-is c (Pour link count gap size) apart = IsOff (record { opens = tt; uses = tt; joins = tt })
 op-is c (Move old new) apart = elim (cases_Bool (nat_eq (channel_number old) c)) [
   | inl same ↦ (let is = eqb-true (channel_number old) c same in
       Leaving (channel_number new) (λ also. apart (is ∙ sym also)) (ap Some is) (ap Some is) (ap Some is)
@@ -178,6 +177,7 @@ op-is c (Move old new) apart = elim (cases_Bool (nat_eq (channel_number old) c))
     | inr neither ↦ IsOff (record { opens = tt; uses = eqb-false (channel_number old) c other; joins = eqb-false (channel_number new) c neither })
   ]
 ]
+op-is c _ apart = IsOff (record { opens = tt; uses = tt; joins = tt })
 
 -- ---- the requests that it needs
 
@@ -195,16 +195,11 @@ WayIsThere requests (OverLink link) = Unit {0}
 
 -- its packets go over the hops of one of them
 pub way-there : (requests : List RequestEntry) (op : Op) → HasHops requests op → WayIsThere requests (attributes_of op).way
-way-there requests (Open chan) there = tt
 way-there requests (Send chan count gap size) there = there.0
-way-there requests (Close chan) there = tt
-way-there requests (Pour link count gap size) there = tt
 way-there requests (Move old new) there = there.1
+way-there requests _ there = tt
 
 -- and it leaves one that it uses
 pub leaves-there : (requests : List RequestEntry) (op : Op) → HasHops requests op → IsThere requests (attributes_of op).leaves
-leaves-there requests (Open chan) there = tt
-leaves-there requests (Send chan count gap size) there = tt
-leaves-there requests (Close chan) there = tt
-leaves-there requests (Pour link count gap size) there = tt
 leaves-there requests (Move old new) there = there.0
+leaves-there requests _ there = tt

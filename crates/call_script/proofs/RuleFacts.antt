@@ -1,5 +1,5 @@
 -- A plan that breaks no rule keeps each: what the tests say of its parts.
-use Rattle.std.proofs.Common.{◌≡◌, ℕ, ◌≤◌, Bool, true, false, not, Option, None, List, [], ◌∷◌, refl}
+use Rattle.std.proofs.Common.{◌≡◌, ℕ, ◌≤◌, Bool, true, false, not, Option, None, List, [], ◌∷◌, refl, arith}
 use Rattle.std.proofs.lemmas.Bool.{and_from, leb-true}
 use Rattle.std.specs.List.{list_all}
 use Rattle.std.specs.Prelude.{nat_le, ◌&&◌}
@@ -9,7 +9,9 @@ use Rattle.link_steps.specs.Lists.{Each}
 use Rattle.call_script.specs.Broken.{unless_broken, use_rule_broken, range_rule_broken, name_rule_broken, rule_broken}
 use Rattle.call_script.specs.Groups.{groups_have_version, groups_have_names, groups_are_there, quotas_are_in_range, groups_are_few, quotas_are_fit, KeepGroups}
 use Rattle.call_script.specs.Parts.{PlanParts}
-use Rattle.call_script.specs.Rules.{packets_in_range, have_version, have_links, have_names, route_is_there, pour_is_there, are_opened, all_after, all_apart, are_there, are_in_range, are_few, are_joined, are_unclosed, are_within_load, pours_are_taken, move_is_fit, moves_are_fit}
+use Rattle.call_script.specs.declared.attributes.Amount.{Amount}
+use Rattle.call_script.specs.declared.attributes.Amount.TheVariants.{Nothing, Fresh, Carried}
+use Rattle.call_script.specs.Rules.{amount_in, amount_in_range, packets_in_range, have_version, have_links, have_names, route_is_there, pour_is_there, are_opened, all_after, all_apart, are_there, are_in_range, are_few, are_joined, are_unclosed, are_within_load, pours_are_taken, move_is_fit, moves_are_fit}
 use Rattle.call_script.specs.declared.entries.CallerEntry.{CallerEntry}
 use Rattle.call_script.specs.declared.roles.Role.TheVariants as role
 use Rattle.call_script.proofs.GroupFacts.{groups-in}
@@ -39,6 +41,17 @@ packets-fit count gap size inside =
     let gaps = from-low 1 1048576 gap second.1 in
     let sizes = from-low 1 65536 size first.1 in
     record { count_least = counts.0; count_most = counts.1; gap_least = gaps.0; gap_most = gaps.1; size_least = sizes.0; size_most = sizes.1 }
+
+-- an operation that plans packets of its own plans one at least
+abbrev pub is_fresh : Amount → ℕ
+is_fresh Nothing = 0
+is_fresh (Fresh count gap size) = 1
+is_fresh (Carried chan) = 0
+
+pub fresh-some : (amount : Amount) (loads : List ℕ) → amount_in_range amount ≡ true → is_fresh amount ≤ amount_in loads amount
+fresh-some Nothing loads range = omega arith
+fresh-some (Fresh count gap size) loads range = (packets-fit count gap size range).count_least
+fresh-some (Carried chan) loads range = omega arith
 
 -- ---- the rules
 

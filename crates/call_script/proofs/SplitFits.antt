@@ -1,16 +1,14 @@
 -- The splits of a plan's links fit them.
-use Rattle.std.proofs.Common.{◌≡◌, ◌≢◌, ℕ, zero, suc, ◌+◌, ◌<◌, ◌≤◌, ◌⊎◌, ⊎_elim, inl, inr, Bool, true, false, not, Some, List, [], ◌∷◌, ◌++◌, length, take, get_or, refl, sym, ap, ◌∙◌, subst, append_assoc, nat_eq, arith}
+use Rattle.std.proofs.Common.{◌≡◌, ℕ, zero, suc, ◌+◌, ◌<◌, ◌≤◌, ⊎_elim, Bool, true, false, Some, List, [], ◌∷◌, ◌++◌, length, take, get_or, refl, sym, ap, ◌∙◌, subst, append_assoc, nat_eq, arith}
 use Rattle.std.proofs.lemmas.Bool.{cases_lt, leb-true, and_parts, eqb-false, not-true}
 use Rattle.std.proofs.lemmas.List.{append-nil}
-use Rattle.std.specs.Prelude.{nat_le, ◌&&◌, ◌||◌, Result, Ok, Err, IfOk}
+use Rattle.std.specs.Prelude.{nat_le, ◌||◌, Result, Ok, Err, IfOk}
 use Rattle.std.specs.List.{All, AllPairs, list_all, list_any, slice_get}
-use Rattle.net_units.specs.Limits.{is_within}
 use Rattle.link_steps.proofs.LegalAdmissible.{whole-fits}
 use Rattle.link_steps.specs.Room.{all_from}
 use Rattle.link_steps.proofs.ListParts.{Each-at}
 use Rattle.link_steps.specs.Split.{SplitFits, IsOfGroup, AreOfOtherGroups, AreQuotas, buffer_part}
 use Rattle.link_steps.specs.declared.quota.Quota.{Quota}
-use Rattle.link_steps.specs.declared.shape.LinkShape.{LinkShape}
 use Rattle.traffic_contract.specs.Admission.{total}
 use Rattle.call_script.specs.Groups.{is_of_new_group, have_own_groups, quota_is_there, level_fits, quotas_fit}
 use Rattle.call_script.specs.Parts.{PlanParts}

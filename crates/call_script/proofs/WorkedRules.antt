@@ -19,7 +19,6 @@ use Rattle.call_script.specs.declared.entries.RequestEntry.{RequestEntry}
 use Rattle.call_script.specs.declared.entries.CallerEntry.{CallerEntry}
 use Rattle.call_script.specs.declared.operations.Op.{Op}
 use Rattle.call_script.specs.declared.operations.Op.TheVariants.{Open, Send, Close, Pour, Move}
-use Rattle.call_script.specs.declared.version.Version.{Version}
 use Rattle.call_script.specs.declared.version.Version.TheVariants.{One, Three, Five, Six}
 
 -- the least rule that parts break, with all rules unfolded

@@ -21,7 +21,7 @@ use Rattle.call_script.specs.declared.entries.CallerEntry.{CallerEntry}
 use Rattle.call_script.specs.declared.entries.LinkEntry.{LinkEntry}
 use Rattle.call_script.specs.declared.entries.RequestEntry.{RequestEntry}
 use Rattle.call_script.specs.declared.operations.Op.{Op}
-use Rattle.call_script.specs.declared.operations.Op.TheVariants.{Open, Send, Pour, Move}
+use Rattle.call_script.specs.declared.operations.Op.TheVariants.{Open, Send, Move}
 use Rattle.call_script.specs.declared.roles.Role.TheVariants as role
 use Rattle.call_script.specs.declared.roles.Role.{Role}
 use Rattle.call_script.specs.declared.version.Version.{Version}
@@ -167,7 +167,7 @@ pub record MayFollow (parts : PlanParts) (op : Op) : Type 0 where
   pub unused : is_apart role.Joins role.Uses (last_ops parts.callers) op ≡ true
   pub unjoined : is_apart role.Joins role.Joins (last_ops parts.callers) op ≡ true
 
--- so it is of a send, a pour and a move where this is told
+-- so it is of a send, on a channel or of best-effort packets, and of a move where this is told
 pub record MaySend (parts : PlanParts) (chan : ChanNo) (count gap size : ℕ) : Type 0 where
   pub channel : IsOpenedThere parts chan
   pub unleft : HasNotDone role.Leaves parts chan
@@ -179,7 +179,7 @@ pub record MayPour (parts : PlanParts) (link : LinkNo) (count gap size : ℕ) : 
   pub version : has_best_effort parts.version ≡ true
   pub there : has_link parts.links link ≡ true
   pub range : packets_in_range count gap size ≡ true
-  pub load : IsWithinLoad parts (Pour link count gap size)
+  pub load : load_in parts.requests parts.callers + count ≤ most_packets
   pub taken : takes_best_effort (slice_get parts.links (link_number link)) ≡ true
 
 -- the last caller has opened both requests; it neither closed nor left the old one, and did nothing with the new one since

@@ -5,15 +5,15 @@
 --     on, and moves from version six on
 --   2 there is a link
 --   6 no two links, callers or requests have one name
---   7 a route and a pour go over links that are there; a send, a close and both sides of a move are of requests that the caller
---     has opened above
+--   7 a route and best-effort packets go over links that are there; a send, a close and both sides of a move are of requests
+--     that the caller has opened above
 --   8 numbers are in their ranges
 --   9 there are no more links, callers and requests than may be
 --  12 each hop of a route begins at the node where the one before it ends
 --  13 a send, a close and a move are of a request that wasn't closed above, and a send and a move of one that no move above left
---  14 the packets that are sent or moved, once for each hop that they may cross, and those that are poured are within the limit,
---     and so are the ticks of all links together
---  19 a pour is at a link that takes best-effort packets
+--  14 the packets that are sent or moved, once for each hop that they may cross, and the best-effort ones are within the
+--     limit, and so are the ticks of all links together
+--  19 best-effort packets are sent at a link that takes them
 --  24 a move is between two requests of one contract whose routes begin and end at the same nodes; and no send, close or move
 --     above names the one that is joined
 use Rattle.std.specs.Prelude.{ℕ, ◌+◌, ◌-◌, ◌*◌, Bool, true, false, not, nat_eq, nat_le, nat_lt, ◌&&◌, ◌||◌, if◌then◌else◌, Option, Some, None, is_none, option_map, List, [], ◌∷◌, ◌++◌, length, map, max, set, get_or}

@@ -1,7 +1,6 @@
 -- What a caller asks next follows from its own replies alone. It goes through its tasks in order. The one under way has
 -- the replies since it began; with its last reply the next task begins that takes a step at all.
 use Rattle.std.specs.Prelude.{ℕ, Bool, true, false, not, ◌&&◌, nat_eq, if◌then◌else◌, Option, Some, None, List, [], ◌∷◌, ◌++◌}
-use Rattle.std.specs.List.{slice_get}
 use Rattle.net_units.specs.Numbers.{channel_number}
 use Rattle.net_units.specs.declared.numbers.LinkNo.{LinkNo}
 use Rattle.net_units.specs.declared.numbers.ChanNo.{ChanNo}
@@ -44,7 +43,7 @@ pub record Standing : Type 0 where
 
 -- ---- the task under way
 
--- the ask for packets: a submit of a channel's, a pour of best-effort ones
+-- the ask for packets: a submit of a channel's, or one for best-effort packets
 abbrev pub packets_ask : Option ChanNo → ℕ → ℕ → ℕ → Ask
 packets_ask None count gap size = Pour count gap size
 packets_ask (Some chan) count gap size = Submit chan count gap size
@@ -151,7 +150,7 @@ abbrev pub settled_as : Request → Option Outcome → List Learnt
 settled_as request None = []
 settled_as request (Some outcome) = Settles request.chan outcome ∷ []
 
--- what a send tells, whose submit got these replies; a pour tells nothing
+-- what a send tells, whose submit got these replies; best-effort packets tell nothing
 abbrev pub planned_as : Option ChanNo → ℕ → ℕ → List Reply → List Learnt
 planned_as None gap size replies = []
 planned_as (Some chan) gap size (Planned clock ∷ replies) = PlannedOn chan gap size ∷ []
@@ -229,7 +228,7 @@ refuses_submit (Busy left) = true
 refuses_submit (TooBig size smax) = true
 refuses_submit _ = false
 
--- a submit and a pour are planned, or refused where planned packets are left or theirs are too large
+-- packets are planned, or refused where planned ones are left or they are too large
 abbrev pub answers_submit : Reply → Bool
 answers_submit (Planned clock) = true
 answers_submit (Refused refusal) = refuses_submit refusal

@@ -1,7 +1,6 @@
 //! What a caller has learnt of its channels.
 ghost use Rattle.std.specs.Prelude.{◌≡◌, ◌<◌, [], ◌∷◌, ◌++◌, List, Some, IfOk, length, set};
 ghost use Rattle.net_units.specs.Numbers.{channel_number};
-ghost use Rattle.setup_protocol.specs.Laws.{is_accepted};
 ghost use Rattle.setup_protocol.specs.State.{outcome_of};
 ghost use Rattle.call_script.specs.Channels.{AreTold, IsWithin, channel_in, blank, is_planned};
 ghost use Rattle.call_script.specs.Scripts.{Learnt, MovedTo, PlannedOn, Settles, planned_as};
@@ -63,7 +62,7 @@ impl Channels {
         ensures told { (outcomes : List Learnt) → AreTold self.old.by_number.items outcomes → AreTold self.new.by_number.items (Settles chan (outcome_of verdict.now) ∷ outcomes) }
     {
         let was = self.of(chan);
-        let established = is_accepted(verdict);
+        let established = verdict.is_accepted();
         self.put(
             chan,
             Channel {
@@ -163,13 +162,6 @@ fn blank() -> Channel
         size: 1,
         moved: None,
     }
-}
-
-// Whether a verdict accepts its request.
-fn is_accepted(verdict: &Verdict) -> bool
-    ensures { result ≡ is_accepted (outcome_of verdict.now) }
-{
-    matches!(verdict, Verdict::Accepted { .. })
 }
 
 // Whether a reply plans the packets of its submit.

@@ -1,5 +1,8 @@
 //! The parts of a plan, with their names.
 ghost use Rattle.std.specs.Prelude.{◌≡◌, ◌++◌, ◌∷◌, [], OnErr, OnOk};
+ghost use Rattle.std.specs.List.{slice_get};
+ghost use Rattle.net_units.specs.Numbers.{actor_number};
+ghost use Rattle.call_script.specs.ActorNames.{name_of_actor};
 
 use crate::operations::Ops;
 use crate::quotas::Quotas;
@@ -45,6 +48,16 @@ pub struct CallerEntry {
     pub group: u8,
     /// What it does, in its order.
     pub ops: Ops,
+}
+
+/// The name of an actor in the lines of a schedule: that of the caller at its number, and `plane` where there is none.
+pub fn actor_name(callers: &[CallerEntry], actor: ActorNo) -> &str
+    ensures { result.now ≡ name_of_actor (slice_get callers.now (actor_number actor)) }
+{
+    match callers.get(usize::from(actor.get())) {
+        Some(caller) => caller.name.as_str(),
+        None => "plane",
+    }
 }
 
 /// Adds a request at the end of the list. Out of memory, the list stays as it was.

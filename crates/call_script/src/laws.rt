@@ -2,8 +2,8 @@
 ghost use Rattle.call_script.specs.Plans.{EveryPlanFits, EveryChannelHasOneOwner};
 
 /// The network of every plan fits: it has 1 to 32 links; each request has a contract and goes over the plan's links, each hop
-/// with the bounds and the propagation of its link; the numbers of sends and pours are within the limits of an ask; and
-/// each pour is at a link that takes best-effort packets.
+/// with the bounds and the propagation of its link; the numbers of what is sent are within the limits of an ask; and
+/// best-effort packets are sent at links that take them.
 pub fn every_plan_fits()
     ensures { EveryPlanFits }
 {}

@@ -25,7 +25,7 @@ pub(crate) mod work;
 
 pub use actor::Actor;
 pub use channels::{Channel, Channels};
-pub use entries::{CallerEntry, LinkEntry, RequestEntry, push_request};
+pub use entries::{CallerEntry, LinkEntry, RequestEntry, actor_name, push_request};
 pub use moves::may_move;
 pub use operations::{Op, Ops};
 pub use plan::{BadPlan, Plan};

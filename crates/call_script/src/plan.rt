@@ -25,9 +25,9 @@ pub enum BadPlan {
     /// The least rule that they break, by the number of its cause in the scenario's language: 1 a link's test that isn't
     /// its version's, or a form that its version doesn't have; 2 no link; 6 a name known already, or a second quota of a
     /// group on a link; 7 a link, a request or a group that isn't there; 8 a number out of its range; 9 too many links, groups,
-    /// callers or requests; 12 a route that isn't joined; 13 a request closed or left above; 14 too large a load; 19 a pour at a link
-    /// without best-effort packets; 23 quotas that
-    /// together don't fit their link; 24 a move between requests that don't agree, or to a request in use.
+    /// callers or requests; 12 a route that isn't joined; 13 a request closed or left above; 14 too large a load; 19 best-effort
+    /// packets at a link that takes none; 23 quotas that together don't fit their link; 24 a move between requests that don't
+    /// agree, or to a request in use.
     Broken { rule: u8 },
 }
 

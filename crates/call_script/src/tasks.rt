@@ -7,7 +7,7 @@ use setup_protocol::Request;
 pub enum Task {
     /// Set the request up.
     Opens(Request),
-    /// Ask a link once for packets: to submit those of a channel, at the first hop of its route, or to pour best-effort ones.
+    /// Ask a link once for packets: to submit those of a channel, at the first hop of its route, or best-effort ones.
     Sends {
         link: LinkNo,
         chan: Option<ChanNo>,

@@ -11,7 +11,7 @@ pub enum Version {
     One,
     /// Links compare it in some window up to the bound.
     Two,
-    /// As version two; links may take best-effort packets, and callers may pour them.
+    /// As version two; links may take best-effort packets, and callers may send them.
     Three,
     /// As version three; the route of a request may be found between two nodes.
     Four,

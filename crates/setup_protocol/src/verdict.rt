@@ -1,4 +1,8 @@
 //! What a request comes to.
+ghost use Rattle.std.specs.Prelude.{◌≡◌};
+ghost use Rattle.setup_protocol.specs.Laws.{is_accepted};
+ghost use Rattle.setup_protocol.specs.State.{outcome_of};
+
 use link_steps::Refusal;
 use net_units::Levels;
 use relaxation::EndDenial;
@@ -29,4 +33,13 @@ pub enum Verdict {
     },
     /// The request is denied, and each hop that had offered was asked to give its row back.
     Denied(Deny),
+}
+
+impl Verdict {
+    /// Whether the channel is established.
+    pub fn is_accepted(&self) -> bool
+        ensures { result ≡ is_accepted (outcome_of self.now) }
+    {
+        matches!(self, Verdict::Accepted { .. })
+    }
 }
