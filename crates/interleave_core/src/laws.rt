@@ -43,9 +43,8 @@ pub fn no_flight_is_late()
 {}
 
 /// Where each channel has one owner, each ask of a run gets one of its replies. So no reserve finds a reservation of its
-/// channel, no relax, deny or release is refused, and no submit and no pour but while planned packets are left or since
-/// its packets are too large. That arrivals are taken is said by
-/// `every_run_is_guaranteed`.
+/// channel, no relax, deny or release is refused, and packets are refused only while planned ones are left or since they
+/// are too large. That arrivals are taken is said by `every_run_is_guaranteed`.
 pub fn every_ask_is_answered()
     ensures { EveryAskIsAnswered }
 {}

@@ -8,18 +8,16 @@ use Rattle.std.specs.Prelude.{filter, find}
 use Rattle.net_units.specs.Numbers.{link_number, channel_number, level_number}
 use Rattle.net_units.specs.declared.numbers.ChanNo.{ChanNo}
 use Rattle.link_steps.specs.declared.asks.Ask.{Ask}
-use Rattle.link_steps.specs.declared.asks.Ask.TheVariants.{Reserve, Relax, Deny, Submit, Release, Arrive, Tick, Pour}
-use Rattle.link_steps.specs.declared.asks.Packet.{Packet}
 use Rattle.link_steps.specs.declared.replies.Reply.{Reply}
-use Rattle.link_steps.specs.declared.replies.Reply.TheVariants as Is
 use Rattle.link_steps.specs.declared.shape.LinkShape.{LinkShape}
 use Rattle.link_steps.specs.Hold.{stays}
 use Rattle.link_steps.specs.Lists.{Each}
 use Rattle.link_steps.specs.Reservation.{Reservation, is_of}
 use Rattle.link_steps.specs.Rows.{Row, row_terms}
-use Rattle.link_steps.specs.Scan.{Scan, scan_of, is_row_of, arrived_packet, with_arrival, without_expired, with_sources, with_best, after_tick, after}
+use Rattle.link_steps.specs.Scan.{Scan, scan_of, is_row_of, arrived_packet, without_expired, with_sources, with_best, after_tick, after}
 use Rattle.link_steps.specs.Service.{here_at}
 use Rattle.link_steps.proofs.AdmissionHolds.{find-terms, rows_after-terms}
+use Rattle.link_steps.proofs.EffectFacts.{packets-by}
 use Rattle.link_steps.proofs.ListFacts.{Each-find}
 use Rattle.setup_protocol.specs.declared.request.Request.{Request}
 use Rattle.run_record.specs.declared.done.Done.{Done}
@@ -76,20 +74,12 @@ tick-none-held shape chan t scan none =
     ∙ ap (λ x. channel_packets (channel_number chan) scan.packets ++ x) (sources-elsewhere (channel_number chan) shape.bounds (here_at shape.rate scan.packets t) t (length scan.packets) (filter (stays shape.bounds t) scan.rows) (none-elsewhere chan (filter (stays shape.bounds t) scan.rows) before)).0
     ∙ append-nil _
 
-arrival-none-held : (chan : ChanNo) (t : ℕ) (packet : Packet) (scan : Scan) (found : Option Row) → find (is_row_of packet.chan) scan.rows ≡ found → held_by chan scan.rows ≡ None → channel_packets (channel_number chan) (with_arrival t packet scan found).packets ≡ channel_packets (channel_number chan) scan.packets
-unfolding with_arrival
-arrival-none-held chan t packet scan None is none = refl
-arrival-none-held chan t packet scan (Some row) is none =
-    packets-off (channel_number chan) scan.packets (arrived_packet t (suc (length scan.packets)) packet row) (Each-find (IsElsewhere (channel_number chan)) (is_row_of packet.chan) scan.rows row (none-elsewhere chan scan.rows none) is)
-
 pub none-comes : (shape : LinkShape) (chan : ChanNo) (t : ℕ) (scan : Scan) (ask : Ask) (reply : Reply) → held_by chan (after shape t scan ask reply).rows ≡ None → channel_packets (channel_number chan) (after shape t scan ask reply).packets ≡ channel_packets (channel_number chan) scan.packets
 unfolding after
-none-comes shape chan t scan (Reserve other contract kind delay up_reach first next) (Is.Offer level reach) none = refl
-none-comes shape chan t scan (Relax other level up_bound) (Is.Relaxed clock) none = refl
-none-comes shape chan t scan (Deny other) Is.Denied none = refl
-none-comes shape chan t scan (Submit other count gap size) (Is.Planned clock) none = refl
-none-comes shape chan t scan (Release other upstream) (Is.Closing count cancelled) none = refl
-none-comes shape chan t scan (Arrive packet) (Is.Taken clock eligible) none = arrival-none-held chan t packet scan (find (is_row_of packet.chan) scan.rows) refl (sym (arrival-held chan t packet scan (find (is_row_of packet.chan) scan.rows)) ∙ none)
-none-comes shape chan t scan (Pour count gap size) (Is.Planned clock) none = refl
-none-comes shape chan t scan Tick reply none = tick-none-held shape chan t scan none
-none-comes shape chan t scan _ _ none = refl
+none-comes shape chan t scan ask reply =
+    packets-by (λ a r clock packets. held_by chan (after shape t scan a r).rows ≡ None → channel_packets (channel_number chan) packets ≡ channel_packets (channel_number chan) scan.packets) shape t scan
+    (λ a r none. refl)
+    (λ packet row clock eligible found none. packets-off (channel_number chan) scan.packets (arrived_packet t (suc (length scan.packets)) packet row)
+    (Each-find (IsElsewhere (channel_number chan)) (is_row_of packet.chan) scan.rows row (none-elsewhere chan scan.rows (sym (arrival-held chan t packet scan (find (is_row_of packet.chan) scan.rows)) ∙ none)) found))
+    (λ r none. tick-none-held shape chan t scan none)
+    ask reply

@@ -7,7 +7,7 @@ use Rattle.net_units.specs.Numbers.{channel_number}
 use Rattle.net_units.specs.declared.numbers.ChanNo.{ChanNo}
 use Rattle.traffic_contract.specs.Admission.{total}
 use Rattle.link_steps.specs.declared.asks.Ask.{Ask}
-use Rattle.link_steps.specs.declared.asks.Ask.TheVariants.{Reserve, Relax, Deny, Submit, Release, Arrive, Tick, Pour}
+use Rattle.link_steps.specs.declared.asks.Ask.TheVariants.{Reserve, Relax, Deny, Submit, Release, Arrive, Tick}
 use Rattle.link_steps.specs.declared.asks.Packet.{Packet}
 use Rattle.link_steps.specs.declared.replies.Entry.{Entry}
 use Rattle.link_steps.specs.declared.replies.Phase.{Phase}
@@ -131,8 +131,8 @@ after-whole shape c t n scan (Release chan upstream) (Is.Closing count cancelled
       | inr off ↦ rw off (Each-change_first (IsWhole c n) _ _ scan.rows (λ r is same opened. (let clash : true ≡ false = opened in cc)) each)
     ]
 after-whole shape c t n scan (Arrive packet) (Is.Taken clock e) may differ fresh each = arrival-whole c n t packet scan (find (is_row_of packet.chan) scan.rows) each
-after-whole shape c t n scan (Pour count gap size) (Is.Planned clock) may differ fresh each = each
 after-whole shape c t n scan Tick reply may differ fresh each = sources-whole c n shape.bounds (here_at shape.rate scan.packets t) t (length scan.packets) (filter (stays shape.bounds t) scan.rows) (Each-filter (IsWhole c n) (stays shape.bounds t) scan.rows each)
+after-whole shape c t n scan _ (Is.Planned clock) may differ fresh each = each
 after-whole shape c t n scan _ _ may differ fresh each = each
 
 rows-whole : (shape : LinkShape) (terms : HopTerms) (c : ℕ) (h : List Entry) → IsAdmissible shape h → offers_to c h ≤ 1 → Each (IsWhole c (cancelled_in c h)) (scan_of shape h).rows

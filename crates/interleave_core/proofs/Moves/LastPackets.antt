@@ -16,7 +16,7 @@ use Rattle.channel_move.specs.Stages.{stage_after}
 use Rattle.channel_move.specs.declared.mover.Stage.TheVariants.{Joining, Releasing}
 use Rattle.channel_move.proofs.MoveFacts.{HopAsked, MoveAsks, AsksFirst, AsksSubmit, AsksRest, move-asks}
 use Rattle.link_steps.specs.declared.asks.Ask.{Ask}
-use Rattle.link_steps.specs.declared.asks.Ask.TheVariants.{Submit, Release, Pour}
+use Rattle.link_steps.specs.declared.asks.Ask.TheVariants.{Submit, Release}
 use Rattle.link_steps.specs.declared.replies.Reply.{Reply}
 use Rattle.link_steps.specs.declared.replies.Reply.TheVariants as Is
 use Rattle.link_steps.specs.Lists.{Each}
@@ -28,7 +28,7 @@ use Rattle.channel_laws.specs.Asks.{IsOff}
 use Rattle.channel_laws.specs.Unsent.{IsUnsent}
 use Rattle.call_script.specs.Fits.{NetworkFits, TaskFits}
 use Rattle.call_script.specs.Owners.{IsSendOn, OwnedFully, AllOwned}
-use Rattle.call_script.specs.Scripts.{Learnt, Packets, Standing, is_that, newest, or_before, packets_by, packets_in, last_packets, move_between, task_ask, takes_step, ready, from_step, begun, settled_as, outcome_by, continued, resumed, standing, first_ask, ask_at}
+use Rattle.call_script.specs.Scripts.{Learnt, Packets, Standing, packets_ask, is_that, newest, or_before, packets_by, packets_in, last_packets, move_between, task_ask, takes_step, ready, from_step, begun, settled_as, outcome_by, continued, resumed, standing, first_ask, ask_at}
 use Rattle.call_script.specs.Tasks.{Network}
 use Rattle.call_script.specs.declared.tasks.Task.{Task}
 use Rattle.call_script.specs.declared.tasks.Task.TheVariants.{Opens, Sends, Closes, Moves}
@@ -268,7 +268,7 @@ module _ (network : Network) (request : Request) (owner : ℕ) (first : HopAt ne
       → standing script (replies_to owner past) ≡ record { tasks = task ∷ tasks; replies = replies; outcomes = outcomes } → NamesIs request task → task_ask task replies ≡ Some (done.link, done.ask) → GoesOn past done task tasks replies outcomes
   task-goes past done script (Opens own) tasks replies outcomes run next other by found is names asks = still past done (Opens own) tasks replies outcomes (setup-unsent own replies done.link done.ask (channel_number request.chan) asks) refl
   task-goes past done script (Sends link None count gap size) tasks replies outcomes run next other by found is names asks =
-      still past done (Sends link None count gap size) tasks replies outcomes (subst (IsUnsent (channel_number request.chan)) (once-asked link (Pour count gap size) replies done.link done.ask asks).is tt) refl
+      still past done (Sends link None count gap size) tasks replies outcomes (subst (IsUnsent (channel_number request.chan)) (once-asked link (packets_ask None count gap size) replies done.link done.ask asks).is tt) refl
   task-goes past done script (Sends link (Some chan) count gap size) tasks (reply ∷ replies) outcomes run next other by found is names asks = cc
   task-goes past done script (Sends link (Some chan) count gap size) tasks [] outcomes run next other by found is names asks = send-goes past done link chan count gap size tasks outcomes names asks
   task-goes past done script (Closes own) tasks replies outcomes run next other by found is names asks =

@@ -8,7 +8,7 @@ use Rattle.net_units.specs.declared.numbers.ChanNo.{ChanNo}
 use Rattle.traffic_contract.specs.Admission.{total}
 use Rattle.traffic_contract.proofs.AdmissionFacts.{total-append, total-push}
 use Rattle.link_steps.specs.declared.asks.Ask.{Ask}
-use Rattle.link_steps.specs.declared.asks.Ask.TheVariants.{Reserve, Relax, Deny, Submit, Release, Arrive, Tick, Pour}
+use Rattle.link_steps.specs.declared.asks.Ask.TheVariants.{Reserve, Relax, Deny, Submit, Release, Arrive, Tick}
 use Rattle.link_steps.specs.declared.asks.Packet.{Packet}
 use Rattle.link_steps.specs.declared.replies.Entry.{Entry}
 use Rattle.link_steps.specs.declared.replies.Phase.TheVariants.{Committed}
@@ -222,8 +222,8 @@ after-plans shape c t scan (Submit chan count gap size) (Is.Planned clock) may o
   by (Some row) some = (let grown = submit-plans c t count gap size chan scan row some in let same = from-zero (nat_eq (channel_number chan) c) count in omega (arith, grown, same))
 after-plans shape c t scan (Release chan upstream) (Is.Closing count cancelled) may order later = (let shrunk = release-plans c t count cancelled upstream chan scan.rows later may in let same = from-zero (nat_eq (channel_number chan) c) cancelled in omega (arith, shrunk, same))
 after-plans shape c t scan (Arrive packet) (Is.Taken clock e) may order later = ap (λ n. n + 0) (arrive-plans c t packet scan (find (is_row_of packet.chan) scan.rows))
-after-plans shape c t scan (Pour count gap size) (Is.Planned clock) may order later = refl
 after-plans shape c t scan Tick reply may order later = ap (λ n. n + 0) (tick-plans shape c t scan)
+after-plans shape c t scan _ (Is.Planned clock) may order later = refl
 after-plans shape c t scan _ _ may order later = refl
 
 planned-more : (c n : ℕ) (ask : Ask) (reply : Reply) → planned_with c n ask reply ≡ n + planned_with c 0 ask reply

@@ -39,11 +39,12 @@ use Rattle.net_units.specs.declared.numbers.ChanNo.{ChanNo}
 use Rattle.net_units.specs.declared.numbers.LinkNo.{LinkNo}
 use Rattle.hop_reservation.specs.Offers.{next_levels}
 use Rattle.link_steps.specs.declared.asks.Ask.{Ask}
-use Rattle.link_steps.specs.declared.asks.Ask.TheVariants.{Submit, Release, Arrive, Tick, Pour}
+use Rattle.link_steps.specs.declared.asks.Ask.TheVariants.{Submit, Release, Arrive, Tick}
 use Rattle.link_steps.specs.declared.replies.Entry.{Entry}
 use Rattle.link_steps.specs.declared.replies.Refusal.TheVariants as Why
 use Rattle.link_steps.specs.declared.replies.Reply.{Reply}
 use Rattle.link_steps.specs.declared.replies.Reply.TheVariants as Is
+use Rattle.link_steps.specs.Effects.{effect_of}
 use Rattle.link_steps.specs.Lists.{Each}
 use Rattle.link_steps.specs.Replies.{tick_reply, reply_at, reply_to}
 use Rattle.link_steps.specs.Scan.{clock_of, scan_of}
@@ -59,7 +60,7 @@ use Rattle.call_script.specs.declared.tasks.Task.{Task}
 use Rattle.call_script.specs.declared.tasks.Task.TheVariants.{Opens, Sends, Closes, Moves}
 use Rattle.channel_laws.specs.Reservations.{IsSendReply, IsReleased, IsArriveReply}
 use Rattle.channel_laws.proofs.ArriveReplies.{arrive-told, of-arrive}
-use Rattle.channel_laws.proofs.SendReplies.{pour-answered, of-released}
+use Rattle.channel_laws.proofs.SendReplies.{best-answered, of-released}
 use Rattle.interleave_core.specs.replies.Answers.{IsReserveReply, IsRelaxed, IsTicked, IsReplyOf}
 use Rattle.interleave_core.specs.runs.Laws.{EveryReplyIsExpected, EveryAskIsAnswered}
 use Rattle.interleave_core.specs.runs.Runs.{plane_no, plane_at, IsNext, IsRun}
@@ -121,9 +122,9 @@ sends-expected link chan count gap size rest replies to ask reply same is = reco
 closes-expected : (request : Request) (rest : List Task) (replies : List Reply) (to : LinkNo) (ask : Ask) (reply : Reply) → next_release request.chan request.route replies ≡ Some (to, ask) → IsReleased reply → Expected (Closes request ∷ rest) replies ask reply
 closes-expected request rest replies to ask reply same is = record { is = of-released (λ r. is_closing r ≡ true) reply (λ count cancelled. refl) is; answered = of-hop (λ a. IsReplyOf a reply) (slice_get request.route (length replies)) _ to ask (λ hop. is) same }
 
-pour-reply : (link : Link) (h : List Entry) (ask : Ask) (count gap size : ℕ) → ask ≡ Pour count gap size → IsSendReply (reply_to link h ask)
-unfolding reply_to reply_at
-pour-reply link h ask count gap size same = subst (λ a. IsSendReply (reply_to link h a)) (sym same) (pour-answered (clock_of h) link.shape.cap size _)
+best-reply : (link : Link) (h : List Entry) (ask : Ask) (count gap size : ℕ) → ask ≡ packets_ask None count gap size → IsSendReply (reply_to link h ask)
+unfolding effect_of
+best-reply link h ask count gap size same = best-answered link h ask 0 count gap size (ap (λ a. effect_of (scan_of link.shape h) a (Is.Planned 0)) same)
 
 planned-send : (reply : Reply) → IsPlanned reply → IsSendReply reply
 planned-send (Is.Planned clock) is = tt
@@ -244,7 +245,7 @@ caller-expected network past done tasks step other = by-tasks (stand past done t
         (usual-reply network past done tasks rest (Sends link (Some chan) count gap size) (channel_number chan) step own is (λ off. off (sym own.own.chan))))
     by-first (Sends link None count gap size ∷ rest) is asked =
         sends-expected link None count gap size rest (stand past done tasks).replies done.link done.ask done.reply asked
-        (subst IsSendReply (sym step.next.answered) (pour-reply step.next.link (part_of (link_number done.link) past) done.ask count gap size (sym (once-asked link (Pour count gap size) (stand past done tasks).replies done.link done.ask asked).is)))
+        (subst IsSendReply (sym step.next.answered) (best-reply step.next.link (part_of (link_number done.link) past) done.ask count gap size (sym (once-asked link (packets_ask None count gap size) (stand past done tasks).replies done.link done.ask asked).is)))
     by-first (Closes request ∷ rest) is asked =
         (let own = named-own network past done tasks rest (Closes request) (channel_number request.chan) step is (λ off. off refl) in
         closes-expected request rest (stand past done tasks).replies done.link done.ask done.reply asked (usual-reply network past done tasks rest (Closes request) (channel_number request.chan) step own is (sym own.own.chan)))

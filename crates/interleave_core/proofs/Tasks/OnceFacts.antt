@@ -4,7 +4,7 @@ use Rattle.std.proofs.lemmas.Option.{same_Some}
 use Rattle.net_units.specs.declared.numbers.ChanNo.{ChanNo}
 use Rattle.net_units.specs.declared.numbers.LinkNo.{LinkNo}
 use Rattle.link_steps.specs.declared.asks.Ask.{Ask}
-use Rattle.link_steps.specs.declared.asks.Ask.TheVariants.{Submit, Pour}
+use Rattle.link_steps.specs.declared.asks.Ask.TheVariants.{Submit}
 use Rattle.link_steps.specs.declared.replies.Reply.{Reply}
 use Rattle.call_script.specs.Owners.{PacketsOff}
 use Rattle.call_script.specs.Scripts.{once_next, packets_ask}
@@ -20,10 +20,10 @@ pub once-asked : (link : LinkNo) (own : Ask) (replies : List Reply) (to : LinkNo
 once-asked link own [] to ask same = (let both = same_Some (link, own) (to, ask) same in record { fresh = refl; at = ap (λ pair. pair.0) both; is = ap (λ pair. pair.1) both })
 once-asked link own (reply ∷ replies) to ask same = cc
 
--- what holds of a submit on its channel and of a pour holds of the ask for packets
-pub packets-hold : (P : Ask → Type 0) (chan : Option ChanNo) (count gap size : ℕ) → ((c : ChanNo) → P (Submit c count gap size)) → P (Pour count gap size) → P (packets_ask chan count gap size)
-packets-hold P None count gap size submit pour = pour
-packets-hold P (Some chan) count gap size submit pour = submit chan
+-- what holds of a submit on its channel and of the ask for best-effort packets holds of each ask for packets
+pub packets-hold : (P : Ask → Type 0) (chan : Option ChanNo) (count gap size : ℕ) → ((c : ChanNo) → P (Submit c count gap size)) → P (packets_ask None count gap size) → P (packets_ask chan count gap size)
+packets-hold P None count gap size submit best = best
+packets-hold P (Some chan) count gap size submit best = submit chan
 
 -- packets of another channel, or best-effort ones, aren't of this one
 pub packets-off : (c : ℕ) (chan : Option ChanNo) (count gap size : ℕ) → PacketsOff c chan → IsOff c (packets_ask chan count gap size)

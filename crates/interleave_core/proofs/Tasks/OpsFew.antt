@@ -15,11 +15,12 @@ use Rattle.link_steps.specs.Lists.{Each}
 use Rattle.traffic_contract.specs.Admission.{total}
 use Rattle.call_script.specs.Parts.{PlanParts, openings_in, openings_of, opening_of}
 use Rattle.call_script.specs.Plans.{HasTerms, IsPlan}
-use Rattle.call_script.specs.Rules.{are_within_load, each_after, hops_of, is_after, is_apart, is_in, load_in, loads_after, loads_with, named, op_in_range, ops_load, ops_over}
+use Rattle.call_script.specs.Operations.{attributes_of}
+use Rattle.call_script.specs.Rules.{are_within_load, each_after, hops_of, is_after, is_apart, is_in, load_in, load_of, loads_after, loads_with, named, op_in_range, ops_load, ops_over}
 use Rattle.call_script.specs.declared.entries.CallerEntry.{CallerEntry}
 use Rattle.call_script.specs.declared.entries.RequestEntry.{RequestEntry}
 use Rattle.call_script.specs.declared.operations.Op.{Op}
-use Rattle.call_script.specs.declared.operations.Op.TheVariants.{Open, Send, Close, Pour}
+use Rattle.call_script.specs.declared.operations.Op.TheVariants.{Open, Send, Close, Move}
 use Rattle.call_script.specs.declared.roles.Role.{Role}
 use Rattle.call_script.specs.declared.roles.Role.TheVariants as role
 use Rattle.link_steps.proofs.ListParts.{Each-at}
@@ -27,7 +28,7 @@ use Rattle.call_script.proofs.Growing.{few-in, ranges-in}
 use Rattle.call_script.proofs.LoadFacts.{load-append}
 use Rattle.call_script.proofs.OpeningFacts.{opened-has}
 use Rattle.call_script.proofs.OwnerFacts.{any-later, twice-not}
-use Rattle.call_script.proofs.RuleFacts.{each-of, keeps-rules, moves-in, packets-fit, unclosed-in, used-in}
+use Rattle.call_script.proofs.RuleFacts.{each-of, fresh-some, is_fresh, keeps-rules, moves-in, unclosed-in, used-in}
 use Rattle.std.proofs.Math.Bool.{or-true}
 
 -- ---- operations by their kinds
@@ -41,24 +42,18 @@ abbrev pub channels_in : Role → List Op → List ℕ
 channels_in own [] = []
 channels_in own (op ∷ ops) = listed (named own op) ++ channels_in own ops
 
--- a send and a pour
+-- those that plan packets of their own
 abbrev pub carries : Op → ℕ
-carries (Send chan count gap size) = 1
-carries (Pour link count gap size) = 1
-carries _ = 0
+carries op = is_fresh (attributes_of op).amount
 
--- are of a packet at least
+-- those are of a packet at least
 abbrev pub IsLoaded : List RequestEntry → Op → Type 0
-IsLoaded requests (Send chan count gap size) = 1 ≤ count * hops_of (slice_get requests (channel_number chan))
-IsLoaded requests (Pour link count gap size) = 1 ≤ count
-IsLoaded requests _ = Unit {0}
+IsLoaded requests op = (loads : List ℕ) → carries op ≤ load_of requests loads op
 
 carried-load : (requests : List RequestEntry) (loads : List ℕ) (ops : List Op) → Each (IsLoaded requests) ops → total carries ops ≤ ops_load requests loads ops
 unfolding ops_load
 carried-load requests loads [] each = omega arith
-carried-load requests loads (Send chan count gap size ∷ ops) each = (let rest = carried-load requests (loads_with loads (Send chan count gap size)) ops each.1 in let here = each.0 in omega (arith, rest, here))
-carried-load requests loads (Pour link count gap size ∷ ops) each = (let rest = carried-load requests (loads_with loads (Pour link count gap size)) ops each.1 in let here = each.0 in omega (arith, rest, here))
-carried-load requests loads (op ∷ ops) each = (let rest = carried-load requests (loads_with loads op) ops each.1 in omega (arith, rest))
+carried-load requests loads (op ∷ ops) each = (let rest = carried-load requests (loads_with loads op) ops each.1 in let here = each.0 loads in omega (arith, rest, here))
 
 kinds-most : (n : ℕ) (ops : List Op) → length ops ≤ length (openings_in n ops) + length (channels_in role.Closes ops) + length (channels_in role.Joins ops) + total carries ops
 unfolding openings_in
@@ -187,9 +182,9 @@ module _ (parts : PlanParts) (n : ℕ) (caller : CallerEntry) (plan : IsPlan par
     by : (o : Op) → caller.ops ≡ above ++ o ∷ ops → op_in_range o ≡ true → is_after role.Uses role.Opens above o ≡ true → IsLoaded parts.requests o
     by (Send chan count gap size) at fits after =
         let there = any-later (is_in role.Opens (channel_number chan)) above (Send chan count gap size ∷ ops) (twice-not (list_any (is_in role.Opens (channel_number chan)) above) after) in
-        send-loaded chan count (ap (list_any (is_in role.Opens (channel_number chan))) at ∙ there) (packets-fit count gap size fits).count_least
-    by (Pour link count gap size) at fits after = (packets-fit count gap size fits).count_least
-    by _ at fits after = tt
+        λ loads. send-loaded chan count (ap (list_any (is_in role.Opens (channel_number chan))) at ∙ there) (fresh-some (attributes_of (Send chan count gap size)).amount loads fits)
+    by (Move old new) at fits after = λ loads. omega arith
+    by o at fits after = λ loads. fresh-some (attributes_of o).amount loads fits
 
 -- ---- all of them
 

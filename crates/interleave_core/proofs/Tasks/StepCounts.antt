@@ -1,5 +1,5 @@
 -- How many steps an actor of a plan makes in all: 32 to open a request, 16 to close one, 17 to move one's packets to another and one
--- for each send and pour, and two for each link and round of the plane. So it is at most 1,048,576.
+-- to send packets, and two for each link and round of the plane. So it is at most 1,048,576.
 use Rattle.std.proofs.Common.{◌≡◌, ℕ, eqb, ◌+◌, ◌*◌, ◌-◌, ◌<◌, ◌≤◌, Some, None, Option, List, [], ◌∷◌, length, map, refl, sym, ap, ◌∙◌, subst, inl, inr, arith}
 use Rattle.std.proofs.lemmas.Bool.{cases_Bool, and_parts, eqb-true, eqb-false, leb-true}
 use Rattle.std.proofs.lemmas.List.{length-map}
@@ -24,7 +24,7 @@ use Rattle.call_script.specs.Tasks.{Network, move_for, network_of, request_of, s
 use Rattle.call_script.specs.declared.entries.CallerEntry.{CallerEntry}
 use Rattle.call_script.specs.declared.entries.RequestEntry.{RequestEntry}
 use Rattle.call_script.specs.declared.operations.Op.{Op}
-use Rattle.call_script.specs.declared.operations.Op.TheVariants.{Open, Send, Close, Pour, Move}
+use Rattle.call_script.specs.declared.operations.Op.TheVariants.{Open, Send, Close, Move}
 use Rattle.call_script.specs.declared.roles.Role.TheVariants as role
 use Rattle.call_script.specs.declared.tasks.Task.{Task}
 use Rattle.call_script.specs.declared.tasks.Task.TheVariants.{Opens, Sends, Closes}
@@ -85,11 +85,11 @@ tasks-most requests n (Close chan ∷ ops) short =
     let rest = tasks-most requests n ops short in
     let here = close-most requests (slice_get requests (channel_number chan)) (tasks_of requests ops) (short (channel_number chan)) in
     omega (arith, rest, here)
-tasks-most requests n (Pour link count gap size ∷ ops) short = (let rest = tasks-most requests n ops short in omega (arith, rest))
 tasks-most requests n (Move old new ∷ ops) short =
     let rest = tasks-most requests n ops short in
     let here = move-most (slice_get requests (channel_number old)) (slice_get requests (channel_number new)) (tasks_of requests ops) (short (channel_number old)) in
     omega (arith, rest, here)
+tasks-most requests n (_ ∷ ops) short = (let rest = tasks-most requests n ops short in omega (arith, rest))
 
 -- ---- a caller of a plan
 
@@ -102,7 +102,7 @@ short-routes parts plan k request found =
     short None at is = absurd (let clash : None ≡ Some request = is in cc)
     short (Some entry) at is = subst (λ (r : Request). length r.route ≤ 16) (same_Some (request_of entry) request is) (Each-at HasTerms parts.requests k entry plan.terms at).route.most
 
--- 32,768 to open, 16,384 to close, 17,408 to move, and 262,144 to send and pour
+-- 32,768 to open, 16,384 to close, 17,408 to move, and 262,144 to send
 caller-steps : (parts : PlanParts) (n : ℕ) (caller : CallerEntry) → IsPlan parts → slice_get parts.callers n ≡ Some caller → most_over (script_of (map request_of parts.requests) caller) ≤ most_steps
 caller-steps parts n caller plan found =
     let few = kinds-few parts n caller plan found in

@@ -1,9 +1,9 @@
 -- Which replies an ask gets in a run. A setup's asks are never refused but as a reserve is: for its packets, its level or its
--- buffer. A submit and a pour are planned, or refused while planned packets are left or since theirs are too large. A
+-- buffer. An ask for packets is planned, or refused while planned packets are left or since its own are too large. A
 -- release is answered. A packet that arrives is taken, or refused as stray or as finding no slot.
 use Rattle.std.specs.Prelude.{◌≡◌, true}
 use Rattle.link_steps.specs.declared.asks.Ask.{Ask}
-use Rattle.link_steps.specs.declared.asks.Ask.TheVariants.{Reserve, Relax, Deny, Submit, Release, Arrive, Tick, Pour}
+use Rattle.link_steps.specs.declared.asks.Ask.TheVariants.{Reserve, Relax, Deny, Release, Arrive, Tick}
 use Rattle.link_steps.specs.declared.replies.Reply.{Reply}
 use Rattle.link_steps.specs.declared.replies.Reply.TheVariants.{Offer, Relaxed, Denied, Ticked, Refused}
 use Rattle.setup_protocol.specs.Setup.{is_reserve_refusal}
@@ -22,13 +22,12 @@ abbrev pub IsTicked : Reply → Type 0
 IsTicked (Ticked clock full sent best_sent best_lost) = Unit {0}
 IsTicked _ = ⊥
 
--- the ask gets one of its replies
+-- the ask gets one of its replies: the last clause is of the asks for packets
 abbrev pub IsReplyOf : Ask → Reply → Type 0
 IsReplyOf (Reserve chan contract kind delay up_reach first next) reply = IsReserveReply reply
 IsReplyOf (Relax chan level up_bound) reply = IsRelaxed reply
 IsReplyOf (Deny chan) reply = reply ≡ Denied
-IsReplyOf (Submit chan count gap size) reply = IsSendReply reply
 IsReplyOf (Release chan upstream) reply = IsReleased reply
 IsReplyOf (Arrive packet) reply = IsArriveReply reply
 IsReplyOf Tick reply = IsTicked reply
-IsReplyOf (Pour count gap size) reply = IsSendReply reply
+IsReplyOf _ reply = IsSendReply reply
