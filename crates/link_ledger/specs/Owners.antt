@@ -7,7 +7,7 @@ use Rattle.net_units.specs.declared.numbers.ChanNo.{ChanNo}
 use Rattle.net_units.specs.declared.numbers.LinkNo.{LinkNo}
 use Rattle.atomic_table.specs.Seated.{TableId}
 use Rattle.link_steps.specs.declared.asks.Ask.{Ask}
-use Rattle.link_steps.specs.declared.asks.Ask.TheVariants.{Reserve, Relax, Deny, Submit, Release, Arrive, Tick, Pour}
+use Rattle.link_steps.specs.declared.asks.Ask.TheVariants.{Reserve, Relax, Deny, Submit, Release}
 
 -- no table of stamps
 abbrev pub no_table : TableId
@@ -24,9 +24,7 @@ OwnsAsk owners actor (Relax chan level up_bound) = IsOwner owners actor chan
 OwnsAsk owners actor (Deny chan) = IsOwner owners actor chan
 OwnsAsk owners actor (Submit chan count gap size) = IsOwner owners actor chan
 OwnsAsk owners actor (Release chan upstream) = IsOwner owners actor chan
-OwnsAsk owners actor (Arrive packet) = Unit {0}
-OwnsAsk owners actor Tick = Unit {0}
-OwnsAsk owners actor (Pour count gap size) = Unit {0}
+OwnsAsk owners actor _ = Unit {0}
 
 abbrev pub IsBelow : ℕ → Option LinkNo → Type 0
 IsBelow links None = Unit {0}
@@ -35,10 +33,4 @@ IsBelow links (Some next) = link_number next < links
 -- a reserve's next link is one of the network's
 abbrev pub NextBelow : ℕ → Ask → Type 0
 NextBelow links (Reserve chan contract kind delay up_reach first next) = IsBelow links next
-NextBelow links (Relax chan level up_bound) = Unit {0}
-NextBelow links (Deny chan) = Unit {0}
-NextBelow links (Submit chan count gap size) = Unit {0}
-NextBelow links (Release chan upstream) = Unit {0}
-NextBelow links (Arrive packet) = Unit {0}
-NextBelow links Tick = Unit {0}
-NextBelow links (Pour count gap size) = Unit {0}
+NextBelow links _ = Unit {0}

@@ -20,7 +20,7 @@ use Rattle.link_steps.specs.Reservation.{Reservation, is_phase, tentative, commi
 use Rattle.link_steps.specs.Scan.{Scan, clock_of, scan_of, after}
 use Rattle.link_steps.specs.Split.{Link, SplitFits}
 use Rattle.link_steps.specs.declared.asks.Ask.{Ask}
-use Rattle.link_steps.specs.declared.asks.Ask.TheVariants.{Reserve, Relax, Deny, Submit, Release, Arrive, Tick, Pour}
+use Rattle.link_steps.specs.declared.asks.Ask.TheVariants.{Reserve, Relax, Deny, Submit, Release}
 use Rattle.link_steps.specs.declared.replies.Entry.{Entry as Done}
 use Rattle.link_steps.specs.declared.replies.Phase.TheVariants.{Closing}
 use Rattle.link_steps.specs.declared.replies.Reply.{Reply}
@@ -124,9 +124,7 @@ module _ (shape : LinkShape) (chan : ChanNo) (t : ℕ) (scan : Scan) (differ : D
   held-next hold (Release chan' upstream) reply is =
       cond_both (eqb (channel_number chan') c) Untold hold (λ h. IsHeld h (later (Release chan' upstream) reply)) (λ on. tt) (λ off. held-other hold (Release chan' upstream) reply (eqb-false (channel_number chan') c off) is)
   held-next hold (Submit chan' count gap size) reply is = subst (IsHeld hold) (sym (held-submitted shape chan chan' t scan count gap size reply)) is
-  held-next hold (Arrive packet) reply is = held-other hold (Arrive packet) reply tt is
-  held-next hold Tick reply is = held-other hold Tick reply tt is
-  held-next hold (Pour count gap size) reply is = held-other hold (Pour count gap size) reply tt is
+  held-next hold ask reply is = held-other hold ask reply tt is
 
 -- ---- entries of others
 

@@ -6,7 +6,7 @@ use Rattle.net_units.specs.Numbers.{channel_number}
 use Rattle.net_units.specs.declared.numbers.Level.{Level}
 use Rattle.link_steps.specs.Reservation.{Reservation, is_phase, tentative, committed}
 use Rattle.link_steps.specs.declared.asks.Ask.{Ask}
-use Rattle.link_steps.specs.declared.asks.Ask.TheVariants.{Reserve, Relax, Deny, Submit, Release, Arrive, Tick, Pour}
+use Rattle.link_steps.specs.declared.asks.Ask.TheVariants.{Reserve, Relax, Deny, Release}
 use Rattle.link_steps.specs.declared.replies.Phase.TheVariants.{Closing}
 use Rattle.link_steps.specs.declared.replies.Reply.{Reply}
 use Rattle.link_steps.specs.declared.replies.Reply.TheVariants.{Offer, Relaxed, Denied, Refused}
@@ -55,11 +55,8 @@ abbrev pub hold_with : ℕ → Hold → Ask → Reply → Hold
 hold_with c hold (Reserve chan contract kind delay up_reach first next) reply = if channel_number chan == c then reserved hold (λ level reach. tentative chan contract kind first next up_reach level reach) reply else hold
 hold_with c hold (Relax chan level up_bound) reply = if channel_number chan == c then hold_relaxed hold (committed level up_bound) reply else hold
 hold_with c hold (Deny chan) reply = if channel_number chan == c then denied hold reply else hold
-hold_with c hold (Submit chan count gap size) reply = hold
 hold_with c hold (Release chan upstream) reply = if channel_number chan == c then Untold else hold
-hold_with c hold (Arrive packet) reply = hold
-hold_with c hold Tick reply = hold
-hold_with c hold (Pour count gap size) reply = hold
+hold_with c hold _ reply = hold
 
 unfoldable pub hold_from : ℕ → Hold → List OwnEntry → Hold
 hold_from c hold [] = hold

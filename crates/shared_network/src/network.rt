@@ -102,9 +102,9 @@ impl<L: LinkStep + Send, H: Home> Network<L, H> {
         self.links[usize::from(link.get())].step(rt, &self.stamps, pass, gate, ask)
     }
 
-    /// Sends packets at a link of the network: of a channel that the pass's actor owns, by a submit, or best-effort ones, by a
-    /// pour. It is one ask, whose reply is the answer. An established channel stays so, and so does one that no entry names, if
-    /// the ask doesn't (`unopened`). Packets are planned at the first hop of such a channel only where its contract allows their
+    /// Sends packets at a link of the network: of a channel that the pass's actor owns, by a submit, or best-effort ones. It
+    /// is one ask, whose reply is the answer. An established channel stays so, and so does one that no entry names, if the ask
+    /// doesn't (`unopened`). Packets are planned at the first hop of such a channel only where its contract allows their
     /// size (`small`). It may wait for the link. After want of memory the pass is spent, and the link's journal may have the
     /// entry.
     ///
