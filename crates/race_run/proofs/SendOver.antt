@@ -1,4 +1,4 @@
--- A send and a pour, from what the submit promises: the caller is at its next operation.
+-- A send, on a channel or of best-effort packets, from what the submit promises: the caller is at its next operation.
 use Rattle.std.proofs.Common.{◌≡◌, ℕ, ◌+◌, ◌<◌, ◌≤◌, true, false, List, [], ◌∷◌, ◌++◌, map, length, Option, Some, None, refl, sym, ap, ◌∙◌, subst, inl, inr, arith}
 use Rattle.std.proofs.lemmas.Option.{same_Some, slice_get-map, slice_get_cases, slice_get_within}
 use Rattle.std.specs.List.{slice_get}
@@ -9,7 +9,7 @@ use Rattle.net_units.specs.declared.numbers.ChanNo.{ChanNo}
 use Rattle.hop_reservation.specs.declared.route.Hop.{Hop}
 use Rattle.link_steps.specs.Legal.{AskFits}
 use Rattle.link_steps.specs.Split.{Link}
-use Rattle.link_steps.specs.declared.asks.Ask.TheVariants.{Submit, Pour as PourAsk}
+use Rattle.link_steps.specs.declared.asks.Ask.TheVariants.{Submit}
 use Rattle.link_steps.specs.declared.replies.Reply.{Reply}
 use Rattle.channel_laws.specs.Asks.{IsOff}
 use Rattle.shared_network.specs.Added.{Adds, Asked}
@@ -26,10 +26,10 @@ use Rattle.setup_protocol.specs.Hops.{IsHopOf}
 use Rattle.call_script.specs.Fits.{SendFits}
 use Rattle.call_script.specs.Parts.{PlanParts}
 use Rattle.call_script.specs.Plans.{IsPlan}
-use Rattle.call_script.specs.Scripts.{Learnt, planned_as, task_ask}
+use Rattle.call_script.specs.Scripts.{Learnt, packets_ask, planned_as, task_ask}
 use Rattle.call_script.specs.Tasks.{network_of, request_of, send_on, task_for}
 use Rattle.call_script.specs.declared.entries.RequestEntry.{RequestEntry}
-use Rattle.call_script.specs.declared.operations.Op.TheVariants.{Send, Pour}
+use Rattle.call_script.specs.declared.operations.Op.TheVariants.{Send}
 use Rattle.call_script.specs.declared.tasks.Task.{Task}
 use Rattle.call_script.specs.declared.tasks.Task.TheVariants.{Opens, Sends}
 use Rattle.interleave_core.proofs.Replies.RunCloses.{planned-established}
@@ -119,29 +119,25 @@ send-over parts caller place chan count gap size entry hop reply pass pass' chan
       within : (link : LinkNo) (request : Request) (count gap size clock : ℕ) (reply : Reply) (own : List OwnEntry) → reply ≡ Is.Planned clock → KeepsContract link (Submit request.chan count gap size) reply own → (hop : Hop) → slice_get request.route 0 ≡ Some hop → IsEstablished request own → hop.link ≡ link → size ≤ request.contract.smax
       within link request count gap size clock reply own planned small hop first live on = subst (λ r. KeepsContract link (Submit request.chan count gap size) r own) planned small request.route request.contract hop first on live
 
--- ---- pouring
+-- ---- sending best-effort packets
 
-pour-at : (parts : PlanParts) (caller place : ℕ) (link : LinkNo) (count gap size : ℕ) (pass : Token) (channels : List Channel) → CallerIsAt parts caller place pass channels → HasOp parts caller place (Pour link count gap size) → HereAt parts caller place (Sends link None count gap size) pass channels
-pour-at parts caller place link count gap size pass channels at has = here-with parts caller place (Pour link count gap size) (Sends link None count gap size) pass channels at has refl
-
-pub pour-there : (parts : PlanParts) (links : List Link) (owners : List ActorNo) (caller place : ℕ) (link : LinkNo) (count gap size : ℕ) (pass : Token) (channels : List Channel) → IsPlan parts → IsNetworkOf parts links owners → CallerIsAt parts caller place pass channels → HasOp parts caller place (Pour link count gap size) → link_number link < length links
-pour-there parts links owners caller place link count gap size pass channels plan network at has =
-    let fits : SendFits (network_of parts).links link None count gap size = task-fits parts caller place (Sends link None count gap size) pass channels plan (pour-at parts caller place link count gap size pass channels at has) in
+pub best-there : (parts : PlanParts) (links : List Link) (owners : List ActorNo) (caller place : ℕ) (link : LinkNo) (count gap size : ℕ) (pass : Token) (channels : List Channel) → IsPlan parts → IsNetworkOf parts links owners → HereAt parts caller place (Sends link None count gap size) pass channels → link_number link < length links
+best-there parts links owners caller place link count gap size pass channels plan network here =
+    let fits : SendFits (network_of parts).links link None count gap size = task-fits parts caller place (Sends link None count gap size) pass channels plan here in
     subst (λ (ls : List Link). link_number link < length ls) (sym network.links_are) (slice_get_within (network_of parts).links (link_number link) fits.link fits.linked)
 
-pub pour-fits : (parts : PlanParts) (links : List Link) (owners : List ActorNo) (caller place : ℕ) (link : LinkNo) (count gap size : ℕ) (pass : Token) (channels : List Channel) → IsPlan parts → IsNetworkOf parts links owners → CallerIsAt parts caller place pass channels → HasOp parts caller place (Pour link count gap size) → FitsAt links (link_number link) (PourAsk count gap size)
-pour-fits parts links owners caller place link count gap size pass channels plan network at has =
-    let fits : SendFits (network_of parts).links link None count gap size = task-fits parts caller place (Sends link None count gap size) pass channels plan (pour-at parts caller place link count gap size pass channels at has) in
+pub best-fits : (parts : PlanParts) (links : List Link) (owners : List ActorNo) (caller place : ℕ) (link : LinkNo) (count gap size : ℕ) (pass : Token) (channels : List Channel) → IsPlan parts → IsNetworkOf parts links owners → HereAt parts caller place (Sends link None count gap size) pass channels → FitsAt links (link_number link) (packets_ask None count gap size)
+best-fits parts links owners caller place link count gap size pass channels plan network here =
+    let fits : SendFits (network_of parts).links link None count gap size = task-fits parts caller place (Sends link None count gap size) pass channels plan here in
     λ found there. (let same : fits.link ≡ found = same_Some fits.link found (sym fits.linked ∙ ap (λ (ls : List Link). slice_get ls (link_number link)) (sym network.links_are) ∙ there) in
-    subst (λ (l : Link). AskFits l.shape (PourAsk count gap size)) same fits.packets)
+    subst (λ (l : Link). AskFits l.shape (packets_ask None count gap size)) same fits.packets)
 
-pub pour-over : (parts : PlanParts) (caller place : ℕ) (link : LinkNo) (count gap size : ℕ) (reply : Reply) (pass pass' : Token) (channels : List Channel) → CallerIsAt parts caller place pass channels → HasOp parts caller place (Pour link count gap size)
-    → pass'.actor ≡ pass.actor → Adds pass pass' (record { link = link; ask = PourAsk count gap size; reply = reply } ∷ [])
-    → ((request : Request) → IsEstablished request pass.own → IsEstablished request pass'.own) → ((c : ChanNo) → IsOff (channel_number c) (PourAsk count gap size) → HasNone c pass.own → HasNone c pass'.own) → CallerIsAt parts caller (place + 1) pass' channels
-pour-over parts caller place link count gap size reply pass pass' channels at has by made established unopened =
-    let h = pour-at parts caller place link count gap size pass channels at has in
+pub best-over : (parts : PlanParts) (caller place : ℕ) (link : LinkNo) (count gap size : ℕ) (reply : Reply) (pass pass' : Token) (channels : List Channel) → HereAt parts caller place (Sends link None count gap size) pass channels
+    → pass'.actor ≡ pass.actor → Adds pass pass' (record { link = link; ask = packets_ask None count gap size; reply = reply } ∷ [])
+    → ((request : Request) → IsEstablished request pass.own → IsEstablished request pass'.own) → ((c : ChanNo) → IsOff (channel_number c) (packets_ask None count gap size) → HasNone c pass.own → HasNone c pass'.own) → CallerIsAt parts caller (place + 1) pass' channels
+best-over parts caller place link count gap size reply pass pass' channels h by made established unopened =
     let task = Sends link None count gap size in
-    let one : Asked = record { link = link; ask = PourAsk count gap size; reply = reply } in
+    let one : Asked = record { link = link; ask = packets_ask None count gap size; reply = reply } in
     let none : task_ask task (map reply_in made.entries) ≡ None = ap (task_ask task) (one-reply made.entries one made.are) in
     h.next pass' channels by refl
     (between-made (network_of parts) h.front task task h.rest pass pass' channels channels made.entries h.between h.tasks by made.own refl refl (one-follows (task_ask task) made.entries one made.are refl) none (one-some made.entries one made.are) (record {

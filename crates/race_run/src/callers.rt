@@ -15,7 +15,7 @@ use std::sync::Wait;
 
 /// Makes the operation of a caller at a place of its script, from 0 on, with its pass: an open sets its channel up, a send and a
 /// close of a channel that is established send and tear it down, a move between two of these moves what is planned on the one
-/// to the other, and those of other channels make no step; a pour sends best-effort packets. `at` is the caller's number and
+/// to the other, and those of other channels make no step; best-effort packets are sent over a link. `at` is the caller's number and
 /// the place.
 ///
 /// The network's links are the plan's, and its owners the callers of the plan's requests (`network`). The pass has made the
@@ -60,7 +60,7 @@ pub(crate) fn make_op<L: LinkStep + Send, H: Home, W: Wait, G: Gate>(
             size,
         } => {
             let packets = (link, count, gap, size);
-            pour(rt, network, plan, gate, at, packets, pass, channels)
+            send_best_effort(rt, network, plan, gate, at, packets, pass, channels)
         }
         Op::Move { old, new } => {
             move_packets(rt, network, plan, gate, at, (old, new), pass, channels)
@@ -175,7 +175,7 @@ fn close_channel<L: LinkStep + Send, H: Home, W: Wait, G: Gate>(
 }
 
 // Sends best-effort packets over a link.
-fn pour<L: LinkStep + Send, H: Home, W: Wait, G: Gate>(
+fn send_best_effort<L: LinkStep + Send, H: Home, W: Wait, G: Gate>(
     rt: &W,
     network: &Network<L, H>,
     plan: &Plan,

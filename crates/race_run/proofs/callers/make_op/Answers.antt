@@ -11,8 +11,8 @@ send_on-requires-clause-few g c κs within = stamps-left c.args.plan.now c.args.
 pub close_channel-requires-clause-few : goal.close_channel-requires-clause-few
 close_channel-requires-clause-few g c κs within = stamps-left c.args.plan.now c.args.at.0 c.args.at.1 (stamps_drawn c.args.pass.now) c.callers.ensures.valid c.requires.left c.requires.few
 
-pub pour-requires-clause-few : goal.pour-requires-clause-few
-pour-requires-clause-few g c κs within = stamps-left c.args.plan.now c.args.at.0 c.args.at.1 (stamps_drawn c.args.pass.now) c.callers.ensures.valid c.requires.left c.requires.few
+pub send_best_effort-requires-clause-few : goal.send_best_effort-requires-clause-few
+send_best_effort-requires-clause-few g c κs within = stamps-left c.args.plan.now c.args.at.0 c.args.at.1 (stamps_drawn c.args.pass.now) c.callers.ensures.valid c.requires.left c.requires.few
 
 pub move_packets-requires-clause-few : goal.move_packets-requires-clause-few
 move_packets-requires-clause-few g c κs within = stamps-left c.args.plan.now c.args.at.0 c.args.at.1 (stamps_drawn c.args.pass.now) c.callers.ensures.valid c.requires.left c.requires.few
