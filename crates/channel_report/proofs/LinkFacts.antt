@@ -1,12 +1,11 @@
 -- The counts of a link after one entry more, and how large they are.
-use Rattle.std.proofs.Common.{◌≡◌, ℕ, ◌+◌, ◌^◌, ◌<◌, ◌≤◌, Bool, true, false, Some, None, List, [], ◌∷◌, length, refl, ap, ◌∙◌, arith}
+use Rattle.std.proofs.Common.{◌≡◌, ℕ, ◌+◌, ◌^◌, ◌<◌, ◌≤◌, Bool, true, false, Some, List, [], ◌∷◌, length, refl, ap, ◌∙◌, arith}
 use Rattle.link_steps.specs.declared.asks.Ask.{Ask}
-use Rattle.link_steps.specs.declared.asks.Ask.TheVariants.{Reserve, Relax, Deny, Submit, Release, Arrive, Tick, Pour}
 use Rattle.link_steps.specs.declared.replies.Entry.{Entry}
 use Rattle.link_steps.specs.declared.replies.Reply.{Reply}
 use Rattle.link_steps.specs.declared.replies.Reply.TheVariants as Is
 use Rattle.link_steps.specs.Scan.{clock_of, clock_with}
-use Rattle.channel_report.specs.Links.{one_if, sent_by, dropped_by, best_sent_by, best_lost_by, pours_refused_by, total_in}
+use Rattle.channel_report.specs.Links.{one_if, asks_best, sent_by, dropped_by, best_sent_by, best_lost_by, pours_refused_by, total_in}
 use Rattle.channel_report.specs.Tallies.{IsTally}
 use Rattle.channel_report.specs.declared.link_tally.LinkTally.{LinkTally}
 use Rattle.link_steps.proofs.ClockFacts.{clock_of-most}
@@ -22,54 +21,19 @@ one-most false = omega arith
 
 some-most : (reply : Reply) → sent_by reply ≤ 1
 some-most (Is.Ticked clock full (Some sent) best_sent best_lost) = omega arith
-some-most (Is.Ticked clock full None best_sent best_lost) = omega arith
-some-most (Is.Offer level reach) = omega arith
-some-most (Is.Relaxed clock) = omega arith
-some-most Is.Denied = omega arith
-some-most (Is.Planned clock) = omega arith
-some-most (Is.Closing count cancelled) = omega arith
-some-most (Is.Taken clock eligible) = omega arith
-some-most (Is.Refused refusal) = omega arith
+some-most _ = omega arith
 
 best-sent-most : (reply : Reply) → best_sent_by reply ≤ 1
 best-sent-most (Is.Ticked clock full sent best_sent best_lost) = one-most best_sent
-best-sent-most (Is.Offer level reach) = omega arith
-best-sent-most (Is.Relaxed clock) = omega arith
-best-sent-most Is.Denied = omega arith
-best-sent-most (Is.Planned clock) = omega arith
-best-sent-most (Is.Closing count cancelled) = omega arith
-best-sent-most (Is.Taken clock eligible) = omega arith
-best-sent-most (Is.Refused refusal) = omega arith
+best-sent-most _ = omega arith
 
 best-lost-most : (reply : Reply) → best_lost_by reply ≤ 1
 best-lost-most (Is.Ticked clock full sent best_sent best_lost) = one-most best_lost
-best-lost-most (Is.Offer level reach) = omega arith
-best-lost-most (Is.Relaxed clock) = omega arith
-best-lost-most Is.Denied = omega arith
-best-lost-most (Is.Planned clock) = omega arith
-best-lost-most (Is.Closing count cancelled) = omega arith
-best-lost-most (Is.Taken clock eligible) = omega arith
-best-lost-most (Is.Refused refusal) = omega arith
+best-lost-most _ = omega arith
 
-refused-most : (reply : Reply) (count gap size : ℕ) → pours_refused_by (Pour count gap size) reply ≤ 1
-refused-most (Is.Refused refusal) count gap size = omega arith
-refused-most (Is.Ticked clock full sent best_sent best_lost) count gap size = omega arith
-refused-most (Is.Offer level reach) count gap size = omega arith
-refused-most (Is.Relaxed clock) count gap size = omega arith
-refused-most Is.Denied count gap size = omega arith
-refused-most (Is.Planned clock) count gap size = omega arith
-refused-most (Is.Closing count' cancelled) count gap size = omega arith
-refused-most (Is.Taken clock eligible) count gap size = omega arith
-
-pours-most : (ask : Ask) (reply : Reply) → pours_refused_by ask reply ≤ 1
-pours-most (Pour count gap size) reply = refused-most reply count gap size
-pours-most (Reserve chan contract kind delay up_reach first next) reply = omega arith
-pours-most (Relax chan level up_bound) reply = omega arith
-pours-most (Deny chan) reply = omega arith
-pours-most (Submit chan count gap size) reply = omega arith
-pours-most (Release chan upstream) reply = omega arith
-pours-most (Arrive packet) reply = omega arith
-pours-most Tick reply = omega arith
+refused-most : (ask : Ask) (reply : Reply) → pours_refused_by ask reply ≤ 1
+refused-most ask (Is.Refused refusal) = one-most (asks_best ask)
+refused-most ask _ = omega arith
 
 abbrev tally : ℕ → ℕ → ℕ → ℕ → ℕ → ℕ → LinkTally
 tally clock sent dropped best_sent best_lost pours = record { clock = clock; sent = sent; dropped = dropped; best_sent = best_sent; best_lost = best_lost; pours_refused = pours }
@@ -88,7 +52,7 @@ are-small h tally is short = record {
   sent = omega (arith, ap (λ (t : LinkTally). t.sent) is.is, total-most (λ e. sent_by e.reply) (λ e. some-most e.reply) h, short);
   best_sent = omega (arith, ap (λ (t : LinkTally). t.best_sent) is.is, total-most (λ e. best_sent_by e.reply) (λ e. best-sent-most e.reply) h, short);
   best_lost = omega (arith, ap (λ (t : LinkTally). t.best_lost) is.is, total-most (λ e. best_lost_by e.reply) (λ e. best-lost-most e.reply) h, short);
-  pours_refused = omega (arith, ap (λ (t : LinkTally). t.pours_refused) is.is, total-most (λ e. pours_refused_by e.ask e.reply) (λ e. pours-most e.ask e.reply) h, short);
+  pours_refused = omega (arith, ap (λ (t : LinkTally). t.pours_refused) is.is, total-most (λ e. pours_refused_by e.ask e.reply) (λ e. refused-most e.ask e.reply) h, short);
 }
 
 one-tally : (a b c d e f a' b' c' d' e' f' : ℕ) → a ≡ a' → b ≡ b' → c ≡ c' → d ≡ d' → e ≡ e' → f ≡ f'

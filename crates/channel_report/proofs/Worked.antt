@@ -1,16 +1,13 @@
 -- A worked report, computed from the definitions alone: one caller opens a channel over one link and sends a packet on it, and
 -- the plane makes three rounds. The packet is on the link in ticks 0 and 1, and crosses it in 2 more.
-use Rattle.std.proofs.Common.{None, ◌≡◌, ℕ, List, [], ◌∷◌, ◌++◌, codes, refl, lit≤, lit<}
+use Rattle.std.proofs.Common.{None, ◌≡◌, ℕ, List, [], ◌∷◌, ◌++◌, codes, refl, lit<}
 use Rattle.std.specs.Prelude.{Bool, true, false, reverse}
 use Rattle.std.specs.Fmt.{digits}
 use Rattle.net_units.specs.declared.numbers.ActorNo.{ActorNo}
-use Rattle.net_units.specs.declared.numbers.ChanNo.{ChanNo}
-use Rattle.net_units.specs.Numbers.{link_at}
 use Rattle.traffic_contract.specs.Admission.{work_in, work_up_to, load, some_upto, passes_up_to, passes, admits, first_level, best_level}
-use Rattle.traffic_contract.specs.Contract.{terms_of, most_in}
+use Rattle.traffic_contract.specs.Contract.{most_in}
 use Rattle.traffic_contract.specs.Eligible.{first_from, eligible}
 use Rattle.traffic_contract.specs.Keeping.{are_spaced, keeps, may_follow}
-use Rattle.traffic_contract.specs.declared.admission.Test.TheVariants.{Whole}
 use Rattle.hop_reservation.specs.Offers.{delay_over}
 use Rattle.relaxation.specs.Allotment.{bound_at_end, allotment}
 use Rattle.link_steps.specs.declared.shape.LinkShape.{LinkShape}
@@ -26,7 +23,6 @@ use Rattle.link_steps.specs.Scan.{clock_of, with_arrival, without_expired, with_
 use Rattle.link_steps.specs.Service.{goes_before, first_in_line, is_waiting, serve_tick, starts_below, here_at}
 use Rattle.link_steps.specs.Sources.{step_of, source_packets, rows_after, dropped_in}
 use Rattle.setup_protocol.specs.Setup.{offers_in, after_offers, reach_after}
-use Rattle.setup_protocol.specs.declared.request.Control.TheVariants.{Rate}
 use Rattle.call_script.specs.Parts.{PlanParts, parts_of}
 use Rattle.call_script.specs.Scripts.{newest, standing, resumed, from_step, is_established, outcome_in}
 use Rattle.call_script.specs.Tasks.{network_of, tasks_of}

@@ -5,7 +5,8 @@ use Rattle.std.specs.List.{flat_map}
 use Rattle.std.specs.Fmt.{decimal}
 use Rattle.traffic_contract.specs.Keeping.{keeps}
 use Rattle.net_units.specs.Numbers.{channel_number}
-use Rattle.setup_protocol.specs.Setup.{Outcome, Accepts, Denies}
+use Rattle.setup_protocol.specs.Laws.{is_accepted}
+use Rattle.setup_protocol.specs.Setup.{Outcome}
 use Rattle.call_script.specs.Parts.{PlanParts}
 use Rattle.call_script.specs.declared.entries.RequestEntry.{RequestEntry}
 use Rattle.run_record.specs.Runs.{part_of}
@@ -58,8 +59,7 @@ established_line rows run entry = told_channel entry.name
 -- whether a request was accepted
 abbrev pub was_accepted : Option Outcome → Bool
 was_accepted None = false
-was_accepted (Some (Accepts levels delay)) = true
-was_accepted (Some (Denies deny)) = false
+was_accepted (Some outcome) = is_accepted outcome
 
 abbrev pub channel_line : List HopRow → List Done → RequestEntry → List ℕ
 channel_line rows run entry = if was_accepted (verdict_in run entry) then established_line rows run entry else []

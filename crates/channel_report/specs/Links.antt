@@ -47,10 +47,14 @@ abbrev pub best_lost_by : Reply → ℕ
 best_lost_by (Ticked clock full sent best_sent best_lost) = one_if best_lost
 best_lost_by _ = 0
 
--- how many pours are refused
+-- whether an ask is for best-effort packets, and how many of these are refused
+abbrev pub asks_best : Ask → Bool
+asks_best (Pour count gap size) = true
+asks_best _ = false
+
 abbrev pub pours_refused_by : Ask → Reply → ℕ
-pours_refused_by (Pour count gap size) (Refused refusal) = 1
-pours_refused_by _ _ = 0
+pours_refused_by ask (Refused refusal) = one_if (asks_best ask)
+pours_refused_by ask _ = 0
 
 -- the sum over a history
 unfoldable pub total_in : (Entry → ℕ) → List Entry → ℕ

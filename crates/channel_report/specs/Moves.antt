@@ -9,7 +9,7 @@ use Rattle.call_script.specs.Parts.{PlanParts}
 use Rattle.call_script.specs.declared.entries.CallerEntry.{CallerEntry}
 use Rattle.call_script.specs.declared.entries.RequestEntry.{RequestEntry}
 use Rattle.call_script.specs.declared.operations.Op.{Op}
-use Rattle.call_script.specs.declared.operations.Op.TheVariants.{Open, Send, Close, Pour, Move}
+use Rattle.call_script.specs.declared.operations.Op.TheVariants.{Move}
 use Rattle.interleave_core.specs.channels.Moves.{moved_in}
 use Rattle.run_record.specs.declared.done.Done.{Done}
 use Rattle.text_writer.specs.Lines.{whole_line}
@@ -27,11 +27,8 @@ line_between parts run (Some old) (Some new) = made_line old.name new.name (move
 
 -- that of an operation, which only a move has
 abbrev pub op_line : PlanParts → List Done → Op → List ℕ
-op_line parts run (Open chan) = []
-op_line parts run (Send chan count gap size) = []
-op_line parts run (Close chan) = []
-op_line parts run (Pour link count gap size) = []
 op_line parts run (Move old new) = line_between parts run (slice_get parts.requests (channel_number old)) (slice_get parts.requests (channel_number new))
+op_line parts run _ = []
 
 abbrev pub script_lines : PlanParts → List Done → List Op → List ℕ
 script_lines parts run ops = flat_map (op_line parts run) ops

@@ -56,7 +56,7 @@ fn tell_request<K: Sink>(
     ensures { (entries : List Step) (entry : Asked) → AreFound plan.now entries findings.now → slice_get plan.now.requests number ≡ Some entry
         → Tells result (K.written sink.old) (K.written sink.new) gather.old gather.new (K.faults sink.old) (K.faults sink.new) (channel_line (rows_of entries) (reverse entries) entry) }
 {
-    if is_accepted(&findings.callers.verdict(plan, number)) {
+    if was_accepted(&findings.callers.verdict(plan, number)) {
         tell_channel(alloc, plan, findings, number, gather, sink)
     } else {
         Ok(())
@@ -134,12 +134,11 @@ fn push_channel(
 }
 
 // Whether a request was accepted.
-fn is_accepted(verdict: &Option<Verdict>) -> bool
+fn was_accepted(verdict: &Option<Verdict>) -> bool
     ensures { result ≡ was_accepted (option_map outcome_of verdict.now) }
 {
     match verdict {
-        Some(Verdict::Accepted { .. }) => true,
-        Some(Verdict::Denied(_)) => false,
+        Some(verdict) => verdict.is_accepted(),
         None => false,
     }
 }

@@ -74,7 +74,7 @@ fn push_op(text: &mut String, plan: &Plan, callers: &Callers, op: &Op) -> Result
 {
     match op {
         Op::Move { old, new } => push_move(text, plan, callers, *old, *new),
-        Op::Open(_) | Op::Send { .. } | Op::Close(_) | Op::Pour { .. } => Ok(()),
+        _ => Ok(()),
     }
 }
 

@@ -6,7 +6,7 @@ ghost use Rattle.channel_report.specs.Schedule.{item_line, schedule_of};
 ghost use Rattle.text_writer.specs.Telling.{Tells, WritesText};
 
 use byte_ends::{Gather, Sink};
-use call_script::{Do, Plan, Schedule};
+use call_script::{Do, Plan, Schedule, actor_name};
 use net_units::OutOfMemory;
 use std::alloc::Global;
 use text_writer::{ReportFault, do_line, finish, tell_line};
@@ -60,8 +60,5 @@ fn tell_item<K: Sink>(
 fn item_line(alloc: Global, plan: &Plan, item: &Do) -> Result<String, OutOfMemory>
     ensures { IfOk result (λ line. string_bytes line ≡ item_line plan.now.callers item.now) }
 {
-    match plan.callers().get(usize::from(item.actor.get())) {
-        Some(caller) => do_line(alloc, caller.name.as_str(), item.count),
-        None => do_line(alloc, "plane", item.count),
-    }
+    do_line(alloc, actor_name(plan.callers(), item.actor), item.count)
 }
