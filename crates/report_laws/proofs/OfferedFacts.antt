@@ -8,7 +8,7 @@ use Rattle.std.specs.Prelude.{filter, find, nat_eq}
 use Rattle.net_units.specs.Numbers.{channel_number}
 use Rattle.net_units.specs.declared.numbers.ChanNo.{ChanNo}
 use Rattle.link_steps.specs.declared.asks.Ask.{Ask}
-use Rattle.link_steps.specs.declared.asks.Ask.TheVariants.{Reserve, Relax, Deny, Submit, Release, Arrive, Tick, Pour}
+use Rattle.link_steps.specs.declared.asks.Ask.TheVariants.{Reserve, Relax, Deny, Submit, Release, Arrive, Tick}
 use Rattle.link_steps.specs.declared.asks.Packet.{Packet}
 use Rattle.link_steps.specs.declared.replies.Entry.{Entry}
 use Rattle.link_steps.specs.declared.replies.Reply.{Reply}
@@ -216,8 +216,8 @@ after-told shape terms c offers t planned scan (Deny chan) Is.Denied may once di
 after-told shape terms c offers t planned scan (Submit chan count gap size) (Is.Planned clock) may once differ stands all told = submit-told terms c offers t planned scan chan count gap size clock may differ stands all told
 after-told shape terms c offers t planned scan (Release chan upstream) (Is.Closing count cancelled) may once differ stands all told = release-told terms c offers t planned scan chan upstream count cancelled may differ stands all told
 after-told shape terms c offers t planned scan (Arrive packet) (Is.Taken clock eligible) may once differ stands all told = arrive-told c offers t planned packet scan (find (is_row_of packet.chan) scan.rows) told
-after-told shape terms c offers t planned scan (Pour count gap size) (Is.Planned clock) may once differ stands all told = record { held = told.held; gone = told.gone; none = told.none }
 after-told shape terms c offers t planned scan Tick reply may once differ stands all told = tick-told shape c offers t planned scan told
+after-told shape terms c offers t planned scan _ (Is.Planned clock) may once differ stands all told = record { held = told.held; gone = told.gone; none = told.none }
 after-told shape terms c offers t planned scan _ _ may once differ stands all told = told
 
 -- ---- every admissible history
