@@ -1,5 +1,5 @@
 //! The lines of the channels.
-ghost use Rattle.std.specs.Prelude.{◌≡◌, ◌++◌, ◌∷◌, ◌<◌, ◌≤◌, ◌^◌, [], List, OnOk, Some, length, option_map, reverse, slice_index_or, string_bytes};
+ghost use Rattle.std.specs.Prelude.{◌≡◌, ◌++◌, ◌∷◌, ◌<◌, ◌≤◌, ◌^◌, [], List, IfOk, OnOk, Some, length, option_map, reverse, slice_index_or, string_bytes};
 ghost use Rattle.std.specs.List.{slice_get};
 ghost use Rattle.call_script.specs.declared.entries.RequestEntry.{RequestEntry as Asked};
 ghost use Rattle.run_record.specs.Rows.{rows_of};
@@ -19,10 +19,10 @@ use crate::words::{Keeping, NumberOrDash};
 use byte_ends::{Gather, Sink};
 use call_script::Plan;
 use hop_reservation::Route;
-use net_units::Name;
+use net_units::{Name, OutOfMemory};
 use setup_protocol::Verdict;
 use std::alloc::{AllocError, Global};
-use text_writer::{ReportFault, tell};
+use text_writer::{ReportFault, tell_line};
 
 // Tells the lines of all channels that were established.
 pub(crate) fn tell_channels<K: Sink>(
@@ -77,6 +77,22 @@ fn tell_channel<K: Sink>(
     ensures { (entries : List Step) (entry : Asked) → AreFound plan.now entries findings.now → slice_get plan.now.requests number ≡ Some entry
         → Tells result (K.written sink.old) (K.written sink.new) gather.old gather.new (K.faults sink.old) (K.faults sink.new) (established_line (rows_of entries) (reverse entries) entry) }
 {
+    let line = established_line(alloc, plan, findings, number);
+    tell_line(gather, sink, line)
+}
+
+// The line of an established channel.
+fn established_line(
+    alloc: Global,
+    plan: &Plan,
+    findings: &Findings,
+    number: usize,
+) -> Result<String, OutOfMemory>
+    requires found { (entries : List Step) × AreFound plan.now entries findings.now }
+    requires inside { number < length plan.now.requests }
+    ensures { (entries : List Step) (entry : Asked) → AreFound plan.now entries findings.now → slice_get plan.now.requests number ≡ Some entry
+        → IfOk result (λ line. string_bytes line ≡ established_line (rows_of entries) (reverse entries) entry) }
+{
     let entry = plan.requests()[number];
     let tally = &findings.channels[number];
     let clock = first_clock(findings.links.as_slice(), &entry.request.route);
@@ -92,7 +108,7 @@ fn tell_channel<K: Sink>(
         &findings.delays[number],
         refused,
     )?;
-    tell(gather, sink, line.as_bytes())
+    Ok(line)
 }
 
 // The clock of a route's first link.

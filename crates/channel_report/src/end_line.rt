@@ -18,5 +18,5 @@ pub(crate) fn tell_end<K: Sink>(
 {
     let mut line = String::new(alloc);
     writeln!(line, "end steps {steps}")?;
-    tell(gather, sink, line.as_bytes())
+    Ok(tell(gather, sink, line.as_bytes())?)
 }

@@ -49,7 +49,7 @@ fn tell_link<K: Sink>(
 {
     let mut line = String::new(alloc);
     push_link(&mut line, name, best, tally)?;
-    tell(gather, sink, line.as_bytes())
+    Ok(tell(gather, sink, line.as_bytes())?)
 }
 
 // Whether the link takes best-effort packets.

@@ -64,7 +64,7 @@ fn tell_op<K: Sink>(
 {
     let mut line = String::new(alloc);
     push_op(&mut line, plan, callers, op)?;
-    tell(gather, sink, line.as_bytes())
+    Ok(tell(gather, sink, line.as_bytes())?)
 }
 
 // The line of an operation.

@@ -61,7 +61,7 @@ pub fn write_tallied<K: Sink>(
     let findings = Findings::new(alloc, plan, callers, tally)?;
     let mut gather = Gather::new(alloc)?;
     tell_report(alloc, plan, &findings, &mut gather, sink)?;
-    finish(gather, sink)
+    Ok(finish(gather, sink)?)
 }
 
 // Tells the lines of the requests, and those after them.

@@ -54,7 +54,7 @@ fn tell_verdict<K: Sink>(
 {
     let mut line = String::new(alloc);
     push_verdict(&mut line, name, verdict)?;
-    tell(gather, sink, line.as_bytes())
+    Ok(tell(gather, sink, line.as_bytes())?)
 }
 
 // The line of a request with its verdict.

@@ -43,7 +43,7 @@ fn tell_route<K: Sink>(
     if entry.found.is_some() {
         push_route(&mut line, links, entry)?;
     }
-    tell(gather, sink, line.as_bytes())
+    Ok(tell(gather, sink, line.as_bytes())?)
 }
 
 // The line of a route.

@@ -24,7 +24,7 @@ pub fn write_schedule<K: Sink>(
 {
     let mut gather = Gather::new(alloc)?;
     tell_items(alloc, plan, schedule.items.as_slice(), &mut gather, sink)?;
-    finish(gather, sink)
+    Ok(finish(gather, sink)?)
 }
 
 // Tells the lines of all items.

@@ -94,7 +94,7 @@ pub fn write_tallied_summary<K: Sink>(
     let findings = Findings::new(alloc, plan, callers, tally)?;
     let sums = sum_up(plan, &findings);
     let line = summary_line(alloc, number, size, &sums, findings.steps)?;
-    write_line(sink, line.as_bytes())
+    Ok(write_line(sink, line.as_bytes())?)
 }
 
 // What all requests have come to.

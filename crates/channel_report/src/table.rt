@@ -30,11 +30,11 @@ pub(crate) fn tell_table<K: Sink>(
 fn tell_header<K: Sink>(gather: &mut Gather, sink: &mut K) -> Result<(), ReportFault>
     ensures { Tells result (K.written sink.old) (K.written sink.new) gather.old gather.new (K.faults sink.old) (K.faults sink.new) header }
 {
-    tell(
+    Ok(tell(
         gather,
         sink,
         b"channel,packet,hop,link,size,at,eligible,departed\n",
-    )
+    )?)
 }
 
 // Tells a line for each row.
@@ -67,7 +67,7 @@ fn tell_row<K: Sink>(
     let link = link_name(plan, row.link);
     let mut line = String::new(alloc);
     push_row(&mut line, channel, link, row)?;
-    tell(gather, sink, line.as_bytes())
+    Ok(tell(gather, sink, line.as_bytes())?)
 }
 
 // The line of a row whose channel and link have these names.

@@ -10,7 +10,8 @@ use Rattle.hop_reservation.specs.declared.route.Hop.{Hop}
 use Rattle.link_steps.specs.declared.quota.Quota.{Quota}
 use Rattle.call_script.specs.declared.entries.LinkEntry.{LinkEntry}
 use Rattle.call_script.specs.declared.entries.RequestEntry.{RequestEntry}
-use Rattle.scenario_reader.specs.Fields.{line_of, ended_line}
+use Rattle.scenario_reader.specs.Fields.{line_of}
+use Rattle.text_writer.specs.Lines.{whole_line}
 use Rattle.scenario_reader.specs.line.Link.{best_fields, bounds_fields, link_text, link_line_front}
 use Rattle.scenario_reader.specs.line.Request.{route_names, way_fields, with_name, contract_fields, delay_fields, open_fields}
 use Rattle.scenario_reader.specs.line.Group.{group_name}
@@ -57,7 +58,7 @@ line-of-fields field [] = sym (append-nil field)
 line-of-fields field (next ∷ fields) = ap (λ (rest : List ℕ). field ++ 32 ∷ rest) (line-of-fields next fields)
 
 -- a line in three parts
-three-parts : (field : List ℕ) (first second third : List (List ℕ)) → (((field ++ spaced first) ++ spaced second) ++ spaced third) ++ 10 ∷ [] ≡ ended_line (field ∷ (first ++ (second ++ third)))
+three-parts : (field : List ℕ) (first second third : List (List ℕ)) → (((field ++ spaced first) ++ spaced second) ++ spaced third) ++ 10 ∷ [] ≡ whole_line (field ∷ (first ++ (second ++ third)))
 three-parts field first second third =
     ap (λ (line : List ℕ). line ++ 10 ∷ []) (
     append_assoc (field ++ spaced first) (spaced second) (spaced third) ∙ append_assoc field (spaced first) (spaced second ++ spaced third)
@@ -66,7 +67,7 @@ three-parts field first second third =
     )
 
 -- a line in two parts
-two-parts : (field : List ℕ) (first second : List (List ℕ)) → ((field ++ spaced first) ++ spaced second) ++ 10 ∷ [] ≡ ended_line (field ∷ (first ++ second))
+two-parts : (field : List ℕ) (first second : List (List ℕ)) → ((field ++ spaced first) ++ spaced second) ++ 10 ∷ [] ≡ whole_line (field ∷ (first ++ second))
 two-parts field first second =
     ap (λ (line : List ℕ). line ++ 10 ∷ []) (append_assoc field (spaced first) (spaced second) ∙ ap (λ (rest : List ℕ). field ++ rest) (sym (spaced-append first second)) ∙ sym (line-of-fields field (first ++ second)))
 
@@ -85,7 +86,7 @@ link-line entry = three-parts (codes "link")
     (best_fields entry.shape.best) (bounds_fields entry.shape.bounds)
 
 pub open-line : (links : List LinkEntry) (entry : RequestEntry) (line : List ℕ) → line ≡ codes "open" ++ 32 ∷ entry.name
-    → (((line ++ spaced (way_fields links entry.request.route entry.found)) ++ spaced (contract_fields entry.request.contract)) ++ spaced (delay_fields entry.request)) ++ 10 ∷ [] ≡ ended_line (open_fields links entry)
+    → (((line ++ spaced (way_fields links entry.request.route entry.found)) ++ spaced (contract_fields entry.request.contract)) ++ spaced (delay_fields entry.request)) ++ 10 ∷ [] ≡ whole_line (open_fields links entry)
 open-line links entry line begins =
     let front = entry.name ∷ [] in
     let route = way_fields links entry.request.route entry.found in

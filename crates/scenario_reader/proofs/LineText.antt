@@ -2,7 +2,8 @@
 use Rattle.std.proofs.Common.{◌≡◌, ℕ, ◌+◌, ◌-◌, ◌≤◌, true, false, List, [], ◌∷◌, ◌++◌, length, map, flat_map, refl, ◌∙◌, ap, arith, append_assoc, length-append}
 use Rattle.byte_ends.specs.WholeLines.{feed, whole_lines, all_given, ending, Outlook, outlook}
 use Rattle.link_steps.specs.Lists.{Each}
-use Rattle.scenario_reader.specs.Fields.{line_of, are_fields, ended_line}
+use Rattle.scenario_reader.specs.Fields.{line_of, are_fields}
+use Rattle.text_writer.specs.Lines.{whole_line}
 use Rattle.byte_ends.proofs.Outlooks.{whole_lines-line, ending_from-line}
 use Rattle.scenario_reader.proofs.FieldText.{line_no_feed}
 
@@ -11,13 +12,13 @@ abbrev pub AreLines : List (List (List ℕ)) → Type 0
 AreLines lines = Each (λ fields. are_fields fields ≡ true) lines
 
 -- lines of fields are the whole lines of their bytes, and nothing is left after them
-pub lines_of_text : (lines : List (List (List ℕ))) (most : ℕ) → AreLines lines → length (flat_map ended_line lines) ≤ most
-    → outlook most (flat_map ended_line lines) ≡ record { lines = map line_of lines; ending = all_given }
+pub lines_of_text : (lines : List (List (List ℕ))) (most : ℕ) → AreLines lines → length (flat_map whole_line lines) ≤ most
+    → outlook most (flat_map whole_line lines) ≡ record { lines = map line_of lines; ending = all_given }
 lines_of_text [] most are few = refl
 lines_of_text (fields ∷ lines) most are few =
     let line = line_of fields in
-    let rest = flat_map ended_line lines in
-    let count = length-append (ended_line fields) (flat_map ended_line lines) in
+    let rest = flat_map whole_line lines in
+    let count = length-append (whole_line fields) (flat_map whole_line lines) in
     let count_line = length-append (line_of fields) (10 ∷ []) in
     let room : most ≡ length (line_of fields) + 1 + (most - (length (line_of fields) + 1)) = omega arith in
     let after = lines_of_text lines (most - (length line + 1)) are.1 (omega arith) in

@@ -3,6 +3,7 @@
 -- return has a part that isn't a field.
 use Rattle.std.specs.Prelude.{ℕ, Bool, nat_eq, nat_le, not, ◌&&◌, List, [], ◌∷◌, ◌++◌, length, slice_index_or, Option, Some, None}
 use Rattle.std.specs.List.{list_all, slice_split, join_with_byte, flat_map}
+use Rattle.text_writer.specs.Lines.{whole_line}
 
 abbrev pub is_space : ℕ → Bool
 is_space b = nat_eq b 32
@@ -14,10 +15,6 @@ fields_of line = slice_split is_space line
 -- the line of these fields
 abbrev pub line_of : List (List ℕ) → List ℕ
 line_of fields = join_with_byte 32 fields
-
--- the same with its line feed
-abbrev pub ended_line : List (List ℕ) → List ℕ
-ended_line fields = line_of fields ++ 10 ∷ []
 
 -- a byte that may stand in a field
 abbrev pub is_graphic : ℕ → Bool
@@ -46,4 +43,4 @@ spaced fields = flat_map (λ field. 32 ∷ field) fields
 -- the line, if there is one
 abbrev pub text_if : Option (List (List ℕ)) → List ℕ
 text_if None = []
-text_if (Some fields) = ended_line fields
+text_if (Some fields) = whole_line fields

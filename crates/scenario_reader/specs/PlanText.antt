@@ -9,7 +9,7 @@ use Rattle.call_script.specs.declared.entries.LinkEntry.{LinkEntry}
 use Rattle.call_script.specs.declared.entries.RequestEntry.{RequestEntry}
 use Rattle.call_script.specs.declared.entries.CallerEntry.{CallerEntry}
 use Rattle.call_script.specs.declared.schedule.Schedule.{Schedule}
-use Rattle.scenario_reader.specs.Fields.{ended_line}
+use Rattle.text_writer.specs.Lines.{whole_line}
 use Rattle.scenario_reader.specs.line.Header.{header_fields}
 use Rattle.scenario_reader.specs.line.Link.{link_fields, link_text}
 use Rattle.scenario_reader.specs.line.Group.{group_fields, group_text}
@@ -31,18 +31,18 @@ plan_lines parts schedule = header_fields parts.version ∷ (map link_fields par
     ++ (flat_map (caller_lines parts.links parts.groups parts.requests) parts.callers ++ (rounds_fields parts.rounds ∷ tail_fields parts.tail ∷ schedule_lines parts.callers schedule)))))
 
 unfoldable pub plan_text : PlanParts → Schedule → List ℕ
-plan_text parts schedule = flat_map ended_line (plan_lines parts schedule)
+plan_text parts schedule = flat_map whole_line (plan_lines parts schedule)
 
 -- the groups, and the quotas of the links
 unfoldable pub split_text : List (List ℕ) → List LinkEntry → List ℕ
 split_text groups links = flat_map group_text groups ++ flat_map (quotas_text groups) links
 
 unfoldable pub caller_text : List LinkEntry → List (List ℕ) → List RequestEntry → CallerEntry → List ℕ
-caller_text links groups requests caller = flat_map ended_line (caller_lines links groups requests caller)
+caller_text links groups requests caller = flat_map whole_line (caller_lines links groups requests caller)
 
 -- the header and the links
 unfoldable pub head_text : PlanParts → List ℕ
-head_text parts = ended_line (header_fields parts.version) ++ flat_map link_text parts.links
+head_text parts = whole_line (header_fields parts.version) ++ flat_map link_text parts.links
 
 -- what stands after the callers
 unfoldable pub end_text : PlanParts → Schedule → List ℕ

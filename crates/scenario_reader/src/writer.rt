@@ -45,7 +45,7 @@ pub fn write_plan<K: Sink>(
 {
     let mut out = Gather::new(alloc)?;
     write_lines(alloc, &mut out, sink, plan, schedule)?;
-    finish(out, sink)
+    Ok(finish(out, sink)?)
 }
 
 // All lines.

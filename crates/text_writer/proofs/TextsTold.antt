@@ -7,6 +7,7 @@ use Rattle.std.specs.List.{flat_map}
 use Rattle.std.proofs.KnownBytes.{Appends-nil}
 use Rattle.std.specs.Io.KnownBytes.{Appends}
 use Rattle.std.specs.Result.{IsErrAnd}
+use Rattle.byte_ends.specs.Faults.{FaultsRise}
 use Rattle.byte_ends.specs.Gathering.{WritesPart}
 use Rattle.byte_ends.proofs.Gathering.{gathers-nothing, gathers-on, gathers-then-part, part-of-longer, rises-later}
 use Rattle.text_writer.specs.Telling.{IsWhy, Tells, Told, WritesText}
@@ -25,6 +26,10 @@ told-nothing w g f = record { gathers = gathers-nothing w g; counts = omega arit
 failed : (result : Result (Unit {0}) ReportFault) (why : ReportFault) (a b : Option (List ℕ)) (g g' : List ℕ) (f f' : ℕ) (text : List ℕ) → IsErrAnd result (λ fault. fault ≡ why) → WritesPart a b (g ++ text) × IsWhy why f f' → Tells result a b g g' f f' text
 failed (Ok done) why a b g g' f f' text is failing = absurd is
 failed (Err fault) why a b g g' f f' text is failing = (failing.0, subst (λ (e : ReportFault). IsWhy e f f') (sym is) failing.1)
+
+-- the sink failed in what wants no memory
+pub write-failed : (result : Result (Unit {0}) ReportFault) (a b : Option (List ℕ)) (g g' : List ℕ) (f f' : ℕ) (text : List ℕ) → IsErrAnd result (λ fault. fault ≡ WriteFault) → WritesPart a b (g ++ text) × FaultsRise f f' → Tells result a b g g' f f' text
+write-failed result a b g g' f f' text is failing = failed result WriteFault a b g g' f f' text is failing
 
 -- out of memory before anything is told
 pub nothing-told : (result : Result (Unit {0}) ReportFault) (a : Option (List ℕ)) (g : List ℕ) (f : ℕ) (text : List ℕ) → IsErrAnd result (λ fault. fault ≡ Memory) → Tells result a a g g f f text
@@ -84,6 +89,10 @@ with-none-left (Err why) a b f f' text part = part
 pub ended : (a b c : Option (List ℕ)) (g : List ℕ) (f f' f'' : ℕ) (text : List ℕ) (result : Result (Unit {0}) ReportFault) → Told a b [] g f f' text → Tells result b c g [] f' f'' [] → WritesText result a c f f'' text
 ended a b c g f f' f'' text result told last = with-none-left result a c f f'' text (subst (Tells result a c [] [] f f'') (append-nil text) (both-told result a b c [] g [] f f' f'' text [] told last))
 
+-- what is left isn't written
+pub end-failed : (result : Result (Unit {0}) ReportFault) (a b c : Option (List ℕ)) (g : List ℕ) (f f' f'' : ℕ) (text : List ℕ) → IsErrAnd result (λ fault. fault ≡ WriteFault) → Told a b [] g f f' text → WritesPart b c (g ++ []) × FaultsRise f' f'' → WritesText result a c f f'' text
+end-failed result a b c g f f' f'' text is told failing = ended a b c g f f' f'' text result told (write-failed result b c g [] f' f'' [] is failing)
+
 -- out of memory before anything is written
 pub nothing-written : (result : Result (Unit {0}) ReportFault) (a : Option (List ℕ)) (f : ℕ) (text : List ℕ) → IsErrAnd result (λ fault. fault ≡ Memory) → WritesText result a a f f text
 nothing-written result a f text is = with-none-left result a a f f text (nothing-told result a [] f text is)
@@ -92,3 +101,7 @@ nothing-written result a f text is = with-none-left result a a f f text (nothing
 pub broken-off : (result : Result (Unit {0}) ReportFault) (why : ReportFault) (a b : Option (List ℕ)) (g : List ℕ) (f f' : ℕ) (text : List ℕ) → IsErrAnd result (λ fault. fault ≡ why) → g ≡ [] → WritesPart a b (g ++ text) × IsWhy why f f' → WritesText result a b f f' text
 broken-off (Ok done) why a b g f f' text is none failing = absurd is
 broken-off (Err fault) why a b g f f' text is none failing = (subst (λ before. WritesPart a b (before ++ text)) none failing.0, subst (λ (e : ReportFault). IsWhy e f f') (sym is) failing.1)
+
+-- the sink failed in a line by itself
+pub unwritten : (result : Result (Unit {0}) ReportFault) (a b : Option (List ℕ)) (f f' : ℕ) (text : List ℕ) → IsErrAnd result (λ fault. fault ≡ WriteFault) → WritesPart a b text × FaultsRise f f' → WritesText result a b f f' text
+unwritten result a b f f' text is failing = broken-off result WriteFault a b [] f f' text is refl failing

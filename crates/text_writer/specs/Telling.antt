@@ -5,6 +5,7 @@ use Rattle.std.specs.Prelude.{ℕ, ◌≤◌, Option, Result, Ok, Err, List, ◌
 use Rattle.std.specs.Io.KnownBytes.{Appends}
 use Rattle.byte_ends.specs.Faults.{FaultsRise}
 use Rattle.byte_ends.specs.Gathering.{Gathers, WritesPart}
+use Rattle.byte_ends.specs.declared.sink.WriteFault.{WriteFault as SinkFailed}
 use Rattle.text_writer.specs.declared.fault.ReportFault.{ReportFault}
 use Rattle.text_writer.specs.declared.fault.ReportFault.TheVariants.{Memory, WriteFault}
 
@@ -27,3 +28,12 @@ Tells (Err why) written written' gathered gathered' faults faults' text = Writes
 abbrev pub WritesText : {X : Type 0} → Result X ReportFault → Option (List ℕ) → Option (List ℕ) → ℕ → ℕ → List ℕ → Type 0
 WritesText (Ok done) written written' faults faults' text = Appends written written' text × (faults ≤ faults')
 WritesText (Err why) written written' faults faults' text = WritesPart written written' text × IsWhy why faults faults'
+
+-- the same of what wants no memory: the text was told or written, or the sink failed
+abbrev pub TellsOrFails : {X : Type 0} → Result X SinkFailed → Option (List ℕ) → Option (List ℕ) → List ℕ → List ℕ → ℕ → ℕ → List ℕ → Type 0
+TellsOrFails (Ok done) written written' gathered gathered' faults faults' text = Told written written' gathered gathered' faults faults' text
+TellsOrFails (Err fault) written written' gathered gathered' faults faults' text = WritesPart written written' (gathered ++ text) × FaultsRise faults faults'
+
+abbrev pub WritesOrFails : {X : Type 0} → Result X SinkFailed → Option (List ℕ) → Option (List ℕ) → ℕ → ℕ → List ℕ → Type 0
+WritesOrFails (Ok done) written written' faults faults' text = Appends written written' text × (faults ≤ faults')
+WritesOrFails (Err fault) written written' faults faults' text = WritesPart written written' text × FaultsRise faults faults'

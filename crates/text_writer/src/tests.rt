@@ -1,6 +1,6 @@
 //! A text that is told is written whole, and nothing is written of a line that there was no memory for.
 use crate::{ReportFault, do_line, finish, tell, tell_line};
-use byte_ends::{Gather, MemSink};
+use byte_ends::{Gather, MemSink, WriteFault};
 use net_units::OutOfMemory;
 use std::test::Fail;
 
@@ -28,7 +28,7 @@ fn a_sink_that_fails_is_a_write_fault(rt: HostRuntime) -> Result<(), Fail> {
     let mut sink = MemSink::new(rt.alloc(), 100, 7, fails)?;
     let mut gather = Gather::new(rt.alloc())?;
     assert_eq!(rt; tell(&mut gather, &mut sink, b"schedule\n"), Ok(()));
-    assert_eq!(rt; finish(gather, &mut sink), Err(ReportFault::WriteFault));
+    assert_eq!(rt; finish(gather, &mut sink), Err(WriteFault));
     assert_eq!(rt; sink.bytes(), b"schedul".as_slice());
     Ok(())
 }

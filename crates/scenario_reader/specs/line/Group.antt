@@ -3,7 +3,8 @@ use Rattle.std.specs.Prelude.{ℕ, nat_lt, List, [], ◌∷◌, length, ◌-◌,
 use Rattle.call_script.specs.Groups.{most_groups}
 use Rattle.scenario_reader.specs.Causes.{Rule, unless, first_cause}
 use Rattle.scenario_reader.specs.Drafts.{Said, parts_said}
-use Rattle.scenario_reader.specs.Fields.{field_at, ended_line}
+use Rattle.scenario_reader.specs.Fields.{field_at}
+use Rattle.text_writer.specs.Lines.{whole_line}
 use Rattle.scenario_reader.specs.Forms.{has_form, new_name_rule}
 use Rattle.scenario_reader.specs.declared.form.Part.{Part}
 use Rattle.call_script.specs.Growing.{MayAddGroup}
@@ -35,4 +36,4 @@ abbrev pub group_name : List (List ℕ) → ℕ → List ℕ
 group_name groups group = unwrap_or (slice_get groups (group - 1)) []
 
 unfoldable pub group_text : List ℕ → List ℕ
-group_text name = ended_line (group_fields name)
+group_text name = whole_line (group_fields name)

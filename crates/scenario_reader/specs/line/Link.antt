@@ -13,7 +13,8 @@ use Rattle.scenario_reader.specs.Causes.{Rule, unless, first_cause}
 use Rattle.scenario_reader.specs.Decimal.{value_of}
 use Rattle.scenario_reader.specs.Drafts.{Said, parts_said}
 use Rattle.scenario_reader.specs.Entries.{LinkNumbers, has_bounds, shape_of}
-use Rattle.scenario_reader.specs.Fields.{field_at, ended_line, spaced}
+use Rattle.scenario_reader.specs.Fields.{field_at, spaced}
+use Rattle.text_writer.specs.Lines.{whole_line}
 use Rattle.scenario_reader.specs.Forms.{is_word, has_form, name_rule, new_name_rule, number_rule}
 use Rattle.scenario_reader.specs.declared.form.Part.{Part}
 use Rattle.call_script.specs.Growing.{MayAddLink}
@@ -133,4 +134,4 @@ link_line_front entry = codes "link" ++ spaced (entry.name ∷ entry.from ∷ en
     ∷ codes "prop" ∷ decimal entry.shape.prop ∷ codes "buffer" ∷ decimal entry.shape.buffer ∷ [])
 
 unfoldable pub link_text : LinkEntry → List ℕ
-link_text entry = ended_line (link_fields entry)
+link_text entry = whole_line (link_fields entry)

@@ -9,7 +9,8 @@ use Rattle.call_script.specs.declared.entries.LinkEntry.{LinkEntry}
 use Rattle.scenario_reader.specs.Causes.{Rule, unless, first_cause}
 use Rattle.scenario_reader.specs.Decimal.{value_of}
 use Rattle.scenario_reader.specs.Drafts.{Said, link_named, group_named, parts_said}
-use Rattle.scenario_reader.specs.Fields.{field_at, ended_line}
+use Rattle.scenario_reader.specs.Fields.{field_at}
+use Rattle.text_writer.specs.Lines.{whole_line}
 use Rattle.scenario_reader.specs.Forms.{has_form, used_name_rule, number_rule}
 use Rattle.scenario_reader.specs.declared.form.Part.{Part}
 use Rattle.scenario_reader.specs.declared.item.Item.{Item}
@@ -105,7 +106,7 @@ abbrev pub quota_lines : List (List ℕ) → LinkEntry → List (List (List ℕ)
 quota_lines groups entry = map (quota_fields groups entry) entry.quotas
 
 unfoldable pub quota_text : List (List ℕ) → LinkEntry → Quota → List ℕ
-quota_text groups entry quota = ended_line (quota_fields groups entry quota)
+quota_text groups entry quota = whole_line (quota_fields groups entry quota)
 
 -- the quotas of a link
 unfoldable pub quotas_text : List (List ℕ) → LinkEntry → List ℕ

@@ -4,7 +4,8 @@ use Rattle.net_units.specs.Limits.{most_rounds}
 use Rattle.scenario_reader.specs.Causes.{Rule, unless, first_cause}
 use Rattle.scenario_reader.specs.Decimal.{value_of}
 use Rattle.scenario_reader.specs.Drafts.{Said, rounds_of}
-use Rattle.scenario_reader.specs.Fields.{field_at, ended_line}
+use Rattle.scenario_reader.specs.Fields.{field_at}
+use Rattle.text_writer.specs.Lines.{whole_line}
 use Rattle.scenario_reader.specs.Forms.{has_form, number_rule}
 use Rattle.scenario_reader.specs.declared.form.Part.{Part}
 use Rattle.scenario_reader.specs.line.Before.{HasALink}
@@ -54,4 +55,4 @@ tail_fields count = codes "tail" ∷ decimal count ∷ []
 
 -- `rounds` and `tail`
 unfoldable pub rounds_text : ℕ → ℕ → List ℕ
-rounds_text rounds tail = ended_line (rounds_fields rounds) ++ ended_line (tail_fields tail)
+rounds_text rounds tail = whole_line (rounds_fields rounds) ++ whole_line (tail_fields tail)

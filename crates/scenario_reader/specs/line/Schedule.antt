@@ -8,7 +8,7 @@ use Rattle.net_units.specs.Numbers.{actor_at, actor_number}
 use Rattle.scenario_reader.specs.Causes.{Rule, unless, first_cause}
 use Rattle.scenario_reader.specs.Decimal.{value_of}
 use Rattle.scenario_reader.specs.Drafts.{Said, caller_named}
-use Rattle.scenario_reader.specs.Fields.{field_at, ended_line}
+use Rattle.scenario_reader.specs.Fields.{field_at}
 use Rattle.scenario_reader.specs.Forms.{has_form, used_name_rule, number_rule}
 use Rattle.scenario_reader.specs.declared.form.Part.{Part}
 use Rattle.scenario_reader.specs.Kept.{IsDo}
@@ -16,7 +16,7 @@ use Rattle.std.specs.List.{flat_map, slice_get}
 use Rattle.call_script.specs.ActorNames.{name_of_actor}
 use Rattle.call_script.specs.declared.entries.CallerEntry.{CallerEntry}
 use Rattle.call_script.specs.declared.schedule.Schedule.{Schedule}
-use Rattle.text_writer.specs.Lines.{do_words}
+use Rattle.text_writer.specs.Lines.{do_words, whole_line}
 use Rattle.scenario_reader.specs.declared.cause.Cause.TheVariants as cause
 use Rattle.scenario_reader.specs.declared.form.Keyword.TheVariants as word
 use Rattle.scenario_reader.specs.declared.form.Part.TheVariants as part
@@ -79,7 +79,7 @@ abbrev pub schedule_lines : List CallerEntry → Schedule → List (List (List �
 schedule_lines callers schedule = if schedule.written then schedule_fields ∷ map (do_fields callers) schedule.items else []
 
 unfoldable pub do_text : List CallerEntry → Do → List ℕ
-do_text callers item = ended_line (do_fields callers item)
+do_text callers item = whole_line (do_fields callers item)
 
 unfoldable pub schedule_text : List CallerEntry → Schedule → List ℕ
-schedule_text callers schedule = flat_map ended_line (schedule_lines callers schedule)
+schedule_text callers schedule = flat_map whole_line (schedule_lines callers schedule)

@@ -1,7 +1,8 @@
 //! The line of a caller: judging it, adding the caller, and its text.
 ghost use Rattle.std.specs.Prelude.{◌≡◌, OnOk, OnErr, IfOk, string_bytes};
 ghost use Rattle.scenario_reader.specs.Causes.{Judges};
-ghost use Rattle.scenario_reader.specs.Fields.{fields_of, field_at, ended_line};
+ghost use Rattle.scenario_reader.specs.Fields.{fields_of, field_at};
+ghost use Rattle.text_writer.specs.Lines.{whole_line};
 ghost use Rattle.scenario_reader.specs.line.Caller.{is_caller_line, member_rule, group_in, caller_rule, caller_fields};
 ghost use Rattle.scenario_reader.specs.Drafts.{with_item};
 ghost use Rattle.scenario_reader.specs.line.Table.{MayAdd};
@@ -84,7 +85,7 @@ pub(crate) fn caller_line(
     name: Name,
     group: u8,
 ) -> Result<String, OutOfMemory>
-    ensures { IfOk result (λ line. string_bytes line ≡ ended_line (caller_fields groups.now name group)) }
+    ensures { IfOk result (λ line. string_bytes line ≡ whole_line (caller_fields groups.now name group)) }
 {
     if group == 0 {
         return Ok(format!(in alloc; "caller {name}\n")?);

@@ -1,6 +1,7 @@
 //! The header: judging it, adding it, and its text.
 ghost use Rattle.std.specs.Prelude.{◌≡◌, IfOk, string_bytes};
-ghost use Rattle.scenario_reader.specs.Fields.{fields_of, ended_line};
+ghost use Rattle.scenario_reader.specs.Fields.{fields_of};
+ghost use Rattle.text_writer.specs.Lines.{whole_line};
 ghost use Rattle.scenario_reader.specs.line.Header.{version_in, header_version, header_said, header_fields};
 ghost use Rattle.scenario_reader.specs.Drafts.{with_item};
 ghost use Rattle.scenario_reader.specs.line.Table.{MayAdd};
@@ -63,7 +64,7 @@ impl Draft {
 }
 
 pub(crate) fn header_line(alloc: Global, version: Version) -> Result<String, OutOfMemory>
-    ensures { IfOk result (λ line. string_bytes line ≡ ended_line (header_fields version)) }
+    ensures { IfOk result (λ line. string_bytes line ≡ whole_line (header_fields version)) }
 {
     let number = match version {
         Version::One => "1",

@@ -3,7 +3,8 @@ ghost use Rattle.std.specs.Prelude.{◌≡◌, ◌≤◌, IfOk, string_bytes};
 ghost use Rattle.net_units.specs.Limits.{most_rounds};
 ghost use Rattle.scenario_reader.specs.Causes.{Judges};
 ghost use Rattle.scenario_reader.specs.Decimal.{value_of};
-ghost use Rattle.scenario_reader.specs.Fields.{fields_of, field_at, ended_line};
+ghost use Rattle.scenario_reader.specs.Fields.{fields_of, field_at};
+ghost use Rattle.text_writer.specs.Lines.{whole_line};
 ghost use Rattle.scenario_reader.specs.line.Rounds.{tail_rule, are_few_ticks, rounds_rule, rounds_fields, tail_fields};
 ghost use Rattle.scenario_reader.specs.Drafts.{with_item};
 ghost use Rattle.scenario_reader.specs.line.Table.{MayAdd};
@@ -63,13 +64,13 @@ pub(crate) fn judge_rounds(line: &[u8]) -> Result<u64, Cause>
 }
 
 pub(crate) fn rounds_line(alloc: Global, count: u64) -> Result<String, OutOfMemory>
-    ensures { IfOk result (λ line. string_bytes line ≡ ended_line (rounds_fields count)) }
+    ensures { IfOk result (λ line. string_bytes line ≡ whole_line (rounds_fields count)) }
 {
     Ok(format!(in alloc; "rounds {count}\n")?)
 }
 
 pub(crate) fn tail_line(alloc: Global, count: u64) -> Result<String, OutOfMemory>
-    ensures { IfOk result (λ line. string_bytes line ≡ ended_line (tail_fields count)) }
+    ensures { IfOk result (λ line. string_bytes line ≡ whole_line (tail_fields count)) }
 {
     Ok(format!(in alloc; "tail {count}\n")?)
 }

@@ -1,7 +1,8 @@
 //! The line `schedule` and its `do` lines: judging them, adding what they say, and their text.
 ghost use Rattle.std.specs.Prelude.{◌≤◌, IfOk, ◌≡◌, OnOk, OnErr, string_bytes};
 ghost use Rattle.scenario_reader.specs.Causes.{States, Judges};
-ghost use Rattle.scenario_reader.specs.Fields.{fields_of, ended_line};
+ghost use Rattle.scenario_reader.specs.Fields.{fields_of};
+ghost use Rattle.text_writer.specs.Lines.{whole_line};
 ghost use Rattle.scenario_reader.specs.line.Schedule.{actor_rule, actor_named, actor_said, do_rule, do_said, schedule_rule, do_text, schedule_fields};
 ghost use Rattle.scenario_reader.specs.Drafts.{with_item};
 ghost use Rattle.scenario_reader.specs.line.Table.{MayAdd};
@@ -79,7 +80,7 @@ pub(crate) fn judge_schedule(line: &[u8]) -> Result<(), Cause>
 }
 
 pub(crate) fn schedule_line(alloc: Global) -> Result<String, OutOfMemory>
-    ensures { IfOk result (λ line. string_bytes line ≡ ended_line schedule_fields) }
+    ensures { IfOk result (λ line. string_bytes line ≡ whole_line schedule_fields) }
 {
     Ok(format!(in alloc; "schedule\n")?)
 }

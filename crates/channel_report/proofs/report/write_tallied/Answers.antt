@@ -1,8 +1,8 @@
 -- What was found of the run is told.
-use Rattle.std.proofs.Common.{reverse, subst}
+use Rattle.std.proofs.Common.{Ok, reverse, subst}
 use Rattle.channel_report.specs.Report.{report_of}
 use Rattle.text_writer.specs.Telling.{WritesText}
-use Rattle.text_writer.proofs.TextsTold.{broken-off, ended, nothing-written}
+use Rattle.text_writer.proofs.TextsTold.{broken-off, end-failed, ended, nothing-written}
 use Rattle.channel_report.proofs.report.write_tallied.Goals as goal
 
 pub tell_report-requires : goal.tell_report-requires
@@ -20,9 +20,16 @@ returns-in_err-tell_report g c = λ run told.
     (broken-off c.from_residual-in_err-tell_report.result c.in_err-tell_report.field-0.0 _ _ c.in_ok-gather.gather _ _ (report_of c.args.plan.now (reverse run) c.in_ok-findings.findings.packets) c.from_residual-in_err-tell_report.ensures.1 c.in_ok-gather.ensures
     (c.in_err-tell_report.ensures (reverse run) (c.in_ok-findings.ensures.found run told)))
 
+pub returns-in_err-finish : goal.returns-in_err-finish
+returns-in_err-finish g c = λ run told.
+    let entries = reverse run in
+    subst (λ packets. WritesText c.from_residual-in_err-finish.result (g.K.Sink.written c.args.sink.now) (g.K.Sink.written c.finish.new.sink) (g.K.Sink.faults c.args.sink.now) (g.K.Sink.faults c.finish.new.sink) (report_of c.args.plan.now entries packets)) c.in_ok-findings.ensures.packets
+    (end-failed c.from_residual-in_err-finish.result _ (g.K.Sink.written c.tell_report.new.sink) _ c.tell_report.new.gather _ (g.K.Sink.faults c.tell_report.new.sink) _ (report_of c.args.plan.now entries c.in_ok-findings.findings.packets) c.from_residual-in_err-finish.ensures.1
+    (rw c.in_ok-gather.ensures at (c.in_ok-tell_report.ensures entries (c.in_ok-findings.ensures.found run told))) c.in_err-finish.ensures)
+
 pub returns : goal.returns
 returns g c = λ run told.
     let entries = reverse run in
-    subst (λ packets. WritesText c.finish.result (g.K.Sink.written c.args.sink.now) (g.K.Sink.written c.finish.new.sink) (g.K.Sink.faults c.args.sink.now) (g.K.Sink.faults c.finish.new.sink) (report_of c.args.plan.now entries packets)) c.in_ok-findings.ensures.packets
-    (ended _ (g.K.Sink.written c.tell_report.new.sink) _ c.tell_report.new.gather _ (g.K.Sink.faults c.tell_report.new.sink) _ (report_of c.args.plan.now entries c.in_ok-findings.findings.packets) c.finish.result
-    (rw c.in_ok-gather.ensures at (c.in_ok-tell_report.ensures entries (c.in_ok-findings.ensures.found run told))) c.finish.ensures)
+    subst (λ packets. WritesText {X = Unit {0}} (Ok tt) (g.K.Sink.written c.args.sink.now) (g.K.Sink.written c.finish.new.sink) (g.K.Sink.faults c.args.sink.now) (g.K.Sink.faults c.finish.new.sink) (report_of c.args.plan.now entries packets)) c.in_ok-findings.ensures.packets
+    (ended _ (g.K.Sink.written c.tell_report.new.sink) _ c.tell_report.new.gather _ (g.K.Sink.faults c.tell_report.new.sink) _ (report_of c.args.plan.now entries c.in_ok-findings.findings.packets) (Ok tt)
+    (rw c.in_ok-gather.ensures at (c.in_ok-tell_report.ensures entries (c.in_ok-findings.ensures.found run told))) c.in_ok-finish.ensures)

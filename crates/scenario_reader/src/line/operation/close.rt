@@ -1,7 +1,8 @@
 //! The line that closes a request: judging it, and its text.
 ghost use Rattle.std.specs.Prelude.{◌≡◌, IfOk, string_bytes};
 ghost use Rattle.scenario_reader.specs.Causes.{States};
-ghost use Rattle.scenario_reader.specs.Fields.{fields_of, ended_line};
+ghost use Rattle.scenario_reader.specs.Fields.{fields_of};
+ghost use Rattle.text_writer.specs.Lines.{whole_line};
 ghost use Rattle.scenario_reader.specs.line.Close.{close_rule, close_said, close_fields};
 
 use crate::cause::Cause;
@@ -29,7 +30,7 @@ impl Draft {
 }
 
 pub(crate) fn close_line(alloc: Global, entry: &RequestEntry) -> Result<String, OutOfMemory>
-    ensures { IfOk result (λ line. string_bytes line ≡ ended_line (close_fields entry.now)) }
+    ensures { IfOk result (λ line. string_bytes line ≡ whole_line (close_fields entry.now)) }
 {
     let name = entry.name;
     Ok(format!(in alloc; "close {name}\n")?)

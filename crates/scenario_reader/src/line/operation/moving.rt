@@ -2,7 +2,8 @@
 ghost use Rattle.std.specs.Prelude.{ℕ, ◌≡◌, List, Some, IfOk, string_bytes};
 ghost use Rattle.scenario_reader.specs.Causes.{States};
 ghost use Rattle.scenario_reader.specs.Drafts.{own_request};
-ghost use Rattle.scenario_reader.specs.Fields.{fields_of, ended_line};
+ghost use Rattle.scenario_reader.specs.Fields.{fields_of};
+ghost use Rattle.text_writer.specs.Lines.{whole_line};
 ghost use Rattle.scenario_reader.specs.line.Move.{may_join, move_rule, move_said, move_fields};
 
 use crate::cause::Cause;
@@ -51,7 +52,7 @@ pub(crate) fn move_line(
     old: &RequestEntry,
     new: &RequestEntry,
 ) -> Result<String, OutOfMemory>
-    ensures { IfOk result (λ line. string_bytes line ≡ ended_line (move_fields old.now new.now)) }
+    ensures { IfOk result (λ line. string_bytes line ≡ whole_line (move_fields old.now new.now)) }
 {
     let (old, new) = (old.name, new.name);
     Ok(format!(in alloc; "move {old} {new}\n")?)

@@ -1,7 +1,8 @@
 //! The line of a pour: judging it, and its text.
 ghost use Rattle.std.specs.Prelude.{◌≡◌, IfOk, string_bytes};
 ghost use Rattle.scenario_reader.specs.Causes.{States};
-ghost use Rattle.scenario_reader.specs.Fields.{fields_of, ended_line};
+ghost use Rattle.scenario_reader.specs.Fields.{fields_of};
+ghost use Rattle.text_writer.specs.Lines.{whole_line};
 ghost use Rattle.scenario_reader.specs.line.Pour.{pour_rule, pour_said, pour_fields};
 
 use crate::cause::Cause;
@@ -48,7 +49,7 @@ pub(crate) fn pour_line(
     gap: u64,
     size: u32,
 ) -> Result<String, OutOfMemory>
-    ensures { IfOk result (λ line. string_bytes line ≡ ended_line (pour_fields count gap size entry.now)) }
+    ensures { IfOk result (λ line. string_bytes line ≡ whole_line (pour_fields count gap size entry.now)) }
 {
     let name = entry.name;
     Ok(format!(in alloc; "pour {name} {count} {gap} {size}\n")?)

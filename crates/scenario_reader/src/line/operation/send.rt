@@ -1,7 +1,8 @@
 //! The line of a send: judging it, and its text.
 ghost use Rattle.std.specs.Prelude.{◌≡◌, IfOk, string_bytes};
 ghost use Rattle.scenario_reader.specs.Causes.{States};
-ghost use Rattle.scenario_reader.specs.Fields.{fields_of, ended_line};
+ghost use Rattle.scenario_reader.specs.Fields.{fields_of};
+ghost use Rattle.text_writer.specs.Lines.{whole_line};
 ghost use Rattle.scenario_reader.specs.line.Send.{send_rule, send_said, send_fields};
 
 use crate::cause::Cause;
@@ -49,7 +50,7 @@ pub(crate) fn send_line(
     gap: u64,
     size: u32,
 ) -> Result<String, OutOfMemory>
-    ensures { IfOk result (λ line. string_bytes line ≡ ended_line (send_fields count gap size entry.now)) }
+    ensures { IfOk result (λ line. string_bytes line ≡ whole_line (send_fields count gap size entry.now)) }
 {
     let name = entry.name;
     Ok(format!(in alloc; "send {name} {count} {gap} {size}\n")?)

@@ -2,7 +2,8 @@
 ghost use Rattle.std.specs.Prelude.{◌≡◌, ◌++◌, [], IfOk, OnOk, string_bytes};
 ghost use Rattle.std.specs.List.{slice_get};
 ghost use Rattle.net_units.specs.Numbers.{link_number};
-ghost use Rattle.scenario_reader.specs.Fields.{ended_line, spaced};
+ghost use Rattle.scenario_reader.specs.Fields.{spaced};
+ghost use Rattle.text_writer.specs.Lines.{whole_line};
 ghost use Rattle.scenario_reader.specs.line.Request.{route_names, way_fields, with_name, contract_fields, delay_fields, open_fields};
 
 use call_script::{LinkEntry, RequestEntry};
@@ -17,7 +18,7 @@ pub(crate) fn open_line(
     links: &[LinkEntry],
     entry: &RequestEntry,
 ) -> Result<String, OutOfMemory>
-    ensures { IfOk result (λ line. string_bytes line ≡ ended_line (open_fields links.now entry.now)) }
+    ensures { IfOk result (λ line. string_bytes line ≡ whole_line (open_fields links.now entry.now)) }
 {
     let name = entry.name;
     let mut line = String::new(alloc);
