@@ -1,5 +1,5 @@
 -- A reader of CSV goes through a line of plain bytes in one field after another, and ends the record at the line feed.
-use Rattle.std.proofs.Common.{◌≡◌, ◌==◌, ◌++◌, ◌∷◌, ◌∙◌, ◌&&◌, [], ℕ, List, Bool, Some, length, not, nat_eq, nat_le, refl, sym, ap, true, false, arith, append_assoc, inl, inr}
+use Rattle.std.proofs.Common.{◌≡◌, ◌==◌, ◌++◌, ◌∷◌, ◌∙◌, [], ℕ, List, Bool, Some, length, not, nat_eq, nat_le, refl, ap, true, false, arith, append_assoc, inl, inr}
 use Rattle.std.proofs.lemmas.Bool.{and_parts, cases_Bool, leb-true, ne_eqb}
 use Rattle.std.proofs.lemmas.List.{append-nil}
 use Rattle.std.proofs.lemmas.List.Splits.{slice_split-cons_yes, slice_split-cons_no}
@@ -7,7 +7,7 @@ use Rattle.std.specs.List.{list_all, slice_split, onto_first}
 use Rattle.csv.specs.Machine.{next_record}
 use Rattle.csv.specs.Reading.{default_config}
 use Rattle.csv.specs.declared.parser.State.TheVariants as st
-use Rattle.scenario_reader.specs.AuditRows.{is_plain, is_comma, is_row_text, row_fields}
+use Rattle.scenario_reader.specs.AuditRows.{is_plain, is_comma}
 use Rattle.scenario_reader.specs.CsvRows.{CsvReadsRows}
 use Rattle.scenario_reader.specs.Fields.{is_graphic}
 

@@ -1,21 +1,20 @@
 -- Where a route with a hop is found between two names, both are nodes of the network, and they differ.
-use Rattle.std.proofs.Common.{◌≡◌, ◌≢◌, ℕ, zero, suc, ◌+◌, ◌*◌, ◌<◌, ◌≤◌, Bool, true, false, ◌||◌, Option, Some, None, option_map, List, [], ◌∷◌, length, map, ◌⊎◌, inl, inr, ap, sym, subst, refl, ◌∙◌, arith}
+use Rattle.std.proofs.Common.{◌≡◌, ◌≢◌, ℕ, zero, suc, ◌+◌, ◌*◌, ◌<◌, ◌≤◌, true, false, Option, Some, None, option_map, List, [], ◌∷◌, length, map, inl, inr, ap, sym, subst, refl, ◌∙◌, arith}
 use Rattle.std.proofs.lemmas.Bool.{cases_Bool, or_left, or_right}
 use Rattle.std.proofs.lemmas.Option.{same_Some}
-use Rattle.std.specs.List.{list_any}
 use Rattle.hop_reservation.specs.declared.route.Hop.{Hop}
 use Rattle.call_script.specs.Rules.{is_named}
 use Rattle.call_script.specs.declared.entries.LinkEntry.{LinkEntry}
 use Rattle.route_finder.specs.Laws.{IsLeastOrNone}
 use Rattle.route_finder.specs.Table.{least_prop}
 use Rattle.route_finder.specs.Trace.{fewest, traced, traced_from, walk_by, least_walk}
-use Rattle.route_finder.specs.Walks.{hop_of as hop_by, prop_over, IsAmong, AreAmong, Leads, IsWay, IsLeastWalk}
+use Rattle.route_finder.specs.Walks.{hop_of as hop_by, prop_over, IsAmong, AreAmong, Leads}
 use Rattle.route_finder.specs.declared.edge.Edge.{Edge}
-use Rattle.route_finder.proofs.TableFacts.{IsWithin, least_prop-within}
+use Rattle.route_finder.proofs.TableFacts.{least_prop-within}
 use Rattle.route_finder.proofs.TraceFacts.{IsFewest, fewest-is}
 use Rattle.route_finder.proofs.LeastWalk.{finds_least_walk}
-use Rattle.scenario_reader.specs.Nodes.{AreNumbered, touches, is_node, node_from, node_of, edge_over, edges_of, route_between}
-use Rattle.scenario_reader.proofs.NodeFacts.{named-same, are-network, node-known, node-least, ends-known, IsStep, step-is}
+use Rattle.scenario_reader.specs.Nodes.{AreNumbered, touches, is_node, node_from, node_of, edges_of, route_between}
+use Rattle.scenario_reader.proofs.NodeFacts.{named-same, are-network, node-known, ends-known, step-is}
 
 -- a number of a node that is there
 pub node-there : (n : ℕ) (links : List LinkEntry) (name : List ℕ) → node_from n links name < n + 2 * length links → is_node links name ≡ true

@@ -12,7 +12,7 @@ use Rattle.link_steps.specs.declared.quota.Quota.{Quota}
 use Rattle.link_steps.specs.Lists.{Each}
 use Rattle.link_steps.proofs.ListFacts.{Each-append}
 use Rattle.call_script.specs.Growing.{with_its_quota, new_caller, add_quota, add_op, last_ops}
-use Rattle.call_script.specs.Rules.{each_after, is_in, is_after, hits, named, load_at, loads_in, load_of, load_in, ops_load, ops_over}
+use Rattle.call_script.specs.Rules.{each_after, is_in, is_after, hits, named, loads_in, load_of, load_in, ops_load, ops_over}
 use Rattle.call_script.specs.declared.entries.CallerEntry.{CallerEntry}
 use Rattle.call_script.specs.declared.entries.LinkEntry.{LinkEntry}
 use Rattle.call_script.specs.declared.entries.RequestEntry.{RequestEntry}

@@ -1,13 +1,13 @@
 -- The route that is found between two nodes is that of the least walk.
-use Rattle.std.proofs.Common.{◌≡◌, ◌≢◌, ◌≤◌, ℕ, true, Option, Some, None, option_map, List, length, map, refl}
+use Rattle.std.proofs.Common.{◌≢◌, ℕ, Option, Some, None, option_map, List, map, refl}
 use Rattle.call_script.specs.declared.entries.LinkEntry.{LinkEntry}
 use Rattle.route_finder.specs.Laws.{IsLeastOrNone}
 use Rattle.route_finder.specs.Trace.{least_walk}
 use Rattle.route_finder.specs.Walks.{hop_of as hop_by}
 use Rattle.route_finder.specs.declared.edge.Edge.{Edge}
 use Rattle.route_finder.proofs.LeastWalk.{finds_least_walk}
-use Rattle.scenario_reader.specs.FoundRoutes.{AreApart, IsLeastRoute, FindsLeastRoutes, TellsNodesApart}
-use Rattle.scenario_reader.specs.Nodes.{AreNumbered, node_of, edges_of, route_between}
+use Rattle.scenario_reader.specs.FoundRoutes.{IsLeastRoute, FindsLeastRoutes, TellsNodesApart}
+use Rattle.scenario_reader.specs.Nodes.{node_of, edges_of, route_between}
 use Rattle.scenario_reader.proofs.NodeFacts.{are-network, node-same}
 
 pub finds_least_routes : FindsLeastRoutes

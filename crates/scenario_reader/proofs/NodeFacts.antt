@@ -1,12 +1,10 @@
 -- The nodes of a network: two of one number are one node, the links are the edges of a network, and what is found between two
 -- nodes is a route over links that are there.
-use Rattle.std.proofs.Common.{◌≡◌, ◌≢◌, ◌==◌, ℕ, zero, suc, ◌+◌, ◌*◌, ◌<◌, ◌≤◌, Bool, true, false, ◌||◌, ◌&&◌, nat_eq, nat_lt, Option, Some, None, option_map, List, [], ◌∷◌, length, get_or, drop, map, ◌⊎◌, inl, inr, ap, sym, subst, refl, ◌∙◌, arith}
-use Rattle.std.proofs.Math.Seq.{drop-cons}
-use Rattle.std.proofs.lemmas.Bool.{cases_Bool, or_left, or_right, or_cases, and_from, lt-ltb}
-use Rattle.std.proofs.lemmas.List.{drop_all}
+use Rattle.std.proofs.Common.{◌≡◌, ℕ, zero, suc, ◌+◌, ◌*◌, ◌<◌, ◌≤◌, true, false, Option, Some, None, option_map, List, [], ◌∷◌, length, map, inl, inr, ap, sym, subst, refl, ◌∙◌, arith}
+use Rattle.std.proofs.lemmas.Bool.{cases_Bool, or_left, or_right, and_from, lt-ltb}
 use Rattle.std.proofs.lemmas.Option.{same_Some, slice_get_within}
-use Rattle.std.specs.Cmp.Lexicographic.{pointwise, bytes_decides}
-use Rattle.std.specs.List.{list_any, list_all, slice_get}
+use Rattle.std.specs.Cmp.Lexicographic.{bytes_decides}
+use Rattle.std.specs.List.{list_all, slice_get}
 use Rattle.net_units.specs.Numbers.{link_number}
 use Rattle.hop_reservation.specs.Routes.{IsRoute}
 use Rattle.hop_reservation.specs.declared.route.Hop.{Hop}
@@ -16,7 +14,7 @@ use Rattle.call_script.specs.Rules.{is_named, has_link, meets, goes_on, is_joine
 use Rattle.call_script.specs.declared.entries.LinkEntry.{LinkEntry}
 use Rattle.route_finder.specs.Laws.{IsLeastOrNone}
 use Rattle.route_finder.specs.Trace.{least_walk}
-use Rattle.route_finder.specs.Walks.{hop_of as hop_by, link_of, IsAmong, AreAmong, AreAbove, IsEdge, IsNetwork, Leads, IsLeastWalk}
+use Rattle.route_finder.specs.Walks.{hop_of as hop_by, link_of, IsAmong, AreAmong, AreAbove, IsNetwork, Leads, IsLeastWalk}
 use Rattle.route_finder.specs.declared.edge.Edge.{Edge}
 use Rattle.route_finder.proofs.FindFacts.{least-route}
 use Rattle.route_finder.proofs.LeastWalk.{finds_least_walk}

@@ -1,10 +1,9 @@
 -- How a node's number is found, and the edges made, a link at a time.
-use Rattle.std.proofs.Common.{◌≡◌, ℕ, suc, ◌+◌, ◌*◌, ◌<◌, ◌≤◌, true, false, List, [], ◌∷◌, ◌++◌, length, get_or, take, drop, map, ap, sym, refl, ◌∙◌, arith}
+use Rattle.std.proofs.Common.{◌≡◌, ℕ, suc, ◌+◌, ◌<◌, ◌≤◌, true, false, List, [], ◌∷◌, ◌++◌, length, get_or, take, drop, map, ap, sym, refl, ◌∙◌, arith}
 use Rattle.std.proofs.Math.Seq.{drop-cons, take-suc}
 use Rattle.std.proofs.lemmas.List.{drop_all, take_all, map-append}
 use Rattle.call_script.specs.Rules.{is_named}
 use Rattle.call_script.specs.declared.entries.LinkEntry.{LinkEntry}
-use Rattle.route_finder.specs.declared.edge.Edge.{Edge}
 use Rattle.scenario_reader.specs.Nodes.{node_from, edge_over, edges_of}
 
 pub node-first : (n : ℕ) (links : List LinkEntry) (i : ℕ) (entry : LinkEntry) (name : List ℕ) → i < length links → get_or links i entry ≡ entry

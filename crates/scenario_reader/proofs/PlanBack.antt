@@ -14,10 +14,8 @@ use Rattle.call_script.specs.declared.entries.CallerEntry.{CallerEntry}
 use Rattle.call_script.specs.declared.entries.LinkEntry.{LinkEntry}
 use Rattle.call_script.specs.declared.entries.RequestEntry.{RequestEntry}
 use Rattle.call_script.specs.declared.operations.Op.{Op}
-use Rattle.call_script.specs.declared.roles.Role.{Role}
 use Rattle.call_script.specs.declared.roles.Role.TheVariants as role
 use Rattle.call_script.specs.declared.version.Version.{Version}
-use Rattle.call_script.proofs.GrowthFacts.{added-last}
 use Rattle.call_script.proofs.LoadFacts.{load-append, load-push, loads-append, loads-push, over-push, new-over}
 use Rattle.call_script.proofs.Growing.{caller-keeps, length-more}
 use Rattle.scenario_reader.specs.BothWays.{HasNames}

@@ -6,18 +6,18 @@ use Rattle.std.proofs.lemmas.List.Elements.{All-take}
 use Rattle.std.proofs.lemmas.Option.{same_Some}
 use Rattle.std.proofs.lemmas.Result.{err_from_is_err_and}
 use Rattle.std.specs.Prelude.{IsErrAnd, Result}
-use Rattle.byte_ends.specs.Answers.{AnswersLine, AnswersReadFault}
-use Rattle.byte_ends.specs.Cutting.{Cutting, allowance}
-use Rattle.byte_ends.specs.WholeLines.{feed, all_given, whole_lines}
+use Rattle.byte_ends.specs.Answers.{AnswersLine, AnswersReadFault, Foretells as BeforeLine, outlook_before}
+use Rattle.byte_ends.specs.Cutting.{Cutting, IsCutting, IsOf, allowance, ahead as bytes_ahead}
+use Rattle.byte_ends.specs.WholeLines.{Outlook, feed, all_given, outlook, whole_lines}
+use Rattle.byte_ends.specs.declared.lines.Cut.TheVariants.{Line}
 use Rattle.byte_ends.proofs.Outlooks.{whole_lines-line, whole_lines-none, allowance-line}
 use Rattle.call_script.specs.Parts.{PlanParts}
 use Rattle.call_script.specs.declared.schedule.Schedule.{Schedule}
-use Rattle.scenario_reader.specs.Drafts.{Said, with_item, is_complete, parts_said, schedule_said}
-use Rattle.scenario_reader.specs.Grammar.{judge}
-use Rattle.scenario_reader.specs.Reading.{PlanRead, BadLine, at_end, passes_and, are_let_pass, with_judged, PassesFrom}
-use Rattle.scenario_reader.specs.ReadSteps.{Language, scenarios, ahead, whole, Foretells, PassesOn, StopsPassing, ComesToEnd, ReadsLine, Refuses, TellsReading}
+use Rattle.scenario_reader.specs.Drafts.{Said, is_complete, parts_said, schedule_said}
+use Rattle.scenario_reader.specs.Reading.{PlanRead, BadLine, at_end, passes_and, are_let_pass, PassesFrom}
+use Rattle.scenario_reader.specs.ReadSteps.{AddsLine, IsByLine, Language, ahead, judged_on, whole, Foretells, PassesOn, StopsPassing, ComesToEnd, ReadsOn, ReadsLine, Refuses, TellsLines}
+use Rattle.scenario_reader.specs.declared.cause.Cause.{Cause}
 use Rattle.scenario_reader.specs.declared.cause.Cause.TheVariants as cause
-use Rattle.scenario_reader.specs.declared.item.Item.{Item}
 use Rattle.scenario_reader.specs.declared.reader.ReadRefusal.{ReadRefusal}
 use Rattle.scenario_reader.specs.declared.reader.ReadRefusal.TheVariants as refusal
 use Rattle.scenario_reader.specs.declared.reader.TheConstants.{MOST_BYTES}
@@ -56,9 +56,48 @@ passes_line k s t said after left left' a says =
           ∙ ap (λ j. passes_and j (λ d. are_let_pass k.says t.number (whole_lines (allowance t) rest) d)) says;
     }
 
--- the same of a line of a scenario
-pub passes_said : (s t : Cutting) (said after : Said) (left left' : Option (List ℕ)) (item : Item) → AnswersLine s t left left' → judge said t.number t.line ≡ Ok item → after ≡ with_item item said → PassesOn scenarios s t said after left left'
-passes_said s t said after left left' item a judged added = passes_line scenarios s t said after left left' a (ap (with_judged said) judged ∙ ap Ok (sym added))
+-- what is ahead comes to what the line says and what is ahead after it
+line_ahead : {W R : Type 0} (k : Language W R) (s t : Cutting) (said : W) (bytes rest : List ℕ) → IsByLine k → t.number ≡ s.number + 1 → outlook (allowance s) (s.pending ++ bytes) ≡ outlook_before (Ok Line) t.line (outlook (allowance t) (t.pending ++ rest))
+    → k.on s.number (outlook (allowance s) (s.pending ++ bytes)) said ≡ judged_on k (k.says said t.number t.line) t.number (outlook (allowance t) (t.pending ++ rest))
+line_ahead k s t said bytes rest by number foretold =
+    let next : suc s.number ≡ t.number = omega (arith, number) in
+    let after = outlook (allowance t) (t.pending ++ rest) in
+    ap (λ (o : Outlook). k.on s.number o said) foretold ∙ by.next s.number t.line after said ∙ ap (λ n. judged_on k (k.says said n t.line) n after) next
+
+-- after a line that is let pass it comes to the same
+same_ahead : {W R : Type 0} (k : Language W R) (s t : Cutting) (said after : W) (left left' : Option (List ℕ)) → IsByLine k → t.number ≡ s.number + 1 → BeforeLine (Ok Line) s t (bytes_ahead s left) (bytes_ahead t left')
+    → k.says said t.number t.line ≡ Ok after → IfSome (ahead k s said left) (λ r. ahead k t after left' ≡ Some r)
+same_ahead k s t said after None left' by number foretold says = tt
+same_ahead k s t said after (Some bytes) None by number foretold says = absurd foretold
+same_ahead k s t said after (Some bytes) (Some rest) by number foretold says =
+    ap Some (sym (line_ahead k s t said bytes rest by number foretold ∙ ap (λ j. judged_on k j t.number (outlook (allowance t) (t.pending ++ rest))) says))
+
+pub line_reads : {W R : Type 0} (k : Language W R) (s t : Cutting) (said after : W) (left left' : Option (List ℕ)) → IsByLine k → IsCutting t → IsOf s left → AnswersLine s t left left' → BeforeLine (Ok Line) s t (bytes_ahead s left) (bytes_ahead t left')
+    → k.says said t.number t.line ≡ Ok after → ReadsOn k s t said after left left'
+line_reads k s t said after left left' by cutting of a foretold says = record {
+  number = a.number;
+  most = a.moves.same_most;
+  cutting = cutting;
+  source = a.moves.same_source of;
+  passes = passes_line k s t said after left left' a says;
+  same = same_ahead k s t said after left left' by a.number foretold says;
+}
+
+-- a line that is refused is the verdict
+line_refused : {W R : Type 0} (k : Language W R) (s t : Cutting) (said : W) (left left' : Option (List ℕ)) (why : Cause) → IsByLine k → t.number ≡ s.number + 1 → BeforeLine (Ok Line) s t (bytes_ahead s left) (bytes_ahead t left')
+    → k.says said t.number t.line ≡ Err why → IfSome (ahead k s said left) (λ r. r ≡ k.refused t.number why)
+line_refused k s t said None left' why by number foretold says = tt
+line_refused k s t said (Some bytes) None why by number foretold says = absurd foretold
+line_refused k s t said (Some bytes) (Some rest) why by number foretold says =
+    line_ahead k s t said bytes rest by number foretold ∙ ap (λ j. judged_on k j t.number (outlook (allowance t) (t.pending ++ rest))) says
+
+pub refused_reads : {W R : Type 0} (k : Language W R) (s t : Cutting) (said after : W) (left left' : Option (List ℕ)) (faults faults' : ℕ) (e : ReadRefusal) → IsByLine k → t.number ≡ s.number + 1 → BeforeLine (Ok Line) s t (bytes_ahead s left) (bytes_ahead t left')
+    → AddsLine {X = Unit {0}} (Err e) t.number after (k.says said t.number t.line) → ReadsLine k (Err e) s t said after left left' faults faults'
+refused_reads k s t said after left left' faults faults' (refusal.Refused at why) by number foretold adds =
+    subst (λ (n : ℕ). IfSome (ahead k s said left) (λ r. r ≡ k.refused n why)) (sym adds.0) (line_refused k s t said left left' why by number foretold adds.1)
+refused_reads k s t said after left left' faults faults' refusal.Memory by number foretold adds = tt
+refused_reads k s t said after left left' faults faults' refusal.ReadFault by number foretold adds = absurd adds
+refused_reads k s t said after left left' faults faults' (refusal.TooLong taken) by number foretold adds = absurd adds
 
 -- where the source failed, no whole line is ahead, and no byte too many was taken
 pub passes_fault : {W R : Type 0} (k : Language W R) (s t : Cutting) (said : W) (left left' : Option (List ℕ)) (faults faults' : ℕ) → AnswersReadFault s t left left' faults faults' → StopsPassing k s said left left'
@@ -123,12 +162,21 @@ tells_handed r e P h tells =
     subst P (sym p.1) (subst (λ y. P (Err y)) (sym p.2) tells)
 
 -- at the end the bytes come to what was said
-pub ended : {W R : Type 0} (k : Language W R) (told : Option (List ℕ)) (s t : Cutting) (said after : W) (left left' : Option (List ℕ)) (r : R) → Foretells k told (ahead k s said left) → ComesToEnd k s t said after left left'
-    → k.on t.number (record { lines = []; ending = all_given }) after ≡ r → IfSome told (λ bytes. whole k bytes ≡ r)
-ended k None s t said after left left' r f end is = tt
-ended k (Some bytes) s t said after left left' r f end is =
-    foretold (ahead k s said left) (whole k bytes) (λ found. found ≡ k.on s.number (record { lines = []; ending = all_given }) said) f end.ends
-    ∙ ap₂ (λ n d. k.on n (record { lines = []; ending = all_given }) d) (sym end.number) (sym end.same) ∙ is
+pub ended : {W R : Type 0} (k : Language W R) (told : Option (List ℕ)) (s t : Cutting) (said after : W) (left left' : Option (List ℕ)) (next : ℕ) → Foretells k told (ahead k s said left) → ComesToEnd k s t said after left left'
+    → next ≡ t.number + 1 → TellsLines k (Ok next) after told
+ended k None s t said after left left' next f end number = tt
+ended k (Some bytes) s t said after left left' next f end number = record {
+  count = t.number;
+  number = number;
+  is = foretold (ahead k s said left) (whole k bytes) (λ found. found ≡ k.on s.number (record { lines = []; ending = all_given }) said) f end.ends
+      ∙ ap₂ (λ n d. k.on n (record { lines = []; ending = all_given }) d) (sym end.number) (sym end.same);
+}
+
+-- what the text comes to, whatever it is where it was read to its end
+pub comes_to : {W R : Type 0} (k : Language W R) (told : Option (List ℕ)) (next : ℕ) (said : W) (r : R) → TellsLines k (Ok next) said told
+    → ((count : ℕ) → next ≡ count + 1 → k.on count (record { lines = []; ending = all_given }) said ≡ r) → IfSome told (λ bytes. whole k bytes ≡ r)
+comes_to k None next said r tells is = tt
+comes_to k (Some bytes) next said r tells is = tells.is ∙ is tells.count tells.number
 
 -- a scenario that is complete is read
 pub complete_end : (count : ℕ) (said : Said) (plan : PlanParts) (schedule : Schedule) → is_complete said ≡ true → plan ≡ parts_said said → schedule ≡ schedule_said said → at_end all_given count said ≡ PlanRead plan schedule

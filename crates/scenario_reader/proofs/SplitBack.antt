@@ -1,7 +1,7 @@
 -- The groups of a plan are read one after another, and then the quotas of its links.
-use Rattle.std.proofs.Common.{◌≡◌, ℕ, zero, suc, ◌+◌, ◌*◌, ◌<◌, ◌≤◌, Bool, true, false, not, ◌&&◌, nat_eq, nat_le, List, [], ◌∷◌, ◌++◌, length, map, flat_map, Option, Some, None, option_map, refl, sym, ◌∙◌, ap, ap₂, subst, append_assoc, arith}
+use Rattle.std.proofs.Common.{◌≡◌, ℕ, zero, suc, ◌+◌, ◌<◌, ◌≤◌, Bool, true, false, nat_le, List, [], ◌∷◌, ◌++◌, length, map, flat_map, Some, refl, sym, ◌∙◌, ap, subst, append_assoc, arith}
 use Rattle.std.proofs.lemmas.Bool.{and_parts, and_from, le-leb, leb-true, not-true}
-use Rattle.std.proofs.lemmas.List.{append-nil, map-append}
+use Rattle.std.proofs.lemmas.List.{append-nil}
 use Rattle.std.proofs.lemmas.Option.{same_Some}
 use Rattle.std.specs.List.{slice_get, list_all}
 use Rattle.net_units.specs.LevelBounds.{bound_at}
@@ -16,7 +16,7 @@ use Rattle.link_steps.specs.Split.{level_part, buffer_part}
 use Rattle.link_steps.specs.declared.quota.Quota.{Quota}
 use Rattle.link_steps.specs.declared.shape.LinkShape.{LinkShape}
 use Rattle.call_script.specs.Growing.{with_its_quota, add_quota}
-use Rattle.call_script.specs.Groups.{quotas_have_version, is_of_new_group, quota_is_there, quota_in_range, level_fits, quotas_fit}
+use Rattle.call_script.specs.Groups.{is_of_new_group, quota_is_there, quota_in_range, level_fits, quotas_fit}
 use Rattle.call_script.specs.Parts.{LeavesUnused}
 use Rattle.call_script.specs.Rules.{each_after, is_new, are_distinct, link_names, link_has_version}
 use Rattle.call_script.specs.Versions.{has_groups}
@@ -24,7 +24,7 @@ use Rattle.call_script.specs.declared.entries.LinkEntry.{LinkEntry}
 use Rattle.call_script.specs.declared.version.Version.{Version}
 use Rattle.call_script.proofs.Growing.{length-more}
 use Rattle.scenario_reader.specs.BothWays.{HasNames, HasEightLoads}
-use Rattle.scenario_reader.specs.Drafts.{Said, has_quotas, link_named}
+use Rattle.scenario_reader.specs.Drafts.{has_quotas}
 use Rattle.scenario_reader.specs.Forms.{is_among}
 use Rattle.scenario_reader.specs.line.Group.{group_rule}
 use Rattle.scenario_reader.specs.line.Link.{link_fields}

@@ -1,18 +1,17 @@
 -- What is kept of the requests of the last caller, with one operation more.
-use Rattle.std.proofs.Common.{◌≡◌, ◌≢◌, ℕ, zero, suc, ◌+◌, ◌-◌, ◌<◌, ◌≤◌, Bool, true, false, ◌||◌, List, [], ◌∷◌, ◌++◌, length, map, max, set, get_or, Some, refl, sym, ◌∙◌, ap, subst, inl, inr, arith, length-set, get_or-set_other}
+use Rattle.std.proofs.Common.{◌≡◌, ◌≢◌, ℕ, zero, suc, ◌+◌, ◌-◌, ◌<◌, ◌≤◌, Bool, true, false, ◌||◌, List, [], ◌∷◌, ◌++◌, length, max, set, get_or, Some, refl, sym, ◌∙◌, ap, subst, inl, inr, arith, length-set, get_or-set_other}
 use Rattle.std.proofs.Math.Bool.{or-false, or-true}
 use Rattle.std.proofs.lemmas.Bool.{cases_Bool, eqb-true, eqb-false, ne_eqb, and_parts, not-true}
 use Rattle.std.proofs.lemmas.Grind.{get_or-set_at}
 use Rattle.std.proofs.lemmas.List.{length-append, length-map}
 use Rattle.std.proofs.lemmas.List.Folds.{list_any-append}
-use Rattle.std.proofs.lemmas.Option.{slice_get_within}
 use Rattle.std.specs.List.{list_any, slice_get}
-use Rattle.std.specs.Prelude.{nat_eq, not, ◌&&◌}
-use Rattle.net_units.specs.Numbers.{actor_number, channel_number}
+use Rattle.std.specs.Prelude.{nat_eq, not}
+use Rattle.net_units.specs.Numbers.{channel_number}
 use Rattle.net_units.specs.declared.numbers.ChanNo.{ChanNo}
 use Rattle.link_steps.specs.Lists.{Each}
 use Rattle.call_script.specs.Growing.{add_op, last_ops, HasDone}
-use Rattle.call_script.specs.Parts.{Opening, openings_in, openings_of, opening_of}
+use Rattle.call_script.specs.Parts.{openings_in, openings_of, opening_of}
 use Rattle.call_script.specs.Rules.{is_in, load_at, loads_with, loads_after, loads_in, load_of, load_in, ops_load, ops_over, may_move}
 use Rattle.call_script.specs.declared.entries.CallerEntry.{CallerEntry}
 use Rattle.call_script.specs.declared.entries.RequestEntry.{RequestEntry}

@@ -43,7 +43,7 @@ use Rattle.scenario_reader.specs.line.Send.{send_fields}
 use Rattle.scenario_reader.specs.line.Close.{close_fields}
 use Rattle.scenario_reader.specs.line.Move.{move_fields, fields_between}
 use Rattle.scenario_reader.specs.line.Pour.{pour_fields}
-use Rattle.scenario_reader.proofs.kind.UsingBack.{are_packets, IsOpenHere, IsUnleft}
+use Rattle.scenario_reader.proofs.kind.UsingBack.{are_packets, IsOpenHere}
 use Rattle.scenario_reader.proofs.NamedBack.{find_back}
 use Rattle.scenario_reader.proofs.kind.RequestBack.{IsHopHere}
 use Rattle.scenario_reader.proofs.SaysBack.{front}

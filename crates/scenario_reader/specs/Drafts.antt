@@ -2,7 +2,7 @@
 -- requests, and the callers with their operations, as a plan has them; the numbers of rounds, once they were said; and the schedule: whether it was begun, and its
 -- items. When `tail` was said, the first parts are those of the plan. Links, requests and callers have the numbers of their
 -- places, from 0, in the order of their lines, and groups from 1. The operations that are read belong to the last caller.
-use Rattle.std.specs.Prelude.{ℕ, suc, ◌-◌, Bool, true, false, not, nat_eq, ◌||◌, if◌then◌else◌, Option, Some, None, List, [], ◌∷◌, ◌++◌, length, find, position, is_some, unwrap_or, option_map}
+use Rattle.std.specs.Prelude.{ℕ, suc, ◌-◌, Bool, true, false, not, nat_eq, if◌then◌else◌, Option, Some, None, List, [], ◌∷◌, ◌++◌, length, find, position, is_some, unwrap_or, option_map}
 use Rattle.std.specs.List.{list_any}
 use Rattle.net_units.specs.Numbers.{link_number, actor_number, channel_number}
 use Rattle.net_units.specs.declared.numbers.ChanNo.{ChanNo}

@@ -1,7 +1,7 @@
 -- A line of a scenario is made of fields, with exactly one space between two of them and none at either end. A
 -- field is one or more bytes from 0x21 to 0x7E. So a line with two spaces in a row, with a tab or with a carriage
 -- return has a part that isn't a field.
-use Rattle.std.specs.Prelude.{ℕ, Bool, nat_eq, nat_le, not, ◌&&◌, List, [], ◌∷◌, ◌++◌, length, slice_index_or, Option, Some, None}
+use Rattle.std.specs.Prelude.{ℕ, Bool, nat_eq, nat_le, not, ◌&&◌, List, [], ◌∷◌, length, slice_index_or, Option, Some, None}
 use Rattle.std.specs.List.{list_all, slice_split, join_with_byte, flat_map}
 use Rattle.text_writer.specs.Lines.{whole_line}
 

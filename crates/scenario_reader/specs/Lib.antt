@@ -21,3 +21,4 @@ pub mod AuditReading
 pub mod AuditKept
 pub mod AuditSteps
 pub mod line
+pub mod ByLine

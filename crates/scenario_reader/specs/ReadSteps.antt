@@ -1,17 +1,18 @@
 -- How a text of lines, a scenario or an audit's input, is read line by line: after each line, what is to come of the bytes ahead, after
 -- what was read so far, comes to the same. So the answer is a function of all bytes, where the source tells them.
-use Rattle.std.specs.Prelude.{◌≡◌, ℕ, ◌+◌, ◌≤◌, ◌++◌, length, Bool, true, false, List, [], Option, Some, None, IfSome, Result, Ok, Err, ⊤}
+use Rattle.std.specs.Prelude.{◌≡◌, ℕ, suc, ◌+◌, ◌≤◌, ◌++◌, length, Bool, true, false, List, [], ◌∷◌, Option, Some, None, IfSome, Result, Ok, Err, ⊤}
 use Rattle.std.specs.Io.KnownBytes.{Consumes, IsAtEnd}
 use Rattle.byte_ends.specs.Cutting.{Cutting, IsCutting, IsOf, allowance}
-use Rattle.byte_ends.specs.WholeLines.{Outlook, all_given, outlook, whole_lines}
+use Rattle.byte_ends.specs.WholeLines.{Outlook, all_given, cut_short, too_long, outlook, whole_lines}
 use Rattle.byte_ends.specs.Faults.{FaultsRise}
 use Rattle.call_script.specs.Parts.{PlanParts}
 use Rattle.call_script.specs.declared.schedule.Schedule.{Schedule}
-use Rattle.scenario_reader.specs.Drafts.{Said, nothing_said, with_item}
-use Rattle.scenario_reader.specs.Grammar.{judge}
+use Rattle.scenario_reader.specs.Drafts.{Said, nothing_said}
 use Rattle.scenario_reader.specs.Reading.{Reading, PlanRead, BadLine, TooManyBytes, reading_on, reading, are_let_pass, said_line}
 use Rattle.scenario_reader.specs.declared.cause.Cause.{Cause}
-use Rattle.scenario_reader.specs.declared.item.Item.{Item}
+use Rattle.scenario_reader.specs.declared.cause.Cause.TheVariants as cause
+use Rattle.scenario_reader.specs.declared.cause.LineFault.{LineFault}
+use Rattle.scenario_reader.specs.declared.cause.LineFault.TheVariants as fault
 use Rattle.scenario_reader.specs.declared.reader.ReadRefusal.{ReadRefusal}
 use Rattle.scenario_reader.specs.declared.reader.ReadRefusal.TheVariants as refusal
 use Rattle.scenario_reader.specs.declared.reader.TheConstants.{MOST_BYTES}
@@ -25,6 +26,17 @@ pub record Language (Words Whole : Type 0) : Type 0 where
   pub refused : ℕ → Cause → Whole
   pub over : Whole
 
+-- what a line that was judged and the bytes after it come to, after so many lines
+abbrev pub judged_on : {W R : Type 0} → Language W R → Result W Cause → ℕ → Outlook → R
+judged_on k (Ok after) count rest = k.on count rest after
+judged_on k (Err cause) count rest = k.refused count cause
+
+-- the first line is judged, and then what stands after it
+pub record IsByLine {W R : Type 0} (k : Language W R) : Type 0 where
+  pub next : (count : ℕ) (line : List ℕ) (rest : Outlook) (said : W) → k.on count (record { lines = line ∷ rest.lines; ending = rest.ending }) said ≡ judged_on k (k.says said (suc count) line) (suc count) rest
+  pub cut : (count : ℕ) (said : W) → k.on count (record { lines = []; ending = cut_short }) said ≡ k.refused (suc count) cause.Cut
+  pub over : (count : ℕ) (said : W) → k.on count (record { lines = []; ending = too_long }) said ≡ k.over
+
 -- that of scenarios
 abbrev pub scenarios : Language Said Reading
 scenarios = record { first = nothing_said; says = said_line; on = reading_on; refused = BadLine; over = TooManyBytes }
@@ -34,13 +46,19 @@ abbrev pub ahead : {W R : Type 0} → Language W R → Cutting → W → Option 
 ahead k t said None = None
 ahead k t said (Some left) = Some (k.on t.number (outlook (allowance t) (t.pending ++ left)) said)
 
--- a line was judged and what it says was added, or it was refused, or memory ran out
-abbrev pub AddsLine : Result (Unit {0}) ReadRefusal → ℕ → List ℕ → Said → Said → Type 0
-AddsLine (Ok _) number line said after = (item : Item) × (judge said number line ≡ Ok item) × (after ≡ with_item item said)
-AddsLine (Err (refusal.Refused at cause)) number line said after = (at ≡ number) × (judge said number line ≡ Err cause)
-AddsLine (Err refusal.Memory) number line said after = ⊤
-AddsLine (Err refusal.ReadFault) number line said after = ⊥
-AddsLine (Err (refusal.TooLong _)) number line said after = ⊥
+-- what was read after a line is what judging it says, but where memory ran out
+abbrev pub Adds : {X W : Type 0} → Result X LineFault → W → Result W Cause → Type 0
+Adds (Ok _) after judged = judged ≡ Ok after
+Adds (Err (fault.Refused cause)) after judged = judged ≡ Err cause
+Adds (Err fault.Memory) after judged = Unit {0}
+
+-- the same of the line of this number
+abbrev pub AddsLine : {X W : Type 0} → Result X ReadRefusal → ℕ → W → Result W Cause → Type 0
+AddsLine (Ok _) number after judged = judged ≡ Ok after
+AddsLine (Err (refusal.Refused at cause)) number after judged = (at ≡ number) × (judged ≡ Err cause)
+AddsLine (Err refusal.Memory) number after judged = ⊤
+AddsLine (Err refusal.ReadFault) number after judged = ⊥
+AddsLine (Err (refusal.TooLong _)) number after judged = ⊥
 
 -- bytes were taken, and what they say was added: whatever stands after them, the lines that were ahead are let pass
 -- exactly where those that are ahead now are
@@ -102,6 +120,17 @@ Refuses k (refusal.Refused line cause) r = r ≡ k.refused line cause
 Refuses k (refusal.TooLong taken) r = (r ≡ k.over) × (taken ≡ MOST_BYTES + 1)
 Refuses k refusal.Memory r = ⊤
 Refuses k refusal.ReadFault r = ⊤
+
+-- the text was read to its end, where one more line would have this number
+pub record ReadsToEnd {W R : Type 0} (k : Language W R) (next : ℕ) (said : W) (r : R) : Type 0 where
+  pub count : ℕ
+  pub number : next ≡ count + 1
+  pub is : r ≡ k.on count (record { lines = []; ending = all_given }) said
+
+-- where the source tells its bytes, what was read is what they come to
+abbrev pub TellsLines : {W R : Type 0} → Language W R → Result ℕ ReadRefusal → W → Option (List ℕ) → Type 0
+TellsLines k (Ok next) said left = IfSome left (λ bytes. ReadsToEnd k next said (whole k bytes))
+TellsLines k (Err why) said left = IfSome left (λ bytes. Refuses k why (whole k bytes))
 
 -- what a reading of a scenario answers
 abbrev pub AnswersReading : Result (PlanParts × Schedule) ReadRefusal → Reading → Type 0

@@ -4,6 +4,8 @@ ghost use Rattle.net_units.specs.Limits.{most_rounds};
 ghost use Rattle.scenario_reader.specs.Drafts.{nothing_said, is_complete, parts_said, schedule_said, rounds_of};
 ghost use Rattle.scenario_reader.specs.Kept.{IsScheduleOf};
 
+use crate::by_line::TakesLines;
+use crate::cause::LineFault;
 use crate::names::Names;
 use crate::uses::Uses;
 use call_script::{
@@ -48,6 +50,24 @@ impl Model for Draft {
     ghost invariant = { λ d. IsDraft (said_of d.version d.links.items d.groups.items d.requests.items d.callers.items d.rounds d.tail d.written d.items.items)
         × IsKeptBeside (said_of d.version d.links.items d.groups.items d.requests.items d.callers.items d.rounds d.tail d.written d.items.items)
         d.link_names d.request_names d.caller_names d.uses.items d.load };
+}
+
+impl TakesLines for Draft {
+    ghost use Rattle.scenario_reader.specs.ByLine.{scenarios_by_line};
+    ghost use Rattle.scenario_reader.specs.Reading.{Reading};
+    ghost use Rattle.scenario_reader.specs.ReadSteps.{scenarios};
+
+    ghost Whole = { Reading };
+
+    ghost language = { scenarios };
+
+    fn add_line(&mut self, alloc: Global, number: u64, line: &[u8]) -> Result<(), LineFault> {
+        let item = self.judge(alloc, number, line)?;
+        self.put(alloc, item)?;
+        Ok(())
+    }
+
+    ghost by_line = { scenarios_by_line };
 }
 
 impl Draft {

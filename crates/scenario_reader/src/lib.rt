@@ -2,6 +2,7 @@
 #![tactic(auto)]
 
 pub mod audit;
+mod by_line;
 pub mod cause;
 pub mod draft;
 pub mod fields;

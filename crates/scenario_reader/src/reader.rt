@@ -1,16 +1,16 @@
 //! Reading a scenario, line by line.
 ghost use Rattle.std.specs.Prelude.{◌≡◌, ◌≤◌, Err, Some, IfOk, OnOk};
 ghost use Rattle.std.specs.Io.KnownBytes.{IsAtEnd};
-ghost use Rattle.byte_ends.specs.Cutting.{IsCutting, IsOf};
 ghost use Rattle.byte_ends.specs.Faults.{FaultsRise};
 ghost use Rattle.scenario_reader.specs.Kept.{IsScheduleOf};
-ghost use Rattle.scenario_reader.specs.ReadSteps.{AddsLine, ReadsLine, TellsReading, scenarios};
+ghost use Rattle.scenario_reader.specs.ReadSteps.{TellsReading};
 ghost use Rattle.scenario_reader.specs.Reading.{LetsPass};
 ghost use Rattle.scenario_reader.specs.Words.{refusal_text};
 
-use crate::cause::{Cause, LineFault};
+use crate::by_line::read_lines;
+use crate::cause::Cause;
 use crate::draft::Draft;
-use byte_ends::{Cut, LineRefusal, Lines, Source};
+use byte_ends::Source;
 use call_script::{Plan, Schedule};
 use net_units::OutOfMemory;
 use std::alloc::Global;
@@ -75,59 +75,14 @@ pub fn read_plan<S: Source>(alloc: Global, source: &mut S) -> Result<(Plan, Sche
     ensures passing { result ≡ Err ReadRefusal.ReadFault → LetsPass MOST_BYTES (S.left source.old) (S.left source.new) }
     ensures counts { S.faults source.old ≤ S.faults source.new }
 {
-    let mut lines = Lines::new(alloc, MOST_BYTES)?;
     let mut draft = Draft::new(alloc)?;
-    while read_line(alloc, &mut lines, &mut draft, source)? {}
+    let line = read_lines(alloc, &mut draft, source)?;
     if draft.is_complete() {
         Ok(draft.into_plan(alloc)?)
     } else {
         Err(ReadRefusal::Refused {
-            line: lines.number() + 1,
+            line,
             cause: Cause::End,
         })
-    }
-}
-
-// Reads the next line and adds what it says. It answers whether there was one.
-#[tactic(auto, using(crate::proofs::ReadFacts::passes_said))]
-fn read_line<S: Source>(
-    alloc: Global,
-    lines: &mut Lines,
-    draft: &mut Draft,
-    source: &mut S,
-) -> Result<bool, ReadRefusal>
-    requires cutting { IsCutting lines.old }
-    requires source { IsOf lines.old (S.left source.old) }
-    ensures reads { ReadsLine scenarios result lines.old lines.new draft.old draft.new (S.left source.old) (S.left source.new)
-        (S.faults source.old) (S.faults source.new) }
-    ensures counts { S.faults source.old ≤ S.faults source.new }
-{
-    match lines.read_line(source) {
-        Ok(Cut::End) => Ok(false),
-        Ok(Cut::Line) => {
-            add_line(alloc, draft, lines.number(), lines.line())?;
-            Ok(true)
-        }
-        Err(LineRefusal::ReadFault) => Err(ReadRefusal::ReadFault),
-        Err(LineRefusal::Memory) => Err(ReadRefusal::Memory),
-        Err(LineRefusal::TooLong { taken }) => Err(ReadRefusal::TooLong { taken }),
-        Err(LineRefusal::NoLineEnd { line }) => Err(ReadRefusal::Refused {
-            line,
-            cause: Cause::Cut,
-        }),
-    }
-}
-
-// Judges a line and adds what it says.
-fn add_line(alloc: Global, draft: &mut Draft, number: u64, line: &[u8]) -> Result<(), ReadRefusal>
-    ensures { AddsLine result number line.now draft.old draft.new }
-{
-    match draft.judge(alloc, number, line) {
-        Ok(item) => Ok(draft.put(alloc, item)?),
-        Err(LineFault::Memory) => Err(ReadRefusal::Memory),
-        Err(LineFault::Refused(cause)) => Err(ReadRefusal::Refused {
-            line: number,
-            cause,
-        }),
     }
 }

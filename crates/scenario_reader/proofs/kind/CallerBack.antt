@@ -1,5 +1,5 @@
 -- The line of a plan's caller passes, and says that caller.
-use Rattle.std.proofs.Common.{◌≡◌, ◌-◌, ◌<◌, ◌≤◌, Bool, true, false, ◌||◌, nat_eq, nat_lt, List, [], ◌∷◌, length, Option, None, is_some, codes, refl, sym, ◌∙◌, ap, arith, ◌+◌, not, ◌++◌, Ok}
+use Rattle.std.proofs.Common.{◌≡◌, ◌<◌, ◌≤◌, Bool, true, false, ◌||◌, nat_eq, nat_lt, List, [], ◌∷◌, length, Option, None, is_some, codes, refl, sym, ◌∙◌, ap, arith, not, ◌++◌, Ok}
 use Rattle.std.proofs.lemmas.Bool.{lt-ltb, leb-true, eqb-true, eqb-false, and_from}
 use Rattle.std.specs.Prelude.{ℕ, unwrap_or}
 use Rattle.net_units.specs.Text.{is_name}

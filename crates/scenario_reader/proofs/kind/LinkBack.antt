@@ -1,5 +1,5 @@
 -- The line of a plan's link passes, and says that link.
-use Rattle.std.proofs.Common.{◌≡◌, ◌<◌, ◌≤◌, Bool, true, false, nat_eq, nat_lt, List, [], ◌∷◌, length, map, Some, None, decimal, codes, refl, sym, ◌∙◌, ap, arith, ◌++◌, ◌+◌}
+use Rattle.std.proofs.Common.{◌≡◌, ◌<◌, ◌≤◌, Bool, true, false, nat_eq, nat_lt, List, [], ◌∷◌, length, map, Some, None, decimal, codes, refl, sym, ◌∙◌, ap, arith, ◌++◌}
 use Rattle.std.specs.Prelude.{ℕ, if◌then◌else◌, option_map}
 use Rattle.std.proofs.lemmas.Bool.{le-leb, lt-ltb, and_parts, eqb-true, eqb-false}
 use Rattle.std.proofs.lemmas.List.{drop_all, length-map}

@@ -1,5 +1,5 @@
 -- The line of a plan's quota passes, and says that quota.
-use Rattle.std.proofs.Common.{ap₂, ◌≡◌, zero, suc, ◌+◌, ◌-◌, ◌<◌, ◌≤◌, true, nat_eq, nat_le, List, [], ◌∷◌, ◌++◌, length, map, take, drop, get_or, Some, None, is_some, option_map, decimal, codes, refl, sym, ◌∙◌, ap, arith}
+use Rattle.std.proofs.Common.{ap₂, ◌≡◌, zero, suc, ◌<◌, ◌≤◌, true, nat_eq, nat_le, List, [], ◌∷◌, ◌++◌, length, map, take, drop, get_or, Some, None, is_some, option_map, decimal, codes, refl, sym, ◌∙◌, ap, arith}
 use Rattle.std.proofs.lemmas.Bool.{leb-true, eq-eqb, and_parts, and_from}
 use Rattle.std.proofs.lemmas.List.{length-map, length-take-le}
 use Rattle.std.specs.List.{list_all}

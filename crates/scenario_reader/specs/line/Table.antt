@@ -3,8 +3,6 @@
 -- moves from version six on; before them these forms don't exist.
 use Rattle.std.specs.Prelude.{ℕ, Bool, false, nat_eq, not, ◌&&◌, if◌then◌else◌, Option, Some, None, Result, Err, List, length, option_map, is_some, is_none, ◌≡◌}
 use Rattle.call_script.specs.Versions.{has_best_effort, has_groups, has_moves}
-use Rattle.call_script.specs.declared.operations.Op.{Op}
-use Rattle.call_script.specs.declared.schedule.Do.{Do}
 use Rattle.call_script.specs.declared.version.Version.{Version}
 use Rattle.scenario_reader.specs.Causes.{judged, stated}
 use Rattle.scenario_reader.specs.Decimal.{value_of}
@@ -25,8 +23,6 @@ use Rattle.scenario_reader.specs.line.Move.{move_rule, move_said}
 use Rattle.scenario_reader.specs.line.Pour.{pour_rule, pour_said}
 use Rattle.scenario_reader.specs.line.Rounds.{rounds_rule, tail_rule, MayPutRounds, MayPutTail}
 use Rattle.scenario_reader.specs.line.Schedule.{schedule_rule, do_rule, do_said, MayPutSchedule, MayPutDo}
-use Rattle.link_steps.specs.declared.quota.Quota.{Quota}
-use Rattle.call_script.specs.declared.schedule.Schedule.{Schedule}
 use Rattle.scenario_reader.specs.line.Operation.{MayPutOp}
 use Rattle.scenario_reader.specs.declared.cause.Cause.TheVariants as cause
 use Rattle.scenario_reader.specs.declared.form.Keyword.TheVariants as word

@@ -3,14 +3,15 @@ ghost use Rattle.std.specs.Prelude.{◌≡◌, ◌++◌, ◌∷◌, [], None, If
 ghost use Rattle.call_script.specs.Accepted.{AreAccepted};
 ghost use Rattle.run_record.specs.SmallRows.{AreSmall, IsSmall};
 ghost use Rattle.scenario_reader.specs.AuditKept.{levels_given};
-ghost use Rattle.scenario_reader.specs.AuditReading.{audit_line, begins_report, nothing_read, report_begun, report_line, scenario_line, with_row};
+ghost use Rattle.scenario_reader.specs.AuditReading.{begins_report, nothing_read, report_begun, report_line, scenario_line, with_row};
 ghost use Rattle.scenario_reader.specs.AuditRows.{row_told};
-ghost use Rattle.scenario_reader.specs.AuditSteps.{Adds};
+ghost use Rattle.scenario_reader.specs.ReadSteps.{Adds};
 ghost use Rattle.scenario_reader.specs.Drafts.{is_complete, parts_said};
 ghost use Rattle.scenario_reader.specs.Fields.{fields_of};
 ghost use Rattle.scenario_reader.specs.declared.audit.place.Place.TheVariants as place;
 
 use crate::audit::place::Place;
+use crate::by_line::TakesLines;
 use crate::cause::{Cause, LineFault};
 use crate::draft::Draft;
 use crate::fields::{field, field_count, has_fields};
@@ -47,6 +48,27 @@ impl Model for AuditDraft {
     ghost invariant = { λ d. IsAuditDraft (audit_said d.draft d.place (levels_given d.levels.items) d.rows.items) };
 }
 
+impl TakesLines for AuditDraft {
+    ghost use Rattle.scenario_reader.specs.AuditReading.{AuditReading};
+    ghost use Rattle.scenario_reader.specs.AuditSteps.{audits};
+    ghost use Rattle.scenario_reader.specs.ByLine.{audits_by_line};
+
+    ghost Whole = { AuditReading };
+
+    ghost language = { audits };
+
+    #[tactic(auto, unfolding(crate::specs::AuditReading::audit_line))]
+    fn add_line(&mut self, alloc: Global, number: u64, line: &[u8]) -> Result<(), LineFault> {
+        match self.place {
+            Place::Scenario => self.take_scenario(alloc, number, line),
+            Place::Report => self.take_report(line),
+            Place::Table => self.take_row(line),
+        }
+    }
+
+    ghost by_line = { audits_by_line };
+}
+
 impl AuditDraft {
     /// Before the first line. An `Err` comes only for want of memory.
     pub fn new(alloc: Global) -> Result<AuditDraft, OutOfMemory>
@@ -67,18 +89,6 @@ impl AuditDraft {
         self.place
     }
 
-    /// Judges the line of this number, and adds what it says where it isn't refused.
-    #[tactic(auto, unfolding(crate::specs::AuditReading::audit_line))]
-    pub fn take_line(&mut self, alloc: Global, number: u64, line: &[u8]) -> Result<(), LineFault>
-        ensures { Adds result self.new (audit_line self.old number line.now) }
-    {
-        match self.place {
-            Place::Scenario => self.take_scenario(alloc, number, line),
-            Place::Report => self.take_report(line),
-            Place::Table => self.take_row(line),
-        }
-    }
-
     // A line of the scenario, or the line `report`.
     fn take_scenario(&mut self, alloc: Global, number: u64, line: &[u8]) -> Result<(), LineFault>
         requires { self.old.place ≡ place.Scenario }
@@ -88,8 +98,7 @@ impl AuditDraft {
             require(field_count(line) == 1, Cause::Shape)?;
             self.begin_report(alloc)?;
         } else {
-            let item = self.draft.judge(alloc, number, line)?;
-            self.draft.put(alloc, item)?;
+            self.draft.add_line(alloc, number, line)?;
         }
         Ok(())
     }

@@ -1,20 +1,19 @@
 //! Reading an audit's input, line by line.
 ghost use Rattle.std.specs.Prelude.{◌≡◌, ◌≤◌, Err, IfErr, IfOk, OnOk};
 ghost use Rattle.std.specs.Io.KnownBytes.{IsAtEnd};
-ghost use Rattle.byte_ends.specs.Cutting.{IsCutting, IsOf};
 ghost use Rattle.byte_ends.specs.Faults.{FaultsRise};
 ghost use Rattle.call_script.specs.Accepted.{AreAccepted};
 ghost use Rattle.run_record.specs.SmallRows.{AreSmall};
 ghost use Rattle.scenario_reader.specs.AuditKept.{levels_given};
-ghost use Rattle.scenario_reader.specs.AuditReading.{AuditRead, LetsAuditPass, audit_line};
-ghost use Rattle.scenario_reader.specs.ReadSteps.{ReadsLine};
-ghost use Rattle.scenario_reader.specs.AuditSteps.{AddsAuditLine, AuditBytes, RefusesReading, audits};
+ghost use Rattle.scenario_reader.specs.AuditReading.{AuditRead, LetsAuditPass};
+ghost use Rattle.scenario_reader.specs.AuditSteps.{AuditBytes, RefusesReading};
 
 use crate::audit::draft::AuditDraft;
 use crate::audit::place::Place;
-use crate::cause::{Cause, LineFault};
+use crate::by_line::read_lines;
+use crate::cause::Cause;
 use crate::reader::{MOST_BYTES, ReadRefusal};
-use byte_ends::{Cut, LineRefusal, Lines, Source};
+use byte_ends::Source;
 use call_script::Plan;
 use net_units::Levels;
 use run_record::HopRow;
@@ -39,10 +38,8 @@ pub fn read_audit<S: Source>(
     ensures passing { result ≡ Err ReadRefusal.ReadFault → LetsAuditPass MOST_BYTES (S.left source.old) (S.left source.new) }
     ensures counts { S.faults source.old ≤ S.faults source.new }
 {
-    let mut lines = Lines::new(alloc, MOST_BYTES)?;
     let mut draft = AuditDraft::new(alloc)?;
-    while read_line(alloc, &mut lines, &mut draft, source)? {}
-    let line = lines.number() + 1;
+    let line = read_lines(alloc, &mut draft, source)?;
     match draft.place() {
         Place::Scenario => Err(ReadRefusal::Refused {
             line,
@@ -53,54 +50,5 @@ pub fn read_audit<S: Source>(
             cause: Cause::Table,
         }),
         Place::Table => Ok(draft.into_parts(alloc)?),
-    }
-}
-
-// Reads the next line and adds what it says. It answers whether there was one.
-#[tactic(auto, using(crate::proofs::ReadFacts::passes_line))]
-fn read_line<S: Source>(
-    alloc: Global,
-    lines: &mut Lines,
-    draft: &mut AuditDraft,
-    source: &mut S,
-) -> Result<bool, ReadRefusal>
-    requires cutting { IsCutting lines.old }
-    requires source { IsOf lines.old (S.left source.old) }
-    ensures reads { ReadsLine audits result lines.old lines.new draft.old draft.new (S.left source.old) (S.left source.new)
-        (S.faults source.old) (S.faults source.new) }
-    ensures counts { S.faults source.old ≤ S.faults source.new }
-{
-    match lines.read_line(source) {
-        Ok(Cut::End) => Ok(false),
-        Ok(Cut::Line) => {
-            add_line(alloc, draft, lines.number(), lines.line())?;
-            Ok(true)
-        }
-        Err(LineRefusal::ReadFault) => Err(ReadRefusal::ReadFault),
-        Err(LineRefusal::Memory) => Err(ReadRefusal::Memory),
-        Err(LineRefusal::TooLong { taken }) => Err(ReadRefusal::TooLong { taken }),
-        Err(LineRefusal::NoLineEnd { line }) => Err(ReadRefusal::Refused {
-            line,
-            cause: Cause::Cut,
-        }),
-    }
-}
-
-// Judges a line and adds what it says.
-fn add_line(
-    alloc: Global,
-    draft: &mut AuditDraft,
-    number: u64,
-    line: &[u8],
-) -> Result<(), ReadRefusal>
-    ensures { AddsAuditLine result number draft.new (audit_line draft.old number line.now) }
-{
-    match draft.take_line(alloc, number, line) {
-        Ok(()) => Ok(()),
-        Err(LineFault::Memory) => Err(ReadRefusal::Memory),
-        Err(LineFault::Refused(cause)) => Err(ReadRefusal::Refused {
-            line: number,
-            cause,
-        }),
     }
 }

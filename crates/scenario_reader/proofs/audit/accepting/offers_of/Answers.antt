@@ -1,8 +1,7 @@
-use Rattle.std.proofs.Common.{◌≡◌, ◌<◌, ◌≤◌, ◌+◌, ◌-◌, ◌∙◌, ap, arith, get_or, length, subst, sym, take}
+use Rattle.std.proofs.Common.{◌≡◌, ◌+◌, ◌-◌, ◌∙◌, ap, arith, get_or, length, take}
 use Rattle.std.proofs.lemmas.List.{length-take-le}
 use Rattle.net_units.specs.Allotted.{levels_of}
 use Rattle.net_units.specs.Numbers.{level_number}
-use Rattle.hop_reservation.specs.Offers.{next_levels}
 use Rattle.scenario_reader.proofs.LevelFields.{level_next}
 use Rattle.scenario_reader.proofs.audit.accepting.offers_of.Goals as goal
 

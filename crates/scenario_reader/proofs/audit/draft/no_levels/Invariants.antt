@@ -1,5 +1,4 @@
-use Rattle.std.proofs.Common.{◌≡◌, Option, None, replicate}
-use Rattle.net_units.specs.declared.levels.Levels.{Levels}
+use Rattle.std.proofs.Common.{◌≡◌, None, replicate}
 use Rattle.scenario_reader.proofs.audit.draft.no_levels.Given as goal
 
 -- as many as turns so far

@@ -1,4 +1,4 @@
-use Rattle.std.proofs.Common.{◌≡◌, ℕ, List, Option, position, IfOk, is_some, ◌∙◌, ap, subst}
+use Rattle.std.proofs.Common.{◌≡◌, ℕ, List, position, IfOk, is_some, ◌∙◌, ap, subst}
 use Rattle.std.specs.List.{slice_get}
 use Rattle.call_script.specs.Rules.{is_named, link_names}
 use Rattle.scenario_reader.specs.Causes.{States}

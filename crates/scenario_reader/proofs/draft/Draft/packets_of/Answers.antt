@@ -1,14 +1,7 @@
 -- A move carries what is kept of the load of the request that it leaves.
-use Rattle.std.proofs.Common.{◌≡◌, ℕ, ◌*◌, List, sym, subst, ap, ◌∙◌}
-use Rattle.std.specs.List.{slice_get}
-use Rattle.net_units.specs.Numbers.{channel_number}
-use Rattle.call_script.specs.Rules.{hops_of, load_at, load_of, loads_in}
-use Rattle.call_script.specs.declared.operations.Op.{Op}
-use Rattle.call_script.specs.declared.operations.Op.TheVariants.{Move}
-use Rattle.scenario_reader.specs.Drafts.{Said}
-use Rattle.scenario_reader.specs.line.Table.{MayAdd}
+use Rattle.std.proofs.Common.{ℕ, ◌*◌, List, sym, ap, ◌∙◌}
+use Rattle.call_script.specs.Rules.{load_at, load_of, loads_in}
 use Rattle.scenario_reader.specs.Uses.{use_at}
-use Rattle.scenario_reader.specs.declared.item.Item.TheVariants as item
 use Rattle.scenario_reader.specs.declared.uses.Uses.{Uses}
 use Rattle.scenario_reader.proofs.UseFacts.{move_carries}
 use Rattle.scenario_reader.proofs.draft.Draft.packets_of.Goals as goal

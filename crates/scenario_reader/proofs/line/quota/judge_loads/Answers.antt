@@ -1,5 +1,5 @@
 -- The load at hand passes and stands in its cell, or it is refused.
-use Rattle.std.proofs.Common.{◌≡◌, ◌+◌, ◌<◌, ◌≤◌, ◌∙◌, ◌∷◌, [], sym, ap, length, arith}
+use Rattle.std.proofs.Common.{◌∙◌, ◌∷◌, [], ap, arith}
 use Rattle.scenario_reader.specs.Decimal.{value_of}
 use Rattle.scenario_reader.specs.Fields.{fields_of}
 use Rattle.scenario_reader.specs.Forms.{number_rule}

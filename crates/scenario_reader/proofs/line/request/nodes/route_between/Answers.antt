@@ -1,8 +1,7 @@
-use Rattle.std.proofs.Common.{◌≡◌, ◌≤◌, ◌<◌, ℕ, Some, None, true, false, map, option_map, ap, sym, subst, ◌∙◌, arith}
-use Rattle.call_script.specs.Rules.{is_named}
-use Rattle.route_finder.specs.Walks.{IsNetwork, hop_of}
+use Rattle.std.proofs.Common.{◌≡◌, Some, None, true, false, ap, sym, subst, ◌∙◌, arith}
+use Rattle.route_finder.specs.Walks.{IsNetwork}
 use Rattle.route_finder.specs.Finding.{Finds, Fails, IsUnreachable}
-use Rattle.scenario_reader.specs.Nodes.{edges_of, node_of, edge_over, route_between}
+use Rattle.scenario_reader.specs.Nodes.{node_of}
 use Rattle.scenario_reader.proofs.NodeFacts.{are-network, node-same, node-known, named-equal, route-of}
 use Rattle.scenario_reader.proofs.line.request.nodes.route_between.Goals as goal
 

@@ -1,0 +1,31 @@
+use Rattle.scenario_reader.specs.ReadSteps.{ReadsLine}
+use Rattle.scenario_reader.proofs.ReadFacts.{line_reads, passes_fault, refused_reads, tells_handed}
+use Rattle.scenario_reader.proofs.by_line.read_line.Goals as goal
+
+pub returns-in_err-take_line-in-Ok-Line-clause-reads : goal.returns-in_err-take_line-in-Ok-Line-clause-reads
+returns-in_err-take_line-in-Ok-Line-clause-reads g c =
+    let k = g.D.TakesLines.language in
+    let left = g.S.Source.left in
+    let faults = g.S.Source.faults in
+    let a = rw c.in-Ok-Line.field-0-is at c.in-Ok-Line.ensures.answers in
+    let told = rw c.in-Ok-Line.field-0-is at c.in-Ok-Line.ensures.told in
+    let adds = rw (c.number.ensures, c.line.ensures) at c.in_err-take_line-in-Ok-Line.ensures in
+    tells_handed c.from_residual.result c.in_err-take_line-in-Ok-Line.field-0.0
+    (λ r. ReadsLine k r c.args.lines.now c.read_line.new.self c.args.draft.now c.take_line.new.draft (left c.args.source.now) (left c.read_line.new.source) (faults c.args.source.now) (faults c.read_line.new.source)) c.from_residual.ensures.1
+    (refused_reads k c.args.lines.now c.read_line.new.self c.args.draft.now c.take_line.new.draft (left c.args.source.now) (left c.read_line.new.source) _ _ _ g.met.D.TakesLines.by_line a.number (told c.requires.source) adds)
+
+pub returns-in_ok-take_line-in-Ok-Line-clause-reads : goal.returns-in_ok-take_line-in-Ok-Line-clause-reads
+returns-in_ok-take_line-in-Ok-Line-clause-reads g c =
+    let left = g.S.Source.left in
+    let a = rw c.in-Ok-Line.field-0-is at c.in-Ok-Line.ensures.answers in
+    let told = rw c.in-Ok-Line.field-0-is at c.in-Ok-Line.ensures.told in
+    let adds = rw (c.number.ensures, c.line.ensures) at c.in_ok-take_line-in-Ok-Line.ensures in
+    line_reads g.D.TakesLines.language c.args.lines.now c.read_line.new.self c.args.draft.now c.take_line.new.draft (left c.args.source.now) (left c.read_line.new.source) g.met.D.TakesLines.by_line c.read_line.ensures.stands c.requires.source a (told c.requires.source) adds
+
+pub returns-in-Err-ReadFault-clause-reads : goal.returns-in-Err-ReadFault-clause-reads
+returns-in-Err-ReadFault-clause-reads g c =
+    let a = rw c.in-Err-ReadFault.field-0-is at c.in-Err-ReadFault.ensures.answers in
+    record {
+      rises = a.rises;
+      stops = passes_fault g.D.TakesLines.language c.args.lines.now c.read_line.new.self c.args.draft.now (g.S.Source.left c.args.source.now) (g.S.Source.left c.read_line.new.source) _ _ a;
+    }
