@@ -1,24 +1,18 @@
 -- What the end of an audit's input comes to, by where it came.
-use Rattle.std.proofs.Common.{◌≡◌, ℕ, suc, List, Option, refl, arith, ◌+◌, ap}
+use Rattle.std.proofs.Common.{◌≡◌, None, ℕ, List, Option, refl}
 use Rattle.call_script.specs.Parts.{PlanParts}
 use Rattle.run_record.specs.declared.rows.HopRow.{HopRow}
 use Rattle.scenario_reader.specs.Drafts.{parts_said}
-use Rattle.scenario_reader.specs.AuditReading.{AuditSaid, AuditRead, BadAuditLine, end_at}
+use Rattle.scenario_reader.specs.AuditReading.{AuditSaid, AuditRead, end_at}
+use Rattle.scenario_reader.specs.AuditSteps.{place_rule}
 use Rattle.scenario_reader.specs.declared.audit.place.Place.{Place}
 use Rattle.scenario_reader.specs.declared.audit.place.Place.TheVariants as place
-use Rattle.scenario_reader.specs.declared.cause.Cause.TheVariants as cause
 
-pub scenario_end : (now : Place) (n line : ℕ) (read : AuditSaid) → now ≡ place.Scenario → line ≡ n + 1
-    → end_at now n read ≡ BadAuditLine line cause.End
-scenario_end now n line read at is =
-    let next : suc n ≡ line = omega (arith, is) in
-    rw at (ap (λ l. BadAuditLine l cause.End) next)
-
-pub report_end : (now : Place) (n line : ℕ) (read : AuditSaid) → now ≡ place.Report → line ≡ n + 1
-    → end_at now n read ≡ BadAuditLine line cause.Table
-report_end now n line read at is =
-    let next : suc n ≡ line = omega (arith, is) in
-    rw at (ap (λ l. BadAuditLine l cause.Table) next)
+-- an audit's input that may end has come to its table
+pub may_end : (now : Place) → place_rule now ≡ None → now ≡ place.Table
+may_end place.Scenario is = cc
+may_end place.Report is = cc
+may_end place.Table is = refl
 
 pub table_end : (now : Place) (n : ℕ) (read : AuditSaid) (plan : PlanParts) (levels : List (Option (List ℕ))) (rows : List HopRow)
     → now ≡ place.Table

@@ -1,5 +1,5 @@
 -- Before the first line, what is ahead comes to what all bytes come to, and so it does after each line.
-use Rattle.std.proofs.Common.{◌≡◌, ◌≢◌, ℕ, suc, false, List, [], ◌∷◌, ◌++◌, Option, Some, None, IfSome, Ok, Err, refl, arith, true, ◌+◌, ◌∙◌, ap, ap₂, subst, sym, append_assoc}
+use Rattle.std.proofs.Common.{◌≡◌, ◌≢◌, ℕ, suc, Bool, false, List, [], ◌∷◌, ◌++◌, Option, Some, None, IfSome, Ok, Err, refl, arith, true, ◌+◌, ◌∙◌, ap, ap₂, subst, sym, append_assoc}
 use Rattle.std.proofs.KnownBytes.{Consumes-nil, Consumes-trans}
 use Rattle.std.proofs.lemmas.List.{length-append}
 use Rattle.std.proofs.lemmas.List.Elements.{All-take}
@@ -13,9 +13,10 @@ use Rattle.byte_ends.specs.declared.lines.Cut.TheVariants.{Line}
 use Rattle.byte_ends.proofs.Outlooks.{whole_lines-line, whole_lines-none, allowance-line}
 use Rattle.call_script.specs.Parts.{PlanParts}
 use Rattle.call_script.specs.declared.schedule.Schedule.{Schedule}
+use Rattle.scenario_reader.specs.Causes.{unless}
 use Rattle.scenario_reader.specs.Drafts.{Said, is_complete, parts_said, schedule_said}
-use Rattle.scenario_reader.specs.Reading.{PlanRead, BadLine, at_end, passes_and, are_let_pass, PassesFrom}
-use Rattle.scenario_reader.specs.ReadSteps.{AddsLine, IsByLine, Language, ahead, judged_on, whole, Foretells, PassesOn, StopsPassing, ComesToEnd, ReadsOn, ReadsLine, Refuses, TellsLines}
+use Rattle.scenario_reader.specs.Reading.{PlanRead, at_end, passes_and, are_let_pass, PassesFrom}
+use Rattle.scenario_reader.specs.ReadSteps.{AddsLine, end_rule, IsByLine, Language, ahead, judged_on, whole, Foretells, PassesOn, StopsPassing, ComesToEnd, ReadsOn, ReadsLine, Refuses, TellsLines}
 use Rattle.scenario_reader.specs.declared.cause.Cause.{Cause}
 use Rattle.scenario_reader.specs.declared.cause.Cause.TheVariants as cause
 use Rattle.scenario_reader.specs.declared.reader.ReadRefusal.{ReadRefusal}
@@ -162,28 +163,37 @@ tells_handed r e P h tells =
     subst P (sym p.1) (subst (λ y. P (Err y)) (sym p.2) tells)
 
 -- at the end the bytes come to what was said
-pub ended : {W R : Type 0} (k : Language W R) (told : Option (List ℕ)) (s t : Cutting) (said after : W) (left left' : Option (List ℕ)) (next : ℕ) → Foretells k told (ahead k s said left) → ComesToEnd k s t said after left left'
-    → next ≡ t.number + 1 → TellsLines k (Ok next) after told
-ended k None s t said after left left' next f end number = tt
-ended k (Some bytes) s t said after left left' next f end number = record {
+pub ended : {W R : Type 0} (k : Language W R) (told : Option (List ℕ)) (s t : Cutting) (said after : W) (left left' : Option (List ℕ)) → Foretells k told (ahead k s said left) → ComesToEnd k s t said after left left' → TellsLines k (Ok tt) after told
+ended k None s t said after left left' f end = tt
+ended k (Some bytes) s t said after left left' f end = record {
   count = t.number;
-  number = number;
   is = foretold (ahead k s said left) (whole k bytes) (λ found. found ≡ k.on s.number (record { lines = []; ending = all_given }) said) f end.ends
       ∙ ap₂ (λ n d. k.on n (record { lines = []; ending = all_given }) d) (sym end.number) (sym end.same);
 }
 
+-- where they may not end there, the line that would be next is refused
+pub ended_early : {W R : Type 0} (k : Language W R) (told : Option (List ℕ)) (s t : Cutting) (said after : W) (left left' : Option (List ℕ)) (next : ℕ) (why : Cause) → IsByLine k → Foretells k told (ahead k s said left) → ComesToEnd k s t said after left left'
+    → next ≡ t.number + 1 → k.ends after ≡ Some why → TellsLines k (Err (refusal.Refused next why)) after told
+unfolding ended
+ended_early k None s t said after left left' next why by f end number ends = tt
+ended_early k (Some bytes) s t said after left left' next why by f end number ends =
+    let line : suc t.number ≡ next = omega (arith, number) in
+    (ended k (Some bytes) s t said after left left' f end).is ∙ by.end t.number after why ends ∙ ap (λ n. k.refused n why) line
+
 -- what the text comes to, whatever it is where it was read to its end
-pub comes_to : {W R : Type 0} (k : Language W R) (told : Option (List ℕ)) (next : ℕ) (said : W) (r : R) → TellsLines k (Ok next) said told
-    → ((count : ℕ) → next ≡ count + 1 → k.on count (record { lines = []; ending = all_given }) said ≡ r) → IfSome told (λ bytes. whole k bytes ≡ r)
-comes_to k None next said r tells is = tt
-comes_to k (Some bytes) next said r tells is = tells.is ∙ is tells.count tells.number
+pub comes_to : {W R : Type 0} (k : Language W R) (told : Option (List ℕ)) (said : W) (r : R) → TellsLines k (Ok tt) said told
+    → ((count : ℕ) → k.on count (record { lines = []; ending = all_given }) said ≡ r) → IfSome told (λ bytes. whole k bytes ≡ r)
+comes_to k None said r tells is = tt
+comes_to k (Some bytes) said r tells is = tells.is ∙ is tells.count
 
 -- a scenario that is complete is read
 pub complete_end : (count : ℕ) (said : Said) (plan : PlanParts) (schedule : Schedule) → is_complete said ≡ true → plan ≡ parts_said said → schedule ≡ schedule_said said → at_end all_given count said ≡ PlanRead plan schedule
 complete_end count said plan schedule complete is given = rw complete (sym (ap₂ PlanRead is given))
 
--- one that isn't has come to its end
-pub incomplete_end : (count number : ℕ) (said : Said) → is_complete said ≡ false → number ≡ count + 1 → at_end all_given count said ≡ BadLine number cause.End
-incomplete_end count number said incomplete is =
-    let at : suc count ≡ number = omega (arith, is) in
-    rw incomplete (ap (λ n. BadLine n cause.End) at)
+-- a scenario that may end is complete
+pub may_end : (said : Said) → end_rule said ≡ None → is_complete said ≡ true
+may_end said = by (is_complete said)
+  where
+    by : (complete : Bool) → unless complete cause.End ≡ None → complete ≡ true
+    by true is = refl
+    by false is = cc

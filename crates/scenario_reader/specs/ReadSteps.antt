@@ -7,7 +7,8 @@ use Rattle.byte_ends.specs.WholeLines.{Outlook, all_given, cut_short, too_long, 
 use Rattle.byte_ends.specs.Faults.{FaultsRise}
 use Rattle.call_script.specs.Parts.{PlanParts}
 use Rattle.call_script.specs.declared.schedule.Schedule.{Schedule}
-use Rattle.scenario_reader.specs.Drafts.{Said, nothing_said}
+use Rattle.scenario_reader.specs.Causes.{Rule, unless}
+use Rattle.scenario_reader.specs.Drafts.{Said, is_complete, nothing_said}
 use Rattle.scenario_reader.specs.Reading.{Reading, PlanRead, BadLine, TooManyBytes, reading_on, reading, are_let_pass, said_line}
 use Rattle.scenario_reader.specs.declared.cause.Cause.{Cause}
 use Rattle.scenario_reader.specs.declared.cause.Cause.TheVariants as cause
@@ -17,11 +18,12 @@ use Rattle.scenario_reader.specs.declared.reader.ReadRefusal.{ReadRefusal}
 use Rattle.scenario_reader.specs.declared.reader.ReadRefusal.TheVariants as refusal
 use Rattle.scenario_reader.specs.declared.reader.TheConstants.{MOST_BYTES}
 
--- a language of lines: what was said before the first line; what was said once a line was, too, or its cause; what is to come of bytes
--- after so many lines that say this; and what a refused line and too many bytes come to
+-- a language of lines: what was said before the first line; what was said once a line was, too, or its cause; why a text may not end
+-- after that, if it may not; what is to come of bytes after so many lines that say this; and what a refused line and too many bytes come to
 pub record Language (Words Whole : Type 0) : Type 0 where
   pub first : Words
   pub says : Words → ℕ → List ℕ → Result Words Cause
+  pub ends : Words → Rule
   pub on : ℕ → Outlook → Words → Whole
   pub refused : ℕ → Cause → Whole
   pub over : Whole
@@ -35,11 +37,16 @@ judged_on k (Err cause) count rest = k.refused count cause
 pub record IsByLine {W R : Type 0} (k : Language W R) : Type 0 where
   pub next : (count : ℕ) (line : List ℕ) (rest : Outlook) (said : W) → k.on count (record { lines = line ∷ rest.lines; ending = rest.ending }) said ≡ judged_on k (k.says said (suc count) line) (suc count) rest
   pub cut : (count : ℕ) (said : W) → k.on count (record { lines = []; ending = cut_short }) said ≡ k.refused (suc count) cause.Cut
+  pub end : (count : ℕ) (said : W) (why : Cause) → k.ends said ≡ Some why → k.on count (record { lines = []; ending = all_given }) said ≡ k.refused (suc count) why
   pub over : (count : ℕ) (said : W) → k.on count (record { lines = []; ending = too_long }) said ≡ k.over
+
+-- a scenario ends with the line that a plan needs last, or with those after it
+abbrev pub end_rule : Said → Rule
+end_rule said = unless (is_complete said) cause.End
 
 -- that of scenarios
 abbrev pub scenarios : Language Said Reading
-scenarios = record { first = nothing_said; says = said_line; on = reading_on; refused = BadLine; over = TooManyBytes }
+scenarios = record { first = nothing_said; says = said_line; ends = end_rule; on = reading_on; refused = BadLine; over = TooManyBytes }
 
 -- what the bytes ahead come to after what was said, where the source tells those that it has left
 abbrev pub ahead : {W R : Type 0} → Language W R → Cutting → W → Option (List ℕ) → Option R
@@ -121,15 +128,14 @@ Refuses k (refusal.TooLong taken) r = (r ≡ k.over) × (taken ≡ MOST_BYTES + 
 Refuses k refusal.Memory r = ⊤
 Refuses k refusal.ReadFault r = ⊤
 
--- the text was read to its end, where one more line would have this number
-pub record ReadsToEnd {W R : Type 0} (k : Language W R) (next : ℕ) (said : W) (r : R) : Type 0 where
+-- the text was read to its end
+pub record ReadsToEnd {W R : Type 0} (k : Language W R) (said : W) (r : R) : Type 0 where
   pub count : ℕ
-  pub number : next ≡ count + 1
   pub is : r ≡ k.on count (record { lines = []; ending = all_given }) said
 
 -- where the source tells its bytes, what was read is what they come to
-abbrev pub TellsLines : {W R : Type 0} → Language W R → Result ℕ ReadRefusal → W → Option (List ℕ) → Type 0
-TellsLines k (Ok next) said left = IfSome left (λ bytes. ReadsToEnd k next said (whole k bytes))
+abbrev pub TellsLines : {W R : Type 0} → Language W R → Result (Unit {0}) ReadRefusal → W → Option (List ℕ) → Type 0
+TellsLines k (Ok done) said left = IfSome left (λ bytes. ReadsToEnd k said (whole k bytes))
 TellsLines k (Err why) said left = IfSome left (λ bytes. Refuses k why (whole k bytes))
 
 -- what a reading of a scenario answers

@@ -1,8 +1,9 @@
 //! Reading a text line by line.
-ghost use Rattle.std.specs.Prelude.{◌≡◌, ◌≤◌, Err, OnOk};
+ghost use Rattle.std.specs.Prelude.{◌≡◌, ◌≤◌, Err, None, OnOk};
 ghost use Rattle.std.specs.Io.KnownBytes.{IsAtEnd};
 ghost use Rattle.byte_ends.specs.Cutting.{IsCutting, IsOf};
 ghost use Rattle.byte_ends.specs.Faults.{FaultsRise};
+ghost use Rattle.scenario_reader.specs.Causes.{Judges};
 ghost use Rattle.scenario_reader.specs.ReadSteps.{Adds, AddsLine, IsByLine, Language, ReadsLine, TellsLines};
 ghost use Rattle.scenario_reader.specs.Reading.{PassesFrom};
 
@@ -22,17 +23,22 @@ pub(crate) trait TakesLines {
     fn add_line(&mut self, alloc: Global, number: u64, line: &[u8]) -> Result<(), LineFault>
         ensures { Adds result self.new (language.says self.old number line.now) };
 
+    /// Why the text may not end here, if it may not.
+    fn judge_end(&self) -> Result<(), Cause>
+        ensures { Judges result (language.ends self.now) tt };
+
     ghost by_line: { IsByLine language };
 }
 
-// Reads lines to the end of the text, or up to the line that is refused. It answers the number that one more line would have.
+// Reads lines to the end of the text, or up to the line that is refused.
 pub(crate) fn read_lines<S: Source, D: TakesLines>(
     alloc: Global,
     draft: &mut D,
     source: &mut S,
-) -> Result<u64, ReadRefusal>
+) -> Result<(), ReadRefusal>
     requires { draft.old ≡ D.language.first }
     ensures told { TellsLines D.language result draft.new (S.left source.old) }
+    ensures whole { OnOk result (D.language.ends draft.new ≡ None) }
     ensures ended { OnOk result (IsAtEnd (S.left source.new)) }
     ensures fault { result ≡ Err ReadRefusal.ReadFault → FaultsRise (S.faults source.old) (S.faults source.new) }
     ensures passing { result ≡ Err ReadRefusal.ReadFault → PassesFrom D.language.says D.language.first MOST_BYTES (S.left source.old) (S.left source.new) }
@@ -40,7 +46,13 @@ pub(crate) fn read_lines<S: Source, D: TakesLines>(
 {
     let mut lines = Lines::new(alloc, MOST_BYTES)?;
     while read_line(alloc, &mut lines, draft, source)? {}
-    Ok(lines.number() + 1)
+    match draft.judge_end() {
+        Ok(()) => Ok(()),
+        Err(cause) => Err(ReadRefusal::Refused {
+            line: lines.number() + 1,
+            cause,
+        }),
+    }
 }
 
 // Reads the next line and adds what it says. It answers whether there was one.

@@ -5,9 +5,10 @@ ghost use Rattle.scenario_reader.specs.Drafts.{nothing_said, is_complete, parts_
 ghost use Rattle.scenario_reader.specs.Kept.{IsScheduleOf};
 
 use crate::by_line::TakesLines;
-use crate::cause::LineFault;
+use crate::cause::{Cause, LineFault};
 use crate::names::Names;
 use crate::uses::Uses;
+use crate::values::require;
 use call_script::{
     BadPlan, CallerEntry, Do, Dos, LinkEntry, Plan, RequestEntry, Schedule, Version,
 };
@@ -65,6 +66,10 @@ impl TakesLines for Draft {
         let item = self.judge(alloc, number, line)?;
         self.put(alloc, item)?;
         Ok(())
+    }
+
+    fn judge_end(&self) -> Result<(), Cause> {
+        require(self.is_complete(), Cause::End)
     }
 
     ghost by_line = { scenarios_by_line };

@@ -76,13 +76,6 @@ pub fn read_plan<S: Source>(alloc: Global, source: &mut S) -> Result<(Plan, Sche
     ensures counts { S.faults source.old ≤ S.faults source.new }
 {
     let mut draft = Draft::new(alloc)?;
-    let line = read_lines(alloc, &mut draft, source)?;
-    if draft.is_complete() {
-        Ok(draft.into_plan(alloc)?)
-    } else {
-        Err(ReadRefusal::Refused {
-            line,
-            cause: Cause::End,
-        })
-    }
+    read_lines(alloc, &mut draft, source)?;
+    Ok(draft.into_plan(alloc)?)
 }

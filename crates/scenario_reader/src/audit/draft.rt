@@ -66,6 +66,14 @@ impl TakesLines for AuditDraft {
         }
     }
 
+    fn judge_end(&self) -> Result<(), Cause> {
+        match self.place {
+            Place::Scenario => Err(Cause::End),
+            Place::Report => Err(Cause::Table),
+            Place::Table => Ok(()),
+        }
+    }
+
     ghost by_line = { audits_by_line };
 }
 
@@ -80,13 +88,6 @@ impl AuditDraft {
             levels: Vec::new(alloc),
             rows: Vec::new(alloc),
         })
-    }
-
-    /// Which lines are read now.
-    pub fn place(&self) -> Place
-        ensures { result ≡ self.now.place }
-    {
-        self.place
     }
 
     // A line of the scenario, or the line `report`.

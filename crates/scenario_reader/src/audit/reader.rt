@@ -9,9 +9,7 @@ ghost use Rattle.scenario_reader.specs.AuditReading.{AuditRead, LetsAuditPass};
 ghost use Rattle.scenario_reader.specs.AuditSteps.{AuditBytes, RefusesReading};
 
 use crate::audit::draft::AuditDraft;
-use crate::audit::place::Place;
 use crate::by_line::read_lines;
-use crate::cause::Cause;
 use crate::reader::{MOST_BYTES, ReadRefusal};
 use byte_ends::Source;
 use call_script::Plan;
@@ -39,16 +37,6 @@ pub fn read_audit<S: Source>(
     ensures counts { S.faults source.old ≤ S.faults source.new }
 {
     let mut draft = AuditDraft::new(alloc)?;
-    let line = read_lines(alloc, &mut draft, source)?;
-    match draft.place() {
-        Place::Scenario => Err(ReadRefusal::Refused {
-            line,
-            cause: Cause::End,
-        }),
-        Place::Report => Err(ReadRefusal::Refused {
-            line,
-            cause: Cause::Table,
-        }),
-        Place::Table => Ok(draft.into_parts(alloc)?),
-    }
+    read_lines(alloc, &mut draft, source)?;
+    Ok(draft.into_parts(alloc)?)
 }

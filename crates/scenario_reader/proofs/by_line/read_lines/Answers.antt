@@ -2,7 +2,7 @@ use Rattle.std.proofs.Common.{rules, ◌+◌, ◌∙◌, ap, arith}
 use Rattle.std.proofs.lemmas.Bool.{both_ways}
 use Rattle.byte_ends.specs.Cutting.{Cutting}
 use Rattle.scenario_reader.specs.ReadSteps.{TellsLines}
-use Rattle.scenario_reader.proofs.ReadFacts.{at_start, ended, foretells_at_start, foretells_next, passes_at_start, passes_next, reads_to_fault, tells_handed, tells_refused}
+use Rattle.scenario_reader.proofs.ReadFacts.{at_start, ended, ended_early, foretells_at_start, foretells_next, passes_at_start, passes_next, reads_to_fault, tells_handed, tells_refused}
 use Rattle.scenario_reader.proofs.by_line.read_lines.Goals as goal
 
 pub loop-lines-init : goal.loop-lines-init
@@ -46,9 +46,15 @@ returns-in_err-read_line-clause-told g c =
     (tells_refused k c.in_err-read_line.field-0.0 c.loop-lines.lines c.read_line.new.lines c.loop-lines.draft c.read_line.new.draft
     (left c.args.source.now) (left c.loop-lines.source) (left c.read_line.new.source) _ _ c.loop-lines.invariant.most c.loop-lines.invariant.same c.in_err-read_line.ensures.reads)
 
+pub returns-in-Ok-clause-told : goal.returns-in-Ok-clause-told
+returns-in-Ok-clause-told g c =
+    let left = g.S.Source.left in
+    let reads = rw c.if-branch.false at c.in_ok-read_line.ensures.reads in
+    ended g.D.TakesLines.language (left c.args.source.now) c.loop-lines.lines c.read_line.new.lines c.loop-lines.draft c.read_line.new.draft (left c.loop-lines.source) (left c.read_line.new.source) c.loop-lines.invariant.same reads
+
 pub returns-clause-told : goal.returns-clause-told
 returns-clause-told g c =
     let left = g.S.Source.left in
     let reads = rw c.if-branch.false at c.in_ok-read_line.ensures.reads in
-    ended g.D.TakesLines.language (left c.args.source.now) c.loop-lines.lines c.read_line.new.lines c.loop-lines.draft c.read_line.new.draft (left c.loop-lines.source) (left c.read_line.new.source) _
-    c.loop-lines.invariant.same reads (ap (λ n. n + 1) c.number.ensures)
+    ended_early g.D.TakesLines.language (left c.args.source.now) c.loop-lines.lines c.read_line.new.lines c.loop-lines.draft c.read_line.new.draft (left c.loop-lines.source) (left c.read_line.new.source) _ c.in-Err.cause g.met.D.TakesLines.by_line
+    c.loop-lines.invariant.same reads (ap (λ n. n + 1) c.number.ensures) c.in-Err.ensures
