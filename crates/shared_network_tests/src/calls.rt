@@ -130,7 +130,35 @@ fn open_for_one<L: LinkStep + Send, H: Home>(
     Ok((network, pass))
 }
 
-// What is left of it.
+// A network of two actors, with their passes.
+pub(crate) fn open_for_two<L: LinkStep + Send, H: Home>(
+    alloc: Global,
+    opened: (Stamps, Vec<LinkSeat>, Vec<PassSeat>),
+    links: Vec<L>,
+    owners: Vec<ActorNo>,
+) -> Result<(Network<L, H>, Pass, Pass), Fail>
+    requires table { stamps_table opened.0 ≡ H.table }
+    requires seats { AreLinks H.table 2 (length H.links) opened.1.items }
+    requires passes { ArePasses H.table 2 2 opened.2.items }
+    requires most { length H.links ≤ 32 }
+    requires links { map L.link_of links.items ≡ H.links }
+    requires stand { Each (λ link. L.stands_for link []) links.items }
+    requires owners { owners.items ≡ H.owners }
+    ensures new { IfOk result (λ made. IsNew H.table H.owners H.links 2 made.1 × IsNew H.table H.owners H.links 2 made.2) }
+    ensures actors { IfOk result (λ made. (actor_number made.1.actor ≡ 0) × (actor_number made.2.actor ≡ 1)) }
+{
+    let (network, passes) = Network::open(alloc, opened, links, owners)?;
+    let mut passes = passes.into_iter();
+    let Some(first) = passes.next() else {
+        return Err(Fail::from("a pass"));
+    };
+    let Some(second) = passes.next() else {
+        return Err(Fail::from("another pass"));
+    };
+    Ok((network, first, second))
+}
+
+// What is left of a network of one actor.
 fn close_for_one<L: LinkStep + Send, H: Home>(
     alloc: Global,
     network: Network<L, H>,
@@ -245,8 +273,8 @@ fn played_at_home<L: LinkStep + Send, W: Wait>(
 
 fn worked<W: Wait>(rt: &W, alloc: Global) -> Result<(Told, Closed), Fail> {
     let opened = Stamps::open(alloc, 1, 1)?;
-    let (link, owner, request) = (link(alloc, 0)?, actor_no(0)?, request(0, 0)?);
-    played_at_home(rt, alloc, opened, link, owner, &request)
+    let (owner, request) = (actor_no(0)?, request(0, 0)?);
+    played_at_home(rt, alloc, opened, link(alloc, 0)?, owner, &request)
 }
 
 // The level and the delay of a channel over one link.
@@ -277,19 +305,28 @@ fn are_own(entries: &[Entry], pass: &Pass) -> bool {
         })
 }
 
+// Whether the channel was accepted with level 1 and a delay of 12, a packet was planned before the first tick, three steps were seen then,
+// and no packet had been taken at the end.
+fn is_due(told: &Told) -> bool {
+    accepted(&told.verdict) == Some((1, 12))
+        && told.sent == Reply::Planned { clock: 0 }
+        && (told.seen, told.count) == (3, 0)
+}
+
+// Whether one journal is left, with four entries, and one pass, whose own they are.
+fn is_left(closed: &Closed) -> bool {
+    let ([journal], [pass]) = (closed.journals.as_slice(), closed.passes.as_slice()) else {
+        return false;
+    };
+    let entries = journal.entries.as_slice();
+    entries.len() == 4 && are_numbered(entries) && are_own(entries, pass)
+}
+
 #[test]
 fn a_channel_is_set_up_sent_on_and_torn_down(rt: HostRuntime) -> Result<(), Fail> {
     let (told, closed) = worked(&rt, rt.alloc())?;
-    assert_eq!(rt; accepted(&told.verdict), Some((1, 12)));
-    assert_eq!(rt; told.sent, Reply::Planned { clock: 0 });
-    assert_eq!(rt; (told.seen, told.count), (3, 0));
-    let ([journal], [pass]) = (closed.journals.as_slice(), closed.passes.as_slice()) else {
-        return Err(Fail::from("a journal and a pass"));
-    };
-    let entries = journal.entries.as_slice();
-    assert_eq!(rt; entries.len(), 4);
-    assert!(rt; are_numbered(entries));
-    assert!(rt; are_own(entries, pass));
+    assert!(rt; is_due(&told));
+    assert!(rt; is_left(&closed));
     Ok(())
 }
 
@@ -452,16 +489,11 @@ fn raced<L: LinkStep + Send, H: Home + Send + Sync, R: Threads + Wait + Sync>(
     requires chans { (channel_number requests.0.chan ≡ 0) × (channel_number requests.1.chan ≡ 1) }
     requires routes { Each (IsOverLink 0) requests.0.route × Each (IsOverLink 1) requests.1.route }
 {
-    let links = two(alloc, links.0, links.1)?;
-    let owners = two(alloc, owners.0, owners.1)?;
-    let (network, passes) = Network::<L, H>::open(alloc, opened, links, owners)?;
-    let mut passes = passes.into_iter();
-    let Some(first) = passes.next() else {
-        return Err(Fail::from("a pass"));
-    };
-    let Some(second) = passes.next() else {
-        return Err(Fail::from("another pass"));
-    };
+    let (links, owners) = (
+        two(alloc, links.0, links.1)?,
+        two(alloc, owners.0, owners.1)?,
+    );
+    let (network, first, second) = open_for_two::<L, H>(alloc, opened, links, owners)?;
     let waits = Job {
         pass: first,
         request: requests.0,
@@ -501,16 +533,21 @@ fn two_callers<R: Threads + Wait + Sync>(rt: &R, alloc: Global) -> Result<Vec<Op
     raced_at_home(rt, alloc, opened, links(alloc)?, owners, requests)
 }
 
+// The stamps of the two steps of a setup.
+fn stamps(pass: &Option<Pass>) -> Option<(u64, u64)> {
+    match pass.as_ref()?.own() {
+        [first, last] => Some((first.stamp, last.stamp)),
+        _ => None,
+    }
+}
+
 #[test]
 fn one_caller_waits_until_the_other_has_made_its_steps(rt: HostRuntime) -> Result<(), Fail> {
     let passes = two_callers(&rt, rt.alloc())?;
-    let [Some(waits), Some(goes)] = passes.as_slice() else {
-        return Err(Fail::from("a setup failed"));
+    let [waits, goes] = passes.as_slice() else {
+        return Err(Fail::from("two passes"));
     };
-    let ([reserve, relax], [first, last]) = (waits.own(), goes.own()) else {
-        return Err(Fail::from("two steps of each"));
-    };
-    assert_eq!(rt; (first.stamp, last.stamp), (1, 2));
-    assert_eq!(rt; (reserve.stamp, relax.stamp), (3, 4));
+    assert!(rt; stamps(goes) == Some((1, 2)));
+    assert!(rt; stamps(waits) == Some((3, 4)));
     Ok(())
 }

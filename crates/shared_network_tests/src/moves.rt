@@ -5,10 +5,11 @@ ghost use Rattle.net_units.specs.Numbers.{actor_number, channel_number};
 ghost use Rattle.link_steps.specs.Lists.{Each};
 ghost use Rattle.step_stamp.specs.Opening.{AreLinks, ArePasses};
 ghost use Rattle.step_stamp.specs.Seats.{stamps_table};
-ghost use Rattle.shared_network.specs.Ready.{IsNew};
+ghost use Rattle.shared_network.specs.Planes.{IsPlanes};
+ghost use Rattle.shared_network.specs.Ready.{IsNew, MayStep};
 ghost use Rattle.shared_network.specs.Worked.{IsOverLink, IsWorkedLink, MayPlan, MayMove};
 
-use crate::calls::{actor_no, link_no, links, request, two};
+use crate::calls::{actor_no, link_no, links, open_for_two, request, two};
 use channel_move::{Mover, Shifted};
 use link_ledger::{Home, Pass};
 use link_steps::{Ask, LinkStep, Reply};
@@ -55,7 +56,32 @@ fn plan<L: LinkStep + Send, H: Home, W: Wait>(
     }
 }
 
-// Makes so many rounds of the plane, none of which brings a packet to a further link.
+// Makes the plane's next step, which brings no packet to a further link.
+fn step<L: LinkStep + Send, H: Home, W: Wait>(
+    rt: &W,
+    network: &Network<L, H>,
+    pass: &mut Pass,
+    plane: &mut Plane,
+) -> Result<(), Fail>
+    requires may { MayStep H.table H.owners H.links pass.old }
+    requires links { plane.old.links ≡ length H.links }
+    requires planes { IsPlanes (length H.links) plane.old pass.old.own }
+    ensures may { OnOk result (MayStep H.table H.owners H.links pass.new) }
+    ensures links { OnOk result (plane.new.links ≡ length H.links) }
+    ensures planes { OnOk result (IsPlanes (length H.links) plane.new pass.new.own) }
+{
+    if pass.drawn() > 100 {
+        return Err(Fail::from("few steps"));
+    }
+    if plane.next_ask().is_none() {
+        return Err(Fail::from("two steps a round"));
+    }
+    plane.ready()?;
+    network.plane_step(rt, pass, &NoGate, plane)?;
+    Ok(())
+}
+
+// Makes so many rounds of the plane.
 fn play<L: LinkStep + Send, H: Home, W: Wait>(
     rt: &W,
     alloc: Global,
@@ -68,14 +94,7 @@ fn play<L: LinkStep + Send, H: Home, W: Wait>(
 {
     let mut plane = Plane::new(alloc, 2, u64::from(rounds))?;
     for _ in 0..2 * u16::from(rounds) {
-        if pass.drawn() > 100 {
-            return Err(Fail::from("few steps"));
-        }
-        if plane.next_ask().is_none() {
-            return Err(Fail::from("two steps a round"));
-        }
-        plane.ready()?;
-        let _ticked = network.plane_step(rt, pass, &NoGate, &mut plane)?;
+        step(rt, network, pass, &mut plane)?;
     }
     Ok(())
 }
@@ -94,7 +113,26 @@ fn shift<L: LinkStep + Send, H: Home, W: Wait>(
     Ok(network.shift(rt, pass, &NoGate, &mut mover)?)
 }
 
-// A move after so many rounds.
+// A move after so many rounds, of a caller and of what makes the rounds.
+fn moved_by<L: LinkStep + Send, H: Home, W: Wait>(
+    rt: &W,
+    alloc: Global,
+    network: &Network<L, H>,
+    caller: &mut Pass,
+    maker: &mut Pass,
+    requests: &(Request, Request),
+    rounds: u8,
+) -> Result<Shifted, Fail>
+    requires may { MayPlan H.table H.owners H.links caller.old requests.now.0 requests.now.1 }
+    requires new { IsNew H.table H.owners H.links 2 maker.old }
+    requires two { length H.links ≡ 2 }
+{
+    plan(rt, network, caller, requests)?;
+    play(rt, alloc, network, maker, rounds)?;
+    shift(rt, network, caller, requests)
+}
+
+// That move on a network of these links, and the caller's pass after it.
 fn moved<L: LinkStep + Send, H: Home, W: Wait>(
     rt: &W,
     alloc: Global,
@@ -116,19 +154,18 @@ fn moved<L: LinkStep + Send, H: Home, W: Wait>(
     requires routes { Each (IsOverLink 0) requests.now.0.route × Each (IsOverLink 1) requests.now.1.route }
     requires small { 2 ≤ requests.now.1.contract.smax }
 {
-    let links = two(alloc, links.0, links.1)?;
-    let owners = two(alloc, owner, owner)?;
-    let (network, passes) = Network::<L, H>::open(alloc, opened, links, owners)?;
-    let mut passes = passes.into_iter();
-    let Some(mut caller) = passes.next() else {
-        return Err(Fail::from("a pass"));
-    };
-    let Some(mut maker) = passes.next() else {
-        return Err(Fail::from("another pass"));
-    };
-    plan(rt, &network, &mut caller, requests)?;
-    play(rt, alloc, &network, &mut maker, rounds)?;
-    let told = shift(rt, &network, &mut caller, requests)?;
+    let (links, owners) = (two(alloc, links.0, links.1)?, two(alloc, owner, owner)?);
+    let (network, first, second) = open_for_two::<L, H>(alloc, opened, links, owners)?;
+    let (mut caller, mut maker) = (first, second);
+    let told = moved_by(
+        rt,
+        alloc,
+        &network,
+        &mut caller,
+        &mut maker,
+        requests,
+        rounds,
+    )?;
     Ok((told, caller))
 }
 
@@ -188,30 +225,25 @@ fn has_moved(pass: &Pass, told: Shifted, clock: u64) -> Result<bool, Fail> {
     )
 }
 
-#[test]
-fn all_packets_move_before_the_first_tick(rt: HostRuntime) -> Result<(), Fail> {
-    let (told, pass) = moved_after(&rt, rt.alloc(), 0)?;
-    assert_eq!(rt;
-        told,
-        Shifted {
-            kept: 0,
-            shifted: 4
-        }
-    );
-    assert!(rt; has_moved(&pass, told, 0)?);
+// After so many rounds, so many packets stay and so many move.
+fn moves<R: Wait + Abort>(
+    rt: &R,
+    alloc: Global,
+    rounds: u8,
+    (kept, shifted): (u64, u64),
+) -> Result<(), Fail> {
+    let (told, pass) = moved_after(rt, alloc, rounds)?;
+    assert_eq!(rt; told, Shifted { kept, shifted });
+    assert!(rt; has_moved(&pass, told, u64::from(rounds))?);
     Ok(())
 }
 
 #[test]
+fn all_packets_move_before_the_first_tick(rt: HostRuntime) -> Result<(), Fail> {
+    moves(&rt, rt.alloc(), 0, (0, 4))
+}
+
+#[test]
 fn packets_of_ticks_that_were_made_stay(rt: HostRuntime) -> Result<(), Fail> {
-    let (told, pass) = moved_after(&rt, rt.alloc(), 15)?;
-    assert_eq!(rt;
-        told,
-        Shifted {
-            kept: 2,
-            shifted: 2
-        }
-    );
-    assert!(rt; has_moved(&pass, told, 15)?);
-    Ok(())
+    moves(&rt, rt.alloc(), 15, (2, 2))
 }
