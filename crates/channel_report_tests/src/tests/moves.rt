@@ -1,8 +1,4 @@
 //! Reports of runs in which a caller moves packets between two channels over that link.
-use super::steps;
-use byte_ends::MemSink;
-use channel_report::write_report;
-use interleave_core::Core;
 use one_link_plans::moved;
 use std::alloc::Global;
 use std::process::Abort;
@@ -19,16 +15,8 @@ fn reports<R: Abort>(
     text: &str,
 ) -> Result<(), Fail> {
     let plan = moved(alloc, delay)?;
-    let mut core = Core::new(alloc, &plan)?;
-    steps(&mut core, &plan, 0, 5)?;
-    steps(&mut core, &plan, 1, 15)?;
-    steps(&mut core, &plan, 0, caller)?;
-    steps(&mut core, &plan, 1, plane)?;
-    let run = core.finish();
-    let mut sink = MemSink::new(alloc, 65_536, 65_536, Vec::new(alloc))?;
-    assert_eq!(rt; write_report(alloc, &plan, &run, false, &mut sink), Ok(()));
-    assert_eq!(rt; sink.bytes(), text.as_bytes());
-    Ok(())
+    let turns = [(0, 5), (1, 15), (0, caller), (1, plane)];
+    super::reports(rt, alloc, &plan, &turns, false, 65_536, text)
 }
 
 // In 15 ticks the packets of ticks 0 and 10 are taken. Those that are moved come in ticks 15 and 25. Nothing else is on the link.

@@ -1,6 +1,5 @@
 //! Summaries of those runs, under a number and a size.
-use super::{plan, run};
-use byte_ends::MemSink;
+use super::{holds, plan, run, sink};
 use call_script::Version;
 use channel_report::write_summary;
 use std::alloc::Global;
@@ -16,13 +15,10 @@ fn sums_up<R: Abort>(
     text: &str,
 ) -> Result<(), Fail> {
     let plan = plan(alloc, Version::One, None)?;
-    let run = run(alloc, &plan, caller, plane)?;
-    let mut sink = MemSink::new(alloc, 65_536, 65_536, Vec::new(alloc))?;
-    assert_eq!(rt;
-        write_summary(alloc, 2_147_483_647, 1, &plan, &run, &mut sink),
-        Ok(())
-    );
-    assert_eq!(rt; sink.bytes(), text.as_bytes());
+    let run = run(alloc, &plan, &[(0, caller), (1, plane)])?;
+    let mut sink = sink(alloc, 65_536)?;
+    write_summary(alloc, 2_147_483_647, 1, &plan, &run, &mut sink)?;
+    holds(rt, &sink, text);
     Ok(())
 }
 

@@ -1,0 +1,6 @@
+use Rattle.interleave_core.specs.schedules.Standing.{CoreStands}
+use Rattle.channel_report_tests.proofs.tests.run.Given as goal
+
+-- the core stands
+abbrev pub invariant-loop-actor : goal.invariant-loop-actor
+invariant-loop-actor l = CoreStands l.plan l.core
