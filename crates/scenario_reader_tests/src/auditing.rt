@@ -1,7 +1,11 @@
 //! An audit's input that is read, and lines of it that are refused.
 use byte_ends::MemSource;
+use call_script::Plan;
+use net_units::Levels;
+use run_record::HopRow;
 use scenario_reader::{Cause, ReadRefusal, read_audit};
 use std::alloc::Global;
+use std::process::Abort;
 use std::test::Fail;
 
 // A scenario of a request over one link.
@@ -16,43 +20,47 @@ schedule
 
 const HEADER: &str = "channel,packet,hop,link,size,at,eligible,departed";
 
-// How the reading of a scenario, the line `report` and this rest is refused, `None` where it isn't.
-fn refused(alloc: Global, rest: &str) -> Result<Option<ReadRefusal>, Fail> {
+// What is read of an audit's input: its plan, the levels of each request and the rows.
+type Audit = (Plan, Vec<Option<Levels>>, Vec<HopRow>);
+
+// What is read of a scenario, the line `report` and this rest.
+fn read(alloc: Global, rest: &str) -> Result<Result<Audit, ReadRefusal>, Fail> {
     let text = format!(in alloc; "{SCENARIO}report\n{rest}")?;
     let bytes = Vec::from_slice(alloc, text.as_bytes())?;
     let mut source = MemSource::new(bytes, 7, Vec::new(alloc));
-    Ok(read_audit(alloc, &mut source).err())
+    Ok(read_audit(alloc, &mut source))
+}
+
+// Whether the one request has level 2 at its one hop.
+fn are_levels(levels: &[Option<Levels>]) -> Result<bool, Fail> {
+    let [given] = levels else {
+        return Ok(false);
+    };
+    let given = given.ok_or("no levels")?;
+    Ok(given.len() == 1 && given.at(1).get() == 2)
+}
+
+// Whether the one row is that of the third packet.
+fn are_rows(rows: &[HopRow]) -> bool {
+    match rows {
+        [row] => {
+            (row.chan.get(), row.number, row.hop, row.link.get()) == (0, 3, 1, 0)
+                && (row.size, row.at, row.eligible, row.departed) == (2, 20, 21, 31)
+        }
+        _ => false,
+    }
 }
 
 #[test]
 fn levels_and_rows_are_read(rt: HostRuntime) -> Result<(), Fail> {
     let alloc = rt.alloc();
-    let text = format!(in alloc;
-        "{SCENARIO}report\naccept r1 delay 22 levels 2\nlink A sent 1\n{HEADER}\nr1,3,1,A,2,20,21,31\n"
+    let rest = format!(in alloc;
+        "accept r1 delay 22 levels 2\nlink A sent 1\n{HEADER}\nr1,3,1,A,2,20,21,31\n"
     )?;
-    let bytes = Vec::from_slice(alloc, text.as_bytes())?;
-    let mut source = MemSource::new(bytes, 7, Vec::new(alloc));
-    let (plan, levels, rows) = read_audit(alloc, &mut source)?;
-    assert_eq!(rt; plan.requests().len(), 1);
-    let [given] = levels.as_slice() else {
-        return Err(Fail::from("other levels"));
-    };
-    let given = given.ok_or("no levels")?;
-    assert_eq!(rt; given.len(), 1);
-    assert_eq!(rt; given.at(1).get(), 2);
-    match rows.as_slice() {
-        [row] => {
-            assert_eq!(rt;
-                (row.chan.get(), row.number, row.hop, row.link.get()),
-                (0, 3, 1, 0)
-            );
-            assert_eq!(rt;
-                (row.size, row.at, row.eligible, row.departed),
-                (2, 20, 21, 31)
-            );
-        }
-        _ => assert!(rt; false, "other rows"),
-    }
+    let (plan, levels, rows) = read(alloc, rest.as_str())??;
+    assert!(rt; plan.requests().len() == 1);
+    assert!(rt; are_levels(levels.as_slice())?);
+    assert!(rt; are_rows(rows.as_slice()));
     Ok(())
 }
 
@@ -89,11 +97,17 @@ const BAD: [(&str, u64, Cause); 9] = [
     ),
 ];
 
-#[test]
-fn the_first_bad_line_of_an_audit_is_refused(rt: HostRuntime) -> Result<(), Fail> {
-    for (rest, line, cause) in BAD {
-        let found = refused(rt.alloc(), rest)?;
+// Each of these texts is refused at its line by its cause.
+fn refuses_all<R: Abort>(rt: &R, alloc: Global, rows: &[(&str, u64, Cause)]) -> Result<(), Fail> {
+    for (rest, line, cause) in rows {
+        let (line, cause) = (*line, *cause);
+        let found = read(alloc, rest)?.err();
         assert_eq!(rt; found, Some(ReadRefusal::Refused { line, cause }));
     }
     Ok(())
+}
+
+#[test]
+fn the_first_bad_line_of_an_audit_is_refused(rt: HostRuntime) -> Result<(), Fail> {
+    refuses_all(&rt, rt.alloc(), &BAD)
 }

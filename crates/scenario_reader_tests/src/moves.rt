@@ -1,9 +1,8 @@
 //! Moves that are read and written again, and those that are refused.
-use crate::reading::{planned, refuses};
-use byte_ends::MemSink;
-use call_script::{Dos, Op, Plan, Schedule};
+use crate::reading::{planned, refuses_all, writes};
+use call_script::{Op, Plan};
 use net_units::ChanNo;
-use scenario_reader::{Cause, write_plan};
+use scenario_reader::Cause;
 use std::alloc::Global;
 use std::process::Abort;
 use std::test::Fail;
@@ -47,72 +46,61 @@ fn after_opens(plan: &Plan) -> &[Op] {
     }
 }
 
+// Whether it moves from the first channel to the second, closes the first, and moves back to the third.
+fn has_moves(plan: &Plan) -> Result<bool, Fail> {
+    let (east, west, again) = (channel(0)?, channel(1)?, channel(2)?);
+    let there = Op::Move {
+        old: east,
+        new: west,
+    };
+    let back = Op::Move {
+        old: west,
+        new: again,
+    };
+    Ok(match after_opens(plan) {
+        [_, moved, closed, moved_back, _] => {
+            *moved == there && *closed == Op::Close(east) && *moved_back == back
+        }
+        _ => false,
+    })
+}
+
 #[test]
 fn moves_are_read_and_written_again(rt: HostRuntime) -> Result<(), Fail> {
     let alloc = rt.alloc();
     let text = format!(in alloc; "{OPENED}{MOVED}")?;
     let (plan, _) = planned(alloc, text.as_str())?;
-    let (east, west, again) = (channel(0)?, channel(1)?, channel(2)?);
-    match after_opens(&plan) {
-        [_, moved, closed, back, _] => {
-            assert_eq!(rt;
-                *moved,
-                Op::Move {
-                    old: east,
-                    new: west
-                }
-            );
-            assert_eq!(rt; *closed, Op::Close(east));
-            assert_eq!(rt;
-                *back,
-                Op::Move {
-                    old: west,
-                    new: again
-                }
-            );
-        }
-        _ => assert!(rt; false, "another script"),
-    }
-    let schedule = Schedule {
-        written: false,
-        items: Dos::new(Vec::new(alloc)),
-    };
-    let mut sink = MemSink::new(alloc, 1_000, 50, Vec::new(alloc))?;
-    assert_eq!(rt; write_plan(alloc, &plan, &schedule, &mut sink), Ok(()));
-    assert_eq!(rt; sink.bytes(), text.as_bytes());
-    Ok(())
+    assert!(rt; has_moves(&plan)?);
+    writes(&rt, alloc, &plan, text.as_str())
 }
 
-// `.ci/refusals` has more.
+// The lines after the opens, a line, and its first cause. `.ci/refusals` has more.
+const REFUSED: [(&str, &str, Cause); 16] = [
+    ("", "move far gone", Cause::Unknown),
+    ("caller k2\n", "move east west", Cause::Unknown),
+    ("close east\n", "move east west", Cause::Closed),
+    ("move east west\n", "move east east", Cause::Closed),
+    ("move east west\n", "send east 1 1 1", Cause::Closed),
+    ("move east west\nclose east\n", "close east", Cause::Closed),
+    ("", "move east east", Cause::Move),
+    ("", "move east small", Cause::Move),
+    ("", "move near west", Cause::Move),
+    ("", "move far west", Cause::Move),
+    ("send west 1 1 1\n", "move east west", Cause::Move),
+    ("close west\n", "move east west", Cause::Move),
+    ("move west again\n", "move east west", Cause::Move),
+    ("move again west\n", "move east west", Cause::Move),
+    // over one link and then two: 3 · 87,382 = 262,146
+    ("send east 87382 1 1\n", "move east west", Cause::Load),
+    // what was moved onto it is moved on: 4 · 65,537 = 262,148
+    (
+        "send east 65537 1 1\nmove east west\n",
+        "move west again",
+        Cause::Load,
+    ),
+];
+
 #[test]
 fn a_move_is_refused_by_its_first_cause(rt: HostRuntime) -> Result<(), Fail> {
-    let alloc = rt.alloc();
-    for (before, line, cause) in [
-        ("", "move far gone", Cause::Unknown),
-        ("caller k2\n", "move east west", Cause::Unknown),
-        ("close east\n", "move east west", Cause::Closed),
-        ("move east west\n", "move east east", Cause::Closed),
-        ("move east west\n", "send east 1 1 1", Cause::Closed),
-        ("move east west\nclose east\n", "close east", Cause::Closed),
-        ("", "move east east", Cause::Move),
-        ("", "move east small", Cause::Move),
-        ("", "move near west", Cause::Move),
-        ("", "move far west", Cause::Move),
-        ("send west 1 1 1\n", "move east west", Cause::Move),
-        ("close west\n", "move east west", Cause::Move),
-        ("move west again\n", "move east west", Cause::Move),
-        ("move again west\n", "move east west", Cause::Move),
-        // over one link and then two: 3 · 87,382 = 262,146
-        ("send east 87382 1 1\n", "move east west", Cause::Load),
-        // what was moved onto it is moved on: 4 · 65,537 = 262,148
-        (
-            "send east 65537 1 1\nmove east west\n",
-            "move west again",
-            Cause::Load,
-        ),
-    ] {
-        let front = format!(in alloc; "{OPENED}{before}")?;
-        refuses(&rt, alloc, front.as_str(), line, cause)?;
-    }
-    Ok(())
+    refuses_all(&rt, rt.alloc(), OPENED, &REFUSED)
 }

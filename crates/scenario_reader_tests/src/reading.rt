@@ -1,6 +1,11 @@
 //! Scenarios that are read, and lines that are refused.
+//!
+//! What reading ensures is long, and so is what a plan keeps true; each step of a proof puts what is known into its facts. So few functions
+//! read, each in a few steps, and the parts of a plan are compared where the plan isn't known.
+ghost use Rattle.std.specs.Prelude.{◌≤◌};
+
 use byte_ends::{MemSink, MemSource};
-use call_script::{Dos, Op, Plan, Schedule, Version};
+use call_script::{Do, Dos, LinkEntry, Op, Plan, RequestEntry, Schedule, Version};
 use link_steps::Quota;
 use net_units::{ChanNo, LinkNo};
 use scenario_reader::{Cause, ReadRefusal, read_plan, write_plan};
@@ -30,24 +35,92 @@ do k2 2
 do plane 10
 ";
 
-fn read(alloc: Global, text: &str) -> Result<Result<(), ReadRefusal>, Fail> {
-    let mut bytes = Vec::new(alloc);
-    bytes.extend_from_slice(text.as_bytes())?;
-    let mut source = MemSource::new(bytes, 7, Vec::new(alloc));
-    match read_plan(alloc, &mut source) {
-        Ok(_) => Ok(Ok(())),
-        Err(refusal) => Ok(Err(refusal)),
-    }
+// What is read of a text by a source that gives at most so many bytes at a time.
+fn read(
+    alloc: Global,
+    text: &str,
+    most: usize,
+) -> Result<Result<(Plan, Schedule), ReadRefusal>, Fail>
+    requires { 1 ≤ most }
+{
+    let bytes = Vec::from_slice(alloc, text.as_bytes())?;
+    let mut source = MemSource::new(bytes, most, Vec::new(alloc));
+    Ok(read_plan(alloc, &mut source))
 }
 
 // The plan and the schedule of a text.
 pub(crate) fn planned(alloc: Global, text: &str) -> Result<(Plan, Schedule), Fail> {
-    let mut bytes = Vec::new(alloc);
-    bytes.extend_from_slice(text.as_bytes())?;
-    let mut source = MemSource::new(bytes, 7, Vec::new(alloc));
-    match read_plan(alloc, &mut source) {
-        Ok(read) => Ok(read),
-        Err(_) => Err(Fail::from("refused")),
+    Ok(read(alloc, text, 7)??)
+}
+
+// A text is refused at this line by this cause, or it is read.
+fn answers<R: Abort>(
+    rt: &R,
+    alloc: Global,
+    text: &str,
+    most: usize,
+    want: Option<(u64, Cause)>,
+) -> Result<(), Fail>
+    requires { 1 ≤ most }
+{
+    let found = read(alloc, text, most)?.err();
+    let want = want.map(|(line, cause)| ReadRefusal::Refused { line, cause });
+    assert_eq!(rt; found, want, "{text}");
+    Ok(())
+}
+
+// The text of a plan without a schedule.
+pub(crate) fn writes<R: Abort>(rt: &R, alloc: Global, plan: &Plan, text: &str) -> Result<(), Fail> {
+    let schedule = Schedule {
+        written: false,
+        items: Dos::new(Vec::new(alloc)),
+    };
+    let mut sink = MemSink::new(alloc, 1_000, 50, Vec::new(alloc))?;
+    write_plan(alloc, plan, &schedule, &mut sink)?;
+    assert_eq!(rt; sink.bytes(), text.as_bytes());
+    Ok(())
+}
+
+// Whether a link has this number, these names, and this rate, buffer and room for best-effort packets.
+fn is_link(entry: &LinkEntry, number: u8, names: [&str; 3], sizes: [u32; 3]) -> bool {
+    entry.shape.link.get() == number
+        && [entry.name.as_str(), entry.from.as_str(), entry.to.as_str()] == names
+        && [entry.shape.rate, entry.shape.buffer, entry.shape.best] == sizes
+}
+
+fn are_links(links: &[LinkEntry]) -> bool {
+    match links {
+        [first, second] => {
+            is_link(first, 0, ["A", "n1", "n2"], [1, 100, 3])
+                && is_link(second, 1, ["B", "n2", "n3"], [2, 0, 0])
+        }
+        _ => false,
+    }
+}
+
+// Whether a request has this name, is opened by this caller, goes over so many links, within this delay, and has this control.
+fn is_request(
+    entry: &RequestEntry,
+    name: &str,
+    caller: u8,
+    links: u8,
+    delay: u64,
+    control: Control,
+) -> bool {
+    entry.name.as_str() == name
+        && entry.caller.get() == caller
+        && entry.request.route.len() == links
+        && entry.request.delay == delay
+        && entry.request.control == control
+}
+
+fn are_requests(requests: &[RequestEntry]) -> bool {
+    match requests {
+        [first, second] => {
+            is_request(first, "r1", 0, 2, 50, Control::Jitter(15))
+                && is_request(second, "r2", 1, 1, 12, Control::Rate)
+        }
+        _ => false,
     }
 }
 
@@ -55,93 +128,60 @@ pub(crate) fn planned(alloc: Global, text: &str) -> Result<(Plan, Schedule), Fai
 fn links_and_requests_have_what_their_lines_say(rt: HostRuntime) -> Result<(), Fail> {
     let (plan, _) = planned(rt.alloc(), WHOLE)?;
     assert!(rt; plan.version() == Version::Three);
-    assert_eq!(rt; (plan.rounds(), plan.tail()), (70, 5));
-    match plan.links() {
-        [first, second] => {
-            assert_eq!(rt;
-                (first.name.as_str(), first.from.as_str(), first.to.as_str()),
-                ("A", "n1", "n2")
-            );
-            assert_eq!(rt;
-                (first.shape.rate, first.shape.buffer, first.shape.best),
-                (1, 100, 3)
-            );
-            assert_eq!(rt; (second.name.as_str(), second.shape.link.get()), ("B", 1));
-            assert_eq!(rt;
-                (second.shape.rate, second.shape.buffer, second.shape.best),
-                (2, 0, 0)
-            );
-        }
-        _ => assert!(rt; false, "other links"),
-    }
-    match plan.requests() {
-        [first, second] => {
-            assert_eq!(rt; (first.name.as_str(), first.caller.get()), ("r1", 0));
-            assert_eq!(rt; (first.request.route.len(), first.request.delay), (2, 50));
-            assert_eq!(rt; first.request.control, Control::Jitter(15));
-            assert_eq!(rt; (second.name.as_str(), second.caller.get()), ("r2", 1));
-            assert_eq!(rt; (second.request.route.len(), second.request.delay), (1, 12));
-            assert_eq!(rt; second.request.control, Control::Rate);
-        }
-        _ => assert!(rt; false, "other requests"),
-    }
+    assert!(rt; (plan.rounds(), plan.tail()) == (70, 5));
+    assert!(rt; are_links(plan.links()));
+    assert!(rt; are_requests(plan.requests()));
     Ok(())
+}
+
+// What the first caller does.
+fn first_script(chan: ChanNo, link: LinkNo) -> [Op; 4] {
+    [
+        Op::Open(chan),
+        Op::Send {
+            chan,
+            count: 3,
+            gap: 10,
+            size: 2,
+        },
+        Op::Pour {
+            link,
+            count: 2,
+            gap: 1,
+            size: 4,
+        },
+        Op::Close(chan),
+    ]
 }
 
 #[test]
 fn callers_have_their_operations(rt: HostRuntime) -> Result<(), Fail> {
+    let (plan, _) = planned(rt.alloc(), WHOLE)?;
+    let [first, second] = plan.callers() else {
+        return Err(Fail::from("other callers"));
+    };
+    assert!(rt; (first.name.as_str(), second.name.as_str()) == ("k1", "k2"));
+    assert!(rt; second.ops.as_slice().len() == 1);
     let chan = ChanNo::new(0).ok_or("channel")?;
     let link = LinkNo::new(0).ok_or("link")?;
-    let (plan, _) = planned(rt.alloc(), WHOLE)?;
-    match plan.callers() {
-        [first, second] => {
-            assert_eq!(rt; (first.name.as_str(), second.name.as_str()), ("k1", "k2"));
-            assert_eq!(rt; second.ops.as_slice().len(), 1);
-            match first.ops.as_slice() {
-                [opened, sent, poured, closed] => {
-                    assert_eq!(rt; *opened, Op::Open(chan));
-                    assert_eq!(rt;
-                        *sent,
-                        Op::Send {
-                            chan,
-                            count: 3,
-                            gap: 10,
-                            size: 2
-                        }
-                    );
-                    assert_eq!(rt;
-                        *poured,
-                        Op::Pour {
-                            link,
-                            count: 2,
-                            gap: 1,
-                            size: 4
-                        }
-                    );
-                    assert_eq!(rt; *closed, Op::Close(chan));
-                }
-                _ => assert!(rt; false, "another script"),
-            }
-        }
-        _ => assert!(rt; false, "other callers"),
-    }
+    assert!(rt; first.ops.as_slice() == first_script(chan, link).as_slice());
     Ok(())
+}
+
+// Whether these are the line, the actor and the count of an item.
+fn is_item(item: &Do, line: u64, actor: u8, count: u64) -> bool {
+    (item.line, item.actor.get(), item.count) == (line, actor, count)
 }
 
 #[test]
 fn items_have_the_numbers_of_their_lines(rt: HostRuntime) -> Result<(), Fail> {
     let (_, schedule) = planned(rt.alloc(), WHOLE)?;
     assert!(rt; schedule.written);
-    match schedule.items.as_slice() {
-        [first, second] => {
-            assert_eq!(rt; (first.line, first.actor.get(), first.count), (17, 1, 2));
-            assert_eq!(rt;
-                (second.line, second.actor.get(), second.count),
-                (18, 2, 10)
-            );
-        }
-        _ => assert!(rt; false, "other items"),
-    }
+    let [first, second] = schedule.items.as_slice() else {
+        return Err(Fail::from("other items"));
+    };
+    assert!(rt; is_item(first, 17, 1, 2));
+    assert!(rt; is_item(second, 18, 2, 10));
     Ok(())
 }
 
@@ -199,74 +239,77 @@ quota A g1 buffer 50 levels 4 8 20
 ";
 
 // The line after these is refused by this cause.
-pub(crate) fn refuses(
-    rt: &impl std::process::Abort,
+fn refuses<R: Abort>(
+    rt: &R,
     alloc: Global,
     front: &str,
     line: &str,
     cause: Cause,
 ) -> Result<(), Fail> {
-    let mut bytes = Vec::new(alloc);
-    bytes.extend_from_slice(front.as_bytes())?;
-    bytes.extend_from_slice(line.as_bytes())?;
-    bytes.push(b'\n')?;
+    let text = format!(in alloc; "{front}{line}\n")?;
     let at = front.lines().count() as u64 + 1;
-    let mut source = MemSource::new(bytes, 64, Vec::new(alloc));
-    match read_plan(alloc, &mut source) {
-        Ok(_) => assert!(rt; false, "{line} was read"),
-        Err(refusal) => {
-            assert_eq!(rt; refusal, ReadRefusal::Refused { line: at, cause }, "{line}");
-        }
+    answers(rt, alloc, text.as_str(), 64, Some((at, cause)))
+}
+
+// Each of these lines is refused by its cause, after this text and the lines in front of it.
+pub(crate) fn refuses_all<R: Abort>(
+    rt: &R,
+    alloc: Global,
+    text: &str,
+    rows: &[(&str, &str, Cause)],
+) -> Result<(), Fail> {
+    for (front, line, cause) in rows {
+        let front = format!(in alloc; "{text}{front}")?;
+        refuses(rt, alloc, front.as_str(), line, *cause)?;
     }
     Ok(())
 }
 
-// `.ci/refusals` has many more.
+// The lines in front, a line, and its first cause. `.ci/refusals` has many more.
+const REFUSED: [(&str, &str, Cause); 22] = [
+    ("", "tenet 01", Cause::Header),
+    ("", "tenet  1", Cause::Shape),
+    (AFTER_TAIL, "do k1 1", Cause::Word),
+    (AFTER_LINK, "caller plane", Cause::Name),
+    (AFTER_OPEN, "send r1 +1 1 2", Cause::Number),
+    (AFTER_CALLER, "caller k1", Cause::Known),
+    (AFTER_OPEN, "send r2 0 1 2", Cause::Unknown),
+    (AFTER_OPEN, "send r1 0 1 2", Cause::Range),
+    (
+        AFTER_CALLER,
+        "open r1 route A A contract 5 4 20 2 delay 12 rate",
+        Cause::Contract,
+    ),
+    (
+        AFTER_CALLER,
+        "open r1 route B A contract 5 10 20 2 delay 12 rate",
+        Cause::Route,
+    ),
+    (AFTER_CLOSE, "close r1", Cause::Closed),
+    (AFTER_OPEN, "send r1 131073 1 2", Cause::Load),
+    (AFTER_BEST, "pour B 262144 1 2", Cause::Best),
+    (AFTER_OPEN, "move r1 r1", Cause::Word),
+    (AFTER_LINK, "group g1", Cause::Word),
+    (AFTER_LINK, "caller k1 group g1", Cause::Shape),
+    (AFTER_GROUPS, "group g2", Cause::Known),
+    (AFTER_GROUPS, "caller k1 group g3", Cause::Unknown),
+    (AFTER_QUOTA, "group g3", Cause::Word),
+    (
+        AFTER_QUOTA,
+        "quota A g1 buffer 0 levels 0 0 0",
+        Cause::Known,
+    ),
+    (
+        AFTER_QUOTA,
+        "quota A g2 buffer 50 levels 3 8 16",
+        Cause::Quota,
+    ),
+    (AFTER_QUOTA, "quota A g2 buffer 50 levels 2 8", Cause::Quota),
+];
+
 #[test]
 fn a_line_is_refused_by_its_first_cause(rt: HostRuntime) -> Result<(), Fail> {
-    for (front, line, cause) in [
-        ("", "tenet 01", Cause::Header),
-        ("", "tenet  1", Cause::Shape),
-        (AFTER_TAIL, "do k1 1", Cause::Word),
-        (AFTER_LINK, "caller plane", Cause::Name),
-        (AFTER_OPEN, "send r1 +1 1 2", Cause::Number),
-        (AFTER_CALLER, "caller k1", Cause::Known),
-        (AFTER_OPEN, "send r2 0 1 2", Cause::Unknown),
-        (AFTER_OPEN, "send r1 0 1 2", Cause::Range),
-        (
-            AFTER_CALLER,
-            "open r1 route A A contract 5 4 20 2 delay 12 rate",
-            Cause::Contract,
-        ),
-        (
-            AFTER_CALLER,
-            "open r1 route B A contract 5 10 20 2 delay 12 rate",
-            Cause::Route,
-        ),
-        (AFTER_CLOSE, "close r1", Cause::Closed),
-        (AFTER_OPEN, "send r1 131073 1 2", Cause::Load),
-        (AFTER_BEST, "pour B 262144 1 2", Cause::Best),
-        (AFTER_OPEN, "move r1 r1", Cause::Word),
-        (AFTER_LINK, "group g1", Cause::Word),
-        (AFTER_LINK, "caller k1 group g1", Cause::Shape),
-        (AFTER_GROUPS, "group g2", Cause::Known),
-        (AFTER_GROUPS, "caller k1 group g3", Cause::Unknown),
-        (AFTER_QUOTA, "group g3", Cause::Word),
-        (
-            AFTER_QUOTA,
-            "quota A g1 buffer 0 levels 0 0 0",
-            Cause::Known,
-        ),
-        (
-            AFTER_QUOTA,
-            "quota A g2 buffer 50 levels 3 8 16",
-            Cause::Quota,
-        ),
-        (AFTER_QUOTA, "quota A g2 buffer 50 levels 2 8", Cause::Quota),
-    ] {
-        refuses(&rt, rt.alloc(), front, line, cause)?;
-    }
-    Ok(())
+    refuses_all(&rt, rt.alloc(), "", &REFUSED)
 }
 
 // A scenario with groups, two of whose quotas are of one link, and with a move.
@@ -289,42 +332,6 @@ rounds 0
 tail 0
 ";
 
-#[test]
-fn groups_quotas_and_moves_are_read_and_written_again(rt: HostRuntime) -> Result<(), Fail> {
-    let alloc = rt.alloc();
-    let (plan, _) = planned(alloc, SPLIT)?;
-    assert_eq!(rt; plan.groups().len(), 2);
-    match plan.links() {
-        [first, second] => {
-            assert_eq!(rt;
-                first.quotas.as_slice(),
-                [
-                    share(2, 50, [2, 8, 16, 0, 0, 0, 0, 0]),
-                    share(1, 50, [4, 8, 20, 0, 0, 0, 0, 0])
-                ]
-                .as_slice()
-            );
-            assert_eq!(rt;
-                second.quotas.as_slice(),
-                [share(1, 0, [6, 0, 0, 0, 0, 0, 0, 0])].as_slice()
-            );
-        }
-        _ => assert!(rt; false, "other links"),
-    }
-    match plan.callers() {
-        [first, second] => assert_eq!(rt; (first.group, second.group), (2, 0)),
-        _ => assert!(rt; false, "other callers"),
-    }
-    let schedule = Schedule {
-        written: false,
-        items: Dos::new(Vec::new(alloc)),
-    };
-    let mut sink = MemSink::new(alloc, 1_000, 50, Vec::new(alloc))?;
-    assert_eq!(rt; write_plan(alloc, &plan, &schedule, &mut sink), Ok(()));
-    assert_eq!(rt; sink.bytes(), SPLIT.as_bytes());
-    Ok(())
-}
-
 fn share(group: u8, buffer: u32, levels: [u32; 8]) -> Quota {
     Quota {
         group,
@@ -333,48 +340,82 @@ fn share(group: u8, buffer: u32, levels: [u32; 8]) -> Quota {
     }
 }
 
+// The quotas of the links, in the order of their lines.
+fn have_quotas(links: &[LinkEntry]) -> bool {
+    let shares = [
+        share(2, 50, [2, 8, 16, 0, 0, 0, 0, 0]),
+        share(1, 50, [4, 8, 20, 0, 0, 0, 0, 0]),
+    ];
+    let share = [share(1, 0, [6, 0, 0, 0, 0, 0, 0, 0])];
+    match links {
+        [first, second] => {
+            first.quotas.as_slice() == shares.as_slice()
+                && second.quotas.as_slice() == share.as_slice()
+        }
+        _ => false,
+    }
+}
+
 #[test]
-fn a_schedule_names_callers_and_the_plane(rt: HostRuntime) -> Result<(), Fail> {
+fn groups_quotas_and_moves_are_read_and_written_again(rt: HostRuntime) -> Result<(), Fail> {
     let alloc = rt.alloc();
-    for (lines, want) in [
-        ("", Ok(())),
-        ("schedule\n", Ok(())),
-        ("schedule\n\n#\ndo plane 1048576\n", Ok(())),
-        ("schedule\ndo k9 1\n", Err((7, Cause::Unknown))),
-        ("schedule\ndo k1 0\n", Err((7, Cause::Range))),
-        ("schedule\nschedule\n", Err((7, Cause::Word))),
-        ("schedule 1\n", Err((6, Cause::Shape))),
-    ] {
-        let mut bytes = Vec::new(alloc);
-        bytes.extend_from_slice(AFTER_TAIL.as_bytes())?;
-        bytes.extend_from_slice(lines.as_bytes())?;
-        let mut source = MemSource::new(bytes, 64, Vec::new(alloc));
-        let got = match read_plan(alloc, &mut source) {
-            Ok(_) => Ok(()),
-            Err(ReadRefusal::Refused { line, cause }) => Err((line, cause)),
-            Err(_) => Err((0, Cause::Step)),
-        };
-        assert_eq!(rt; got, want, "{lines}");
+    let (plan, _) = planned(alloc, SPLIT)?;
+    assert!(rt; plan.groups().len() == 2);
+    assert!(rt; have_quotas(plan.links()));
+    let [first, second] = plan.callers() else {
+        return Err(Fail::from("other callers"));
+    };
+    assert!(rt; (first.group, second.group) == (2, 0));
+    writes(&rt, alloc, &plan, SPLIT)
+}
+
+// The lines after the last of a scenario, and where they are refused and why.
+const SCHEDULES: [(&str, Option<(u64, Cause)>); 7] = [
+    ("", None),
+    ("schedule\n", None),
+    ("schedule\n\n#\ndo plane 1048576\n", None),
+    ("schedule\ndo k9 1\n", Some((7, Cause::Unknown))),
+    ("schedule\ndo k1 0\n", Some((7, Cause::Range))),
+    ("schedule\nschedule\n", Some((7, Cause::Word))),
+    ("schedule 1\n", Some((6, Cause::Shape))),
+];
+
+// Whether each of these texts is read after this one, or where it is refused and why.
+fn answers_all<R: Abort>(
+    rt: &R,
+    alloc: Global,
+    front: &str,
+    rows: &[(&str, Option<(u64, Cause)>)],
+) -> Result<(), Fail> {
+    for (rest, want) in rows {
+        let text = format!(in alloc; "{front}{rest}")?;
+        answers(rt, alloc, text.as_str(), 64, *want)?;
     }
     Ok(())
 }
 
 #[test]
+fn a_schedule_names_callers_and_the_plane(rt: HostRuntime) -> Result<(), Fail> {
+    answers_all(&rt, rt.alloc(), AFTER_TAIL, &SCHEDULES)
+}
+
+// Texts that end early, and where they are refused and why.
+const EARLY: [(&str, Option<(u64, Cause)>); 5] = [
+    ("", Some((1, Cause::End))),
+    ("\n# nothing\n", Some((3, Cause::End))),
+    ("tenet 1\nrounds", Some((2, Cause::Cut))),
+    ("#", Some((1, Cause::Cut))),
+    (AFTER_LINK, Some((4, Cause::End))),
+];
+
+#[test]
 fn an_input_that_ends_early_is_refused_at_its_end(rt: HostRuntime) -> Result<(), Fail> {
-    let alloc = rt.alloc();
-    for (text, line, cause) in [
-        ("", 1, Cause::End),
-        ("\n# nothing\n", 3, Cause::End),
-        ("tenet 1\nrounds", 2, Cause::Cut),
-        ("#", 1, Cause::Cut),
-        (AFTER_LINK, 4, Cause::End),
-    ] {
-        assert_eq!(rt;
-            read(alloc, text)?,
-            Err(ReadRefusal::Refused { line, cause })
-        );
-    }
-    Ok(())
+    answers_all(&rt, rt.alloc(), "", &EARLY)
+}
+
+// Whether what refuses is written so.
+fn says(alloc: Global, refusal: &ReadRefusal, text: &str) -> Result<bool, Fail> {
+    Ok(format!(in alloc; "{refusal}")?.as_str() == text)
 }
 
 #[test]
@@ -383,11 +424,8 @@ fn a_refusal_says_its_line_and_its_cause(rt: HostRuntime) -> Result<(), Fail> {
         line: 4,
         cause: Cause::Unknown,
     };
-    assert_eq!(rt;
-        format!(in rt.alloc(); "{refusal}")?.as_str(),
-        "refused 4 unknown"
-    );
-    assert_eq!(rt; format!(in rt.alloc(); "{}", Cause::Step)?.as_str(), "step");
+    assert!(rt; says(rt.alloc(), &refusal, "refused 4 unknown")?);
+    assert!(rt; format!(in rt.alloc(); "{}", Cause::Step)?.as_str() == "step");
     Ok(())
 }
 
@@ -420,15 +458,25 @@ fn first_route(alloc: Global, text: &str) -> Result<Vec<u8>, Fail> {
     Ok(links)
 }
 
+// Whether an open between the nodes has a route over these links, where the direct one has this propagation.
+fn goes_over(alloc: Global, direct: u32, way: &str, links: &[u8]) -> Result<bool, Fail> {
+    let text = five_links(alloc, "4", direct, way)?;
+    let found = first_route(alloc, text.as_str())?;
+    Ok(found.as_slice() == links)
+}
+
 #[test]
 fn a_route_is_found_between_two_nodes(rt: HostRuntime) -> Result<(), Fail> {
     let alloc = rt.alloc();
-    let found = first_route(alloc, five_links(alloc, "4", 5, "from n1 to n4")?.as_str())?;
-    assert_eq!(rt; found.as_slice(), &[0, 1][..]);
-    let found = first_route(alloc, five_links(alloc, "4", 4, "from n1 to n4")?.as_str())?;
-    assert_eq!(rt; found.as_slice(), &[4][..]);
-    let found = first_route(alloc, five_links(alloc, "4", 4, "route C D")?.as_str())?;
-    assert_eq!(rt; found.as_slice(), &[2, 3][..]);
+    assert!(rt; goes_over(alloc, 5, "from n1 to n4", &[0, 1])?);
+    assert!(rt; goes_over(alloc, 4, "from n1 to n4", &[4])?);
+    assert!(rt; goes_over(alloc, 4, "route C D", &[2, 3])?);
+    Ok(())
+}
+
+#[test]
+fn an_open_between_two_nodes_is_refused_by_its_first_cause(rt: HostRuntime) -> Result<(), Fail> {
+    let alloc = rt.alloc();
     for (version, way, cause) in [
         ("4", "from n4 to n1", Cause::Reach),
         ("4", "from n4 to n4", Cause::Route),
@@ -439,10 +487,7 @@ fn a_route_is_found_between_two_nodes(rt: HostRuntime) -> Result<(), Fail> {
         ("3", "from n1 to n4", Cause::Shape),
     ] {
         let text = five_links(alloc, version, 5, way)?;
-        assert_eq!(rt;
-            read(alloc, text.as_str())?,
-            Err(ReadRefusal::Refused { line: 8, cause })
-        );
+        answers(&rt, alloc, text.as_str(), 7, Some((8, cause)))?;
     }
     Ok(())
 }

@@ -3,6 +3,7 @@ ghost use Rattle.std.specs.Prelude.{◌≡◌, IfOk};
 ghost use Rattle.net_units.specs.Numbers.{channel_number};
 ghost use Rattle.one_link_plans.specs.OneLink.{IsThatScript};
 
+use crate::reading::writes;
 use byte_ends::MemSink;
 use call_script::{CallerEntry, Do, Dos, Op, Schedule, Version};
 use net_units::{ActorNo, ChanNo, LinkNo};
@@ -43,12 +44,6 @@ fn busy_caller(alloc: Global, chan: ChanNo, link: LinkNo) -> Result<CallerEntry,
 fn a_plan_of_one_link_has_six_lines(rt: HostRuntime) -> Result<(), Fail> {
     let alloc = rt.alloc();
     let plan = opened(alloc, 0)?;
-    let schedule = Schedule {
-        written: false,
-        items: Dos::new(Vec::new(alloc)),
-    };
-    let mut sink = MemSink::new(alloc, 1_000, 50, Vec::new(alloc))?;
-    assert_eq!(rt; write_plan(alloc, &plan, &schedule, &mut sink), Ok(()));
     let text = "tenet 1
 link A n1 n2 rate 1 cap 4 prop 2 buffer 100 levels 10 20 40
 caller k1
@@ -56,8 +51,7 @@ open r1 route A contract 5 10 20 2 delay 12 rate
 rounds 0
 tail 0
 ";
-    assert_eq!(rt; sink.bytes(), text.as_bytes());
-    Ok(())
+    writes(&rt, alloc, &plan, text)
 }
 
 #[test]
