@@ -6,6 +6,7 @@ pub mod Replies
 pub mod RowFacts
 pub mod Calendars
 pub mod Sound
+pub mod Departed
 pub mod StepFacts
 pub mod ChosenFacts
 mod KeyedListFacts

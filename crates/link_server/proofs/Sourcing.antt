@@ -2,5 +2,4 @@
 pub mod Take
 pub mod Steps
 pub mod Rows
-pub mod Own
 pub mod Turns

@@ -1,7 +1,6 @@
 -- The packets that wait for the link: the line, and which of them goes first; and those here by arrival.
 pub mod Arrived
 pub mod Best
-pub mod Counts
 pub mod Serving
 pub mod Rising
 pub mod Order

@@ -1,5 +1,5 @@
--- The rows of a link as the link's rules see them, in the order of their reserves. Beside these, the server by which they are
--- admitted, how many units its buffer has, and the tick in which the link last looked which of them fall due.
+-- The rows of a link as the link's rules see them, in the order of their reserves. Beside these, how many packets of each have
+-- departed, the server by which they are admitted, how many units its buffer has, and the tick in which the link last looked which of them fall due.
 use Rattle.std.specs.Prelude.{ℕ, List}
 use Rattle.traffic_contract.specs.Admission.{Server}
 use Rattle.link_steps.specs.Kept.{KeptRow}
@@ -7,6 +7,7 @@ use Rattle.link_steps.specs.Kept.{KeptRow}
 -- what a contract sees of a table
 pub record KeptTable : Type 0 where
   pub rows : List KeptRow
+  pub departed : List ℕ
   pub server : Server
   pub buffer : ℕ
   pub looked : ℕ

@@ -14,7 +14,7 @@ pub mod RowParts
 pub mod TableParts
 pub mod Changes
 pub mod RoomFor
-pub mod Counts
+pub mod Departed
 pub mod Serving
 pub mod Asks
 pub mod Account

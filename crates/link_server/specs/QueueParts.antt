@@ -1,11 +1,8 @@
--- A queue keeps the packets that wait in a line, beside it the one on the link, how many of these are of each reservation, and how
--- many are best-effort packets that wait. What holds of these together, and what a contract sees of them.
+-- A queue keeps the packets that wait in a line, beside it the one on the link, and how many best-effort packets wait. What holds of these together, and what a contract sees of them.
 use Rattle.std.specs.Prelude.{◌≡◌, ◌≤◌, List, filter, length}
-use Rattle.std.specs.Vec.{vec_capacity}
 use Rattle.link_steps.specs.BestEffort.{is_best}
 use Rattle.link_steps.specs.Service.{Arrival}
 use Rattle.link_server.specs.Arrived.{all_here, arrived, HaveOwnNumbers, AreNumbered}
-use Rattle.link_server.specs.Counts.{AreByLead, AreCounts}
 use Rattle.link_server.specs.KeptQueue.{KeptQueue}
 use Rattle.link_server.specs.Line.{waiting_in, room_in}
 use Rattle.link_server.specs.Packets.{here_in, on_in}
@@ -20,13 +17,10 @@ packets_of q = all_here (on_in q.on) (here_in (waiting_in q.line))
 abbrev pub queue_seen : Inside → KeptQueue
 queue_seen q = record { taken = q.taken; here = arrived (packets_of q) q.taken; on = on_in q.on; best = left_in q.best; room = q.room; looked = q.line.until; bounds = q.bounds }
 
--- the packets here have numbers of their own; there is room in each part; and the counts are those of the packets
+-- the packets here have numbers of their own; there is room for them; and those of best effort that wait are counted
 pub record IsQueue (q : Inside) : Type 0 where
   pub own : HaveOwnNumbers (packets_of q)
   pub numbered : AreNumbered q.taken (packets_of q)
   pub fits : length (packets_of q) ≤ q.room
   pub lines_up : q.room ≤ room_in q.line
-  pub counts_fit : q.room ≤ vec_capacity q.counts
-  pub counts_are : AreCounts q.counts.items (packets_of q)
-  pub counts_sorted : AreByLead 0 q.counts.items
   pub best_counted : q.best_waiting ≡ length (filter (is_best q.bounds) (here_in (waiting_in q.line)))

@@ -1,21 +1,26 @@
 -- In a tick each row with a packet planned for it takes that packet, where one of its slots is free, or else drops it.
 -- The rows do so in the order of their reserves, and a slot is free by the packets that are here as the tick begins. The
 -- account says what each row and the packets become; here it is said of the rows and packets that the link keeps.
-use Rattle.std.specs.Prelude.{ℕ, ◌+◌, ◌<◌, ◌≤◌, ◌^◌, ◌++◌, List, length, map}
+use Rattle.std.specs.Prelude.{ℕ, ◌+◌, ◌-◌, ◌<◌, ◌≤◌, ◌^◌, ◌++◌, nat_lt, find, List, length, map}
 use Rattle.traffic_contract.specs.Eligible.{newest}
 use Rattle.link_steps.specs.Kept.{KeptRow, kept_step, kept_packets, kept_rows_after, kept_lost}
 use Rattle.link_steps.specs.Lists.{Each}
 use Rattle.link_steps.specs.Service.{Arrival}
-use Rattle.link_steps.specs.Sources.{SourceStep}
+use Rattle.link_steps.specs.Buffer.{slots_of}
+use Rattle.link_steps.specs.Rows.{is_for}
+use Rattle.link_steps.specs.Sources.{SourceStep, source_step}
 use Rattle.link_server.specs.KeptQueue.{KeptQueue}
-use Rattle.link_server.specs.Planned.{IsPlannedFrom}
-use Rattle.link_server.specs.Rows.{row_in}
-use Rattle.link_server.specs.Sound.{HaveOwnLeads}
+use Rattle.link_server.specs.Planned.{IsPlannedFrom, left_in}
+use Rattle.link_server.specs.Rows.{reservation_in, row_in}
 use Rattle.link_server.specs.declared.table.served_row.ServedRow.{ServedRow}
 
 -- what the row's source does in tick t, with these packets here
 abbrev pub step_in : List ℕ → List Arrival → ℕ → ServedRow → SourceStep
 step_in bounds here t row = kept_step bounds here t (row_in row)
+
+-- the same by the packets of it that it counts as here
+abbrev pub own_step : List ℕ → ℕ → ServedRow → SourceStep
+own_step bounds t row = source_step (nat_lt (row.taken - row.departed) (slots_of bounds (reservation_in row))) (find (is_for t) (left_in row.planned))
 
 -- the packets that the rows take in tick t, after `taken` packets in all
 abbrev pub brought_by : List ℕ → List Arrival → ℕ → ℕ → List ServedRow → List Arrival
@@ -45,8 +50,6 @@ pub record MayBring (bounds : List ℕ) (clock : ℕ) (queue : KeptQueue) (rows 
   pub early : clock < 2 ^ 61
   pub few : length rows < 2 ^ 32
   pub ready : Each (IsReady clock) rows
-  pub apart : HaveOwnLeads rows
-  pub leads : Each (λ row. row.lead ≤ queue.taken) rows
   pub looked : queue.looked ≤ clock
   pub room : length queue.here + length (kept_packets bounds queue.here clock queue.taken rows) ≤ queue.room
   pub numbers : queue.taken + length (kept_packets bounds queue.here clock queue.taken rows) < 2 ^ 64

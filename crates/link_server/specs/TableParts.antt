@@ -4,6 +4,7 @@
 use Rattle.std.specs.Prelude.{◌≡◌, ◌<◌, ◌≤◌, ◌^◌, length, map}
 use Rattle.std.specs.Vec.{vec_capacity}
 use Rattle.buffer_budget.specs.Parts.{whole_of}
+use Rattle.link_server.specs.Departed.{departed_in}
 use Rattle.link_server.specs.Holds.{AreListed}
 use Rattle.link_server.specs.KeptTable.{KeptTable}
 use Rattle.link_server.specs.Plans.{ArePlanned}
@@ -13,7 +14,7 @@ use Rattle.link_server.specs.declared.table.Table.TheInside.{Inside}
 
 -- what a contract sees
 abbrev pub table_seen : Inside → KeptTable
-table_seen t = record { rows = map row_in t.rows.items; server = t.sums.server; buffer = whole_of t.keeping.budget; looked = t.looked }
+table_seen t = record { rows = map row_in t.rows.items; departed = map departed_in t.rows.items; server = t.sums.server; buffer = whole_of t.keeping.budget; looked = t.looked }
 
 -- the sums are at the bounds, and the parts are those of the rows; the calendars tell all from the tick in which they were last
 -- looked at; and each row may have its turn

@@ -3,6 +3,7 @@ ghost use Rattle.std.specs.Prelude.{◌≡◌, ◌^◌, ◌<◌, ◌≤◌, ◌�
 ghost use Rattle.link_steps.specs.Legal.{AskFits};
 ghost use Rattle.link_steps.specs.Shape.{server_of};
 ghost use Rattle.link_server.specs.Account.{account};
+ghost use Rattle.link_server.specs.Departed.{AreCounted, AreCounted-prop};
 ghost use Rattle.link_server.specs.Resting.{RestsFromClock, RestsFromClock-prop};
 ghost use Rattle.link_server.specs.Sound.{IsSound};
 ghost use Rattle.link_server.specs.SoundProp.{IsSound-prop};
@@ -36,6 +37,7 @@ pub struct LinkState {
     ghost few: { queue.room < 2 ^ 63 },
     ghost sound: { IsSound shape queue.room (account clock queue table.rows) } by { IsSound-prop shape queue.room (account clock queue table.rows) },
     ghost stood: { IsStood shape (account clock queue table.rows) } by { IsStood-prop shape (account clock queue table.rows) },
+    ghost counted: { AreCounted queue.here table.rows table.departed } by { AreCounted-prop queue.here table.rows table.departed },
     ghost rests: { RestsFromClock shape due (account clock queue table.rows) } by { RestsFromClock-prop shape due (account clock queue table.rows) },
 }
 

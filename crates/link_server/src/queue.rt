@@ -4,17 +4,13 @@ ghost use Rattle.link_server.specs.Packets.{arrival_in, on_in};
 ghost use Rattle.link_server.specs.Planned.{left_in};
 
 mod best_effort;
-mod counts;
 pub(crate) mod held_packet;
-mod lead_count;
 mod line;
 mod ready;
 
 use crate::planned::Planned;
 use crate::queue::best_effort::{best_in, best_packet};
-use crate::queue::counts::{count_of, lower, raise};
 use crate::queue::held_packet::{HeldPacket, Running};
-use crate::queue::lead_count::Count;
 use crate::queue::line::Line;
 use link_steps::{LinkShape, Sent};
 use net_units::{Bounds, OutOfMemory};
@@ -26,8 +22,6 @@ use std::marker::Model;
 pub(crate) struct Queue {
     // How many packets the link has taken.
     taken: u64,
-    // How many of the packets here are of each reservation, in the order of their leads.
-    counts: Vec<Count>,
     // Those that haven't started.
     line: Line,
     // Those of the link's levels: a best-effort packet is of the level after the last.
@@ -59,17 +53,20 @@ impl Model for Queue {
 pub(crate) struct Left {
     pub(crate) sent: Option<Sent>,
     pub(crate) best_sent: bool,
+    // The packet, of either kind.
+    pub(crate) gone: Option<HeldPacket>,
 }
 
 impl Queue {
+    ghost use Rattle.std.specs.Option.{option_map};
     ghost use Rattle.link_steps.specs.BestEffort.{best_packet, best_step};
-    ghost use Rattle.link_steps.specs.Buffer.{held_packets};
     ghost use Rattle.link_steps.specs.Kept.{served, departs, best_departs, still_on, still_here, waits_here};
     ghost use Rattle.link_steps.specs.Lists.{Each};
     ghost use Rattle.link_steps.specs.Quiet.{ServiceRests};
     ghost use Rattle.link_steps.specs.Rows.{is_for, left_at};
     ghost use Rattle.link_steps.specs.Sources.{source_step, taken_by, dropped_by};
     ghost use Rattle.link_server.specs.Planned.{IsPlannedFrom};
+    ghost use Rattle.link_server.specs.Departed.{leaver};
     ghost use Rattle.link_server.specs.Serving.{CanServe};
 
     // No packet taken yet, and no room for one, at a link with these bounds.
@@ -78,7 +75,6 @@ impl Queue {
     {
         Ok(Queue {
             taken: 0,
-            counts: Vec::new(alloc),
             line: Line::new(alloc)?,
             bounds,
             best_waiting: 0,
@@ -101,7 +97,6 @@ impl Queue {
             return Ok(());
         }
         self.line.reserve(room)?;
-        self.counts.reserve(room.saturating_sub(self.counts.len()))?;
         self.room = room;
         Ok(())
     }
@@ -147,17 +142,9 @@ impl Queue {
         ensures kept { self.new ≡ record self.old { taken = self.old.taken + 1; here = self.old.here ++ arrival_in packet ∷ []; looked = self.new.looked } }
         ensures looked { self.new.looked ≤ clock }
     {
-        raise(&mut self.counts, packet.lead);
         self.best_waiting += best_in(&packet, &self.bounds);
         self.line.push(&packet, clock);
         self.taken += 1;
-    }
-
-    // How many of the packets here are of the reservation whose first packet had this place.
-    pub(crate) fn held(&self, lead: u64) -> u64
-        ensures { result ≡ held_packets lead self.now.here }
-    {
-        count_of(&self.counts, lead)
     }
 
     // The packet that occupies the link in this tick: the one that did, or else the first in line of those here.
@@ -250,6 +237,7 @@ impl Queue {
         requires serves { CanServe shape.now clock self.old.on }
         ensures sent { result.sent ≡ departs shape.now clock (served clock self.old.here self.old.on) }
         ensures best_sent { result.best_sent ≡ best_departs shape.now clock (served clock self.old.here self.old.on) }
+        ensures gone { option_map arrival_in result.gone ≡ leaver shape.now.rate clock (served clock self.old.here self.old.on) }
         ensures kept { self.new ≡ record self.old { here = still_here shape.now.rate clock (served clock self.old.here self.old.on) self.old.here; on = still_on shape.now.rate clock (served clock self.old.here self.old.on); looked = self.new.looked } }
         ensures looked { self.new.looked ≤ clock }
     {
@@ -257,19 +245,21 @@ impl Queue {
             return Left {
                 sent: None,
                 best_sent: false,
+                gone: None,
             };
         };
         if running.leaves_at(shape.rate) > clock + 1 {
             return Left {
                 sent: None,
                 best_sent: false,
+                gone: None,
             };
         }
         self.on = None;
-        lower(&mut self.counts, running.packet.lead);
         Left {
             sent: running.sent(shape),
             best_sent: running.is_best(&shape.bounds),
+            gone: Some(running.packet),
         }
     }
 }

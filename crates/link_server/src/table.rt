@@ -1,6 +1,7 @@
 //! The table of a link's rows: each row as the link serves it, where a channel's stands, when its next packets are planned, and what
 //! the rows keep together.
 ghost use Rattle.std.specs.Prelude.{◌≡◌, ℕ, ◌+◌, ◌-◌, ◌^◌, ◌<◌, ◌≤◌, ◌∷◌, ◌++◌, [], List, filter, find, length, map, remove, slice_get, None, Some, IfNone, IfSome, IfOk, IfErr, OnOk, OnErr, MatchResult};
+ghost use Rattle.std.specs.Option.{option_map};
 ghost use Rattle.std.specs.Vec.{vec_capacity};
 ghost use Rattle.net_units.specs.Limits.{most_bound};
 ghost use Rattle.net_units.specs.LevelBounds.{last_bound};
@@ -14,6 +15,8 @@ ghost use Rattle.link_steps.specs.Reservation.{admitted};
 ghost use Rattle.link_steps.specs.Shape.{server_of};
 ghost use Rattle.link_server.specs.Index.{IsIndex};
 ghost use Rattle.link_server.specs.RoomFor.{IsWider, HasRoomFor};
+ghost use Rattle.link_steps.specs.Service.{Arrival};
+ghost use Rattle.link_server.specs.Departed.{AreCounted, departed_after};
 ghost use Rattle.link_server.specs.Packets.{arrival_in};
 ghost use Rattle.link_server.specs.Rows.{row_in, IsFirstPlace, IsWithinLevels};
 ghost use Rattle.link_server.specs.Sources.{IsReady, MayBring, queue_after};
@@ -82,7 +85,7 @@ impl Table {
 
     // That of no rows, at a link of this shape.
     pub(crate) fn new(alloc: Global, shape: &LinkShape) -> Result<Table, OutOfMemory>
-        ensures { IfOk result (λ made. made ≡ record { rows = []; server = server_of shape.now; buffer = shape.now.buffer; looked = 0 }) }
+        ensures { IfOk result (λ made. made ≡ record { rows = []; departed = []; server = server_of shape.now; buffer = shape.now.buffer; looked = 0 }) }
     {
         let blocking = shape.blocking();
         Ok(Table {
@@ -124,6 +127,7 @@ impl Table {
     pub(crate) fn row(&self, place: usize) -> &ServedRow
         requires inside { place < length self.now.rows }
         ensures row { slice_get self.now.rows place ≡ Some (row_in result.now) }
+        ensures departed { slice_get self.now.departed place ≡ Some result.now.departed }
         ensures within { IsWithinLevels (length self.now.server.bounds) result.now }
     {
         &self.rows[place]
@@ -161,7 +165,7 @@ impl Table {
     pub(crate) fn add(&mut self, row: ServedRow) -> Result<(), OutOfMemory>
         requires few { length self.old.rows < 2 ^ 32 }
         requires may { MayAdd self.old (row_in row) }
-        ensures added { OnOk result (self.new ≡ record self.old { rows = self.old.rows ++ row_in row ∷ [] }) }
+        ensures added { OnOk result (self.new ≡ record self.old { rows = self.old.rows ++ row_in row ∷ []; departed = self.old.departed ++ row.departed ∷ [] }) }
         ensures same { OnErr result (self.new ≡ self.old) }
     {
         make_room(
@@ -197,7 +201,7 @@ impl Table {
     // Takes the row at this place out.
     pub(crate) fn remove(&mut self, place: usize)
         requires { place < length self.old.rows }
-        ensures { self.new ≡ record self.old { rows = remove self.old.rows place } }
+        ensures { self.new ≡ record self.old { rows = remove self.old.rows place; departed = remove self.old.departed place } }
     {
         take_out(
             &mut self.rows,
@@ -260,7 +264,8 @@ impl Table {
     pub(crate) fn expire(&mut self, clock: u64)
         requires looked { self.old.looked ≤ clock }
         requires ready { Each (IsReady clock) self.old.rows }
-        ensures { self.new ≡ record self.old { rows = filter (kept_stays self.old.server.bounds clock) self.old.rows; looked = clock } }
+        ensures rows { self.new ≡ record self.old { rows = filter (kept_stays self.old.server.bounds clock) self.old.rows; departed = self.new.departed; looked = clock } }
+        ensures counted { (here : List Arrival) → AreCounted here self.old.rows self.old.departed → AreCounted here self.new.rows self.new.departed }
     {
         self.looked = clock;
         expire(
@@ -279,6 +284,7 @@ impl Table {
     pub(crate) fn take_source_packets(&mut self, queue: &mut Queue, clock: u64) -> u32
         requires looked { self.old.looked ≤ clock }
         requires may { MayBring self.old.server.bounds clock queue.old self.old.rows }
+        requires counted { AreCounted queue.old.here self.old.rows self.old.departed }
         ensures lost { result ≡ kept_lost self.old.server.bounds queue.old.here clock self.old.rows }
         ensures table { self.new ≡ record self.old { rows = kept_rows_after self.old.server.bounds queue.old.here clock queue.old.taken self.old.rows; looked = clock } }
         ensures queue { queue.new ≡ queue_after self.old.server.bounds clock self.old.rows queue.new.looked queue.old }
@@ -294,6 +300,20 @@ impl Table {
             &self.bounds,
             clock,
         )
+    }
+
+    // The packet that leaves the link, if one does, departs: its row counts it, if that is still held.
+    pub(crate) fn depart(&mut self, gone: &Option<HeldPacket>)
+        ensures { self.new ≡ record self.old { departed = departed_after (option_map arrival_in gone.now) self.old.rows self.old.departed } }
+    {
+        let Some(packet) = gone else {
+            return;
+        };
+        let Some(place) = place_of(&self.rows, &self.index, packet.chan) else {
+            return;
+        };
+        let row = &mut self.rows[place];
+        row.depart(packet.lead);
     }
 
     // A tick before which no row's hold ends and no packet of one is planned.

@@ -47,6 +47,7 @@ impl LinkState {
         let full = self.table.take_source_packets(&mut self.queue, clock);
         let best_lost = self.queue.take_best(fits, &shape, clock);
         let left = self.queue.serve(&shape, clock);
+        self.table.depart(&left.gone);
         self.clock += 1;
         self.due = next_due(&self.table, &self.queue, &shape);
         Ok(Reply::Ticked {

@@ -45,12 +45,7 @@ open-listed bounds clock entries row none is = record {
   told = λ t from gone. absurd (let f : true ≡ false = sym (open-stays-held bounds t row is) ∙ gone in cc);
 }
 
--- more entries change nothing
-or-more : (a b : Bool) → a ≡ true → (a || b) ≡ true
-or-more true b is = refl
-or-more false b is = absurd (let f : false ≡ true = is in cc)
-
--- nor does a later clock
+-- a later clock changes nothing
 pub listed-later : (bounds : List ℕ) (clock later : ℕ) (entries : List Entry) (row : KeptRow) → clock ≤ later → IsListed bounds clock entries row → IsListed bounds later entries row
 listed-later bounds clock later entries row less listed = record {
   plans_none = listed.plans_none;

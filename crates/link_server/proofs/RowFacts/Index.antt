@@ -3,7 +3,7 @@ use Rattle.std.proofs.Common.{◌≡◌, ◌≢◌, ℕ, zero, suc, ◌+◌, ◌
 use Rattle.std.proofs.Common.{◌⊎◌, inl, inr, ⊎_elim}
 use Rattle.std.proofs.Math.ListN.{get_or-append}
 use Rattle.std.proofs.Math.Seq.{get_or-append_seam, map-set_same}
-use Rattle.std.proofs.lemmas.Bool.{cases_Bool, cases_lt, eq-eqb, eqb-true}
+use Rattle.std.proofs.lemmas.Bool.{cases_Bool, cases_lt, eq-eqb, eqb-true, ne_eqb}
 use Rattle.std.proofs.lemmas.List.{length-map, length-append, length-set, get_or-map, get_or-set_same, get_or-set_other, get_or_default, map_push}
 use Rattle.std.proofs.lemmas.List.Edits.{length-remove, get_or-remove_below, get_or-remove_above}
 use Rattle.std.proofs.lemmas.Option.{slice_get-get_or, get_or_from_slice_get}
@@ -196,3 +196,11 @@ ahead-none places channels i ahead past k d inside = ahead.before k d (omega (ar
 -- the channel of the row at a place
 pub row-at : (rows : List ServedRow) (place : ℕ) (row : ServedRow) → row ≡ get_or rows place row → place < length rows → channel_in row ≡ get_or (channels_in rows) place (channel_in row)
 row-at rows place row at inside = ap channel_in at ∙ sym (get_or-map channel_in rows place row (channel_in row) inside)
+
+-- no row but that at its place is a channel's
+pub index-others : (places : List ℕ) (rows : List ServedRow) (i : ℕ) (chan : ChanNo) (d : ServedRow) → IsIndex places (channels_in rows) → i < length rows → is_served_row_of chan (get_or rows i d) ≡ true
+    → (k : ℕ) (e : ServedRow) → k < length rows → (k ≡ i → ⊥) → is_served_row_of chan (get_or rows k e) ≡ false
+index-others places rows i chan d index inside own k e within other =
+    let leads = λ (j : ℕ) (f : ServedRow) (there : j < length rows). ap (λ n. get_or places n 0) (sym (get_or-map channel_in rows j f (channel_in f) there)) ∙ (index j (channel_in f) (let long = length-map rows channel_in in omega (arith, there, long))).there in
+    ne_eqb (channel_number (get_or rows k e).chan) (channel_number chan)
+    (λ same. other (sym (leads k e within) ∙ ap (λ n. get_or places n 0) (same ∙ sym (eqb-true (channel_number (get_or rows i d).chan) (channel_number chan) own)) ∙ leads i d inside))

@@ -17,12 +17,12 @@ use Rattle.link_server.proofs.RowFacts.Keeping.{own-whole}
 use Rattle.link_server.proofs.RowFacts.Placed.{place-mapped, row-has, row-inside}
 
 -- tables that agree in each part are the same
-pub table-same : (table other : KeptTable) → table.rows ≡ other.rows → table.server ≡ other.server → table.buffer ≡ other.buffer → table.looked ≡ other.looked → table ≡ other
-table-same table other rows server buffer looked = λ i. record { rows = rows i; server = server i; buffer = buffer i; looked = looked i }
+pub table-same : (table other : KeptTable) → table.rows ≡ other.rows → table.departed ≡ other.departed → table.server ≡ other.server → table.buffer ≡ other.buffer → table.looked ≡ other.looked → table ≡ other
+table-same table other rows departed server buffer looked = λ i. record { rows = rows i; departed = departed i; server = server i; buffer = buffer i; looked = looked i }
 
 -- a table with the server and the buffer of a shape is one of the shape
 pub of-shape : (shape : LinkShape) (table : KeptTable) → table.server ≡ server_of shape → table.buffer ≡ shape.buffer → table ≡ record table { server = server_of shape; buffer = shape.buffer }
-of-shape shape table server buffer = λ i. record { rows = table.rows; server = server i; buffer = buffer i; looked = table.looked }
+of-shape shape table server buffer = λ i. record { rows = table.rows; departed = table.departed; server = server i; buffer = buffer i; looked = table.looked }
 
 -- what its rows leave of the buffer is free by the link's rule
 pub free-is : (link : LinkState) → link.table.buffer - total (kept_units link.table.server.bounds) (map kept_terms link.table.rows) ≡ free_units link.shape (map kept_terms link.table.rows)

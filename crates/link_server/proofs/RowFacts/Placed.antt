@@ -77,11 +77,11 @@ changed-mapped change (row ∷ rows) zero new d inside same = ap (λ k. k ∷ ma
 changed-mapped change (row ∷ rows) (suc i) new d inside same = ap (λ all. row_in row ∷ all) (changed-mapped change rows i new d (omega (arith, inside)) same)
 
 -- and taken out
-pub removed-mapped : (rows : List ServedRow) (i : ℕ) → map row_in (remove rows i) ≡ remove (map row_in rows) i
-removed-mapped [] zero = refl
-removed-mapped [] (suc i) = refl
-removed-mapped (row ∷ rows) zero = refl
-removed-mapped (row ∷ rows) (suc i) = ap (λ all. row_in row ∷ all) (removed-mapped rows i)
+pub removed-mapped : {X Y : Type 0} (f : X → Y) (xs : List X) (i : ℕ) → map f (remove xs i) ≡ remove (map f xs) i
+removed-mapped f [] zero = refl
+removed-mapped f [] (suc i) = refl
+removed-mapped f (x ∷ xs) zero = refl
+removed-mapped f (x ∷ xs) (suc i) = ap (λ all. f x ∷ all) (removed-mapped f xs i)
 
 -- a fact of each row is a fact of the one that is seen
 pub each-seen : {X : Type 0} (P : X → Type 0) (xs : List X) (i : ℕ) (x : X) → slice_get xs i ≡ Some x → Each P xs → P x

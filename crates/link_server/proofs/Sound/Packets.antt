@@ -75,7 +75,7 @@ packets-lead levels taken here each = Each-if (IsSoundPacket levels taken) HasLe
 lead-other : (p : Arrival) → HasLead p → has_lead 0 p ≡ false
 lead-other p some = ne_eqb p.lead 0 (λ same. absurd (omega (arith, same, some)))
 
-held-none : (here : List Arrival) → Each HasLead here → held_packets 0 here ≡ 0
+pub held-none : (here : List Arrival) → Each HasLead here → held_packets 0 here ≡ 0
 unfolding held_packets
 held-none here each = ap length (filter-none (has_lead 0) here (Each-if HasLead (λ p. has_lead 0 p ≡ false) here lead-other each))
 

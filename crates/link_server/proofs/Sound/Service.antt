@@ -70,7 +70,7 @@ pub record LeavesOne (here others : List Arrival) : Type 0 where
   pub held : (l : ℕ) → held_packets l here ≤ held_packets l others + cond (nat_eq lead l) count 0
 
 -- packets of larger arrival numbers are others
-above-others : (start : Start) (p : Arrival) (here : List Arrival) → start.packet.place ≡ p.place → Each (λ q. p.place < q.place) here → filter (is_other start) here ≡ here
+pub above-others : (start : Start) (p : Arrival) (here : List Arrival) → start.packet.place ≡ p.place → Each (λ q. p.place < q.place) here → filter (is_other start) here ≡ here
 above-others start p here same above =
     filter-all (is_other start) here (Each-if (λ q. p.place < q.place) (λ q. is_other start q ≡ true) here (λ q later. ap not (ne_eqb start.packet.place q.place (λ e. absurd (omega (arith, same, later, e))))) above)
 

@@ -73,12 +73,12 @@ step-packet levels t before_all taken more bounds here row Rests less upto is so
 step-packet levels t before_all taken more bounds here row Drops less upto is sound = tt
 
 -- its lead afterwards: the one that it had, or else the new arrival number
-step-lead : (P : ℕ → Type 0) (t place : ℕ) (row : KeptRow) (step : SourceStep) → P row.lead → P (lead_with row.lead place) → P (kept_after_step step t place row).lead
+pub step-lead : (P : ℕ → Type 0) (t place : ℕ) (row : KeptRow) (step : SourceStep) → P row.lead → P (lead_with row.lead place) → P (kept_after_step step t place row).lead
 step-lead P t place row (Brings size) before new = new
 step-lead P t place row Rests before new = before
 step-lead P t place row Drops before new = before
 
-step-lead-most : (t taken : ℕ) (row : KeptRow) (step : SourceStep) → row.lead ≤ taken → (kept_after_step step t (suc taken) row).lead ≤ taken + taken_by step
+pub step-lead-most : (t taken : ℕ) (row : KeptRow) (step : SourceStep) → row.lead ≤ taken → (kept_after_step step t (suc taken) row).lead ≤ taken + taken_by step
 step-lead-most t taken row (Brings size) most = omega (arith, lead_with-most row.lead (suc taken) (suc taken) (omega arith) (omega arith))
 step-lead-most t taken row Rests most = omega arith
 step-lead-most t taken row Drops most = omega arith

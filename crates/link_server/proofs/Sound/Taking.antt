@@ -28,7 +28,7 @@ lead_with-most lead place most before new =
     (λ (later : lead ≡ 0 → ⊥). (rw (lead_with-later lead place (omega arith)) before))
     (cases_eq lead 0)
 
-lead_with-least : (lead place : ℕ) → 1 ≤ place → 1 ≤ lead_with lead place
+pub lead_with-least : (lead place : ℕ) → 1 ≤ place → 1 ≤ lead_with lead place
 lead_with-least lead place some =
     ⊎_elim (λ (first : lead ≡ 0). (rw (lead_with-first lead place first) some))
     (λ (later : lead ≡ 0 → ⊥). (rw (lead_with-later lead place (omega arith)) (omega arith)))

@@ -2,7 +2,7 @@
 -- is together what all do.
 use Rattle.std.proofs.Common.{◌≡◌, ℕ, zero, suc, ◌+◌, ◌-◌, ◌<◌, ◌≤◌, Bool, true, false, List, [], ◌∷◌, ◌++◌, length, map, take, drop, get_or, set, refl, sym, ap, ◌∙◌, subst, arith}
 use Rattle.link_server.proofs.Words.{if◌then◌else◌, Each, Arrival, Rests, taken_by, dropped_by, row_in, ServedRow}
-use Rattle.std.proofs.lemmas.List.{drop_more, drop-drop, get_or-drop, set-get_or, drop-set-lt, take_more_set, map_push, append_assoc, length-append, append-nil, take-append-le, drop_all, take_all}
+use Rattle.std.proofs.lemmas.List.{drop_more, drop-drop, get_or-drop, set-get_or, drop-set-lt, take_more_set, map_push, append_assoc, length-append, append-nil, drop_all, take_all}
 use Rattle.link_steps.specs.Kept.{KeptRow, kept_packet, kept_after_step, kept_packets, kept_rows_after, kept_lost}
 use Rattle.link_server.specs.Plans.{IsQuiet}
 use Rattle.link_server.specs.Sources.{step_in, brought_by, served_rows_after, lost_by_rows, IsReady, AreReady}
@@ -176,12 +176,3 @@ lost-more false lost n new one is more = absurd (let f : false ≡ true = is in 
 pub lost-same : (b : Bool) (lost n new : ℕ) → (if b then 1 else 0) ≡ n → b ≡ false → new ≡ lost → new ≡ lost + n
 lost-same true lost n new none is same = absurd (let f : true ≡ false = is in cc)
 lost-same false lost n new none is same = omega (arith, none, same)
-
--- packets after those here leave the front of the list
-pub front-same : (before : ℕ) (here new more : List Arrival) → before ≤ length here → new ≡ here ++ more → take before new ≡ take before here
-front-same before here new more within brought = ap (take before) brought ∙ take-append-le before here more within
-
-pub front-within : (before : ℕ) (here new more : List Arrival) → before ≤ length here → new ≡ here ++ more → before ≤ length new
-front-within before here new more within brought =
-    let both = ap length brought ∙ length-append here more in
-    omega (arith, both, within)

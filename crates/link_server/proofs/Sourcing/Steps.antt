@@ -1,10 +1,12 @@
 -- A row's step in a tick, by the packet that is planned for it and by whether a slot is free.
-use Rattle.std.proofs.Common.{◌≡◌, ℕ, suc, ◌+◌, ◌≤◌, Bool, true, false, List, [], ◌∷◌, ◌++◌, length, Option, Some, None, refl, sym, ap, ◌∙◌, arith}
+use Rattle.std.proofs.Common.{◌≡◌, ℕ, suc, ◌+◌, ◌-◌, ◌≤◌, Bool, true, false, List, [], ◌∷◌, ◌++◌, length, Option, Some, None, refl, sym, ap, ◌∙◌, arith}
 use Rattle.std.proofs.lemmas.Option.{none-some}
 use Rattle.std.specs.Prelude.{find, unwrap_or}
-use Rattle.link_server.proofs.Words.{has_slot, SourcePacket, is_for, Arrival, SourceStep, Rests, Brings, Drops, source_step, arrival_at, taken_by, dropped_by, reservation_in, row_in, ServedRow, HeldPacket}
+use Rattle.link_server.proofs.Words.{nat_lt, slots_of, SourcePacket, is_for, Arrival, SourceStep, Rests, Brings, Drops, source_step, arrival_at, taken_by, dropped_by, reservation_in, row_in, ServedRow, HeldPacket}
 use Rattle.link_steps.specs.Kept.{KeptRow, kept_step, kept_tick, kept_with, kept_packet, kept_after_step, past_tick}
-use Rattle.link_server.specs.Planned.{size_of}
+use Rattle.link_server.specs.Departed.{IsCounted}
+use Rattle.link_server.specs.Planned.{left_in, size_of}
+use Rattle.link_server.specs.Sources.{own_step, step_in}
 use Rattle.link_server.specs.Packets.{arrival_in}
 
 rests-where-none : (slot : Bool) (planned : Option SourcePacket) → None ≡ size_of planned → source_step slot planned ≡ Rests
@@ -21,19 +23,32 @@ brings-where-free None size some = absurd (none-some size (sym some))
 brings-where-free (Some p) size some = ap (λ found. Brings (unwrap_or found 0)) (sym some)
 
 -- with no packet planned for the tick the source rests
-pub step-rests : (bounds : List ℕ) (here : List Arrival) (t : ℕ) (row : KeptRow) → None ≡ size_of (find (is_for t) row.left) → kept_step bounds here t row ≡ Rests
-unfolding kept_step
-step-rests bounds here t row none = rests-where-none (has_slot bounds row.terms row.lead here) (find (is_for t) row.left) none
+pub step-rests : (bounds : List ℕ) (t : ℕ) (row : ServedRow) → None ≡ size_of (find (is_for t) (left_in row.planned)) → own_step bounds t row ≡ Rests
+step-rests bounds t row none = rests-where-none (nat_lt (row.taken - row.departed) (slots_of bounds (reservation_in row))) (find (is_for t) (left_in row.planned)) none
 
--- with each slot taken it loses the packet
-pub step-loses : (bounds : List ℕ) (here : List Arrival) (t size : ℕ) (row : KeptRow) → Some size ≡ size_of (find (is_for t) row.left) → has_slot bounds row.terms row.lead here ≡ false → kept_step bounds here t row ≡ Drops
-unfolding kept_step
-step-loses bounds here t size row some full = ap (λ slot. source_step slot (find (is_for t) row.left)) full ∙ loses-where-full (find (is_for t) row.left) size some
+-- whether a slot is free doesn't change as the packet is no longer left; with each slot taken it is lost, and else brought
+step-by-slot : (bounds : List ℕ) (t : ℕ) (free : Bool) (row next : ServedRow) → next.departed ≡ row.departed → row_in next ≡ past_tick t (row_in row) → free ≡ nat_lt (next.taken - next.departed) (slots_of bounds (reservation_in next))
+    → own_step bounds t row ≡ source_step free (find (is_for t) (left_in row.planned))
+step-by-slot bounds t free row next departed same slot =
+    ap (λ b. source_step b (find (is_for t) (left_in row.planned)))
+    (sym (slot ∙ ap (λ (r : KeptRow). nat_lt (r.taken - next.departed) (slots_of bounds r.terms)) same ∙ ap (λ n. nat_lt (row.taken - n) (slots_of bounds (reservation_in row))) departed))
 
--- with a slot free it brings it
-pub step-brings : (bounds : List ℕ) (here : List Arrival) (t size : ℕ) (row : KeptRow) → Some size ≡ size_of (find (is_for t) row.left) → has_slot bounds row.terms row.lead here ≡ true → kept_step bounds here t row ≡ Brings size
+pub step-loses : (bounds : List ℕ) (t size : ℕ) (free : Bool) (row next : ServedRow) → Some size ≡ size_of (find (is_for t) (left_in row.planned)) → next.departed ≡ row.departed → row_in next ≡ past_tick t (row_in row) → free ≡ nat_lt (next.taken - next.departed) (slots_of bounds (reservation_in next)) → free ≡ false
+    → own_step bounds t row ≡ Drops
+step-loses bounds t size free row next some departed same slot full =
+    step-by-slot bounds t free row next departed same slot ∙ ap (λ b. source_step b (find (is_for t) (left_in row.planned))) full ∙ loses-where-full (find (is_for t) (left_in row.planned)) size some
+
+pub step-brings : (bounds : List ℕ) (t size : ℕ) (free : Bool) (row next : ServedRow) → Some size ≡ size_of (find (is_for t) (left_in row.planned)) → next.departed ≡ row.departed → row_in next ≡ past_tick t (row_in row) → free ≡ nat_lt (next.taken - next.departed) (slots_of bounds (reservation_in next)) → free ≡ true
+    → own_step bounds t row ≡ Brings size
+step-brings bounds t size free row next some departed same slot is =
+    step-by-slot bounds t free row next departed same slot ∙ ap (λ b. source_step b (find (is_for t) (left_in row.planned))) is ∙ brings-where-free (find (is_for t) (left_in row.planned)) size some
+
+-- it is the account's, where the row's packets are counted
+pub step-counted : (bounds : List ℕ) (here : List Arrival) (t : ℕ) (row : ServedRow) → IsCounted here (row_in row) row.departed → own_step bounds t row ≡ step_in bounds here t row
 unfolding kept_step
-step-brings bounds here t size row some free = ap (λ slot. source_step slot (find (is_for t) row.left)) free ∙ brings-where-free (find (is_for t) row.left) size some
+step-counted bounds here t row counted =
+    let all = counted.taken in
+    ap (λ n. source_step (nat_lt n (slots_of bounds (reservation_in row))) (find (is_for t) (left_in row.planned))) (omega (arith, all))
 
 -- a step takes as many packets as it brings, and loses one at most
 pub packet-length : (step : SourceStep) (t place : ℕ) (row : KeptRow) → length (kept_packet step t place row) ≡ taken_by step
@@ -46,11 +61,7 @@ lost_by-most (Brings size) = omega arith
 lost_by-most Rests = omega arith
 lost_by-most Drops = omega arith
 
--- the slots of a row whose packet for the tick is no longer left are those that it had
-pub slot-same : (bounds : List ℕ) (t : ℕ) (here : List Arrival) (new old : ServedRow) → row_in new ≡ past_tick t (row_in old) → has_slot bounds (reservation_in new) new.lead here ≡ has_slot bounds (reservation_in old) old.lead here
-slot-same bounds t here new old same = ap (λ row. has_slot bounds row.terms row.lead here) same
-
--- the packet that such a row takes, after those here
+-- the packet that a row takes whose packet for the tick is no longer left, after those here
 pub brought-here : (t size taken place : ℕ) (here : List Arrival) (packet : HeldPacket) (new old : ServedRow) → place ≡ taken + 1 → row_in new ≡ past_tick t (row_in old)
     → arrival_in packet ≡ arrival_at (reservation_in new) new.lead place (suc new.taken) size t (kept_tick (row_in new) t)
     → here ++ arrival_in packet ∷ [] ≡ here ++ kept_packet (Brings size) t (suc taken) (row_in old)

@@ -85,8 +85,7 @@ impl LinkState {
             return Reply::Refused(refusal);
         }
         let bounds = self.shape.bounds;
-        let held = self.queue.held(row.lead);
-        if let Some(refusal) = row.full(&bounds, held) {
+        if let Some(refusal) = row.full(&bounds) {
             return Reply::Refused(refusal);
         }
         self.due = 0;

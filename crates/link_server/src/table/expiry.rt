@@ -1,8 +1,10 @@
 //! Rows expire once their hold has ended: a calendar tells which, and in which tick.
-ghost use Rattle.std.specs.Prelude.{◌≡◌, ◌+◌, ◌^◌, ◌<◌, ◌≤◌, length, map, filter, IfNone, IfSome};
+ghost use Rattle.std.specs.Prelude.{◌≡◌, ◌+◌, ◌^◌, ◌<◌, ◌≤◌, List, length, map, filter, IfNone, IfSome};
 ghost use Rattle.buffer_budget.specs.Parts.{whole_of};
 ghost use Rattle.link_steps.specs.Kept.{KeptRow, kept_stays};
 ghost use Rattle.link_steps.specs.Lists.{Each};
+ghost use Rattle.link_steps.specs.Service.{Arrival};
+ghost use Rattle.link_server.specs.Departed.{AreCounted, departed_in};
 ghost use Rattle.link_server.specs.Holds.{IsListed, PlansNone, AreListed, HasEnded, StaysIfOf, open_count};
 ghost use Rattle.link_server.specs.Index.{channels_in, IsIndex};
 ghost use Rattle.link_server.specs.RowParts.{AreParts};
@@ -48,6 +50,7 @@ pub(crate) fn expire(
     requires ready { AreReady clock rows.old.items }
     requires parts { AreParts (whole_of keeping.old.budget) bounds.now rows.old.items index.old.places.items sums.old keeping.old }
     ensures rows { map row_in rows.new.items ≡ filter (kept_stays bounds.now clock) (map row_in rows.old.items) }
+    ensures counted { (here : List Arrival) → AreCounted here (map row_in rows.old.items) (map departed_in rows.old.items) → AreCounted here (map row_in rows.new.items) (map departed_in rows.new.items) }
     ensures listed { AreListed bounds.now clock holds.new (map row_in rows.new.items) }
     ensures parts { AreParts (whole_of keeping.old.budget) bounds.now rows.new.items index.new.places.items sums.new keeping.new }
     ensures server { sums.new.server ≡ sums.old.server }

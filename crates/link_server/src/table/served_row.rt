@@ -1,5 +1,5 @@
 //! A row of a link: a reservation that is held, its regulator, its planned packets, and the units that it keeps.
-ghost use Rattle.std.specs.Prelude.{◌≡◌, ◌+◌, ◌^◌, ◌<◌, ◌≤◌, suc, true, nat_lt, find, IfNone, IfSome, IfOk, length};
+ghost use Rattle.std.specs.Prelude.{◌≡◌, ◌+◌, ◌-◌, ◌^◌, ◌<◌, ◌≤◌, suc, true, ◌&&◌, nat_eq, nat_lt, if◌then◌else◌, find, IfNone, IfSome, IfOk, length};
 ghost use Rattle.net_units.specs.Limits.{most_bound};
 ghost use Rattle.net_units.specs.Numbers.{level_number};
 ghost use Rattle.traffic_contract.specs.Contract.{IsContract, most_in};
@@ -57,6 +57,8 @@ pub(crate) struct ServedRow {
     // The arrival number of its first packet, or 0 before it, and how many it has taken.
     pub(crate) lead: u64,
     pub(crate) taken: u64,
+    // How many of these have departed.
+    pub(crate) departed: u64,
     // The newest eligible tick, or 0 before the first.
     pub(crate) last: u64,
     pub(crate) regulator: Regulator,
@@ -69,6 +71,7 @@ pub(crate) struct ServedRow {
     ghost newest: { last ≡ newest regulator.recent },
     ghost has_slots: { slots ≡ most_in contract stay },
     ghost slots_most: { slots < 2 ^ 22 },
+    ghost departed_most: { departed ≤ taken },
 }
 
 impl ServedRow {
@@ -96,7 +99,8 @@ impl ServedRow {
     ) -> Result<ServedRow, OutOfMemory>
         requires contract { IsContract wanted.now.contract }
         requires reach { wanted.now.up_reach ≤ most_bound }
-        ensures { IfOk result (λ row. row_in row ≡ new_kept (tentative wanted.now.chan wanted.now.contract wanted.now.kind wanted.now.first wanted.now.next wanted.now.up_reach offer.now.level offer.now.reach)) }
+        ensures row { IfOk result (λ row. row_in row ≡ new_kept (tentative wanted.now.chan wanted.now.contract wanted.now.kind wanted.now.first wanted.now.next wanted.now.up_reach offer.now.level offer.now.reach)) }
+        ensures departed { IfOk result (λ row. row.departed ≡ 0) }
     {
         let regulator = Regulator::new(alloc, wanted.contract, wanted.kind)?;
         Ok(ServedRow {
@@ -115,6 +119,7 @@ impl ServedRow {
             count: 0,
             lead: 0,
             taken: 0,
+            departed: 0,
             last: 0,
             regulator,
             planned: Planned::NONE,
@@ -159,7 +164,8 @@ impl ServedRow {
     pub(crate) fn commit(&mut self, level: Level, up_bound: u64, bounds: &Bounds)
         requires bound { up_bound ≤ most_bound }
         requires within { level_number level ≤ length bounds.now }
-        ensures { row_in self.new ≡ kept_relaxed level up_bound (row_in self.old) }
+        ensures row { row_in self.new ≡ kept_relaxed level up_bound (row_in self.old) }
+        ensures departed { self.new.departed ≡ self.old.departed }
     {
         let stay = up_bound + u64::from(bounds.at(level));
         self.phase = Phase::Committed;
@@ -203,7 +209,8 @@ impl ServedRow {
     // Plans packets where none are left.
     pub(crate) fn plan(&mut self, planned: Planned)
         requires { length (left_in self.old.planned) ≡ 0 }
-        ensures { row_in self.new ≡ kept_planned planned.tick planned.count planned.gap planned.size (row_in self.old) }
+        ensures row { row_in self.new ≡ kept_planned planned.tick planned.count planned.gap planned.size (row_in self.old) }
+        ensures departed { self.new.departed ≡ self.old.departed }
     {
         self.planned = planned;
     }
@@ -230,7 +237,8 @@ impl ServedRow {
 
     // Closes it, with the count of its packets. Nothing is planned any more.
     pub(crate) fn close(&mut self, count: u64)
-        ensures { row_in self.new ≡ kept_closed count (row_in self.old) }
+        ensures row { row_in self.new ≡ kept_closed count (row_in self.old) }
+        ensures departed { self.new.departed ≡ self.old.departed }
     {
         self.phase = Phase::Closing;
         self.count = count;
@@ -261,11 +269,12 @@ impl ServedRow {
         Some(Refusal::Stray { why })
     }
 
-    // The refusal of a packet where each slot holds one, with `held` of its packets here.
-    pub(crate) fn full(&self, bounds: &Bounds, held: u64) -> Option<Refusal>
+    // The refusal of a packet where each slot holds one.
+    pub(crate) fn full(&self, bounds: &Bounds) -> Option<Refusal>
         requires { IsWithinLevels (length bounds.now) self.now }
-        ensures { result ≡ full held (slots_of bounds.now (reservation_in self.now)) }
+        ensures { result ≡ full (self.now.taken - self.now.departed) (slots_of bounds.now (reservation_in self.now)) }
     {
+        let held = self.taken - self.departed;
         let slots = self.slots(bounds);
         if held < slots {
             return None;
@@ -279,17 +288,18 @@ impl ServedRow {
         ensures size { result ≡ size_of (find (is_for clock) (left_in self.old.planned)) }
         ensures least { IfSome result (λ size. 1 ≤ size) }
         ensures row { row_in self.new ≡ past_tick clock (row_in self.old) }
+        ensures departed { self.new.departed ≡ self.old.departed }
         ensures regulator { self.new.regulator ≡ self.old.regulator }
     {
         self.planned.take_at(clock)
     }
 
-    // Whether one of its slots is free, with `held` of its packets here.
-    pub(crate) fn has_slot(&self, bounds: &Bounds, held: u64) -> bool
+    // Whether one of its slots is free.
+    pub(crate) fn has_slot(&self, bounds: &Bounds) -> bool
         requires { IsWithinLevels (length bounds.now) self.now }
-        ensures { result ≡ nat_lt held (slots_of bounds.now (reservation_in self.now)) }
+        ensures { result ≡ nat_lt (self.now.taken - self.now.departed) (slots_of bounds.now (reservation_in self.now)) }
     {
-        held < self.slots(bounds)
+        self.taken - self.departed < self.slots(bounds)
     }
 
     // Its slots.
@@ -316,6 +326,7 @@ impl ServedRow {
         requires few { self.old.taken + 1 < 2 ^ 64 }
         ensures packet { arrival_in result ≡ arrival_at (reservation_in self.old) self.old.lead place (suc self.old.taken) size clock (eligible_next (reservation_in self.old) (row_in self.old).recent clock due) }
         ensures row { row_in self.new ≡ kept_with place (eligible_next (reservation_in self.old) (row_in self.old).recent clock due) (row_in self.old) }
+        ensures departed { self.new.departed ≡ self.old.departed }
     {
         let eligible = self.regulator.admit(clock, due);
         self.last = eligible;
@@ -331,6 +342,16 @@ impl ServedRow {
             eligible,
             level: self.level.get(),
             next: self.next,
+        }
+    }
+
+    // A packet with this lead departs. It is one of the row's where the row has that lead, and one here.
+    pub(crate) fn depart(&mut self, lead: u64)
+        ensures row { row_in self.new ≡ row_in self.old }
+        ensures departed { self.new.departed ≡ (if nat_eq self.old.lead lead && nat_lt self.old.departed self.old.taken then suc self.old.departed else self.old.departed) }
+    {
+        if self.lead == lead && self.departed < self.taken {
+            self.departed += 1;
         }
     }
 

@@ -1,5 +1,5 @@
 -- The row of the packet's channel is found, and judges it; the row takes it, and it is put after those here.
-use Rattle.std.proofs.Common.{◌≡◌, ◌+◌, ◌<◌, ◌^◌, ℕ, Option, None, Some, suc, refl, sym, ap, ◌∙◌, subst, arith}
+use Rattle.std.proofs.Common.{◌≡◌, ◌++◌, ◌∷◌, [], ◌+◌, ◌<◌, ◌^◌, ℕ, Option, None, Some, suc, refl, sym, ap, ◌∙◌, subst, arith}
 use Rattle.link_server.proofs.Words.{IfSome, find, newest, Arrive, Packet, LinkShape, slots_of, whole, account, KeptQueue, KeptTable, reservation_in, row_in, kept_in}
 use Rattle.link_steps.specs.declared.replies.Reply.TheVariants.{Taken}
 use Rattle.link_steps.specs.Kept.{Kept, KeptRow, is_kept_of, kept_reply, kept_after, kept_arrived, kept_arrived_row, kept_arrived_tick, kept_with_arrival}
@@ -11,6 +11,10 @@ use Rattle.link_server.specs.Sound.{IsSound}
 use Rattle.link_server.specs.Sources.{IsReady}
 use Rattle.link_server.proofs.Replies.Arrive.{arrive-absent, arrive-stray, arrive-full, arrive-taken, arrive-same, arrive-kept, arrive-room, arrive-soon}
 use Rattle.link_server.proofs.RowFacts.Placed.{each-seen, found-at, has-at}
+use Rattle.link_server.specs.Departed.{AreCounted}
+use Rattle.link_server.proofs.Departed.Packets.{counted-arrived}
+use Rattle.link_server.proofs.Departed.Rows.{held-here}
+use Rattle.link_server.proofs.Departed.Tick.{rows-led, sound-led}
 use Rattle.link_server.proofs.RestFacts.{due-now}
 use Rattle.link_server.proofs.Sound.Taking.{sound-arrive}
 use Rattle.link_server.proofs.Sound.Stood.{all-ready, newest-stood, numbers-left, still-stood}
@@ -55,7 +59,7 @@ full-requires c = at-levels c.args.self.now c.row-row.result.now c.row-row.ensur
 pub returns-in-Some-full-clause-reply : goal.returns-in-Some-full-clause-reply
 returns-in-Some-full-clause-reply c =
     arrive-full c.args.self.now.shape (kept_in c.args.self.now) c.args.packet.now (row_in c.row-row.result.now) _ (found (goal.at.returns-in-Some-full-clause-reply c).After-row-row) c.in_default-stray.ensures
-    (c.in-Some-full.ensures ∙ ap (λ n. full n (slots_of c.args.self.now.shape.bounds (reservation_in c.row-row.result.now))) c.held-held.ensures)
+    (c.in-Some-full.ensures ∙ ap (λ n. full n (slots_of c.args.self.now.shape.bounds (reservation_in c.row-row.result.now))) (held-here c.args.self.now c.in-Some.place c.row-row.result.now c.row-row.ensures.row c.row-row.ensures.departed))
 
 pub returns-in-Some-full-clause-kept : goal.returns-in-Some-full-clause-kept
 returns-in-Some-full-clause-kept c = arrive-same c.args.self.now.shape _ c.args.packet.now _
@@ -76,7 +80,7 @@ take-taken-requires-clause-may c =
     let one = ready at c.requires.early in
     let reply =
     arrive-taken link.shape (kept_in link) packet row tick (found at) c.in_default-stray.ensures
-    (c.in_default-full.ensures ∙ ap (λ n. full n (slots_of link.shape.bounds row.terms)) c.held-held.ensures) refl in
+    (c.in_default-full.ensures ∙ ap (λ n. full n (slots_of link.shape.bounds row.terms)) (held-here c.args.self.now c.in-Some.place c.row-row.result.now c.row-row.ensures.row c.row-row.ensures.departed)) refl in
     let soon = newest-stood link.shape (kept_after link.shape (kept_in link) (Arrive packet) (Taken link.clock tick)) (arrive-clock link.shape (kept_in link) packet tick c.requires.early) (still-stood link (Arrive packet) (Taken link.clock tick) _ c.requires.fits reply refl) in
     let number : suc link.queue.taken ≡ c.taken-number.result + 1 = omega (arith, c.taken-number.ensures) in
     has-at (MayTake link.clock (c.taken-number.result + 1) packet) link.table.rows c.in-Some.place row c.in-Some.ensures.some.inside c.row-row.ensures.row (record {
@@ -97,7 +101,7 @@ arrived c =
 replied : (c : After-take-taken) → find (is_kept_of c.args.packet.now.chan) c.args.self.now.table.rows ≡ Some (row_in c.row-row.result.now) → Taken c.args.self.now.clock c.take-taken.result.eligible ≡ kept_reply (whole c.args.self.now.shape) (kept_in c.args.self.now) (Arrive c.args.packet.now)
 replied c found =
     arrive-taken c.args.self.now.shape (kept_in c.args.self.now) c.args.packet.now (row_in c.row-row.result.now) c.take-taken.result.eligible found c.in_default-stray.ensures
-    (c.in_default-full.ensures ∙ ap (λ n. full n (slots_of c.args.self.now.shape.bounds (reservation_in c.row-row.result.now))) c.held-held.ensures) (ap (λ p. p.eligible) (arrived c))
+    (c.in_default-full.ensures ∙ ap (λ n. full n (slots_of c.args.self.now.shape.bounds (reservation_in c.row-row.result.now))) (held-here c.args.self.now c.in-Some.place c.row-row.result.now c.row-row.ensures.row c.row-row.ensures.departed)) (ap (λ p. p.eligible) (arrived c))
 
 sound : (c : After-take-taken) → find (is_kept_of c.args.packet.now.chan) c.args.self.now.table.rows ≡ Some (row_in c.row-row.result.now) → IsSound c.args.self.now.shape c.args.self.now.queue.room (kept_after c.args.self.now.shape (kept_in c.args.self.now) (Arrive c.args.packet.now) (Taken c.args.self.now.clock c.take-taken.result.eligible))
 sound c found =
@@ -130,10 +134,10 @@ kept c found arrived =
     ap (account link.clock c.push.new.self) (ap (λ (table : KeptTable). table.rows) c.take-taken.ensures.table ∙ ap (λ n. changed_at (kept_arrived_row link.clock n packet) link.table.rows c.in-Some.place) number)
     ∙ arrive-kept link.shape link.clock c.take-taken.result.eligible link.queue c.push.new.self packet link.table.rows c.in-Some.place (row_in c.row-row.result.now) c.take-taken.result c.in-Some.ensures.some found arrived c.push.ensures.kept
 
-pub invariant_of-self-2 : goal.invariant_of-self-2
-invariant_of-self-2 c =
+pub invariant_of-self : goal.invariant_of-self
+invariant_of-self c =
     let link = c.args.self.now in
-    let at = goal.at.invariant_of-self-2 c in
+    let at = goal.at.invariant_of-self c in
     let here = found at.After-row-row in
     let reply = replied at.After-take-taken here in
     let after = kept at.After-push here (arrived at.After-take-taken) in
@@ -148,6 +152,14 @@ invariant_of-self-2 c =
           subst (λ n. IsSound link.shape n (account link.clock c.push.new.self c.take-taken.new.self.rows)) (sym room)
           (subst (IsSound link.shape link.queue.room) (sym after) (sound at.After-take-taken here));
       stood = still-stood link (Arrive c.args.packet.now) (Taken link.clock c.take-taken.result.eligible) _ c.requires.fits reply after;
+      counted =
+          let row = row_in c.row-row.result.now in
+          let now = link.queue.here ++ kept_arrived link.clock (suc link.queue.taken) c.args.packet.now row ∷ [] in
+          subst (λ all. AreCounted all c.take-taken.new.self.rows c.take-taken.new.self.departed) (sym (ap (λ (queue : KeptQueue). queue.here) c.push.ensures.kept ∙ ap (λ p. link.queue.here ++ p ∷ []) (arrived at.After-take-taken)))
+          (subst (λ (table : KeptTable). AreCounted now table.rows table.departed) (sym c.take-taken.ensures.table)
+          (subst (λ n. AreCounted now (changed_at (kept_arrived_row link.clock n c.args.packet.now) link.table.rows c.in-Some.place) link.table.departed) (omega (arith, c.taken-number.ensures))
+          (counted-arrived link.clock link.queue.taken c.args.packet.now link.queue.here link.table.rows link.table.departed c.in-Some.place row
+          (sound-led _ link.queue.taken link.queue.here link.sound.packets) link.sound.apart (rows-led _ link.clock link.queue.taken link.table.rows link.sound.rows) c.row-row.ensures.row link.counted)));
       rests = due-now _ _;
     }
 

@@ -7,6 +7,8 @@ use Rattle.link_server.specs.Sound.{IsSound}
 use Rattle.link_server.proofs.Replies.Setup.{deny-absent, deny-refused, deny-denied, deny-same, deny-kept}
 use Rattle.link_server.proofs.RowFacts.Placed.{found-at}
 use Rattle.link_server.proofs.RowFacts.Parts.{still-of}
+use Rattle.link_server.specs.Departed.{AreCounted}
+use Rattle.link_server.proofs.Departed.Rows.{counted-removed}
 use Rattle.link_server.proofs.RestFacts.{due-now}
 use Rattle.link_server.proofs.Sound.Setup.{sound-deny}
 use Rattle.link_server.proofs.Sound.Stood.{still-stood}
@@ -52,6 +54,7 @@ invariant_of-self c =
       same_bounds = link.same_bounds;
       sound = subst (IsSound link.shape link.queue.room) (sym (kept after)) (sound-deny link.shape link.queue.room (kept_in link) c.args.chan Denied link.sound);
       stood = still-stood link (Deny c.args.chan) Denied _ tt (replied after) (kept after);
+      counted = subst (λ (table : KeptTable). AreCounted link.queue.here table.rows table.departed) (sym c.remove.ensures) (counted-removed link.queue.here link.table.rows link.table.departed c.in-Some.place link.counted);
       rests = due-now _ _;
     }
 

@@ -1,7 +1,7 @@
 -- There is room for the packets of the row, and the row comes into the table.
 use Rattle.std.proofs.Common.{◌≡◌, ◌+◌, ◌≤◌, suc, length, refl, sym, ap, ◌∙◌, subst, arith}
 use Rattle.std.specs.Prelude.{Result, Ok, Err, OnErr}
-use Rattle.link_server.proofs.Words.{total, Offer, slots_of, kept_after, account, KeptQueue, KeptTable, reservation_in, row_in, IsWithinLevels, kept_in}
+use Rattle.link_server.proofs.Words.{KeptRow, total, Offer, slots_of, kept_after, account, KeptQueue, KeptTable, reservation_in, row_in, IsWithinLevels, kept_in}
 use Rattle.link_steps.proofs.ReplyFacts.{may-reach}
 use Rattle.link_server.specs.Held.{reservations_held}
 use Rattle.link_server.specs.Resting.{RestsFromClock}
@@ -10,6 +10,10 @@ use Rattle.link_server.specs.Stood.{IsStood}
 use Rattle.link_server.specs.Wants.{ask_for}
 use Rattle.link_server.proofs.Replies.Setup.{reserve-kept}
 use Rattle.link_server.proofs.Replies.Holding.{held_terms, may-add, sound-held}
+use Rattle.link_server.specs.Departed.{AreCounted}
+use Rattle.link_server.proofs.Departed.Packets.{new-counted}
+use Rattle.link_server.proofs.Departed.Rows.{counted-added, counted-still}
+use Rattle.link_server.proofs.Sound.Packets.{packets-lead}
 use Rattle.link_server.proofs.RestFacts.{due-now}
 use Rattle.link_server.proofs.Sound.Room.{most_places-are}
 use Rattle.link_server.proofs.Sound.Setup.{sound-larger}
@@ -28,7 +32,7 @@ places_with-requires c =
     record {
       within =
           subst (λ n. IsWithinLevels n c.in_ok-row.row) (sym (ap (λ (table : KeptTable). length table.server.bounds) link.of_shape))
-          (within-reserved _ c.in_ok-row.row (held_terms wanted offer) c.in_ok-row.ensures c.requires.may.level_most
+          (within-reserved _ c.in_ok-row.row (held_terms wanted offer) c.in_ok-row.ensures.row c.requires.may.level_most
           (may-reach link.shape (reservations_held link) wanted.chan wanted.contract wanted.delay wanted.up_reach offer.level offer.reach c.requires.may));
     }
 
@@ -36,7 +40,7 @@ pub add-requires-clause-few : goal.add-requires-clause-few
 add-requires-clause-few c = rows-few c.args.self.now
 
 pub add-requires-clause-may : goal.add-requires-clause-may
-add-requires-clause-may c = may-add c.args.self.now.shape c.args.self.now.table c.args.wanted.now c.args.offer.now (row_in c.in_ok-row.row) c.args.self.now.of_shape c.requires.may c.in_ok-row.ensures
+add-requires-clause-may c = may-add c.args.self.now.shape c.args.self.now.table c.args.wanted.now c.args.offer.now (row_in c.in_ok-row.row) c.args.self.now.of_shape c.requires.may c.in_ok-row.ensures.row
 
 -- the queue has more room, whether the table takes the row or not
 pub invariant_of-self : goal.invariant_of-self
@@ -50,6 +54,7 @@ invariant_of-self c =
       same_bounds = ap (λ (queue : KeptQueue). queue.bounds) kept ∙ link.same_bounds;
       sound = subst (λ (queue : KeptQueue). IsSound link.shape c.reserve.new.self.room (account link.clock queue link.table.rows)) (sym kept) (sound-larger link.shape link.queue.room c.reserve.new.self.room (kept_in link) c.reserve.ensures.grows link.sound);
       stood = subst (λ (queue : KeptQueue). IsStood link.shape (account link.clock queue link.table.rows)) (sym kept) link.stood;
+      counted = counted-still link c.reserve.new.self link.table (ap (λ (queue : KeptQueue). queue.here) kept) refl;
       rests = subst (λ (queue : KeptQueue). RestsFromClock link.shape link.due (account link.clock queue link.table.rows)) (sym kept) link.rests;
     }
 
@@ -59,7 +64,7 @@ held c =
     let link = c.args.self.now in
     ap (λ (queue : KeptQueue). account link.clock queue c.add.new.self.rows) c.reserve.ensures.kept
     ∙ ap (λ (table : KeptTable). account link.clock link.queue table.rows) c.in_ok-add.ensures.added
-    ∙ reserve-kept link.shape (kept_in link) c.args.wanted.now c.args.offer.now.level c.args.offer.now.reach (row_in c.in_ok-row.row) c.in_ok-row.ensures
+    ∙ reserve-kept link.shape (kept_in link) c.args.wanted.now c.args.offer.now.level c.args.offer.now.reach (row_in c.in_ok-row.row) c.in_ok-row.ensures.row
 
 pub invariant_of-self-2 : goal.invariant_of-self-2
 invariant_of-self-2 c =
@@ -86,8 +91,13 @@ invariant_of-self-2 c =
       );
       few = c.reserve.ensures.small link.few;
       same_bounds = ap (λ (queue : KeptQueue). queue.bounds) kept ∙ link.same_bounds;
-      sound = subst (IsSound link.shape room) (sym after) (sound-held link.shape room (kept_in link) c.args.wanted.now c.args.offer.now (row_in row) c.requires.fits larger c.requires.may c.in_ok-row.ensures enough);
+      sound = subst (IsSound link.shape room) (sym after) (sound-held link.shape room (kept_in link) c.args.wanted.now c.args.offer.now (row_in row) c.requires.fits larger c.requires.may c.in_ok-row.ensures.row enough);
       stood = subst (IsStood link.shape) (sym after) (stood-offered link.shape (kept_in link) c.args.wanted.now c.args.offer.now (rows-have link) c.requires.fits c.requires.may link.stood);
+      counted =
+          subst (λ (queue : KeptQueue). AreCounted queue.here c.add.new.self.rows c.add.new.self.departed) (sym kept)
+          (subst (λ (table : KeptTable). AreCounted link.queue.here table.rows table.departed) (sym added)
+          (counted-added link.queue.here link.table.rows link.table.departed (row_in row) row.departed link.counted
+          (new-counted link.queue.here (row_in row) row.departed (packets-lead _ link.queue.taken link.queue.here link.sound.packets) (ap (λ (r : KeptRow). r.lead) c.in_ok-row.ensures.row) (ap (λ (r : KeptRow). r.taken) c.in_ok-row.ensures.row) c.in_ok-row.ensures.departed)));
       rests = due-now _ _;
     }
 
@@ -123,5 +133,6 @@ invariant_of-self-in-Break-branch-3 c =
       same_bounds = ap (λ (queue : KeptQueue). queue.bounds) kept ∙ link.same_bounds;
       sound = subst (IsSound link.shape c.reserve.new.self.room) (sym both) (sound-larger link.shape link.queue.room c.reserve.new.self.room (kept_in link) c.reserve.ensures.grows link.sound);
       stood = subst (IsStood link.shape) (sym both) link.stood;
+      counted = counted-still link c.reserve.new.self c.add.new.self (ap (λ (queue : KeptQueue). queue.here) kept) same;
       rests = subst (RestsFromClock link.shape link.due) (sym both) link.rests;
     }

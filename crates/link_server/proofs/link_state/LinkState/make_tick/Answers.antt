@@ -6,7 +6,11 @@ use Rattle.link_server.specs.Planned.{IsPlannedFrom}
 use Rattle.link_server.proofs.Replies.Pour.{best-step-is, waiting-is}
 use Rattle.link_server.proofs.Sound.Sources.{from_best}
 use Rattle.link_steps.specs.declared.replies.Reply.TheVariants.{Ticked}
-use Rattle.link_steps.specs.Kept.{from_sources, held_rows, kept_lost, kept_rows_after, kept_reply, kept_after}
+use Rattle.link_server.specs.Departed.{AreCounted, departed_after, leaver}
+use Rattle.link_server.specs.Packets.{arrival_in}
+use Rattle.std.specs.Option.{option_map}
+use Rattle.link_server.proofs.Departed.Tick.{here-after, tick-counted}
+use Rattle.link_steps.specs.Kept.{Kept, from_sources, held_rows, occupies, present, still_here, kept_lost, kept_rows_after, kept_reply, kept_after}
 use Rattle.link_server.specs.Serving.{CanServe}
 use Rattle.link_server.specs.Sound.{IsSound}
 use Rattle.link_server.proofs.Sound.Numbers.{best-room, brought-room, ahead-from}
@@ -18,20 +22,20 @@ use Rattle.link_server.specs.Sources.{MayBring, queue_after}
 use Rattle.link_server.proofs.RowFacts.Parts.{still-of}
 use Rattle.link_server.proofs.RowFacts.Ticks.{at-shape, may-bring}
 use Rattle.link_server.proofs.link_state.LinkState.make_tick.Goals as goal
-use Rattle.link_server.proofs.link_state.LinkState.make_tick.Goals.{After-take_source_packets-full, After-serve-left}
+use Rattle.link_server.proofs.link_state.LinkState.make_tick.Goals.{After-take_source_packets-full, After-serve-left, After-depart}
 
 pub expire-requires-clause-ready : goal.expire-requires-clause-ready
 expire-requires-clause-ready c = all-ready c.args.self.now c.requires.early
 
 pub take_source_packets-full-requires-clause-looked : goal.take_source_packets-full-requires-clause-looked
-take_source_packets-full-requires-clause-looked c = (let looked = ap (λ (table : KeptTable). table.looked) c.expire.ensures in omega (arith, looked))
+take_source_packets-full-requires-clause-looked c = (let looked = ap (λ (table : KeptTable). table.looked) c.expire.ensures.rows in omega (arith, looked))
 
 pub take_source_packets-full-requires-clause-may : goal.take_source_packets-full-requires-clause-may
 take_source_packets-full-requires-clause-may c =
     let link = c.args.self.now in
     let table = c.expire.new.self in
-    subst (λ bounds. MayBring bounds link.clock link.queue table.rows) (sym (at-shape (λ bounds rows. bounds) link table c.expire.ensures))
-    (subst (MayBring link.shape.bounds link.clock link.queue) (sym (at-shape (λ bounds rows. rows) link table c.expire.ensures)) (may-bring link c.requires.early))
+    subst (λ bounds. MayBring bounds link.clock link.queue table.rows) (sym (at-shape (λ bounds rows. bounds) link table c.expire.ensures.rows))
+    (subst (MayBring link.shape.bounds link.clock link.queue) (sym (at-shape (λ bounds rows. rows) link table c.expire.ensures.rows)) (may-bring link c.requires.early))
 
 pub best_fits-fits-requires : goal.best_fits-fits-requires
 best_fits-fits-requires c = record { ahead = ahead-from c.args.self.now.clock c.args.self.now.clock c.args.self.now.queue.best (omega arith) c.args.self.now.sound.best_ahead; bounds = c.args.self.now.same_bounds }
@@ -41,7 +45,7 @@ brought : (c : After-take_source_packets-full) → c.take_source_packets-full.ne
 brought c =
     let link = c.args.self.now in
     let new = c.take_source_packets-full.new.queue in
-    c.take_source_packets-full.ensures.queue ∙ at-shape (λ bounds rows. queue_after bounds link.clock rows new.looked link.queue) link c.expire.new.self c.expire.ensures
+    c.take_source_packets-full.ensures.queue ∙ at-shape (λ bounds rows. queue_after bounds link.clock rows new.looked link.queue) link c.expire.new.self c.expire.ensures.rows
 
 pub take_best-best_lost-requires-clause-ahead : goal.take_best-best_lost-requires-clause-ahead
 take_best-best_lost-requires-clause-ahead c =
@@ -92,12 +96,28 @@ came c queue =
     all-came link.shape link.clock link.queue src c.take_best-best_lost.new.self link.table.rows (source_step c.best_fits-fits.result (find (is_for link.clock) src.best)) queue
     (best-step-is link.shape (kept_in link) c.best_fits-fits.result src.best c.best_fits-fits.ensures.step (ap (λ (q : KeptQueue). q.best) queue)) c.take_best-best_lost.ensures.kept
 
-kept : (c : After-serve-left) → IsServedAs c.args.self.now.shape (kept_in c.args.self.now) c.take_best-best_lost.new.self
-    → account (c.args.self.now.clock + 1) c.serve-left.new.self c.take_source_packets-full.new.self.rows ≡ kept_after c.args.self.now.shape (kept_in c.args.self.now) Tick (Ticked c.args.self.now.clock c.take_source_packets-full.result c.serve-left.result.sent c.serve-left.result.best_sent c.take_best-best_lost.result)
+-- the rows of the account
+rows : (c : After-serve-left) → c.take_source_packets-full.new.self.rows ≡ kept_rows_after c.args.self.now.shape.bounds c.args.self.now.queue.here c.args.self.now.clock c.args.self.now.queue.taken (held_rows c.args.self.now.shape (kept_in c.args.self.now))
+rows c =
+    let link = c.args.self.now in
+    ap (λ (table : KeptTable). table.rows) c.take_source_packets-full.ensures.table ∙ at-shape (λ bounds rows. kept_rows_after bounds link.queue.here link.clock link.queue.taken rows) link c.expire.new.self c.expire.ensures.rows
+
+-- those that stay are counted
+stay-counted : (c : After-serve-left) → AreCounted c.args.self.now.queue.here (held_rows c.args.self.now.shape (kept_in c.args.self.now)) c.take_source_packets-full.new.self.departed
+stay-counted c =
+    let link = c.args.self.now in
+    subst (AreCounted link.queue.here _) (sym (ap (λ (table : KeptTable). table.departed) c.take_source_packets-full.ensures.table))
+    (subst (λ rows. AreCounted link.queue.here rows c.expire.new.self.departed) (at-shape (λ bounds rows. rows) link c.expire.new.self c.expire.ensures.rows) (c.expire.ensures.counted link.queue.here link.counted))
+
+-- the packet that leaves is the one that occupies the link by the account, if it leaves by then
+leaves : (c : After-serve-left) → IsServedAs c.args.self.now.shape (kept_in c.args.self.now) c.take_best-best_lost.new.self → option_map arrival_in c.serve-left.result.gone ≡ leaver c.args.self.now.shape.rate c.args.self.now.clock (occupies c.args.self.now.shape (kept_in c.args.self.now))
+leaves c came = c.serve-left.ensures.gone ∙ ap (leaver c.args.self.now.shape.rate c.args.self.now.clock) came.occupant
+
+kept : (c : After-depart) → IsServedAs c.args.self.now.shape (kept_in c.args.self.now) c.take_best-best_lost.new.self
+    → account (c.args.self.now.clock + 1) c.serve-left.new.self c.depart.new.self.rows ≡ kept_after c.args.self.now.shape (kept_in c.args.self.now) Tick (Ticked c.args.self.now.clock c.take_source_packets-full.result c.serve-left.result.sent c.serve-left.result.best_sent c.take_best-best_lost.result)
 kept c came =
     let link = c.args.self.now in
-    tick-kept link.shape (kept_in link) c.take_source_packets-full.new.self.rows c.take_best-best_lost.new.self c.serve-left.new.self _ came
-    (ap (λ (table : KeptTable). table.rows) c.take_source_packets-full.ensures.table ∙ at-shape (λ bounds rows. kept_rows_after bounds link.queue.here link.clock link.queue.taken rows) link c.expire.new.self c.expire.ensures) c.serve-left.ensures.kept
+    tick-kept link.shape (kept_in link) c.depart.new.self.rows c.take_best-best_lost.new.self c.serve-left.new.self _ came (ap (λ (table : KeptTable). table.rows) c.depart.ensures ∙ rows (goal.at.After-depart c).After-serve-left) c.serve-left.ensures.kept
 
 replied : (c : After-serve-left) → c.take_source_packets-full.new.queue.best ≡ c.args.self.now.queue.best → IsServedAs c.args.self.now.shape (kept_in c.args.self.now) c.take_best-best_lost.new.self
     → Ticked c.args.self.now.clock c.take_source_packets-full.result c.serve-left.result.sent c.serve-left.result.best_sent c.take_best-best_lost.result ≡ kept_reply (whole c.args.self.now.shape) (kept_in c.args.self.now) Tick
@@ -105,7 +125,7 @@ replied c left came =
     let link = c.args.self.now in
     let src = c.take_source_packets-full.new.queue in
     ap (λ n. Ticked link.clock n c.serve-left.result.sent c.serve-left.result.best_sent c.take_best-best_lost.result)
-    (c.take_source_packets-full.ensures.lost ∙ at-shape (λ bounds rows. kept_lost bounds link.queue.here link.clock rows) link c.expire.new.self c.expire.ensures)
+    (c.take_source_packets-full.ensures.lost ∙ at-shape (λ bounds rows. kept_lost bounds link.queue.here link.clock rows) link c.expire.new.self c.expire.ensures.rows)
     ∙ tick-replied link.shape (kept_in link) c.take_best-best_lost.new.self c.serve-left.result.sent c.serve-left.result.best_sent c.take_best-best_lost.result (source_step c.best_fits-fits.result (find (is_for link.clock) src.best)) came
     c.serve-left.ensures.sent c.serve-left.ensures.best_sent (best-step-is link.shape (kept_in link) c.best_fits-fits.result src.best c.best_fits-fits.ensures.step left) c.take_best-best_lost.ensures.lost
 
@@ -115,28 +135,38 @@ invariant_of-self c =
     let at = goal.at.invariant_of-self c in
     let queue = brought at.After-take_source_packets-full in
     let served = came at.After-serve-left queue in
-    let after = kept at.After-serve-left served in
+    let after = kept at.After-depart served in
     let reply = Ticked link.clock c.take_source_packets-full.result c.serve-left.result.sent c.serve-left.result.best_sent c.take_best-best_lost.result in
-    let table = c.take_source_packets-full.ensures.table in
+    let table = c.take_source_packets-full.new.self in
+    let took = c.take_source_packets-full.ensures.table in
+    let left = c.depart.ensures in
     let room = ap (λ (q : KeptQueue). q.room) c.serve-left.ensures.kept ∙ ap (λ (q : KeptQueue). q.room) c.take_best-best_lost.ensures.kept ∙ ap (λ (q : KeptQueue). q.room) queue in
     let bounds = ap (λ (q : KeptQueue). q.bounds) c.serve-left.ensures.kept ∙ ap (λ (q : KeptQueue). q.bounds) c.take_best-best_lost.ensures.kept ∙ ap (λ (q : KeptQueue). q.bounds) queue in
     let few = link.few in
+    let gone = leaver link.shape.rate link.clock (occupies link.shape (kept_in link)) in
+    let still = still_here link.shape.rate link.clock (occupies link.shape (kept_in link)) (present link.shape (kept_in link)) in
     record {
       of_shape =
-          still-of link c.take_source_packets-full.new.self
-          (ap (λ (t : KeptTable). t.server) table ∙ ap (λ (t : KeptTable). t.server) c.expire.ensures) (ap (λ (t : KeptTable). t.buffer) table ∙ ap (λ (t : KeptTable). t.buffer) c.expire.ensures);
-      looked = (let looked = ap (λ (t : KeptTable). t.looked) table in omega (arith, looked), omega (arith, c.serve-left.ensures.looked));
+          still-of link c.depart.new.self
+          (ap (λ (t : KeptTable). t.server) left ∙ ap (λ (t : KeptTable). t.server) took ∙ ap (λ (t : KeptTable). t.server) c.expire.ensures.rows) (ap (λ (t : KeptTable). t.buffer) left ∙ ap (λ (t : KeptTable). t.buffer) took ∙ ap (λ (t : KeptTable). t.buffer) c.expire.ensures.rows);
+      looked = (let looked = ap (λ (t : KeptTable). t.looked) left ∙ ap (λ (t : KeptTable). t.looked) took in omega (arith, looked), omega (arith, c.serve-left.ensures.looked));
       sound =
-          subst (λ n. IsSound link.shape n (account (link.clock + 1) c.serve-left.new.self c.take_source_packets-full.new.self.rows)) (sym room)
+          subst (λ n. IsSound link.shape n (account (link.clock + 1) c.serve-left.new.self c.depart.new.self.rows)) (sym room)
           (subst (IsSound link.shape link.queue.room) (sym after) (sound-tick link.shape link.queue.room (kept_in link) reply link.sound));
       few = omega (arith, few, room);
       same_bounds = bounds ∙ link.same_bounds;
       stood = still-stood link Tick reply _ tt (replied at.After-serve-left (ap (λ (q : KeptQueue). q.best) queue) served) after;
+      counted =
+          subst (λ here. AreCounted here c.depart.new.self.rows c.depart.new.self.departed) (sym (ap (λ (kept : Kept). kept.here) after ∙ here-after link.shape (kept_in link) reply))
+          (subst (λ (t : KeptTable). AreCounted still t.rows t.departed) (sym left)
+          (subst (λ gone. AreCounted still table.rows (departed_after gone table.rows table.departed)) (sym (leaves at.After-serve-left served))
+          (subst (λ rows. AreCounted still rows (departed_after gone rows table.departed)) (sym (rows at.After-serve-left))
+          (tick-counted link.shape link.queue.room (kept_in link) table.departed link.sound (stay-counted at.After-serve-left)))));
       rests = λ _. record {
         rows =
-            subst (λ bounds. Each (RowRests bounds (link.clock + 1) c.next_due-self.result) c.take_source_packets-full.new.self.rows)
-            (ap (λ (t : KeptTable). t.server.bounds) table ∙ at-shape (λ bounds rows. bounds) link c.expire.new.self c.expire.ensures)
-            (c.next_due-self.ensures.rows (link.clock + 1) (let looked = ap (λ (t : KeptTable). t.looked) table in omega (arith, looked)));
+            subst (λ bounds. Each (RowRests bounds (link.clock + 1) c.next_due-self.result) c.depart.new.self.rows)
+            (ap (λ (t : KeptTable). t.server.bounds) left ∙ ap (λ (t : KeptTable). t.server.bounds) took ∙ at-shape (λ bounds rows. bounds) link c.expire.new.self c.expire.ensures.rows)
+            (c.next_due-self.ensures.rows (link.clock + 1) (let looked = ap (λ (t : KeptTable). t.looked) left ∙ ap (λ (t : KeptTable). t.looked) took in omega (arith, looked)));
         best = c.next_due-self.ensures.best;
         service = c.next_due-self.ensures.service;
       };
@@ -151,4 +181,4 @@ returns-clause-reply c =
 pub returns-clause-kept : goal.returns-clause-kept
 returns-clause-kept c =
     let at = goal.at.returns-clause-kept c in
-    kept at.After-serve-left (came at.After-serve-left (brought at.After-take_source_packets-full))
+    kept at.After-depart (came at.After-serve-left (brought at.After-take_source_packets-full))

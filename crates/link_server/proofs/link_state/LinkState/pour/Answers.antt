@@ -1,11 +1,12 @@
 -- The plan and the size are judged, and then the packets are planned.
-use Rattle.std.proofs.Common.{◌≡◌, sym, ap, ◌∙◌, subst, arith}
+use Rattle.std.proofs.Common.{◌≡◌, refl, sym, ap, ◌∙◌, subst, arith}
 use Rattle.link_server.proofs.Words.{account, KeptQueue, kept_after, busy, kept_in, Planned, Refused, Pour}
 use Rattle.link_server.specs.Sound.{IsSound}
 use Rattle.link_steps.specs.declared.replies.Refusal.TheVariants.{TooBig}
 use Rattle.link_server.proofs.Sound.Setup.{sound-pour}
 use Rattle.link_server.proofs.Replies.Pour.{pour-busy, pour-big, pour-planned, pour-same, pour-kept}
 use Rattle.link_server.proofs.Sound.Stood.{still-stood}
+use Rattle.link_server.proofs.Departed.Rows.{counted-still}
 use Rattle.link_server.proofs.RestFacts.{due-now}
 use Rattle.link_server.proofs.link_state.LinkState.pour.Goals as goal
 use Rattle.link_server.proofs.link_state.LinkState.pour.Goals.{After-plan_best}
@@ -53,5 +54,6 @@ invariant_of-self c =
       few = omega (arith, few, room);
       same_bounds = ap (λ (queue : KeptQueue). queue.bounds) c.plan_best.ensures ∙ l.same_bounds;
       stood = stood;
+      counted = counted-still l c.plan_best.new.self l.table (ap (λ (queue : KeptQueue). queue.here) c.plan_best.ensures) refl;
       rests = due-now _ _;
     }

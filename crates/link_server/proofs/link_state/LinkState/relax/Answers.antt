@@ -1,10 +1,11 @@
 -- The row of the channel is found, judged by its phase and its offer, and committed.
 use Rattle.std.proofs.Common.{◌≡◌, ◌≤◌, Some, ap, ◌∙◌, sym, subst}
-use Rattle.link_server.proofs.Words.{find, is_kept_of, kept_after, kept_reply, with_kept_rows, whole, account, KeptTable, row_in, kept_in, Relax}
+use Rattle.link_server.proofs.Words.{kept_relaxed, find, is_kept_of, kept_after, kept_reply, with_kept_rows, whole, account, KeptTable, row_in, kept_in, Relax}
 use Rattle.traffic_contract.specs.Admission.{Server}
 use Rattle.link_server.specs.Changes.{MayCommit, HasAt}
 use Rattle.link_server.specs.Sound.{IsSound}
 use Rattle.link_server.proofs.RowFacts.Placed.{found-at, has-at}
+use Rattle.link_server.proofs.Departed.Rows.{counted-changed}
 use Rattle.link_server.proofs.RestFacts.{due-now}
 use Rattle.link_server.proofs.Sound.Stood.{still-stood}
 use Rattle.link_server.proofs.RowFacts.Parts.{still-of}
@@ -79,6 +80,7 @@ invariant_of-self c =
       same_bounds = link.same_bounds;
       sound = subst (IsSound link.shape link.queue.room) (sym (kept after)) (sound-relax link.shape link.queue.room (kept_in link) c.args.chan c.args.level c.args.up_bound (Relaxed link.clock) c.requires.fits link.sound (replied after));
       stood = still-stood link (Relax c.args.chan c.args.level c.args.up_bound) (Relaxed link.clock) _ c.requires.fits (replied after) (kept after);
+      counted = counted-changed link c.commit.new.self _ (kept_relaxed c.args.level c.args.up_bound) c.in-Some.place (λ row n is. record { taken = is.taken; own = is.own }) c.commit.ensures;
       rests = due-now _ _;
     }
 

@@ -1,11 +1,12 @@
 -- The row of the channel is found at the hop that is named, judged by its phase, and closed.
 use Rattle.std.proofs.Common.{◌≡◌, ◌≤◌, Some, None, sym, ap, ◌∙◌, subst, arith}
-use Rattle.link_server.proofs.Words.{find, Release, is_kept_at_hop, kept_after, kept_reply, with_kept_rows, names_first_hop, whole, account, KeptTable, row_in, IsFirstPlace, kept_in}
+use Rattle.link_server.proofs.Words.{kept_closed, find, Release, is_kept_at_hop, kept_after, kept_reply, with_kept_rows, names_first_hop, whole, account, KeptTable, row_in, IsFirstPlace, kept_in}
 use Rattle.link_steps.specs.declared.replies.Reply.TheVariants.{Closing}
 use Rattle.link_server.specs.Changes.{MayClose}
 use Rattle.link_server.specs.Sources.{IsReady}
 use Rattle.link_server.specs.Sound.{IsSound}
 use Rattle.link_server.proofs.RowFacts.Placed.{each-seen, found-at, has-at}
+use Rattle.link_server.proofs.Departed.Rows.{counted-changed}
 use Rattle.link_server.proofs.RestFacts.{due-now}
 use Rattle.link_server.proofs.Sound.Stood.{all-ready, still-stood}
 use Rattle.link_server.proofs.RowFacts.Parts.{still-of}
@@ -69,6 +70,7 @@ invariant_of-self c =
       same_bounds = link.same_bounds;
       sound = subst (IsSound link.shape link.queue.room) (sym (closed after place)) (sound-release link.shape link.queue.room (kept_in link) c.args.chan c.args.upstream (Closing c.count_at_release-count.result c.cancelled_at_release-cancelled.result) link.sound (answered after (found at.After-row-row place)));
       stood = still-stood link (Release c.args.chan c.args.upstream) ((Closing c.count_at_release-count.result c.cancelled_at_release-cancelled.result)) _ tt (answered after (found at.After-row-row place)) (closed after place);
+      counted = counted-changed link c.close.new.self _ (kept_closed c.count_at_release-count.result) c.in-Some.place (λ row n is. record { taken = is.taken; own = is.own }) c.close.ensures;
       rests = due-now _ _;
     }
 

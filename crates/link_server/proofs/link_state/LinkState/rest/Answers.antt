@@ -17,6 +17,7 @@ invariant_of-self c =
       same_bounds = link.same_bounds;
       sound = later-sound link.shape link.queue.room rests.0 c.args.ticks (kept_in link) rests.1.0 rests.1.1 link.sound;
       stood = later-stood link.shape rests.0 c.args.ticks (kept_in link) (rows-have link) rests.1.0 rests.1.1 link.stood;
+      counted = link.counted;
       rests = λ before. later-rests link.shape link.due c.args.ticks (kept_in link) (link.rests (omega (arith, before)));
     }
 

@@ -1,9 +1,10 @@
 -- The row of the channel at its first hop is found, judged by its phase, its plan and its contract, and planned for.
 use Rattle.std.proofs.Common.{◌≡◌, ◌≤◌, Some, true, length, sym, ap, ◌∙◌, subst}
-use Rattle.link_server.proofs.Words.{find, Submit, Planned, is_kept_at_hop, kept_after, kept_reply, with_kept_rows, whole, account, KeptTable, row_in, kept_in}
+use Rattle.link_server.proofs.Words.{kept_planned, find, Submit, Planned, is_kept_at_hop, kept_after, kept_reply, with_kept_rows, whole, account, KeptTable, row_in, kept_in}
 use Rattle.link_server.specs.Changes.{MayPlan}
 use Rattle.link_server.specs.Sound.{IsSound}
 use Rattle.link_server.proofs.RowFacts.Placed.{found-at, has-at}
+use Rattle.link_server.proofs.Departed.Rows.{counted-changed}
 use Rattle.link_server.proofs.RestFacts.{due-now}
 use Rattle.link_server.proofs.Sound.Stood.{still-stood}
 use Rattle.link_server.proofs.RowFacts.Parts.{still-of}
@@ -75,6 +76,7 @@ invariant_of-self c =
       same_bounds = link.same_bounds;
       sound = subst (IsSound link.shape link.queue.room) (sym (kept after)) (sound-submit link.shape link.queue.room (kept_in link) c.args.chan c.args.count c.args.gap c.args.size (Planned link.clock) c.requires.fits link.sound (replied after));
       stood = still-stood link (Submit c.args.chan c.args.count c.args.gap c.args.size) (Planned link.clock) _ c.requires.fits (replied after) (kept after);
+      counted = counted-changed link c.plan.new.self _ (kept_planned c.args.self.now.clock c.args.count c.args.gap c.args.size) c.in-Some.place (λ row n is. record { taken = is.taken; own = is.own }) c.plan.ensures;
       rests = due-now _ _;
     }
 

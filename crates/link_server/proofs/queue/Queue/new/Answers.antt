@@ -1,11 +1,9 @@
 -- None are here, and none are planned.
-use Rattle.std.proofs.Common.{[], length, refl, sym, ap, subst, arith}
+use Rattle.std.proofs.Common.{length, refl, sym, ap, subst, arith}
 use Rattle.link_steps.specs.Rows.{planned_from}
 use Rattle.link_server.specs.Arrived.{arrived, HaveOwnNumbers, AreNumbered}
-use Rattle.link_server.specs.Counts.{AreCounts}
 use Rattle.link_server.specs.Packets.{here_in}
 use Rattle.link_server.proofs.Words.{filter, is_best}
-use Rattle.link_server.proofs.Waiting.Counts.{none-counted}
 use Rattle.link_server.proofs.queue.Queue.new.Goals as goal
 
 pub invariant_of-result-2 : goal.invariant_of-result-2
@@ -16,9 +14,6 @@ invariant_of-result-2 c =
       numbered = subst (λ packets. AreNumbered 0 (here_in packets)) (sym none) tt;
       fits = (let long = ap (λ packets. length (here_in packets)) none in omega (arith, long));
       lines_up = omega arith;
-      counts_fit = omega arith;
-      counts_are = rw c.new.ensures.items (subst (λ packets. AreCounts [] (here_in packets)) (sym none) none-counted);
-      counts_sorted = rw c.new.ensures.items tt;
       best_counted = ap (λ packets. length (filter (is_best c.args.bounds) (here_in packets))) (sym none);
     }
 

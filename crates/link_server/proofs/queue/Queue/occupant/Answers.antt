@@ -5,14 +5,12 @@ use Rattle.std.proofs.lemmas.List.Sorted.{IsPermutation-map, length_permutation}
 use Rattle.link_server.proofs.Words.{IsPermutation, filter, is_best, is_eligible_by, served, start_at, Arrival}
 use Rattle.link_steps.specs.Service.{first_in_line}
 use Rattle.link_server.specs.Arrived.{all_here, arrived, HaveOwnNumbers, IsNumbered, AreNumbered}
-use Rattle.link_server.specs.Counts.{AreCounts}
 use Rattle.link_server.specs.Line.{waiting_in}
 use Rattle.link_server.specs.Packets.{arrival_in, here_in, on_in}
 use Rattle.link_server.specs.QueueParts.{packets_of}
 use Rattle.link_server.specs.declared.queue.held_packet.Running.{Running}
 use Rattle.link_server.proofs.Replies.Account.{queue-same}
 use Rattle.link_server.proofs.Waiting.Arrived.{all-moved, arrived-same, count-same, long-arrived, one-more, own-same}
-use Rattle.link_server.proofs.Waiting.Counts.{counts-same}
 use Rattle.link_server.proofs.Waiting.Next.{none-first, next-first}
 use Rattle.link_server.proofs.Waiting.Queues.{each-same}
 use Rattle.link_server.proofs.queue.Queue.occupant.Goals as goal
@@ -70,9 +68,6 @@ invariant_of-self c =
       numbered = each-same (IsNumbered q.taken) (packets_of q) _ moved c.self.invariant.numbered;
       fits = omega (arith, fits, long);
       lines_up = omega (arith, lines_up, c.next.ensures.room);
-      counts_fit = c.self.invariant.counts_fit;
-      counts_are = counts-same q.counts.items (packets_of q) _ moved c.self.invariant.counts_are;
-      counts_sorted = c.self.invariant.counts_sorted;
       best_counted =
           c.self.invariant.best_counted
           ∙ sym (count-same (is_best q.bounds) (here_in (waiting_in q.line)) (here_in (waiting_in c.next.new.self)) (IsPermutation-map arrival_in (waiting_in q.line) (waiting_in c.next.new.self) c.in_err-packet.ensures.none.1));
@@ -126,9 +121,6 @@ invariant_of-self-3 c =
       numbered = each-same (IsNumbered q.taken) was now moved (waits at.After-len (AreNumbered q.taken) c.self.invariant.numbered);
       fits = omega (arith, fits, long);
       lines_up = omega (arith, lines_up, c.next.ensures.room);
-      counts_fit = c.self.invariant.counts_fit;
-      counts_are = counts-same q.counts.items was now moved (waits at.After-len (AreCounts q.counts.items) c.self.invariant.counts_are);
-      counts_sorted = c.self.invariant.counts_sorted;
       best_counted = (let waited = waited at.After-best_in in omega (arith, waited));
     }
 

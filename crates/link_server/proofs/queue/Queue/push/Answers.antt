@@ -12,7 +12,6 @@ use Rattle.link_server.specs.QueueParts.{packets_of}
 use Rattle.link_server.proofs.Replies.Account.{queue-same}
 use Rattle.link_server.proofs.Sound.Packets.{count-upto}
 use Rattle.link_server.proofs.Waiting.Arrived.{all-came, arrived-came, arrived-same, count-same, here-waiting, long-arrived, long-here, one-more, own-came, own-same}
-use Rattle.link_server.proofs.Waiting.Counts.{counts-came, counts-same}
 use Rattle.link_server.proofs.Waiting.Queues.{each-same}
 use Rattle.link_server.proofs.queue.Queue.push.Goals as goal
 use Rattle.link_server.proofs.queue.Queue.push.Goals.{After-self, After-push}
@@ -43,14 +42,6 @@ few c =
     let long = length-map (waiting_in c.self.inside.line) arrival_in in
     let least = long-here (on_in c.self.inside.on) (here_in (waiting_in c.self.inside.line)) in
     omega (arith, long, least)
-
-pub raise-requires : goal.raise-requires
-raise-requires c =
-    let all = c.self.invariant.counts_are.all in
-    let fit = c.self.invariant.counts_fit in
-    let small = c.self.inside.counts.small in
-    let free = free (goal.at.raise-requires c).After-self in
-    record { sorted = c.self.invariant.counts_sorted; room = omega (arith, all, fit, free); small = omega (arith, all, fit, small, free) }
 
 pub overflow_add-self : goal.overflow_add-self
 overflow_add-self c =
@@ -96,7 +87,6 @@ invariant_of-self c =
     let free = free at.After-self in
     let next = next at.After-self in
     let lines_up = c.self.invariant.lines_up in
-    let fit = c.self.invariant.counts_fit in
     let longer = length_permutation (p ∷ here) _ came in
     let best = count-same (is_best q.bounds) _ _ (IsPermutation-map arrival_in (c.args.packet ∷ waiting_in q.line) (waiting_in c.push.new.self) c.push.ensures.waiting) in
     record {
@@ -107,9 +97,6 @@ invariant_of-self c =
       );
       fits = omega (arith, longer, free);
       lines_up = omega (arith, lines_up, c.push.ensures.room);
-      counts_fit = omega (arith, fit, c.raise.ensures.capacity);
-      counts_are = counts-same c.raise.new.counts.items (p ∷ here) _ came (counts-came q.counts.items c.raise.new.counts.items p here c.self.invariant.counts_are c.raise.ensures.each c.raise.ensures.all);
-      counts_sorted = c.raise.ensures.sorted;
       best_counted =
           ap (λ n. n + c.best_in.result) c.self.invariant.best_counted ∙ ap (λ n. length (filter (is_best q.bounds) (here_in (waiting_in q.line))) + n) c.best_in.ensures.value
           ∙ sym (one-more (is_best q.bounds) p (here_in (waiting_in q.line))) ∙ sym best;

@@ -2,14 +2,12 @@
 use Rattle.std.proofs.Common.{◌≡◌, ◌≤◌, ◌∷◌, List, None, Some, length, sym, ap, ◌∙◌, subst, arith}
 use Rattle.link_server.proofs.Words.{filter, is_other, Arrival, KeptQueue}
 use Rattle.link_server.specs.Arrived.{all_here, arrived, HaveOwnNumbers, AreNumbered}
-use Rattle.link_server.specs.Counts.{AreCounts}
 use Rattle.link_server.specs.Line.{waiting_in}
 use Rattle.link_server.specs.Packets.{start_in, here_in, on_in}
 use Rattle.link_server.specs.Planned.{left_in}
 use Rattle.link_server.specs.QueueParts.{packets_of}
 use Rattle.link_server.specs.Serving.{ServiceGoesOn}
 use Rattle.link_server.proofs.Waiting.Arrived.{arrived-departed, own-left}
-use Rattle.link_server.proofs.Waiting.Counts.{counts-left, one-counted}
 use Rattle.link_server.proofs.Waiting.Serving.{running-goes-on, departs-now, best-departs-now, none-served, goes-on-served, departs-served}
 use Rattle.link_server.proofs.queue.Queue.serve.Goals as goal
 use Rattle.link_server.proofs.queue.Queue.serve.Goals.{In-Some, After-self}
@@ -47,14 +45,6 @@ here-with c = ap (λ (queue : KeptQueue). queue.on) (c.self.view_is ∙ c.occupa
 with-it : (c : After-self) → (P : List Arrival → Type 0) → P (packets_of c.self.inside) → P ((start_in c.in-Some.running).packet ∷ here_in (waiting_in c.self.inside.line))
 with-it c P all = subst (λ on. P (all_here on (here_in (waiting_in c.self.inside.line)))) (here-with c) all
 
-pub lower-requires : goal.lower-requires
-lower-requires c =
-    let at = (goal.at.lower-requires c).After-self in
-    record {
-      sorted = c.self.invariant.counts_sorted;
-      some = one-counted c.self.inside.counts.items (start_in c.in-Some.running).packet (here_in (waiting_in c.self.inside.line)) (with-it at (AreCounts c.self.inside.counts.items) c.self.invariant.counts_are);
-    }
-
 pub returns-clause-kept : goal.returns-clause-kept
 returns-clause-kept c =
     let q = c.self.inside in
@@ -75,14 +65,10 @@ invariant_of-self c =
     let start = start_in c.in-Some.running in
     let waiting = here_in (waiting_in q.line) in
     let fits = with-it at (λ ps. length ps ≤ q.room) c.self.invariant.fits in
-    let fit = c.self.invariant.counts_fit in
     record {
       own = own-left start.packet waiting (with-it at HaveOwnNumbers c.self.invariant.own);
       numbered = (with-it at (AreNumbered q.taken) c.self.invariant.numbered).1;
       fits = omega (arith, fits);
       lines_up = c.self.invariant.lines_up;
-      counts_fit = omega (arith, fit, c.lower.ensures.capacity);
-      counts_are = counts-left q.counts.items c.lower.new.counts.items start.packet waiting (with-it at (AreCounts q.counts.items) c.self.invariant.counts_are) c.lower.ensures.each c.lower.ensures.all;
-      counts_sorted = c.lower.ensures.sorted;
       best_counted = c.self.invariant.best_counted;
     }

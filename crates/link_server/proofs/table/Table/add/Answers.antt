@@ -3,6 +3,7 @@ use Rattle.std.proofs.Common.{inl, true, None, ◌≡◌, ◌-◌, ◌≤◌, �
 use Rattle.std.proofs.lemmas.List.{length-append, map_push}
 use Rattle.link_server.proofs.Words.{find, whole_of, channel_number, level_number, Sums, kept_units, is_kept_of, kept_terms, admitted, KeptTable, ServedRow}
 use Rattle.traffic_contract.specs.Admission.{admits, total}
+use Rattle.link_server.specs.Departed.{departed_in}
 use Rattle.link_server.specs.Holds.{AreListed}
 use Rattle.link_server.specs.Index.{channels_in, IsIndex}
 use Rattle.link_server.specs.Keeping.{IsKeeping}
@@ -145,5 +146,5 @@ returns-clause-added c =
     let at = goal.at.returns-clause-added c in
     let kept = keeps at.After-push (free at.After-self) in
     rw (← c.self.view_is)
-    (table-same _ _ (ap (map row_in) (pushed at.After-push) ∙ map_push row_in c.self.inside.rows.items c.args.row)
+    (table-same _ _ (ap (map row_in) (pushed at.After-push) ∙ map_push row_in c.self.inside.rows.items c.args.row) (ap (map departed_in) (pushed at.After-push) ∙ map_push departed_in c.self.inside.rows.items c.args.row)
     (c.add.ensures.server ∙ ap (λ (sums : Sums). sums.server) c.make_room.ensures.sums) kept.whole refl)

@@ -4,6 +4,7 @@ use Rattle.std.proofs.lemmas.List.{length-set}
 use Rattle.std.proofs.Math.Seq.{map-set_same}
 use Rattle.link_server.proofs.Words.{whole_of, newest, Committed, Closing, kept_closed, is_phase, KeptTable, row_in, ServedRow}
 use Rattle.link_server.specs.Changes.{MayClose}
+use Rattle.link_server.specs.Departed.{departed_in}
 use Rattle.link_server.specs.Holds.{is_open}
 use Rattle.link_server.specs.Planned.{first_tick}
 use Rattle.link_server.proofs.Calendars.Holds.{open-in-phase}
@@ -29,7 +30,7 @@ opened c = open-in-phase Committed (row_in (was c)) (inr refl) (may c).is.phase
 
 -- as it is changed
 same : (c : After-close) → row_in c.close.new.self ≡ kept_closed c.args.count (row_in (get_or c.self.inside.rows.items c.args.place c.index_mut-row.result.now))
-same c = c.close.ensures ∙ ap (λ row. kept_closed c.args.count (row_in row)) c.index_mut-row.ensures.value
+same c = c.close.ensures.row ∙ ap (λ row. kept_closed c.args.count (row_in row)) c.index_mut-row.ensures.value
 
 pub put_hold-requires-clause-room : goal.put_hold-requires-clause-room
 put_hold-requires-clause-room c =
@@ -75,4 +76,4 @@ invariant_of-self c =
 pub returns : goal.returns
 returns c =
     let at = goal.at.returns c in
-    rw (← c.self.view_is) (table-same _ _ (changed-mapped (kept_closed c.args.count) c.self.inside.rows.items c.args.place c.close.new.self c.index_mut-row.result.now (may at.After-index_mut-row).inside (same at.After-close)) refl refl refl)
+    rw (← c.self.view_is) (table-same _ _ (changed-mapped (kept_closed c.args.count) c.self.inside.rows.items c.args.place c.close.new.self c.index_mut-row.result.now (may at.After-index_mut-row).inside (same at.After-close)) (map-set_same departed_in c.self.inside.rows.items c.args.place c.close.new.self c.index_mut-row.result.now (c.close.ensures.departed ∙ ap departed_in c.index_mut-row.ensures.value)) refl refl refl)

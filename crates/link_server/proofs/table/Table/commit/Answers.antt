@@ -2,10 +2,12 @@
 use Rattle.std.proofs.Common.{inl, inr, ◌≡◌, ◌+◌, ◌-◌, ◌≤◌, get_or, set, length, map, refl, sym, ap, ◌∙◌, subst, arith}
 use Rattle.std.proofs.lemmas.List.{length-set}
 use Rattle.std.proofs.lemmas.List.Elements.{All-set}
+use Rattle.std.proofs.Math.Seq.{map-set_same}
 use Rattle.buffer_budget.specs.Parts.{whole_of, with_freed}
 use Rattle.link_server.proofs.Words.{channel_number, level_number, Tentative, Closing, slots_of, kept_units, kept_relaxed, is_phase, reservation_in, row_in, summed, IsPlaceOf, IsWithinLevels}
 use Rattle.rcsp_admission.specs.Sums.{HoldsUpTo, moved}
 use Rattle.link_server.specs.Changes.{HasAt, MayCommit}
+use Rattle.link_server.specs.Departed.{departed_in}
 use Rattle.link_server.specs.Keeping.{IsKeeping, places_for}
 use Rattle.link_server.specs.Plans.{IsTold}
 use Rattle.link_server.proofs.Calendars.Holds.{in-phase, open-in-phase, phase-listed}
@@ -53,7 +55,7 @@ move_to-requires-clause-held c =
 
 -- as it is changed: it has no more slots than before, and so keeps no more units
 same : (c : After-commit) → row_in c.commit.new.self ≡ kept_relaxed c.args.level c.args.up_bound (row_in (get_or c.self.inside.rows.items c.args.place c.index_mut-row.result.now))
-same c = c.commit.ensures ∙ ap (λ row. kept_relaxed c.args.level c.args.up_bound (row_in row)) c.index_mut-row.ensures.value
+same c = c.commit.ensures.row ∙ ap (λ row. kept_relaxed c.args.level c.args.up_bound (row_in row)) c.index_mut-row.ensures.value
 
 fewer : (c : After-commit) → IsRowAt (MayCommit c.self.inside.bounds c.args.level c.args.up_bound) c.self.inside c.args.place c.index_mut-row.result.now
     → slots_of c.self.inside.bounds (reservation_in c.commit.new.self) ≤ slots_of c.self.inside.bounds (reservation_in (get_or c.self.inside.rows.items c.args.place c.index_mut-row.result.now))
@@ -140,4 +142,4 @@ returns c =
     let at = goal.at.returns c in
     let row = may at.After-index_mut-row in
     rw (← c.self.view_is)
-    (table-same _ _ (changed-mapped (kept_relaxed c.args.level c.args.up_bound) c.self.inside.rows.items c.args.place c.commit.new.self c.index_mut-row.result.now row.inside (same at.After-commit)) c.move_to.ensures.server (keeps at.After-hold row (fits-again at.After-commit row)).whole refl)
+    (table-same _ _ (changed-mapped (kept_relaxed c.args.level c.args.up_bound) c.self.inside.rows.items c.args.place c.commit.new.self c.index_mut-row.result.now row.inside (same at.After-commit)) (map-set_same departed_in c.self.inside.rows.items c.args.place c.commit.new.self c.index_mut-row.result.now (c.commit.ensures.departed ∙ ap departed_in c.index_mut-row.ensures.value)) c.move_to.ensures.server (keeps at.After-hold row (fits-again at.After-commit row)).whole refl)

@@ -4,6 +4,7 @@ use Rattle.std.proofs.lemmas.List.{length-set}
 use Rattle.std.proofs.Math.Seq.{map-set_same}
 use Rattle.link_server.proofs.Words.{whole_of, Committed, Closing, kept_planned, Each, is_phase, KeptTable, reservation_in, row_in, ServedRow}
 use Rattle.link_server.specs.Changes.{MayPlan}
+use Rattle.link_server.specs.Departed.{departed_in}
 use Rattle.link_server.specs.Keeping.{IsKeeping}
 use Rattle.link_server.specs.Planned.{IsPlannedFrom}
 use Rattle.link_server.specs.Plans.{idle_count}
@@ -27,7 +28,7 @@ idle c = (let is = (may c).is in idle-one (row_in (was c)) is.none_left (ap (λ 
 
 -- as it is changed
 same : (c : After-plan) → row_in c.plan.new.self ≡ kept_planned c.args.planned.tick c.args.planned.count c.args.planned.gap c.args.planned.size (row_in (get_or c.self.inside.rows.items c.args.place c.index_mut-row.result.now))
-same c = c.plan.ensures ∙ ap (λ row. kept_planned c.args.planned.tick c.args.planned.count c.args.planned.gap c.args.planned.size (row_in row)) c.index_mut-row.ensures.value
+same c = c.plan.ensures.row ∙ ap (λ row. kept_planned c.args.planned.tick c.args.planned.count c.args.planned.gap c.args.planned.size (row_in row)) c.index_mut-row.ensures.value
 
 pub put_plan-requires-clause-ahead : goal.put_plan-requires-clause-ahead
 put_plan-requires-clause-ahead c =
@@ -78,4 +79,4 @@ pub returns : goal.returns
 returns c =
     let at = goal.at.returns c in
     rw (← c.self.view_is)
-    (table-same _ _ (changed-mapped (kept_planned c.args.planned.tick c.args.planned.count c.args.planned.gap c.args.planned.size) c.self.inside.rows.items c.args.place c.plan.new.self c.index_mut-row.result.now (may at.After-index_mut-row).inside (same at.After-plan)) refl refl refl)
+    (table-same _ _ (changed-mapped (kept_planned c.args.planned.tick c.args.planned.count c.args.planned.gap c.args.planned.size) c.self.inside.rows.items c.args.place c.plan.new.self c.index_mut-row.result.now (may at.After-index_mut-row).inside (same at.After-plan)) (map-set_same departed_in c.self.inside.rows.items c.args.place c.plan.new.self c.index_mut-row.result.now (c.plan.ensures.departed ∙ ap departed_in c.index_mut-row.ensures.value)) refl refl refl)

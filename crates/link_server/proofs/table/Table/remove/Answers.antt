@@ -2,6 +2,7 @@
 use Rattle.std.proofs.Common.{length, map, refl, ap, ◌∙◌, arith}
 use Rattle.std.proofs.lemmas.List.Edits.{length-remove}
 use Rattle.link_server.proofs.Words.{row_in}
+use Rattle.link_server.specs.Departed.{departed_in}
 use Rattle.link_server.proofs.Calendars.HoldRows.{listed-removed}
 use Rattle.link_server.proofs.RowFacts.Placed.{removed-mapped}
 use Rattle.link_server.proofs.Calendars.PlanRows.{planned-removed}
@@ -32,4 +33,4 @@ invariant_of-self c =
     }
 
 pub returns : goal.returns
-returns c = rw (← c.self.view_is) (table-same _ _ (ap (map row_in) c.take_out.ensures.rows ∙ removed-mapped c.self.inside.rows.items c.args.place) c.take_out.ensures.server c.take_out.ensures.parts.keeps.whole refl)
+returns c = rw (← c.self.view_is) (table-same _ _ (ap (map row_in) c.take_out.ensures.rows ∙ removed-mapped row_in c.self.inside.rows.items c.args.place) (ap (map departed_in) c.take_out.ensures.rows ∙ removed-mapped departed_in c.self.inside.rows.items c.args.place) c.take_out.ensures.server c.take_out.ensures.parts.keeps.whole refl)

@@ -5,6 +5,7 @@ use Rattle.std.proofs.Math.Seq.{map-set_same}
 use Rattle.link_server.proofs.Words.{IfSome, slice_get, whole_of, channel_number, newest, Closing, KeptRow, kept_arrived, kept_arrived_row, is_phase, arrival_at, KeptTable, reservation_in, row_in, ServedRow}
 use Rattle.link_steps.specs.Regulator.{eligible_next}
 use Rattle.link_server.specs.Changes.{MayTake}
+use Rattle.link_server.specs.Departed.{departed_in}
 use Rattle.link_server.specs.Holds.{is_open, IsListed, PlansNone}
 use Rattle.link_server.specs.Keeping.{IsKeeping}
 use Rattle.link_server.specs.Packets.{arrival_in}
@@ -82,7 +83,7 @@ invariant_of-self c =
 pub returns-clause-table : goal.returns-clause-table
 returns-clause-table c =
     let at = goal.at.returns-clause-table c in
-    rw (← c.self.view_is) (table-same _ _ (changed-mapped (kept_arrived_row c.args.clock c.args.number c.args.packet.now) c.self.inside.rows.items c.args.place c.take-taken.new.self c.index_mut-row.result.now (may at.After-index_mut-row).inside (same at.After-take-taken)) refl refl refl)
+    rw (← c.self.view_is) (table-same _ _ (changed-mapped (kept_arrived_row c.args.clock c.args.number c.args.packet.now) c.self.inside.rows.items c.args.place c.take-taken.new.self c.index_mut-row.result.now (may at.After-index_mut-row).inside (same at.After-take-taken)) (map-set_same departed_in c.self.inside.rows.items c.args.place c.take-taken.new.self c.index_mut-row.result.now (c.take-taken.ensures.departed ∙ ap departed_in c.index_mut-row.ensures.value)) refl refl refl)
 
 -- the packet is the account's
 pub returns-clause-packet : goal.returns-clause-packet

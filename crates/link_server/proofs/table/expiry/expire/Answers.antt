@@ -1,11 +1,14 @@
 -- The row of an entry that is due is taken out, once its hold has ended. Where none is due, all rows stay.
 use Rattle.std.proofs.Common.{map, refl, sym, ap, ◌∙◌, subst, arith}
 use Rattle.link_server.proofs.Words.{remove, filter, kept_stays, row_in}
+use Rattle.link_server.specs.Departed.{departed_in}
 use Rattle.link_server.specs.Holds.{open_count, IsListed, AreListed}
 use Rattle.link_server.specs.RowParts.{AreParts}
 use Rattle.link_server.specs.Sources.{IsReady}
 use Rattle.link_server.proofs.Calendars.HoldRows.{due-taken, others-stay, all-stay}
 use Rattle.link_server.proofs.Calendars.Expiry.{a-row, filter-without, each-without}
+use Rattle.link_server.proofs.Departed.Rows.{counted-removed}
+use Rattle.link_server.proofs.RowFacts.Placed.{removed-mapped}
 use Rattle.link_server.proofs.RowFacts.Totals.{row-gone}
 use Rattle.link_server.proofs.RowFacts.Parts.{own-parts}
 use Rattle.link_server.proofs.table.expiry.expire.Goals as goal
@@ -26,6 +29,7 @@ loop-key-preserved-in-Some-ended_place c =
     let most = was.listed.room in
     record {
       stay = ap (λ all. filter (kept_stays bounds clock) (map row_in all)) made.rows ∙ filter-without (kept_stays bounds clock) rows i d gone.inside (gone.ended d) ∙ was.stay;
+      counted = λ here each. rw made.rows (rw (removed-mapped row_in rows i, removed-mapped departed_in rows i) (counted-removed here (map row_in rows) (map departed_in rows) i (was.counted here each)));
       listed =
           subst (λ all. AreListed bounds clock c.take_due.new.self (map row_in all)) (sym made.rows)
           (due-taken bounds clock c.in-Some.key c.loop-key.holds c.take_due.new.self (map row_in (remove rows i)) c.in-Some.ensures.taken c.in-Some.ensures.spare c.take_due.ensures.clock
@@ -41,6 +45,7 @@ loop-key-preserved c =
     let was = c.loop-key.invariant in
     record {
       stay = was.stay;
+      counted = was.counted;
       listed =
           due-taken c.args.bounds.now c.args.clock c.in-Some.key c.loop-key.holds c.take_due.new.self (map row_in c.loop-key.rows.items) c.in-Some.ensures.taken c.in-Some.ensures.spare c.take_due.ensures.clock was.listed.listed was.listed.room
           c.in_default-ended_place.ensures.none;

@@ -1,14 +1,14 @@
 -- The row's step is found from its plan and its slots; what each step makes of the row and the packets is then said by
 -- the account.
-use Rattle.std.proofs.Common.{◌≡◌, ℕ, ◌+◌, ◌++◌, List, [], ◌∷◌, suc, take, true, refl, sym, ap, ◌∙◌, arith}
+use Rattle.std.proofs.Common.{◌≡◌, ◌+◌, ◌++◌, [], ◌∷◌, suc, true, refl, sym, ap, ◌∙◌, arith}
 use Rattle.std.proofs.lemmas.List.{append-nil}
-use Rattle.link_server.proofs.Words.{nat_lt, dropped_by, taken_by, Arrival, KeptQueue, held_packets, slots_of, KeptRow, kept_packet, reservation_in, row_in}
+use Rattle.link_server.proofs.Words.{dropped_by, taken_by, Arrival, KeptQueue, kept_packet, reservation_in, row_in}
 use Rattle.link_steps.specs.Sources.SourceStep.{Rests, Brings, Drops}
 use Rattle.link_steps.proofs.AccountOfRows.{eligible-from}
 use Rattle.link_server.specs.Packets.{arrival_in}
-use Rattle.link_server.specs.Sources.{step_in}
+use Rattle.link_server.specs.Sources.{own_step}
 use Rattle.link_server.proofs.Replies.Account.{queue-same}
-use Rattle.link_server.proofs.Sourcing.Steps.{step-rests, step-loses, step-brings, slot-same, brought-here, brought-row}
+use Rattle.link_server.proofs.Sourcing.Steps.{step-rests, step-loses, step-brings, brought-here, brought-row}
 use Rattle.link_server.proofs.table.sources.take_source_packet.Goals as goal
 use Rattle.link_server.proofs.table.sources.take_source_packet.Goals.{After-has_slot}
 
@@ -18,8 +18,8 @@ same-kept queue =
     let same : queue.taken ≡ queue.taken + 0 = omega arith in
     queue-same queue (record queue { taken = queue.taken + 0; here = queue.here ++ [] }) same (sym (append-nil queue.here)) refl refl refl refl refl
 
-rests : (c : goal.In_default) → step_in c.args.bounds.now (take c.args.before c.args.queue.now.here) c.args.clock c.args.row.now ≡ Rests
-rests c = step-rests c.args.bounds.now (take c.args.before c.args.queue.now.here) c.args.clock (row_in c.args.row.now) c.in_default.ensures.size
+rests : (c : goal.In_default) → own_step c.args.bounds.now c.args.clock c.args.row.now ≡ Rests
+rests c = step-rests c.args.bounds.now c.args.clock c.args.row.now c.in_default.ensures.size
 
 pub returns-in_default-clause-lost : goal.returns-in_default-clause-lost
 returns-in_default-clause-lost c = ap dropped_by (sym (rests c))
@@ -30,15 +30,8 @@ returns-in_default-clause-row c = rw (rests c) (c.next_planned.ensures.row)
 pub returns-in_default-clause-kept : goal.returns-in_default-clause-kept
 returns-in_default-clause-kept c = rw (rests c) (same-kept c.args.queue.now)
 
--- as many of its packets are here as were when the tick began
-same-held : (n own lead : ℕ) (here front : List Arrival) → n ≡ held_packets own here → own ≡ lead → held_packets lead here ≡ held_packets lead front → n ≡ held_packets own front
-same-held n own lead here front all same held = all ∙ ap (λ l. held_packets l here) same ∙ held ∙ ap (λ l. held_packets l front) (sym same)
-
-loses : (c : goal.Then-not-has_slot) → step_in c.args.bounds.now (take c.args.before c.args.queue.now.here) c.args.clock c.args.row.now ≡ Drops
-loses c =
-    step-loses c.args.bounds.now (take c.args.before c.args.queue.now.here) c.args.clock c.in-Some.size (row_in c.args.row.now) c.in-Some.ensures.size
-    (sym (slot-same c.args.bounds.now c.args.clock (take c.args.before c.args.queue.now.here) c.next_planned.new.self c.args.row.now c.next_planned.ensures.row)
-    ∙ sym (c.has_slot.ensures ∙ ap (λ n. nat_lt n (slots_of c.args.bounds.now (reservation_in c.next_planned.new.self))) (same-held c.held.result c.next_planned.new.self.lead c.args.row.now.lead c.args.queue.now.here (take c.args.before c.args.queue.now.here) c.held.ensures (ap (λ (row : KeptRow). row.lead) c.next_planned.ensures.row) c.requires.held)) ∙ c.if-not-has_slot.true)
+loses : (c : goal.Then-not-has_slot) → own_step c.args.bounds.now c.args.clock c.args.row.now ≡ Drops
+loses c = step-loses c.args.bounds.now c.args.clock c.in-Some.size c.has_slot.result c.args.row.now c.next_planned.new.self c.in-Some.ensures.size c.next_planned.ensures.departed c.next_planned.ensures.row c.has_slot.ensures c.if-not-has_slot.true
 
 pub returns-then-not-has_slot-clause-lost : goal.returns-then-not-has_slot-clause-lost
 returns-then-not-has_slot-clause-lost c = ap dropped_by (sym (loses c))
@@ -49,20 +42,17 @@ returns-then-not-has_slot-clause-row c = rw (loses c) (c.next_planned.ensures.ro
 pub returns-then-not-has_slot-clause-kept : goal.returns-then-not-has_slot-clause-kept
 returns-then-not-has_slot-clause-kept c = rw (loses c) (same-kept c.args.queue.now)
 
-brings : (c : After-has_slot) → c.has_slot.result ≡ true → step_in c.args.bounds.now (take c.args.before c.args.queue.now.here) c.args.clock c.args.row.now ≡ Brings c.in-Some.size
-brings c free =
-    step-brings c.args.bounds.now (take c.args.before c.args.queue.now.here) c.args.clock c.in-Some.size (row_in c.args.row.now) c.in-Some.ensures.size
-    (sym (slot-same c.args.bounds.now c.args.clock (take c.args.before c.args.queue.now.here) c.next_planned.new.self c.args.row.now c.next_planned.ensures.row)
-    ∙ sym (c.has_slot.ensures ∙ ap (λ n. nat_lt n (slots_of c.args.bounds.now (reservation_in c.next_planned.new.self))) (same-held c.held.result c.next_planned.new.self.lead c.args.row.now.lead c.args.queue.now.here (take c.args.before c.args.queue.now.here) c.held.ensures (ap (λ (row : KeptRow). row.lead) c.next_planned.ensures.row) c.requires.held)) ∙ free)
+brings : (c : After-has_slot) → c.has_slot.result ≡ true → own_step c.args.bounds.now c.args.clock c.args.row.now ≡ Brings c.in-Some.size
+brings c free = step-brings c.args.bounds.now c.args.clock c.in-Some.size c.has_slot.result c.args.row.now c.next_planned.new.self c.in-Some.ensures.size c.next_planned.ensures.departed c.next_planned.ensures.row c.has_slot.ensures free
 
 pub overflow_add-taken : goal.overflow_add-taken
 overflow_add-taken c =
-    let one : taken_by (step_in c.args.bounds.now (take c.args.before c.args.queue.now.here) c.args.clock c.args.row.now) ≡ 1 = ap taken_by (brings (goal.at.overflow_add-taken c).After-has_slot c.if-not-has_slot.false) in
+    let one : taken_by (own_step c.args.bounds.now c.args.clock c.args.row.now) ≡ 1 = ap taken_by (brings (goal.at.overflow_add-taken c).After-has_slot c.if-not-has_slot.false) in
     omega (arith, one, c.requires.numbers, c.taken.ensures)
 
 pub push-requires-clause-room : goal.push-requires-clause-room
 push-requires-clause-room c =
-    let one : taken_by (step_in c.args.bounds.now (take c.args.before c.args.queue.now.here) c.args.clock c.args.row.now) ≡ 1 = ap taken_by (brings (goal.at.push-requires-clause-room c).After-has_slot c.if-not-has_slot.false) in
+    let one : taken_by (own_step c.args.bounds.now c.args.clock c.args.row.now) ≡ 1 = ap taken_by (brings (goal.at.push-requires-clause-room c).After-has_slot c.if-not-has_slot.false) in
     omega (arith, one, c.requires.room)
 
 pub push-requires-clause-eligible : goal.push-requires-clause-eligible

@@ -1,13 +1,16 @@
 -- Each turn adds to what the rows before it have done.
-use Rattle.std.proofs.Common.{◌≡◌, ℕ, List, ◌+◌, ◌++◌, ◌<◌, ◌≤◌, suc, length, get_or, set, take, drop, refl, sym, ap, ◌∙◌, subst, arith}
-use Rattle.link_server.proofs.Words.{held_packets, kept_packet, kept_after_step, SourceStep, taken_by, dropped_by, Arrival, KeptQueue, row_in, IsWithinLevels, ServedRow}
-use Rattle.std.proofs.lemmas.List.{get_or_past, length-append, length-map, length-set, take_all}
+use Rattle.std.proofs.Common.{◌≡◌, ℕ, List, ◌+◌, ◌++◌, ◌<◌, ◌≤◌, suc, length, get_or, set, drop, refl, sym, ap, ◌∙◌, subst, arith}
+use Rattle.link_server.proofs.Words.{kept_packet, kept_after_step, SourceStep, taken_by, dropped_by, Arrival, KeptQueue, row_in, IsWithinLevels, ServedRow}
+use Rattle.std.proofs.lemmas.List.{get_or_past, length-append, length-map, length-set}
 use Rattle.link_steps.proofs.ListFacts.{Each-if}
 use Rattle.link_server.proofs.Replies.Account.{queue-same}
+use Rattle.std.proofs.Math.Seq.{map-set_same}
+use Rattle.link_server.specs.Departed.{IsCounted, departed_in}
 use Rattle.link_server.specs.Planned.{IsPlannedFrom}
-use Rattle.link_server.specs.Sources.{step_in, brought_by, IsReady}
-use Rattle.link_server.proofs.Sourcing.Own.{still-held}
-use Rattle.link_server.proofs.Sourcing.Rows.{HaveStepped, StandsStepped, same-row, one-stepped, all-stepped, ready-now, packets-now, lost-more, lost-same, front-same, front-within}
+use Rattle.link_server.specs.Sources.{own_step, step_in, brought_by, IsReady}
+use Rattle.link_server.proofs.Departed.Rows.{counted-at}
+use Rattle.link_server.proofs.Sourcing.Steps.{step-counted}
+use Rattle.link_server.proofs.Sourcing.Rows.{HaveStepped, StandsStepped, same-row, one-stepped, all-stepped, ready-now, packets-now, lost-more, lost-same}
 use Rattle.link_server.proofs.Sourcing.Turns.{first-turn, next-turn, turn-inside, turn-due, stepped-later, told-after, room-after, all-turned}
 use Rattle.link_server.proofs.table.sources.take_turns.Goals as goal
 use Rattle.link_server.proofs.table.sources.take_turns.Goals.{After-loop-place, After-index_mut-row, then-take_source_packet, else-take_source_packet}
@@ -21,10 +24,9 @@ loop-place-init c =
       begun = c.requires.called.begun;
       told = c.requires.called.told;
       spare = omega (arith, room);
-      before = omega (arith, c.len-before.ensures);
-      front = take_all c.len-before.result c.args.queue.now.here (omega (arith, c.len-before.ensures));
       kept = refl;
       looked = c.requires.may.looked;
+      departed = refl;
     }
 
 -- ---- the row whose turn it is
@@ -42,11 +44,6 @@ row c = get_or c.loop-place.rows.items (place c) c.index_mut-row.result.now
 abbrev step : After-index_mut-row → SourceStep
 step c = step_in c.args.bounds.now c.args.queue.now.here c.args.clock (row c)
 
-step-is : (c : After-index_mut-row) → step_in c.args.bounds.now (take c.len-before.result c.loop-place.queue.here) c.args.clock c.index_mut-row.result.now ≡ step c
-step-is c =
-    ap (λ here. step_in c.args.bounds.now here c.args.clock c.index_mut-row.result.now) c.loop-place.invariant.front
-    ∙ ap (step_in c.args.bounds.now c.args.queue.now.here c.args.clock) c.index_mut-row.ensures.value
-
 inside : (c : After-index_mut-row) → place c < length c.loop-place.rows.items
 inside c = turn-inside c.args.turns.now c.args.rows.now.items c.loop-place.rows.items c.loop-place.place-index c.requires.called.rising c.loop-place.invariant.long c.loop-place-test.true
 
@@ -56,6 +53,14 @@ so c = turn-due c.args.bounds.now c.args.queue.now.here c.args.clock c.args.queu
 
 was : (c : After-index_mut-row) → c.index_mut-row.result.now ≡ get_or c.args.rows.now.items (place c) c.index_mut-row.result.now
 was c = c.index_mut-row.ensures.value ∙ same-row c.args.rows.now.items (place c) c.loop-place.rows.items c.index_mut-row.result.now (so c).after
+
+step-is : (c : After-index_mut-row) → own_step c.args.bounds.now c.args.clock c.index_mut-row.result.now ≡ step c
+step-is c =
+    let here = c.args.queue.now.here in
+    let d = c.index_mut-row.result.now in
+    step-counted c.args.bounds.now here c.args.clock d
+    (subst (λ (row : ServedRow). IsCounted here (row_in row) row.departed) (sym (was c)) (counted-at here c.args.rows.now.items (place c) d (subst (λ n. place c < n) c.loop-place.invariant.long (inside c)) c.requires.counted))
+    ∙ ap (step_in c.args.bounds.now here c.args.clock) c.index_mut-row.ensures.value
 
 pub take_source_packet-requires-clause-ready : goal.take_source_packet-requires-clause-ready
 take_source_packet-requires-clause-ready c =
@@ -67,14 +72,6 @@ pub take_source_packet-requires-clause-within : goal.take_source_packet-requires
 take_source_packet-requires-clause-within c =
     let at = (goal.at.take_source_packet-requires-clause-within c).After-index_mut-row in
     subst (IsWithinLevels (length c.args.bounds.now)) (sym (was at)) (c.requires.within (place at) c.index_mut-row.result.now (subst (λ n. place at < n) c.loop-place.invariant.long (inside at)))
-
-pub take_source_packet-requires-clause-held : goal.take_source_packet-requires-clause-held
-take_source_packet-requires-clause-held c =
-    let here = c.args.queue.now.here in
-    let at = (goal.at.take_source_packet-requires-clause-held c).After-index_mut-row in
-    subst (λ (r : ServedRow). held_packets r.lead c.loop-place.queue.here ≡ held_packets r.lead (take c.len-before.result c.loop-place.queue.here)) (sym (was at))
-    (still-held c.args.bounds.now here c.args.clock c.args.queue.now.taken c.args.rows.now.items (place at) c.loop-place.rows.items c.loop-place.queue.here c.loop-place.queue.taken c.loop-place.lost c.index_mut-row.result.now (so at) c.requires.may.apart c.requires.may.leads (subst (λ n. place at < n) c.loop-place.invariant.long (inside at))
-    ∙ ap (held_packets (get_or c.args.rows.now.items (place at) c.index_mut-row.result.now).lead) (sym c.loop-place.invariant.front))
 
 -- its packet is one of those for which there is room
 fits : (c : After-index_mut-row) → taken_by (step c) ≤ length (brought_by c.args.bounds.now c.args.queue.now.here c.args.clock c.loop-place.queue.taken (drop (place c) c.args.rows.now.items))
@@ -167,10 +164,9 @@ loop-place-preserved c =
       begun = (let begun = was.begun in omega (arith, begun, c.put_plan.ensures.clock));
       told = told-after c.args.turns.now c.loop-place.place-index c.loop-place.calendar.entries c.put_plan.new.calendar.entries rows new c.loop-place-test.true (inside at) was.told c.put_plan.ensures.others c.put_plan.ensures.own;
       spare = room-after (length c.args.turns.now) c.loop-place.place-index c.loop-place.calendar c.put_plan.new.calendar rows (place at) new d c.loop-place-test.true (inside at) was.spare c.put_plan.ensures.room;
-      before = front-within c.len-before.result queue.here here _ was.before brought;
-      front = front-same c.len-before.result queue.here here _ was.before brought ∙ was.front;
       kept = still-kept c.args.queue.now queue c.take_source_packet.new.queue _ _ was.kept made.kept;
       looked = made.looked;
+      departed = map-set_same departed_in rows (place at) new d (made.departed ∙ ap departed_in own) ∙ was.departed;
     }
 
 -- the loop has gone through all turns

@@ -1,5 +1,6 @@
 -- What the turns so far have done.
-use Rattle.std.proofs.Common.{◌≡◌, ◌+◌, ◌-◌, ◌<◌, ◌≤◌, ℕ, false, length, map, take, drop, get_or}
+use Rattle.std.proofs.Common.{◌≡◌, ◌+◌, ◌-◌, ◌<◌, ◌≤◌, ℕ, false, length, map, drop, get_or}
+use Rattle.link_server.specs.Departed.{departed_in}
 use Rattle.link_server.specs.Plans.{IsTold, idle_in, is_turn}
 use Rattle.link_server.proofs.Words.{row_in, ServedRow}
 use Rattle.link_server.proofs.Sourcing.Rows.{HaveStepped}
@@ -14,8 +15,7 @@ invariant-loop-place l = record {
   begun : l.calendar.clock ≤ l.clock;
   told : (place : ℕ) (d : ServedRow) → place < length l.rows.items → is_turn (drop l.place-index l.turns) place ≡ false → IsTold l.calendar.entries (row_in (get_or l.rows.items place d));
   spare : idle_in (map row_in l.rows.items) + (length l.turns - l.place-index) ≤ l.calendar.spare;
-  before : l.before ≤ length l.queue.here;
-  front : take l.before l.queue.here ≡ l.fn.queue.here;
   kept : l.queue ≡ record l.fn.queue { taken = l.queue.taken; here = l.queue.here; looked = l.queue.looked };
   looked : l.queue.looked ≤ l.clock;
+  departed : map departed_in l.rows.items ≡ map departed_in l.fn.rows.items;
 }

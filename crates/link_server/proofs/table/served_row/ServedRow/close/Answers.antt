@@ -3,6 +3,6 @@ use Rattle.std.proofs.Common.{refl}
 use Rattle.link_steps.specs.Rows.{planned_from}
 use Rattle.link_server.proofs.table.served_row.ServedRow.close.Goals as goal
 
-pub returns : goal.returns
+pub returns-clause-row : goal.returns-clause-row
 unfolding planned_from
-returns c = refl
+returns-clause-row c = refl

@@ -8,8 +8,8 @@ use Rattle.link_server.proofs.table.served_row.ServedRow.new.Goals as goal
 abbrev with_recent : Reservation → List ℕ → KeptRow
 with_recent terms recent = record { terms = terms; lead = 0; taken = 0; recent = recent; left = [] }
 
-pub returns : goal.returns
+pub returns-clause-row : goal.returns-clause-row
 unfolding planned_from
-returns c =
+returns-clause-row c =
     ap (with_recent (tentative c.args.wanted.now.chan c.args.wanted.now.contract c.args.wanted.now.kind c.args.wanted.now.first c.args.wanted.now.next c.args.wanted.now.up_reach c.args.offer.now.level c.args.offer.now.reach))
     (ap (λ kept. kept.recent) c.in_ok-regulator.ensures.value)

@@ -9,7 +9,7 @@ use Rattle.link_server.proofs.table.served_row.ServedRow.plan.Goals as goal
 abbrev with_left : ServedRow → List SourcePacket → KeptRow
 with_left row left = record (row_in row) { left = left }
 
-pub returns : goal.returns
-returns c =
+pub returns-clause-row : goal.returns-clause-row
+returns-clause-row c =
     ap (with_left c.args.self.now)
     (after-none (left_in c.args.self.now.planned) (planned_from c.args.planned.tick c.args.planned.gap c.args.planned.size c.args.planned.count) c.requires)

@@ -1,0 +1,82 @@
+-- The rows of a table are counted, with what is here of their packets, through the changes of the table and of the queue.
+use Rattle.std.proofs.Common.{◌≡◌, ℕ, zero, suc, ◌-◌, ◌<◌, true, false, ◌&&◌, Some, List, [], ◌∷◌, ◌++◌, length, map, get_or, set, refl, sym, ap, ◌∙◌, subst, arith}
+use Rattle.link_server.proofs.Words.{IfSome, nat_eq, nat_lt, if◌then◌else◌, remove, slice_get, held_packets, Arrival, KeptQueue, KeptRow, KeptTable, LinkState, ServedRow, row_in, is_served_row_of, IsAbsent}
+use Rattle.link_server.specs.Changes.{changed_at}
+use Rattle.link_server.specs.Departed.{AreCounted, IsCounted, departed_after, departed_in}
+
+module _ (here : List Arrival) where
+  -- one row is changed
+  pub rows-changed : (change : KeptRow → KeptRow) → ((row : KeptRow) (n : ℕ) → IsCounted here row n → IsCounted here (change row) n) → (rows : List KeptRow) (ns : List ℕ) (i : ℕ) → AreCounted here rows ns → AreCounted here (changed_at change rows i) ns
+  unfolding changed_at
+  rows-changed change keeps [] ns i each = each
+  rows-changed change keeps (row ∷ rows) (n ∷ ns) zero each = (keeps row n each.0, each.1)
+  rows-changed change keeps (row ∷ rows) (n ∷ ns) (suc i) each = (each.0, rows-changed change keeps rows ns i each.1)
+  rows-changed change keeps (row ∷ rows) [] i each = absurd each
+
+  -- taken out
+  pub counted-removed : (rows : List KeptRow) (ns : List ℕ) (i : ℕ) → AreCounted here rows ns → AreCounted here (remove rows i) (remove ns i)
+  counted-removed [] [] zero each = tt
+  counted-removed [] [] (suc i) each = tt
+  counted-removed (row ∷ rows) (n ∷ ns) zero each = each.1
+  counted-removed (row ∷ rows) (n ∷ ns) (suc i) each = (each.0, counted-removed rows ns i each.1)
+  counted-removed [] (n ∷ ns) i each = absurd each
+  counted-removed (row ∷ rows) [] i each = absurd each
+
+  -- and added
+  pub counted-added : (rows : List KeptRow) (ns : List ℕ) (row : KeptRow) (n : ℕ) → AreCounted here rows ns → IsCounted here row n → AreCounted here (rows ++ row ∷ []) (ns ++ n ∷ [])
+  counted-added [] [] row n each new = (new, tt)
+  counted-added (r ∷ rows) (m ∷ ns) row n each new = (each.0, counted-added rows ns row n each.1 new)
+  counted-added [] (m ∷ ns) row n each new = absurd each
+  counted-added (r ∷ rows) [] row n each new = absurd each
+
+  -- so is the row that is seen, and the one that stands at a place
+  pub counted-seen : (rows : List KeptRow) (ns : List ℕ) (i : ℕ) (row : KeptRow) (n : ℕ) → slice_get rows i ≡ Some row → slice_get ns i ≡ Some n → AreCounted here rows ns → IsCounted here row n
+  counted-seen [] ns i row n at many each = cc
+  counted-seen (r ∷ rows) (m ∷ ns) zero row n at many each = subst (λ o. IfSome o (λ x. IsCounted here x n)) at (subst (λ o. IfSome o (IsCounted here r)) many each.0)
+  counted-seen (r ∷ rows) (m ∷ ns) (suc i) row n at many each = counted-seen rows ns i row n at many each.1
+  counted-seen (r ∷ rows) [] i row n at many each = absurd each
+
+  pub counted-at : (rows : List ServedRow) (i : ℕ) (d : ServedRow) → i < length rows → AreCounted here (map row_in rows) (map departed_in rows) → IsCounted here (row_in (get_or rows i d)) (get_or rows i d).departed
+  counted-at [] i d inside each = absurd (omega arith)
+  counted-at (row ∷ rows) zero d inside each = each.0
+  counted-at (row ∷ rows) (suc i) d inside each = counted-at rows i d (omega (arith, inside)) each.1
+
+-- ---- a packet departs
+
+-- of no row
+pub none-departs : (p : Arrival) (rows : List ServedRow) → IsAbsent p.chan rows → map departed_in rows ≡ departed_after (Some p) (map row_in rows) (map departed_in rows)
+none-departs p [] absent = refl
+none-departs p (row ∷ rows) absent =
+    let rest = none-departs p rows (λ k d inside. absent (suc k) d (omega (arith, inside))) in
+    rw (absent 0 row (omega arith)) (ap (λ all. row.departed ∷ all) rest)
+
+-- of the row at a place, the only one of its channel, if it has its lead and one here
+pub one-departs : (p : Arrival) (rows : List ServedRow) (i : ℕ) (new d : ServedRow) → i < length rows → is_served_row_of p.chan (get_or rows i d) ≡ true
+    → ((k : ℕ) (d : ServedRow) → k < length rows → (k ≡ i → ⊥) → is_served_row_of p.chan (get_or rows k d) ≡ false)
+    → new.departed ≡ (if nat_eq (get_or rows i d).lead p.lead && nat_lt (get_or rows i d).departed (get_or rows i d).taken then suc (get_or rows i d).departed else (get_or rows i d).departed)
+    → map departed_in (set rows i new) ≡ departed_after (Some p) (map row_in rows) (map departed_in rows)
+one-departs p [] i new d inside own others counts = absurd (omega arith)
+one-departs p (row ∷ rows) zero new d inside own others counts =
+    let rest = none-departs p rows (λ k e within. others (suc k) e (omega (arith, within)) (λ same. absurd (omega (arith, same)))) in
+    rw own (ap (λ n. n ∷ map departed_in rows) counts ∙ ap (λ all. (if nat_eq row.lead p.lead && nat_lt row.departed row.taken then suc row.departed else row.departed) ∷ all) rest)
+one-departs p (row ∷ rows) (suc i) new d inside own others counts =
+    let rest = one-departs p rows i new d (omega (arith, inside)) own (λ k e within other. others (suc k) e (omega (arith, within)) (λ same. other (omega (arith, same)))) counts in
+    rw (others 0 row (omega arith) (λ same. absurd (omega (arith, same)))) (ap (λ all. row.departed ∷ all) rest)
+
+-- ---- a link
+
+-- a row is changed that keeps its channel, its lead and its packets
+pub counted-changed : (link : LinkState) (new : KeptTable) (looked : ℕ) (change : KeptRow → KeptRow) (place : ℕ) → ((row : KeptRow) (n : ℕ) → IsCounted link.queue.here row n → IsCounted link.queue.here (change row) n) → new ≡ record link.table { rows = changed_at change link.table.rows place; looked = looked }
+    → AreCounted link.queue.here new.rows new.departed
+counted-changed link new looked change place keeps same =
+    subst (λ (table : KeptTable). AreCounted link.queue.here table.rows table.departed) (sym same) (rows-changed link.queue.here change keeps link.table.rows link.table.departed place link.counted)
+
+-- the queue changes, and no packet comes or goes
+pub counted-still : (link : LinkState) (queue : KeptQueue) (table : KeptTable) → queue.here ≡ link.queue.here → table ≡ link.table → AreCounted queue.here table.rows table.departed
+counted-still link queue table here same = subst (λ all. AreCounted all table.rows table.departed) (sym here) (subst (λ (t : KeptTable). AreCounted link.queue.here t.rows t.departed) (sym same) link.counted)
+
+-- what a row tells of its packets here
+pub held-here : (link : LinkState) (place : ℕ) (row : ServedRow) → slice_get link.table.rows place ≡ Some (row_in row) → slice_get link.table.departed place ≡ Some row.departed → row.taken - row.departed ≡ held_packets row.lead link.queue.here
+held-here link place row at departed =
+    let counted = (counted-seen link.queue.here link.table.rows link.table.departed place (row_in row) row.departed at departed link.counted).taken in
+    omega (arith, counted)
