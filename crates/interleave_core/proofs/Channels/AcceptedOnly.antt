@@ -28,7 +28,8 @@ use Rattle.interleave_core.proofs.Channels.ChainLaw.{open-or-not, owner-now}
 use Rattle.interleave_core.proofs.Channels.FarHolds.{first-same, OwnKind, OwnOff, OwnAside, OwnSetup, OwnSend, OwnClose, own-kind, hop-comes, committed-comes}
 use Rattle.setup_protocol.proofs.HopHolds.{IsTail, HopStands, reserved_of, View, OnWay, Back, Forth, view}
 use Rattle.interleave_core.proofs.Channels.RowsFollow.{held_at, SetupRows}
-use Rattle.interleave_core.proofs.Replies.RunCloses.{ClosesAt, run-closes, owned-once}
+use Rattle.interleave_core.proofs.Replies.ClosingStands.{ClosesAt}
+use Rattle.interleave_core.proofs.Replies.RunCloses.{run-closes, owned-once}
 use Rattle.call_script.specs.Owners.{OwnedFully}
 use Rattle.interleave_core.proofs.Replies.RunGoes.{GoesAt, run-goes, owned-asked, tasks-off, plane-off-ask, off-standing, off-mild, other-outcome, outcome-own, Before, Under, After}
 use Rattle.interleave_core.proofs.Runs.RunLegal.{plane-next, caller-next, run-stands, replies-off}

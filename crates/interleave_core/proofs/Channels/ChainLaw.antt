@@ -38,7 +38,9 @@ use Rattle.hop_reservation.proofs.RouteFacts.{index-apart}
 use Rattle.setup_protocol.proofs.HopHolds.{IsComm, IsTail, HopStands, reserved_of}
 use Rattle.interleave_core.proofs.Channels.RowsFollow.{held_at, held-here, held-elsewhere, hop-reply, same-held}
 use Rattle.call_script.specs.Owners.{OwnedFully}
-use Rattle.interleave_core.proofs.Replies.RunCloses.{ClosesAt, AllComm, comm-later, run-closes, owned-once, head-same}
+use Rattle.interleave_core.proofs.Replies.ClosingStands.{ClosesAt, AllComm, comm-later}
+use Rattle.interleave_core.proofs.Replies.ClosingSteps.{head-same}
+use Rattle.interleave_core.proofs.Replies.RunCloses.{run-closes, owned-once}
 use Rattle.interleave_core.proofs.Replies.RunGoes.{GoesAt, run-goes, owned-asked, tasks-off, plane-off-ask, off-standing, off-mild}
 use Rattle.interleave_core.proofs.Runs.RunLegal.{plane-next, caller-next, replies-by, replies-off, run-stands}
 use Rattle.channel_laws.specs.Reservations.{IsReleased}

@@ -57,7 +57,8 @@ use Rattle.interleave_core.proofs.Channels.ChannelsAt.{stands-at}
 use Rattle.interleave_core.proofs.Channels.HopsAt.{hop-at}
 use Rattle.setup_protocol.proofs.HopHolds.{IsComm}
 use Rattle.interleave_core.proofs.Channels.RowsFollow.{held_at, held-here, held-elsewhere, hop-may, SetupRows, setup-goes}
-use Rattle.interleave_core.proofs.Replies.RunCloses.{ClosesAt, Early, Denied, Fresh, Open, Closing, MovingFrom, MovingOnto, Over, AllComm, FreshFirst, left_in, left_by, not-own, head-same, goes-rows}
+use Rattle.interleave_core.proofs.Replies.ClosingStands.{ClosesAt, Early, Denied, Fresh, Open, Closing, MovingFrom, MovingOnto, Over, AllComm, FreshFirst, left_in, left_by}
+use Rattle.interleave_core.proofs.Replies.ClosingSteps.{not-own, head-same, goes-rows}
 use Rattle.call_script.specs.Owners.{TaskOff}
 use Rattle.interleave_core.proofs.Replies.RunGoes.{GoesAt, task-off, is-run}
 use Rattle.interleave_core.proofs.Runs.RunLegal.{part-on, part-off, part-admissible}

@@ -29,7 +29,9 @@ use Rattle.interleave_core.specs.runs.Runs.{IsNext, IsRun}
 use Rattle.call_script.specs.Scripts.{Learnt, task_ask, settled_as, continued, resumed, standing, first_ask, ask_at, outcome_in}
 use Rattle.interleave_core.proofs.Tasks.CallerFacts.{StandingFits, offers-go-on, standing-more, nothing-asked}
 use Rattle.call_script.specs.Owners.{OwnedFully}
-use Rattle.interleave_core.proofs.Replies.RunCloses.{ClosesAt, Early, Denied, Fresh, MovingFrom, MovingOnto, Open, Closing, Over, run-closes, head-same}
+use Rattle.interleave_core.proofs.Replies.ClosingStands.{ClosesAt, Early, Denied, Fresh, MovingFrom, MovingOnto, Open, Closing, Over}
+use Rattle.interleave_core.proofs.Replies.ClosingSteps.{head-same}
+use Rattle.interleave_core.proofs.Replies.RunCloses.{run-closes}
 use Rattle.call_script.specs.Owners.{TaskOff}
 use Rattle.interleave_core.proofs.Runs.RunLegal.{caller-next, replies-by, replies-off, run-stands, answered-may}
 use Rattle.channel_laws.specs.Asks.{MayReplyTo}

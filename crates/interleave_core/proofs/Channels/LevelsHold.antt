@@ -30,7 +30,8 @@ use Rattle.interleave_core.proofs.Channels.FarHolds.{first-same, OwnKind, OwnOff
 use Rattle.channel_laws.proofs.HoldFates.{Fate, FateOpen, FateClosing, FateGone}
 use Rattle.setup_protocol.proofs.HopHolds.{IsTail, HopStands, reserved_of}
 use Rattle.interleave_core.proofs.Channels.RowsFollow.{held_at, SetupRows, AfterRows, comm-kept}
-use Rattle.interleave_core.proofs.Replies.RunCloses.{ClosesAt, AllComm, comm-later, run-closes, owned-once}
+use Rattle.interleave_core.proofs.Replies.ClosingStands.{ClosesAt, AllComm, comm-later}
+use Rattle.interleave_core.proofs.Replies.RunCloses.{run-closes, owned-once}
 use Rattle.call_script.specs.Owners.{OwnedFully}
 use Rattle.interleave_core.proofs.Replies.RunGoes.{HopLevels, levels-settled, levels-later, after-later, GoesAt, run-goes, owned-asked, tasks-off, plane-off-ask, off-standing, off-mild, is-run}
 use Rattle.interleave_core.proofs.Runs.RunLegal.{plane-next, caller-next, run-stands}

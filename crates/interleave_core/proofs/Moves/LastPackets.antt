@@ -41,7 +41,8 @@ use Rattle.interleave_core.specs.runs.Runs.{plane_no, plane_at, IsNext, IsRun}
 use Rattle.interleave_core.proofs.Tasks.CallerFacts.{standing-more}
 use Rattle.interleave_core.proofs.Tasks.OnceFacts.{once-asked}
 use Rattle.interleave_core.proofs.Replies.Replying.{moves-plan}
-use Rattle.interleave_core.proofs.Replies.RunCloses.{setup-unsent, off-unsent}
+use Rattle.interleave_core.proofs.Replies.ClosingStands.{off-unsent}
+use Rattle.interleave_core.proofs.Replies.RunCloses.{setup-unsent}
 use Rattle.interleave_core.proofs.Replies.RunGoes.{tasks-off, plane-off-ask, off-standing}
 use Rattle.interleave_core.proofs.Runs.RunLegal.{plane-next, caller-next, replies-by, replies-off, run-stands, part-on, part-off}
 use Rattle.interleave_core.proofs.Moves.SizesKept.{NamesIs, run-sized}

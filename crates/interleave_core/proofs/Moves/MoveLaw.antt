@@ -33,7 +33,9 @@ use Rattle.interleave_core.specs.runs.Runs.{plane_no, plane_at, IsNext, IsRun}
 use Rattle.interleave_core.proofs.Tasks.CallerFacts.{standing-more}
 use Rattle.interleave_core.proofs.Channels.ChainLaw.{leaves-frozen}
 use Rattle.interleave_core.proofs.Channels.FarHolds.{Frozen, frozen-later, IsLeaving, told-kept}
-use Rattle.interleave_core.proofs.Replies.RunCloses.{ClosesAt, Early, Denied, Fresh, Open, Closing, MovingFrom, MovingOnto, Over, FirstOff, owned-once, run-closes, head-same}
+use Rattle.interleave_core.proofs.Replies.ClosingStands.{ClosesAt, Early, Denied, Fresh, Open, Closing, MovingFrom, MovingOnto, Over, FirstOff}
+use Rattle.interleave_core.proofs.Replies.ClosingSteps.{head-same}
+use Rattle.interleave_core.proofs.Replies.RunCloses.{owned-once, run-closes}
 use Rattle.interleave_core.proofs.Replies.RunGoes.{GoesAt, Before, Under, After, run-goes, owned-asked, tasks-off, plane-off-ask, off-standing, off-mild, mild-tasks}
 use Rattle.interleave_core.proofs.Runs.RunLegal.{plane-next, caller-next, replies-by, replies-off}
 

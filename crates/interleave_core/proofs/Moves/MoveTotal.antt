@@ -46,7 +46,9 @@ use Rattle.interleave_core.proofs.Moves.Emptied.{uncancelled, none-left-closing}
 use Rattle.interleave_core.proofs.Channels.FarHolds.{Frozen, NoRelease, IsLeaving, OwnKind, OwnOff, OwnAside, OwnSetup, OwnSend, OwnClose, own-kind}
 use Rattle.interleave_core.proofs.Moves.MoveLaw.{MoveTold, Was, Now, continued-told, move-own, no-moves, run-moved}
 use Rattle.interleave_core.proofs.Channels.RowsFollow.{held_at, hop-may}
-use Rattle.interleave_core.proofs.Replies.RunCloses.{ClosesAt, owned-once, run-closes, head-same}
+use Rattle.interleave_core.proofs.Replies.ClosingStands.{ClosesAt}
+use Rattle.interleave_core.proofs.Replies.ClosingSteps.{head-same}
+use Rattle.interleave_core.proofs.Replies.RunCloses.{owned-once, run-closes}
 use Rattle.interleave_core.proofs.Replies.RunGoes.{GoesAt, run-goes, owned-asked, tasks-off, plane-off-ask, off-standing}
 use Rattle.interleave_core.proofs.Runs.RunLegal.{plane-next, caller-next, replies-by, replies-off, run-stands, part-on, part-off, part-admissible}
 use Rattle.interleave_core.proofs.Moves.TotalLaw.{none-lost, release-cancels}

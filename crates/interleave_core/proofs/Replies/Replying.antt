@@ -20,7 +20,7 @@ use Rattle.interleave_core.specs.channels.Moves.{plan_in, plan_at, EveryMovePlan
 use Rattle.interleave_core.proofs.Channels.HopsAt.{hop-at}
 use Rattle.channel_laws.specs.Unsent.{IsPlanned}
 use Rattle.channel_laws.proofs.UnsentPlans.{unsent-left}
-use Rattle.interleave_core.proofs.Replies.RunCloses.{AllComm, Unsent, IsUnjoined}
+use Rattle.interleave_core.proofs.Replies.ClosingStands.{AllComm, Unsent, IsUnjoined}
 use Rattle.interleave_core.proofs.Runs.RunLegal.{part-on}
 use Rattle.std.specs.Prelude.{◌≤◌}
 use Rattle.net_units.specs.declared.numbers.ChanNo.{ChanNo}
@@ -68,7 +68,9 @@ use Rattle.run_record.specs.Runs.{replies_to, part_of}
 use Rattle.run_record.specs.declared.done.Done.{Done}
 use Rattle.tick_plane.specs.Planes.{next_due, ask_due, answers_arrive, answers_tick, plane_expects}
 use Rattle.tick_plane.specs.declared.flight.Flight.{Flight}
-use Rattle.interleave_core.proofs.Replies.RunCloses.{IsUsualReply, FirstUsual, IfReleased, IfPlanned, ClosesAt, Early, Denied, Fresh, Open, Closing, MovingFrom, MovingOnto, Over, FirstOff, owned-once, run-closes, replies-usual, head-same}
+use Rattle.interleave_core.proofs.Replies.ClosingStands.{ClosesAt, Early, Denied, Fresh, Open, Closing, MovingFrom, MovingOnto, Over, FirstOff}
+use Rattle.interleave_core.proofs.Replies.ClosingSteps.{IsUsualReply, FirstUsual, IfReleased, IfPlanned, head-same}
+use Rattle.interleave_core.proofs.Replies.RunCloses.{owned-once, run-closes, replies-usual}
 use Rattle.interleave_core.proofs.Replies.RunGoes.{off-standing, setup-expected}
 use Rattle.interleave_core.proofs.Runs.RunLegal.{AsksOf, plane-next, caller-next}
 use Rattle.setup_protocol.proofs.HopAsks.{of-hop}

@@ -98,7 +98,6 @@ task-few links (Moves old new gap size) replies to ask fits are same = by (move-
   by (AsksRest told made stage at is) = (let few = rest-length replies told made stage in let inside = slice_get_within old.route made at.hop at.stands in omega (arith, few.0, inside))
 
 moves-most : (old new : Request) (gap size other_gap other_size : ℕ) → most_steps (Moves old new gap size) ≡ most_steps (Moves old new other_gap other_size)
-unfolding most_steps
 moves-most old new gap size other_gap other_size = refl
 
 ready-most : (outcomes : List Learnt) (task : Task) → most_steps (ready outcomes task) ≡ most_steps task
