@@ -1,11 +1,10 @@
 //! Scenarios over one link whose reports are worked by hand. The numbers of each contract come from counting its
 //! packets: `5 10 20 2` brings at most two packets of two units in 10 or 20 ticks, and four in 40.
 
-use crate::playing::play;
 use crate::status::Status;
 use crate::top::top;
-use byte_ends::{MemSink, MemSource};
-use net_units::NoGate;
+use byte_ends::{MemSink, MemSource, Sink, Source};
+use net_units::{Gate, NoGate};
 use scenario_reader::Cause;
 use std::alloc::Global;
 use std::process::Abort;
@@ -17,6 +16,7 @@ mod audits;
 mod faults;
 mod loads;
 mod many;
+mod meeting;
 mod networks;
 mod races;
 mod runs;
@@ -170,6 +170,83 @@ const SOUND: Ends = Ends {
     failing_write: 0,
 };
 
+const FAILING_SOURCE: Ends = Ends {
+    failing_read: 1,
+    ..SOUND
+};
+
+const SHORT_SINK: Ends = Ends {
+    piece: 4,
+    failing_write: 2,
+    ..SOUND
+};
+
+// How the program ends, and whether it hands back a race. What `top` ensures is long, and isn't known after this.
+fn ended<R: Threads + Wait + Sync, S: Source, K: Sink, G: Gate + Sync>(
+    rt: &R,
+    alloc: Global,
+    words: &[String],
+    source: &mut S,
+    sink: &mut K,
+    gate: &G,
+) -> (Status, bool) {
+    let ended = top(rt, alloc, words, source, sink, gate);
+    (ended.status, ended.raced.is_some())
+}
+
+fn strings(alloc: Global, words: &[&str]) -> Result<Vec<String>, Fail> {
+    let mut strings = Vec::new(alloc);
+    for word in words {
+        strings.push(String::from_str(alloc, word)?)?;
+    }
+    Ok(strings)
+}
+
+// What a run of the program in memory has come to.
+#[derive(Drop)]
+struct Outcome {
+    status: Status,
+    raced: bool,
+    bytes: Vec<u8>,
+}
+
+fn source(alloc: Global, input: &[u8], ends: Ends) -> Result<MemSource, Fail> {
+    if ends.block == 0 {
+        return Err(Fail::from("a read of no bytes"));
+    }
+    let input = Vec::from_slice(alloc, input)?;
+    let failing = Vec::from_slice(alloc, &[ends.failing_read])?;
+    Ok(MemSource::new(input, ends.block, failing))
+}
+
+fn sink(alloc: Global, ends: Ends) -> Result<MemSink, Fail> {
+    if ends.piece == 0 {
+        return Err(Fail::from("a write of no bytes"));
+    }
+    let failing = Vec::from_slice(alloc, &[ends.failing_write])?;
+    Ok(MemSink::new(alloc, 200_000, ends.piece, failing)?)
+}
+
+fn run<R: Threads + Wait + Sync, G: Gate + Sync>(
+    rt: &R,
+    alloc: Global,
+    words: &[&str],
+    input: &[u8],
+    ends: Ends,
+    gate: &G,
+) -> Result<Outcome, Fail> {
+    let words = strings(alloc, words)?;
+    let mut source = source(alloc, input, ends)?;
+    let mut sink = sink(alloc, ends)?;
+    let (status, raced) = ended(rt, alloc, words.as_slice(), &mut source, &mut sink, gate);
+    let bytes = Vec::from_slice(alloc, sink.bytes())?;
+    Ok(Outcome {
+        status,
+        raced,
+        bytes,
+    })
+}
+
 // A run of the program in memory ends with this status and has written this text.
 fn ends_with<R: Threads + Wait + Abort + Sync>(
     rt: &R,
@@ -179,19 +256,9 @@ fn ends_with<R: Threads + Wait + Abort + Sync>(
     ends: Ends,
     (status, text): (Status, &str),
 ) -> Result<(), Fail> {
-    let mut said = Vec::new(alloc);
-    for word in words {
-        said.push(String::from_str(alloc, word)?)?;
-    }
-    assert!(rt; 1 <= ends.block && 1 <= ends.piece);
-    let input = Vec::from_slice(alloc, input)?;
-    let failing_reads = Vec::from_slice(alloc, &[ends.failing_read])?;
-    let failing_writes = Vec::from_slice(alloc, &[ends.failing_write])?;
-    let mut source = MemSource::new(input, ends.block, failing_reads);
-    let mut sink = MemSink::new(alloc, 200_000, ends.piece, failing_writes)?;
-    let ended = top(rt, alloc, said.as_slice(), &mut source, &mut sink, &NoGate);
-    assert_eq!(rt; ended.status, status);
-    assert_eq!(rt; sink.bytes(), text.as_bytes());
+    let run = run(rt, alloc, words, input, ends, &NoGate)?;
+    assert_eq!(rt; run.status, status);
+    assert_eq!(rt; run.bytes.as_slice(), text.as_bytes());
     Ok(())
 }
 
@@ -210,63 +277,105 @@ fn refused(line: u64, cause: Cause) -> Status {
     Status::Refused { line, cause }
 }
 
-#[test]
-fn reports_of_one_link(rt: HostRuntime) -> Result<(), Fail> {
-    for case in CASES {
+fn report_so<R: Threads + Wait + Abort + Sync>(
+    rt: &R,
+    alloc: Global,
+    cases: &[Case],
+) -> Result<(), Fail> {
+    for case in cases {
         let bounds = case.bounds;
         let caller = case.caller;
-        let input = format!(in rt.alloc();
+        let input = format!(in alloc;
             "tenet 1\nlink A n1 n2 rate 1 cap 4 prop 2 buffer 100 levels {bounds}\n{caller}rounds 0\ntail 0\n"
         )?;
-        plays(&rt, rt.alloc(), input.as_bytes(), Status::Done, case.report)?;
+        plays(rt, alloc, input.as_bytes(), Status::Done, case.report)?;
     }
     Ok(())
 }
 
 #[test]
-fn a_run_that_stops_says_why(rt: HostRuntime) -> Result<(), Fail> {
-    let alloc = rt.alloc();
-    let first = FIRST.as_bytes();
-    let short_sink = Ends {
-        piece: 4,
-        failing_write: 2,
-        ..SOUND
-    };
-    let told = (Status::WriteFault, "acce");
-    ends_with(&rt, alloc, &["play"], first, short_sink, told)?;
-    let failing_source = Ends {
-        failing_read: 1,
-        ..SOUND
-    };
-    let told = (Status::ReadFault, "");
-    ends_with(&rt, alloc, &["play"], first, failing_source, told)?;
-    // The first read gives all bytes, and the second fails where it would tell their end.
-    let failing_end = Ends {
-        failing_read: 2,
-        ..SOUND
-    };
-    ends_with(&rt, alloc, &["play"], first, failing_end, told)?;
-    // The first read gives a whole line that is refused, so there is no second one to fail.
-    let failing_after = Ends {
-        block: 8,
-        ..failing_end
-    };
-    let told = (refused(1, Cause::Header), "refused 1 header\n");
-    ends_with(&rt, alloc, &["play"], b"tenet 9\nlink", failing_after, told)?;
-    let told = (Status::Words, "");
-    ends_with(&rt, alloc, &[], first, SOUND, told)?;
-    ends_with(&rt, alloc, &["fly"], first, SOUND, told)?;
-    ends_with(&rt, alloc, &["play", "play"], first, SOUND, told)?;
-    ends_with(&rt, alloc, &["--packets"], first, SOUND, told)?;
-    ends_with(
-        &rt,
-        alloc,
-        &["play", "--packets", "--packets"],
-        first,
-        SOUND,
-        told,
-    )?;
+fn reports_of_one_link(rt: HostRuntime) -> Result<(), Fail> {
+    report_so(&rt, rt.alloc(), &CASES)
+}
+
+// The words, the input, how the ends behave, the status and what is written.
+type Row = (
+    &'static [&'static str],
+    &'static str,
+    Ends,
+    Status,
+    &'static str,
+);
+
+// Each run ends so. A table is gone through where its rows aren't known, which keeps them out of the facts of each step.
+fn end_so<R: Threads + Wait + Abort + Sync>(
+    rt: &R,
+    alloc: Global,
+    rows: &[Row],
+) -> Result<(), Fail> {
+    for (words, input, ends, status, text) in rows {
+        let told = (*status, *text);
+        ends_with(rt, alloc, words, input.as_bytes(), *ends, told)?;
+    }
     Ok(())
+}
+
+// These words, each with this input, do nothing.
+fn are_wrong<R: Threads + Wait + Abort + Sync>(
+    rt: &R,
+    alloc: Global,
+    wrong: &[&[&str]],
+    input: &str,
+) -> Result<(), Fail> {
+    for words in wrong {
+        let told = (Status::Words, "");
+        ends_with(rt, alloc, words, input.as_bytes(), SOUND, told)?;
+    }
+    Ok(())
+}
+
+const STOPS: [Row; 9] = [
+    (&["play"], FIRST, SHORT_SINK, Status::WriteFault, "acce"),
+    (&["play"], FIRST, FAILING_SOURCE, Status::ReadFault, ""),
+    // The first read gives all bytes, and the second fails where it would tell their end.
+    (&["play"], FIRST, FAILING_END, Status::ReadFault, ""),
+    // The first read gives a whole line that is refused, so there is no second one to fail.
+    (
+        &["play"],
+        "tenet 9\nlink",
+        FAILING_AFTER,
+        Status::Refused {
+            line: 1,
+            cause: Cause::Header,
+        },
+        "refused 1 header\n",
+    ),
+    (&[], FIRST, SOUND, Status::Words, ""),
+    (&["fly"], FIRST, SOUND, Status::Words, ""),
+    (&["play", "play"], FIRST, SOUND, Status::Words, ""),
+    (&["--packets"], FIRST, SOUND, Status::Words, ""),
+    (
+        &["play", "--packets", "--packets"],
+        FIRST,
+        SOUND,
+        Status::Words,
+        "",
+    ),
+];
+
+const FAILING_END: Ends = Ends {
+    failing_read: 2,
+    ..SOUND
+};
+
+const FAILING_AFTER: Ends = Ends {
+    block: 8,
+    ..FAILING_END
+};
+
+#[test]
+fn a_run_that_stops_says_why(rt: HostRuntime) -> Result<(), Fail> {
+    end_so(&rt, rt.alloc(), &STOPS)
 }
 
 // Inputs, each with the line that is refused.
@@ -317,18 +426,20 @@ tail 0",
     ),
 ];
 
-#[test]
-fn the_first_bad_line_is_refused(rt: HostRuntime) -> Result<(), Fail> {
-    for (input, line, cause, text) in BAD_INPUTS {
-        plays(
-            &rt,
-            rt.alloc(),
-            input.as_bytes(),
-            refused(line, cause),
-            text,
-        )?;
+fn are_refused<R: Threads + Wait + Abort + Sync>(
+    rt: &R,
+    alloc: Global,
+    inputs: &[(&str, u64, Cause, &str)],
+) -> Result<(), Fail> {
+    for (input, line, cause, text) in inputs {
+        plays(rt, alloc, input.as_bytes(), refused(*line, *cause), text)?;
     }
     Ok(())
+}
+
+#[test]
+fn the_first_bad_line_is_refused(rt: HostRuntime) -> Result<(), Fail> {
+    are_refused(&rt, rt.alloc(), &BAD_INPUTS)
 }
 
 // A header, and after it a line of so many bytes that doesn't end.
@@ -342,34 +453,30 @@ fn header_and(alloc: Global, second: &[u8], bytes: usize) -> Result<Vec<u8>, Fai
 #[test]
 fn too_many_bytes_are_refused_after_the_whole_lines(rt: HostRuntime) -> Result<(), Fail> {
     let alloc = rt.alloc();
-    let full = header_and(alloc, b"", 4_194_304)?;
-    plays(
-        &rt,
-        alloc,
-        full.as_slice(),
-        refused(2, Cause::Cut),
-        "refused 2 cut\n",
-    )?;
-    let over = header_and(alloc, b"", 4_194_305)?;
-    plays(&rt, alloc, over.as_slice(), Status::TooLong, "")?;
-    let bad = header_and(alloc, b"caller k1\n", 4_194_305)?;
-    plays(
-        &rt,
-        alloc,
-        bad.as_slice(),
-        refused(2, Cause::Word),
-        "refused 2 word\n",
-    )?;
+    let word = b"caller k1\n".as_slice();
+    for (second, bytes, status, text) in [
+        (
+            b"".as_slice(),
+            4_194_304,
+            refused(2, Cause::Cut),
+            "refused 2 cut\n",
+        ),
+        (b"".as_slice(), 4_194_305, Status::TooLong, ""),
+        (word, 4_194_305, refused(2, Cause::Word), "refused 2 word\n"),
+    ] {
+        let input = header_and(alloc, second, bytes)?;
+        plays(&rt, alloc, input.as_slice(), status, text)?;
+    }
     Ok(())
 }
 
 #[test]
 fn it_reads_and_writes_in_pieces(rt: HostRuntime) -> Result<(), Fail> {
-    let alloc = rt.alloc();
-    let input = Vec::from_slice(alloc, FIRST.as_bytes())?;
-    let mut source = MemSource::new(input, 7, Vec::new(alloc));
-    let mut sink = MemSink::new(alloc, 2_000, 7, Vec::new(alloc))?;
-    assert_eq!(rt; play(alloc, false, &mut source, &mut sink), Status::Done);
-    assert_eq!(rt; sink.bytes(), FIRST_REPORT.as_bytes());
-    Ok(())
+    let ends = Ends {
+        block: 7,
+        piece: 7,
+        ..SOUND
+    };
+    let told = (Status::Done, FIRST_REPORT);
+    ends_with(&rt, rt.alloc(), &["play"], FIRST.as_bytes(), ends, told)
 }

@@ -1,6 +1,6 @@
 //! Tables of packets that are audited. The link sends a unit in a tick, has levels of 10, 20 and 40 ticks and a propagation of 2; the channel
 //! may send packets of up to 2 units, 5 ticks apart and two in any 20, and was accepted at level 1.
-use super::{Ends, SOUND, ends_with, refused};
+use super::{Ends, FAILING_SOURCE, SHORT_SINK, SOUND, ends_with};
 use crate::status::Status;
 use scenario_reader::Cause;
 use std::alloc::Global;
@@ -32,55 +32,85 @@ fn audits<R: Threads + Wait + Abort + Sync>(
     ends_with(rt, alloc, &["audit"], input.as_bytes(), ends, due)
 }
 
+// Three rows of a table, with the ticks of the last two.
+fn audits_rows<R: Threads + Wait + Abort + Sync>(
+    rt: &R,
+    alloc: Global,
+    (second, third): (&str, &str),
+    text: &str,
+) -> Result<(), Fail> {
+    let lines = format!(in alloc;
+        "report\naccept r1 delay 12 levels 1\nend steps 33\n{HEADER}\nr1,1,1,A,2,0,0,2\nr1,2,1,A,2,{second}\nr1,3,1,A,2,{third}\n"
+    )?;
+    audits(rt, alloc, lines.as_str(), SOUND, (Status::Done, text))
+}
+
 #[test]
 fn a_table_is_audited(rt: HostRuntime) -> Result<(), Fail> {
     let alloc = rt.alloc();
-    for (second, third, text) in [
-        ("10,10,12", "20,20,22", "audit ok 3\n"),
-        ("10,10,12", "20,20,31", "audit row 3 bound\n"),
-        ("10,9,12", "20,20,22", "audit row 2 eligible\n"),
-    ] {
-        let lines = format!(in alloc;
-            "report\naccept r1 delay 12 levels 1\nend steps 33\n{HEADER}\nr1,1,1,A,2,0,0,2\nr1,2,1,A,2,{second}\nr1,3,1,A,2,{third}\n"
-        )?;
-        audits(&rt, alloc, lines.as_str(), SOUND, (Status::Done, text))?;
+    audits_rows(&rt, alloc, ("10,10,12", "20,20,22"), "audit ok 3\n")?;
+    audits_rows(&rt, alloc, ("10,10,12", "20,20,31"), "audit row 3 bound\n")?;
+    audits_rows(
+        &rt,
+        alloc,
+        ("10,9,12", "20,20,22"),
+        "audit row 2 eligible\n",
+    )
+}
+
+// The lines after the scenario, how the ends behave, the status and what is written.
+const STOPS: [(&str, Ends, Status, &str); 5] = [
+    (
+        "",
+        SOUND,
+        Status::Refused {
+            line: 8,
+            cause: Cause::End,
+        },
+        "refused 8 end\n",
+    ),
+    (
+        "report\naccept r1 delay 13 levels 1\n",
+        SOUND,
+        Status::Refused {
+            line: 9,
+            cause: Cause::Accept,
+        },
+        "refused 9 accept\n",
+    ),
+    (
+        "report\n",
+        SOUND,
+        Status::Refused {
+            line: 9,
+            cause: Cause::Table,
+        },
+        "refused 9 table\n",
+    ),
+    ("report\n", FAILING_SOURCE, Status::ReadFault, ""),
+    (
+        "report\nchannel,packet,hop,link,size,at,eligible,departed\n",
+        Ends {
+            piece: 6,
+            ..SHORT_SINK
+        },
+        Status::WriteFault,
+        "audit ",
+    ),
+];
+
+fn audits_all<R: Threads + Wait + Abort + Sync>(
+    rt: &R,
+    alloc: Global,
+    rows: &[(&str, Ends, Status, &str)],
+) -> Result<(), Fail> {
+    for (lines, ends, status, text) in rows {
+        audits(rt, alloc, lines, *ends, (*status, *text))?;
     }
     Ok(())
 }
 
 #[test]
 fn an_audit_that_stops_says_why(rt: HostRuntime) -> Result<(), Fail> {
-    let alloc = rt.alloc();
-    let end = refused(8, Cause::End);
-    audits(&rt, alloc, "", SOUND, (end, "refused 8 end\n"))?;
-    let accept = refused(9, Cause::Accept);
-    let lines = "report\naccept r1 delay 13 levels 1\n";
-    audits(&rt, alloc, lines, SOUND, (accept, "refused 9 accept\n"))?;
-    let table = refused(9, Cause::Table);
-    audits(&rt, alloc, "report\n", SOUND, (table, "refused 9 table\n"))?;
-    let failing_source = Ends {
-        failing_read: 1,
-        ..SOUND
-    };
-    audits(
-        &rt,
-        alloc,
-        "report\n",
-        failing_source,
-        (Status::ReadFault, ""),
-    )?;
-    let short_sink = Ends {
-        piece: 6,
-        failing_write: 2,
-        ..SOUND
-    };
-    let lines = format!(in alloc; "report\n{HEADER}\n")?;
-    audits(
-        &rt,
-        alloc,
-        lines.as_str(),
-        short_sink,
-        (Status::WriteFault, "audit "),
-    )?;
-    Ok(())
+    audits_all(&rt, rt.alloc(), &STOPS)
 }

@@ -1,33 +1,36 @@
 //! Loads that are made from a number and a size. The summaries were worked by hand from the draws: of the number 1 the first request goes over three
 //! links and sends 12 packets, and the second over the other three and sends 16.
-use super::{Ends, SOUND, ends_with};
+use super::{FAILING_SOURCE, Row, SHORT_SINK, are_wrong, end_so};
 use crate::status::Status;
 use byte_ends::MemSink;
-use call_script::{Dos, Schedule};
+use call_script::{Dos, Plan, Schedule};
 use load_maker::made;
 use scenario_reader::write_plan;
+use std::alloc::Global;
+use std::process::Abort;
 use std::test::Fail;
+
+// Nothing is read, so no read fails.
+const LOADS: [Row; 2] = [
+    (
+        &["make", "1", "2"],
+        "",
+        FAILING_SOURCE,
+        Status::Done,
+        "made 1 2 accepted 2 denied 0 delivered 28 steps 20070\n",
+    ),
+    (
+        &["make", "1", "1"],
+        "",
+        SHORT_SINK,
+        Status::WriteFault,
+        "made",
+    ),
+];
 
 #[test]
 fn a_load_tells_its_summary(rt: HostRuntime) -> Result<(), Fail> {
-    let alloc = rt.alloc();
-    // nothing is read, so no read fails
-    let failing_read = Ends {
-        failing_read: 1,
-        ..SOUND
-    };
-    let told = (
-        Status::Done,
-        "made 1 2 accepted 2 denied 0 delivered 28 steps 20070\n",
-    );
-    ends_with(&rt, alloc, &["make", "1", "2"], b"", failing_read, told)?;
-    let short_sink = Ends {
-        piece: 4,
-        failing_write: 2,
-        ..SOUND
-    };
-    let told = (Status::WriteFault, "made");
-    ends_with(&rt, alloc, &["make", "1", "1"], b"", short_sink, told)
+    end_so(&rt, rt.alloc(), &LOADS)
 }
 
 // Words that make no load.
@@ -46,24 +49,30 @@ const WRONG: [&[&str]; 10] = [
 
 #[test]
 fn other_words_make_nothing(rt: HostRuntime) -> Result<(), Fail> {
-    for words in WRONG {
-        ends_with(&rt, rt.alloc(), words, b"", SOUND, (Status::Words, ""))?;
-    }
-    Ok(())
+    are_wrong(&rt, rt.alloc(), &WRONG, "")
+}
+
+// The lines of a plan without a schedule.
+fn lines(alloc: Global, plan: &Plan) -> Result<Vec<u8>, Fail> {
+    let schedule = Schedule {
+        written: false,
+        items: Dos::new(Vec::new(alloc)),
+    };
+    let mut sink = MemSink::new(alloc, 4_096, 4_096, Vec::new(alloc))?;
+    write_plan(alloc, plan, &schedule, &mut sink)?;
+    Ok(Vec::from_slice(alloc, sink.bytes())?)
+}
+
+// The lines of the load that is made from the number 2 and the size 10.
+fn made_lines(alloc: Global) -> Result<Vec<u8>, Fail> {
+    let plan = made(alloc, 2, 10)?;
+    lines(alloc, &plan)
 }
 
 // The draws from 2 on, line by line, by a program of its own: each of the four contracts and of the lengths of a route, a caller's third
 // request with the close of its first, and both kinds of jitter control.
 #[test]
 fn a_load_has_these_lines(rt: HostRuntime) -> Result<(), Fail> {
-    let alloc = rt.alloc();
-    let plan = made(alloc, 2, 10)?;
-    let schedule = Schedule {
-        written: false,
-        items: Dos::new(Vec::new(alloc)),
-    };
-    let mut sink = MemSink::new(alloc, 4_096, 4_096, Vec::new(alloc))?;
-    assert_eq!(rt; write_plan(alloc, &plan, &schedule, &mut sink), Ok(()));
     let text = "tenet 1
 link L1 n1 n2 rate 10 cap 100 prop 5 buffer 65536 levels 100 400 1600
 link L2 n2 n3 rate 10 cap 100 prop 5 buffer 65536 levels 100 400 1600
@@ -98,6 +107,6 @@ send r8 13 40 50
 rounds 4000
 tail 1000
 ";
-    assert_eq!(rt; sink.bytes(), text.as_bytes());
+    assert_eq!(rt; made_lines(rt.alloc())?.as_slice(), text.as_bytes());
     Ok(())
 }

@@ -1,10 +1,13 @@
 //! A plan of 1,024 requests, the most that there may be. Each brings one packet of 2 ticks into any 2,048, and all of them
 //! and a packet of 12 ticks, 2,060 in all, fit the 2,100 ticks of level 1.
-use super::{Ends, SOUND, ends_with};
+use super::{Ends, SOUND, ends_with, plays};
 use crate::status::Status;
 use std::alloc::{AllocError, Global};
 use std::fmt::Write;
+use std::process::Abort;
+use std::sync::Wait;
 use std::test::Fail;
+use std::thread::Threads;
 
 // The lines up to the last request.
 fn requests(alloc: Global) -> Result<String, AllocError> {
@@ -37,31 +40,54 @@ fn report(alloc: Global) -> Result<String, AllocError> {
     Ok(text)
 }
 
+const LATE_READ: Ends = Ends {
+    block: 4_096,
+    failing_read: 15,
+    ..SOUND
+};
+
+const FIRST_WRITE: Ends = Ends {
+    failing_write: 1,
+    ..SOUND
+};
+
 // Want of memory is told for none of the other ends.
+fn ends_alike<R: Threads + Wait + Abort + Sync>(
+    rt: &R,
+    alloc: Global,
+    input: &[u8],
+    report: &str,
+) -> Result<(), Fail> {
+    let words = ["play"];
+    ends_with(rt, alloc, &words, input, SOUND, (Status::Done, report))?;
+    ends_with(rt, alloc, &words, input, LATE_READ, (Status::ReadFault, ""))?;
+    ends_with(
+        rt,
+        alloc,
+        &words,
+        input,
+        FIRST_WRITE,
+        (Status::WriteFault, ""),
+    )
+}
+
+// These bytes are too many where more come after them.
+fn is_too_long<R: Threads + Wait + Abort + Sync>(
+    rt: &R,
+    alloc: Global,
+    front: &[u8],
+) -> Result<(), Fail> {
+    let mut over = Vec::from_slice(alloc, front)?;
+    over.resize(4_194_305, b'#')?;
+    plays(rt, alloc, over.as_slice(), Status::TooLong, "")
+}
+
 #[test]
 fn a_plan_of_1024_requests_ends_as_smaller_ones_do(rt: HostRuntime) -> Result<(), Fail> {
     let alloc = rt.alloc();
-    let mut input = requests(alloc)?.into_bytes();
-    let mut over = input.clone()?;
-    over.resize(4_194_305, b'#')?;
-    input.extend_from_slice(b"rounds 1\ntail 0\n")?;
-    let due = report(alloc)?;
-    let late_read = Ends {
-        block: 4_096,
-        failing_read: 15,
-        ..SOUND
-    };
-    let first_write = Ends {
-        failing_write: 1,
-        ..SOUND
-    };
-    for (bytes, ends, told) in [
-        (&input, SOUND, (Status::Done, due.as_str())),
-        (&input, late_read, (Status::ReadFault, "")),
-        (&input, first_write, (Status::WriteFault, "")),
-        (&over, SOUND, (Status::TooLong, "")),
-    ] {
-        ends_with(&rt, alloc, &["play"], bytes.as_slice(), ends, told)?;
-    }
-    Ok(())
+    let front = requests(alloc)?;
+    is_too_long(&rt, alloc, front.as_bytes())?;
+    let input = format!(in alloc; "{front}rounds 1\ntail 0\n")?;
+    let report = report(alloc)?;
+    ends_alike(&rt, alloc, input.as_bytes(), report.as_str())
 }

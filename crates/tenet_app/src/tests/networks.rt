@@ -3,7 +3,11 @@
 use super::{SOUND, ends_with, plays, refused};
 use crate::status::Status;
 use scenario_reader::Cause;
+use std::alloc::Global;
+use std::process::Abort;
+use std::sync::Wait;
 use std::test::Fail;
+use std::thread::Threads;
 
 const TABLE: &[&str] = &["play", "--packets"];
 
@@ -107,16 +111,32 @@ end steps 108
     },
 ];
 
-#[test]
-fn reports_of_two_links(rt: HostRuntime) -> Result<(), Fail> {
-    for case in WIDE {
+const ONE_LINK: &str = "tenet 1
+link A n1 n2 rate 1 cap 4 prop 2 buffer 100 levels 10 20 40
+";
+
+const TWO_LINKS: &str = "tenet 1
+link A n1 n2 rate 1 cap 4 prop 2 buffer 100 levels 10 20 40
+link B n2 n3 rate 1 cap 4 prop 2 buffer 100 levels 10 20 40
+";
+
+fn report_so<R: Threads + Wait + Abort + Sync>(
+    rt: &R,
+    alloc: Global,
+    links: &str,
+    cases: &[Case],
+) -> Result<(), Fail> {
+    for case in cases {
         let lines = case.lines;
-        let input = format!(in rt.alloc();
-            "tenet 1\nlink A n1 n2 rate 1 cap 4 prop 2 buffer 100 levels 10 20 40\nlink B n2 n3 rate 1 cap 4 prop 2 buffer 100 levels 10 20 40\n{lines}"
-        )?;
-        plays(&rt, rt.alloc(), input.as_bytes(), Status::Done, case.report)?;
+        let input = format!(in alloc; "{links}{lines}")?;
+        plays(rt, alloc, input.as_bytes(), Status::Done, case.report)?;
     }
     Ok(())
+}
+
+#[test]
+fn reports_of_two_links(rt: HostRuntime) -> Result<(), Fail> {
+    report_so(&rt, rt.alloc(), TWO_LINKS, &WIDE)
 }
 
 // Each packet waits at B until it is due, and so the delays are alike.
@@ -254,14 +274,7 @@ end steps 0
 
 #[test]
 fn reports_of_schedules(rt: HostRuntime) -> Result<(), Fail> {
-    for case in SCHEDULES {
-        let lines = case.lines;
-        let input = format!(in rt.alloc();
-            "tenet 1\nlink A n1 n2 rate 1 cap 4 prop 2 buffer 100 levels 10 20 40\n{lines}"
-        )?;
-        plays(&rt, rt.alloc(), input.as_bytes(), Status::Done, case.report)?;
-    }
-    Ok(())
+    report_so(&rt, rt.alloc(), ONE_LINK, &SCHEDULES)
 }
 
 // Two setups over a ring of two links, one way round and the other: in turn, and one after the other.

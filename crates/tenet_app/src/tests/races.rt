@@ -1,19 +1,18 @@
 //! Races. Where one caller alone makes steps, or a gate orders them, what is printed is worked by hand. Elsewhere the printed schedule
 //! is played, and the report of that is the race's.
-use super::{Ends, FIRST, SOUND, ends_with, refused};
+use super::meeting::Meeting;
+use super::{FAILING_SOURCE, FIRST, Row, SHORT_SINK, SOUND, end_so, run};
 use crate::status::Status;
-use crate::top::top;
-use byte_ends::{MemSink, MemSource};
 use net_units::{ActorNo, Gate, LinkNo, NoGate};
 use scenario_reader::Cause;
 use std::alloc::{AllocError, Global};
 use std::fmt::Write;
 use std::process::Abort;
+use std::str;
 use std::sync::Wait;
-use std::sync::atomic::{AtomicBool, AtomicU64, Ordering};
+use std::sync::atomic::{AtomicU64, Ordering};
 use std::test::Fail;
 use std::thread::Threads;
-use std::{str, thread};
 
 // ---- one order of steps
 
@@ -54,50 +53,56 @@ do plane 1
 do k1 9
 ";
 
-// The words, the scenario, and what is printed.
-const RACES: [(&[&str], &str, &str); 5] = [
-    (&["race"], FIRST, FIRST_RACE),
-    (&["race", "--packets"], FIRST, FIRST_TABLE),
-    (&["--packets", "race"], FIRST, FIRST_TABLE),
+const RACES: [Row; 5] = [
+    (&["race"], FIRST, SOUND, Status::Done, FIRST_RACE),
+    (
+        &["race", "--packets"],
+        FIRST,
+        SOUND,
+        Status::Done,
+        FIRST_TABLE,
+    ),
+    (
+        &["--packets", "race"],
+        FIRST,
+        SOUND,
+        Status::Done,
+        FIRST_TABLE,
+    ),
     (
         &["race"],
         EMPTY,
+        SOUND,
+        Status::Done,
         "schedule\nreport\nlink A clock 0 sent 0 full 0\nend steps 0\n",
     ),
-    (&["race"], MISSING, FIRST_RACE),
+    (&["race"], MISSING, SOUND, Status::Done, FIRST_RACE),
 ];
 
 #[test]
 fn a_race_of_one_caller_has_one_order(rt: HostRuntime) -> Result<(), Fail> {
-    for (words, input, text) in RACES {
-        let told = (Status::Done, text);
-        ends_with(&rt, rt.alloc(), words, input.as_bytes(), SOUND, told)?;
-    }
-    Ok(())
+    end_so(&rt, rt.alloc(), &RACES)
 }
+
+const STOPS: [Row; 4] = [
+    (&["race"], FIRST, SHORT_SINK, Status::WriteFault, "sche"),
+    (&["race"], FIRST, FAILING_SOURCE, Status::ReadFault, ""),
+    (
+        &["race"],
+        "",
+        SOUND,
+        Status::Refused {
+            line: 1,
+            cause: Cause::End,
+        },
+        "refused 1 end\n",
+    ),
+    (&["races"], FIRST, SOUND, Status::Words, ""),
+];
 
 #[test]
 fn a_race_that_stops_says_why(rt: HostRuntime) -> Result<(), Fail> {
-    let alloc = rt.alloc();
-    let short_sink = Ends {
-        piece: 4,
-        failing_write: 2,
-        ..SOUND
-    };
-    let failing_source = Ends {
-        failing_read: 1,
-        ..SOUND
-    };
-    let end = refused(1, Cause::End);
-    for (words, input, ends, told) in [
-        (["race"], FIRST, short_sink, (Status::WriteFault, "sche")),
-        (["race"], FIRST, failing_source, (Status::ReadFault, "")),
-        (["race"], "", SOUND, (end, "refused 1 end\n")),
-        (["races"], FIRST, SOUND, (Status::Words, "")),
-    ] {
-        ends_with(&rt, alloc, &words, input.as_bytes(), ends, told)?;
-    }
-    Ok(())
+    end_so(&rt, rt.alloc(), &STOPS)
 }
 
 // ---- any order
@@ -110,15 +115,10 @@ fn written<R: Threads + Wait + Abort + Sync, G: Gate + Sync>(
     input: &str,
     gate: &G,
 ) -> Result<String, Fail> {
-    let mut words = Vec::new(alloc);
-    words.push(String::from_str(alloc, word)?)?;
-    let input = Vec::from_slice(alloc, input.as_bytes())?;
-    let mut source = MemSource::new(input, 65_536, Vec::new(alloc));
-    let mut sink = MemSink::new(alloc, 200_000, 65_536, Vec::new(alloc))?;
-    let ended = top(rt, alloc, words.as_slice(), &mut source, &mut sink, gate);
-    assert_eq!(rt; ended.status, Status::Done);
-    assert_eq!(rt; ended.raced.is_some(), word == "race");
-    let text = str::from_utf8(sink.bytes()).ok().ok_or("text")?;
+    let run = run(rt, alloc, &[word], input.as_bytes(), SOUND, gate)?;
+    assert_eq!(rt; run.status, Status::Done);
+    assert_eq!(rt; run.raced, word == "race");
+    let text = str::from_utf8(run.bytes.as_slice()).ok().ok_or("text")?;
     Ok(String::from_str(alloc, text)?)
 }
 
@@ -244,72 +244,6 @@ fn a_race_of_64_callers_is_the_run_of_its_schedule(rt: HostRuntime) -> Result<()
 
 // ---- an order by a gate
 
-// At its first step each of two callers, the one of link 0 and the one of link 1, waits until the other is at its own. Then the
-// one of the link `late` waits until the other has made two steps.
-#[derive(Drop)]
-struct Meeting {
-    late: u8,
-    first_came: AtomicBool,
-    second_came: AtomicBool,
-    met: AtomicU64,
-    early_steps: AtomicU64,
-}
-
-impl Meeting {
-    fn new(late: u8) -> Meeting {
-        Meeting {
-            late,
-            first_came: AtomicBool::new(false),
-            second_came: AtomicBool::new(false),
-            met: AtomicU64::new(0),
-            early_steps: AtomicU64::new(0),
-        }
-    }
-
-    // Waits until the other caller has come.
-    fn meet(&self, mine: &AtomicBool, other: &AtomicBool) {
-        if mine.swap(true, Ordering::SeqCst) {
-            return;
-        }
-        for _ in 0..10_000_000 {
-            if other.load(Ordering::SeqCst) {
-                self.met.fetch_add(1, Ordering::SeqCst);
-                return;
-            }
-            thread::yield_now();
-        }
-    }
-
-    // Waits until the caller that goes first has made two steps.
-    fn wait(&self) {
-        for _ in 0..10_000_000 {
-            if self.early_steps.load(Ordering::SeqCst) >= 2 {
-                return;
-            }
-            thread::yield_now();
-        }
-    }
-}
-
-impl Gate for Meeting {
-    fn within(&self, link: LinkNo, _actor: ActorNo) {
-        if link.get() == 0 {
-            self.meet(&self.first_came, &self.second_came);
-        } else {
-            self.meet(&self.second_came, &self.first_came);
-        }
-        if link.get() == self.late {
-            self.wait();
-        }
-    }
-
-    fn after(&self, link: LinkNo, _actor: ActorNo) {
-        if link.get() != self.late {
-            self.early_steps.fetch_add(1, Ordering::SeqCst);
-        }
-    }
-}
-
 const TWO_LINKS: &str = "tenet 1
 link A n1 n2 rate 1 cap 4 prop 2 buffer 100 levels 10 20 40
 link B n2 n3 rate 1 cap 4 prop 2 buffer 100 levels 10 20 40
@@ -339,7 +273,7 @@ fn the_caller_that_waits_comes_last_in_the_schedule(rt: HostRuntime) -> Result<(
     ] {
         let gate = Meeting::new(late);
         let text = written(&rt, rt.alloc(), "race", TWO_LINKS, &gate)?;
-        assert_eq!(rt; gate.met.load(Ordering::SeqCst), 2);
+        assert_eq!(rt; gate.met(), 2);
         let due = format!(in rt.alloc(); "{schedule}{TWO_LINKS_REPORT}")?;
         assert_eq!(rt; text.as_str(), due.as_str());
     }

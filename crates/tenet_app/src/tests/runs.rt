@@ -2,7 +2,11 @@
 //! destination.
 use super::plays;
 use crate::status::Status;
+use std::alloc::Global;
+use std::process::Abort;
+use std::sync::Wait;
 use std::test::Fail;
+use std::thread::Threads;
 
 // A script and its ticks, over a link of this buffer, and the report of its run.
 #[derive(Clone, Copy)]
@@ -235,15 +239,23 @@ end steps 206
     },
 ];
 
-#[test]
-fn reports_of_runs(rt: HostRuntime) -> Result<(), Fail> {
-    for case in CASES {
+fn report_so<R: Threads + Wait + Abort + Sync>(
+    rt: &R,
+    alloc: Global,
+    cases: &[Case],
+) -> Result<(), Fail> {
+    for case in cases {
         let buffer = case.buffer;
         let script = case.script;
-        let input = format!(in rt.alloc();
+        let input = format!(in alloc;
             "tenet 1\nlink A n1 n2 rate 1 cap 4 prop 2 buffer {buffer} levels 10 20 40\n{script}"
         )?;
-        plays(&rt, rt.alloc(), input.as_bytes(), Status::Done, case.report)?;
+        plays(rt, alloc, input.as_bytes(), Status::Done, case.report)?;
     }
     Ok(())
+}
+
+#[test]
+fn reports_of_runs(rt: HostRuntime) -> Result<(), Fail> {
+    report_so(&rt, rt.alloc(), &CASES)
 }

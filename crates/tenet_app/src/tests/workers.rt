@@ -1,17 +1,10 @@
 //! The rounds of the plane by several workers: the bytes that one writes, and two links that meet within a round.
-use super::{SOUND, ends_with, refused};
+use super::meeting::Meeting;
+use super::{Row, SOUND, are_wrong, end_so, ends_with, refused, run};
 use crate::status::Status;
-use crate::top::top;
-use byte_ends::{MemSink, MemSource};
-use net_units::{ActorNo, Gate, LinkNo};
 use scenario_reader::Cause;
-use std::alloc::Global;
 use std::process::Abort;
-use std::sync::Wait;
-use std::sync::atomic::{AtomicBool, AtomicU64, Ordering};
 use std::test::Fail;
-use std::thread;
-use std::thread::Threads;
 
 // Each packet waits at B until it is due, and so the delays are alike.
 const JITTER: &str = "tenet 1
@@ -36,36 +29,49 @@ r1,2,1,A,2,10,10,12
 r1,2,2,B,2,14,32,34
 ";
 
+const WORDS: [Row; 3] = [
+    (
+        &["play", "--packets", "--workers", "1"],
+        JITTER,
+        SOUND,
+        Status::Done,
+        JITTER_TABLE,
+    ),
+    (
+        &["play", "--workers", "4", "--packets"],
+        JITTER,
+        SOUND,
+        Status::Done,
+        JITTER_TABLE,
+    ),
+    (
+        &["--packets", "play", "--workers", "16"],
+        JITTER,
+        SOUND,
+        Status::Done,
+        JITTER_TABLE,
+    ),
+];
+
 #[test]
 fn workers_write_what_one_writes(rt: HostRuntime) -> Result<(), Fail> {
-    for words in [
-        ["play", "--packets", "--workers", "1"],
-        ["play", "--workers", "4", "--packets"],
-        ["--packets", "play", "--workers", "16"],
-    ] {
-        let told = (Status::Done, JITTER_TABLE);
-        ends_with(&rt, rt.alloc(), &words, JITTER.as_bytes(), SOUND, told)?;
-    }
-    Ok(())
+    end_so(&rt, rt.alloc(), &WORDS)
 }
+
+const WRONG: [&[&str]; 8] = [
+    &["play", "--workers", "0"],
+    &["play", "--workers", "17"],
+    &["play", "--workers", "02"],
+    &["play", "--workers"],
+    &["--workers", "2", "play"],
+    &["race", "--workers", "2"],
+    &["play", "--workers", "--packets", "2"],
+    &["play", "--workers", "2", "--packets", "--packets"],
+];
 
 #[test]
 fn other_words_with_workers_are_wrong(rt: HostRuntime) -> Result<(), Fail> {
-    let wrong: [&[&str]; 8] = [
-        &["play", "--workers", "0"],
-        &["play", "--workers", "17"],
-        &["play", "--workers", "02"],
-        &["play", "--workers"],
-        &["--workers", "2", "play"],
-        &["race", "--workers", "2"],
-        &["play", "--workers", "--packets", "2"],
-        &["play", "--workers", "2", "--packets", "--packets"],
-    ];
-    for words in wrong {
-        let told = (Status::Words, "");
-        ends_with(&rt, rt.alloc(), words, JITTER.as_bytes(), SOUND, told)?;
-    }
-    Ok(())
+    are_wrong(&rt, rt.alloc(), &WRONG, JITTER)
 }
 
 #[test]
@@ -84,71 +90,21 @@ do k1 9
     ends_with(&rt, rt.alloc(), &words, input.as_bytes(), SOUND, told)
 }
 
-// Each of two links waits, within its first ask, until the other is within its own.
-#[derive(Drop)]
-struct Meeting {
-    first_came: AtomicBool,
-    second_came: AtomicBool,
-    met: AtomicU64,
-}
-
-impl Meeting {
-    fn meet(&self, mine: &AtomicBool, other: &AtomicBool) {
-        mine.store(true, Ordering::SeqCst);
-        for _ in 0..10_000_000 {
-            if other.load(Ordering::SeqCst) {
-                self.met.fetch_add(1, Ordering::SeqCst);
-                return;
-            }
-            thread::yield_now();
-        }
-    }
-}
-
-impl Gate for Meeting {
-    fn within(&self, link: LinkNo, _actor: ActorNo) {
-        if link.get() == 0 {
-            self.meet(&self.first_came, &self.second_came);
-        } else {
-            self.meet(&self.second_came, &self.first_came);
-        }
-    }
-
-    fn after(&self, _link: LinkNo, _actor: ActorNo) {}
-}
-
-#[test]
-fn two_links_tick_beside_each_other(rt: HostRuntime) -> Result<(), Fail> {
-    let gate = Meeting {
-        first_came: AtomicBool::new(false),
-        second_came: AtomicBool::new(false),
-        met: AtomicU64::new(0),
-    };
-    ticks_once(&rt, rt.alloc(), &gate)?;
-    assert_eq!(rt; gate.met.load(Ordering::SeqCst), 2);
-    Ok(())
-}
-
-// Two links, no caller and one round, with two workers.
-fn ticks_once<R: Threads + Wait + Abort + Sync>(
-    rt: &R,
-    alloc: Global,
-    gate: &Meeting,
-) -> Result<(), Fail> {
-    let input = "tenet 1
+// Two links, no caller and one round.
+const TWO_LINKS: &str = "tenet 1
 link A n1 n2 rate 1 cap 4 prop 2 buffer 100 levels 10 20 40
 link B n2 n3 rate 1 cap 4 prop 2 buffer 100 levels 10 20 40
 rounds 1
 tail 0
 ";
-    let mut words = Vec::new(alloc);
-    for word in ["play", "--workers", "2"] {
-        words.push(String::from_str(alloc, word)?)?;
-    }
-    let input = Vec::from_slice(alloc, input.as_bytes())?;
-    let mut source = MemSource::new(input, 65_536, Vec::new(alloc));
-    let mut sink = MemSink::new(alloc, 65_536, 65_536, Vec::new(alloc))?;
-    let ended = top(rt, alloc, words.as_slice(), &mut source, &mut sink, gate);
-    assert_eq!(rt; ended.status, Status::Done);
+
+// Each link's ask waits until the other's has come. None is late.
+#[test]
+fn two_links_tick_beside_each_other(rt: HostRuntime) -> Result<(), Fail> {
+    let gate = Meeting::new(2);
+    let words = ["play", "--workers", "2"];
+    let run = run(&rt, rt.alloc(), &words, TWO_LINKS.as_bytes(), SOUND, &gate)?;
+    assert_eq!(rt; run.status, Status::Done);
+    assert_eq!(rt; gate.met(), 2);
     Ok(())
 }
