@@ -8,4 +8,6 @@ mod moves;
 #[cfg(test)]
 mod reading;
 #[cfg(test)]
+mod refusing;
+#[cfg(test)]
 mod writing;

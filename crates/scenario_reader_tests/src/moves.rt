@@ -1,5 +1,6 @@
 //! Moves that are read and written again, and those that are refused.
-use crate::reading::{planned, refuses_all, writes};
+use crate::reading::{planned, writes};
+use crate::refusing::refuses_all;
 use call_script::{Op, Plan};
 use net_units::ChanNo;
 use scenario_reader::Cause;
