@@ -3,7 +3,6 @@ ghost use Rattle.std.specs.Prelude.{◌≡◌, ◌<◌, [], ◌∷◌, IfOk, len
 ghost use Rattle.net_units.specs.Numbers.{actor_number, channel_number, link_number};
 ghost use Rattle.link_steps.specs.Legal.{AskFits};
 ghost use Rattle.link_steps.specs.Lists.{Each};
-ghost use Rattle.link_steps.specs.Split.{whole as undivided};
 ghost use Rattle.call_script.specs.Tasks.{network_of};
 ghost use Rattle.race_run.specs.Whole.{IsWhole};
 ghost use Rattle.race_run_tests.specs.Worked.{AreNumbered, IsWorkedCaller, IsWorkedHop, IsWorkedLink, IsWorkedRequest};
@@ -19,7 +18,7 @@ use link_ledger::{Entry, OwnEntry};
 use link_server::LinkState;
 use link_steps::{LinkShape, LinkStep, Reply};
 use net_units::{ActorNo, Bounds, ChanNo, Gate, LinkNo, Name, NoGate, OutOfMemory};
-use race_run::{race, woven};
+use race_run::{Raced, race, woven};
 use setup_protocol::{Control, Request};
 use shared_network::Closed;
 use std::alloc::Global;
@@ -184,19 +183,32 @@ fn plan(
 
 // ---- nothing to do
 
+// The race of a plan, and the run that it is. What they ensure is long, and isn't known after this.
+fn run_of<R: Threads + Wait + Sync, G: Gate + Sync>(
+    rt: &R,
+    alloc: Global,
+    plan: &Plan,
+    gate: &G,
+) -> Result<(Closed, Raced), Fail> {
+    let closed = race(rt, alloc, plan, gate)?;
+    let raced = woven(alloc, plan, &closed)?;
+    Ok((closed, raced))
+}
+
+// Whether it has one journal and one pass, without steps.
+fn is_empty(closed: &Closed) -> bool {
+    match (closed.journals.as_slice(), closed.passes.as_slice()) {
+        ([journal], [pass]) => journal.entries.as_slice().is_empty() && pass.own().is_empty(),
+        _ => false,
+    }
+}
+
 #[test]
 fn a_race_of_nothing_leaves_nothing(rt: HostRuntime) -> Result<(), Fail> {
     let alloc = rt.alloc();
     let plan = plan(alloc, 1, 0, false, (0, 0))?;
-    let closed = race(&rt, alloc, &plan, &NoGate)?;
-    let raced = woven(alloc, &plan, &closed)?;
-    let ([journal], [pass]) = (closed.journals.as_slice(), closed.passes.as_slice()) else {
-        return Err(Fail::from("a journal and a pass"));
-    };
-    assert_eq!(rt;
-        (journal.entries.as_slice().len(), pass.own().len()),
-        (0, 0)
-    );
+    let (closed, raced) = run_of(&rt, alloc, &plan, &NoGate)?;
+    assert!(rt; is_empty(&closed));
     assert!(rt; raced.run.entries().is_empty());
     assert!(rt; raced.schedule.items.as_slice().is_empty());
     Ok(())
@@ -264,18 +276,26 @@ impl Gate for Waits {
     }
 }
 
+// The race of two callers, each over a link of its own.
+fn two_callers<R: Threads + Wait + Sync, G: Gate + Sync>(
+    rt: &R,
+    alloc: Global,
+    gate: &G,
+) -> Result<Closed, Fail> {
+    let plan = plan(alloc, 2, 2, false, (0, 0))?;
+    Ok(race(rt, alloc, &plan, gate)?)
+}
+
 #[test]
 fn two_callers_stand_in_their_steps_at_once(rt: HostRuntime) -> Result<(), Fail> {
-    let alloc = rt.alloc();
-    let plan = plan(alloc, 2, 2, false, (0, 0))?;
     let gate = Meet {
         first: AtomicU64::new(0),
         second: AtomicU64::new(0),
         missed: AtomicU64::new(0),
     };
-    let closed = race(&rt, alloc, &plan, &gate)?;
-    assert_eq!(rt; gate.missed.load(Ordering::SeqCst), 0);
-    assert_eq!(rt; closed.passes.as_slice().len(), 3);
+    let closed = two_callers(&rt, rt.alloc(), &gate)?;
+    assert!(rt; gate.missed.load(Ordering::SeqCst) == 0);
+    assert!(rt; closed.passes.as_slice().len() == 3);
     Ok(())
 }
 
@@ -289,38 +309,40 @@ fn stamps(own: &[OwnEntry]) -> Option<(u64, u64)> {
     }
 }
 
+// Those of both callers, beside the plane.
+fn both_stamps(closed: &Closed) -> Option<((u64, u64), (u64, u64))> {
+    match closed.passes.as_slice() {
+        [first, second, _plane] => Some((stamps(first.own())?, stamps(second.own())?)),
+        _ => None,
+    }
+}
+
 // The stamps of two callers, where each step of this link waits for those of the other.
-fn waited<R: Threads + Wait + Sync>(
+fn waits_for<R: Threads + Wait + Abort + Sync>(
     rt: &R,
     alloc: Global,
     link: u8,
-) -> Result<(Option<(u64, u64)>, Option<(u64, u64)>, u64), Fail> {
-    let plan = plan(alloc, 2, 2, false, (0, 0))?;
+    due: ((u64, u64), (u64, u64)),
+) -> Result<(), Fail> {
     let gate = Waits {
         link,
         made: AtomicU64::new(0),
         missed: AtomicU64::new(0),
     };
-    let closed = race(rt, alloc, &plan, &gate)?;
-    let [first, second, _plane] = closed.passes.as_slice() else {
-        return Err(Fail::from("three passes"));
-    };
-    let missed = gate.missed.load(Ordering::SeqCst);
-    Ok((stamps(first.own()), stamps(second.own()), missed))
+    let closed = two_callers(rt, alloc, &gate)?;
+    assert!(rt; gate.missed.load(Ordering::SeqCst) == 0);
+    assert_eq!(rt; both_stamps(&closed), Some(due));
+    Ok(())
 }
 
 #[test]
 fn the_second_caller_goes_first(rt: HostRuntime) -> Result<(), Fail> {
-    let (first, second, missed) = waited(&rt, rt.alloc(), 0)?;
-    assert_eq!(rt; (first, second, missed), (Some((3, 4)), Some((1, 2)), 0));
-    Ok(())
+    waits_for(&rt, rt.alloc(), 0, ((3, 4), (1, 2)))
 }
 
 #[test]
 fn the_first_caller_goes_first(rt: HostRuntime) -> Result<(), Fail> {
-    let (first, second, missed) = waited(&rt, rt.alloc(), 1)?;
-    assert_eq!(rt; (first, second, missed), (Some((1, 2)), Some((3, 4)), 0));
-    Ok(())
+    waits_for(&rt, rt.alloc(), 1, ((1, 2), (3, 4)))
 }
 
 // ---- many races
@@ -361,7 +383,14 @@ impl Gate for Shuffles {
 fn replays(alloc: Global, shape: LinkShape, entries: &[Entry]) -> Result<bool, OutOfMemory>
     requires { Each (λ e. AskFits shape e.ask) entries.now }
 {
-    let mut link = LinkState::new(alloc, shape)?;
+    all_answered(LinkState::new(alloc, shape)?, entries)
+}
+
+// Whether the link answers all of them. It is generic in the link, of which it knows what each link owes, and no more.
+fn all_answered<L: LinkStep>(link: L, entries: &[Entry]) -> Result<bool, OutOfMemory>
+    requires { Each (λ e. AskFits (L.link_of link).shape e.ask) entries.now }
+{
+    let mut link = link;
     for entry in entries {
         if !answers(&mut link, entry)? {
             return Ok(false);
@@ -371,9 +400,9 @@ fn replays(alloc: Global, shape: LinkShape, entries: &[Entry]) -> Result<bool, O
 }
 
 // Whether the link answers the entry's ask with its reply.
-fn answers(link: &mut LinkState, entry: &Entry) -> Result<bool, OutOfMemory>
-    requires { AskFits link.old.shape entry.now.ask }
-    ensures { undivided link.new.shape ≡ undivided link.old.shape }
+fn answers<L: LinkStep>(link: &mut L, entry: &Entry) -> Result<bool, OutOfMemory>
+    requires { AskFits (L.link_of link.old).shape entry.now.ask }
+    ensures { L.link_of link.new ≡ L.link_of link.old }
 {
     if link.clock() >= 1 << 61 {
         return Ok(false);

@@ -3,14 +3,15 @@
 ghost use Rattle.std.specs.Prelude.{◌≡◌, IfOk, length};
 ghost use Rattle.race_run_tests.specs.Worked.{AreMovers, AreNumbered, IsMovedRequest, IsMover, IsWorkedLink};
 
-use super::{link, name, rises, route};
+use super::{link, name, rises, route, run_of};
 use call_script::{CallerEntry, Do, LinkEntry, Op, Ops, Plan, RequestEntry, Version, push_request};
 use link_ledger::{Journal, OwnEntry};
 use link_steps::{Ask, Reply};
 use net_units::{ActorNo, ChanNo, Gate, LinkNo, Name, NoGate};
-use race_run::{race, woven};
 use setup_protocol::{Control, Request};
+use shared_network::Closed;
 use std::alloc::Global;
+use std::process::Abort;
 use std::sync::atomic::{AtomicU64, Ordering};
 use std::test::Fail;
 use traffic_contract::{Contract, Test};
@@ -168,19 +169,10 @@ fn are_turns(items: &[Do], turns: &[(u8, u64)]) -> bool {
         && pairs.all(|(item, turn)| item.actor.get() == turn.0 && item.count == turn.1)
 }
 
-// The packets of the ticks 0 and 10 were taken, and those of the ticks 20 and 30 move.
-#[test]
-fn a_move_takes_what_is_left(rt: HostRuntime) -> Result<(), Fail> {
-    let alloc = rt.alloc();
-    let plan = plan(alloc, 12)?;
-    let gate = Turns::new();
-    let closed = race(&rt, alloc, &plan, &gate)?;
-    assert_eq!(rt; gate.missed.load(Ordering::SeqCst), 0);
-    let raced = woven(alloc, &plan, &closed)?;
-    let turns = [(1, 1), (0, 5), (1, 29), (0, 2), (1, 130)];
-    assert!(rt; are_turns(raced.schedule.items.as_slice(), &turns));
+// Whether the caller's last two steps release its first channel, of which two packets stay and two go, and submit those on the second.
+fn has_moved(closed: &Closed) -> Result<bool, Fail> {
     let [caller, _plane] = closed.passes.as_slice() else {
-        return Err(Fail::from("two passes"));
+        return Ok(false);
     };
     let ask = Ask::Submit {
         chan: ChanNo::new(1).ok_or("a channel")?,
@@ -193,22 +185,38 @@ fn a_move_takes_what_is_left(rt: HostRuntime) -> Result<(), Fail> {
         cancelled: 2,
     };
     let planned = Reply::Planned { clock: 15 };
-    assert!(rt; last_steps(caller.own()) == Some((closing, planned, ask)));
-    Ok(())
+    Ok(last_steps(caller.own()) == Some((closing, planned, ask)))
 }
 
-// Of each of the two links two packets leave.
+// How many packets each of two links has sent.
+fn both_sent(closed: &Closed) -> Option<(usize, usize)> {
+    match closed.journals.as_slice() {
+        [first, second] => Some((sent(first), sent(second))),
+        _ => None,
+    }
+}
+
+// The packets of the ticks 0 and 10 were taken, and those of the ticks 20 and 30 move. Of each of the two links two packets leave.
 #[test]
-fn each_link_of_a_move_sends_its_share(rt: HostRuntime) -> Result<(), Fail> {
+fn a_move_takes_what_is_left(rt: HostRuntime) -> Result<(), Fail> {
     let alloc = rt.alloc();
     let plan = plan(alloc, 12)?;
     let gate = Turns::new();
-    let closed = race(&rt, alloc, &plan, &gate)?;
-    let [first, second] = closed.journals.as_slice() else {
-        return Err(Fail::from("two journals"));
-    };
-    assert_eq!(rt; (sent(first), sent(second)), (2, 2));
+    let (closed, raced) = run_of(&rt, alloc, &plan, &gate)?;
+    assert!(rt; gate.missed.load(Ordering::SeqCst) == 0);
+    let turns = [(1, 1), (0, 5), (1, 29), (0, 2), (1, 130)];
+    assert!(rt; are_turns(raced.schedule.items.as_slice(), &turns));
+    assert!(rt; has_moved(&closed)?);
+    assert!(rt; both_sent(&closed) == Some((2, 2)));
     Ok(())
+}
+
+// How many steps the caller has made, beside the plane.
+fn steps_of_caller(closed: &Closed) -> Option<usize> {
+    match closed.passes.as_slice() {
+        [caller, _plane] => Some(caller.own().len()),
+        _ => None,
+    }
 }
 
 // The least bound of the second channel is 12, so it is denied, and the first one is closed instead.
@@ -216,11 +224,8 @@ fn each_link_of_a_move_sends_its_share(rt: HostRuntime) -> Result<(), Fail> {
 fn a_move_to_a_denied_channel_makes_no_step(rt: HostRuntime) -> Result<(), Fail> {
     let alloc = rt.alloc();
     let plan = plan(alloc, 11)?;
-    let closed = race(&rt, alloc, &plan, &NoGate)?;
-    let raced = woven(alloc, &plan, &closed)?;
-    let [caller, _plane] = closed.passes.as_slice() else {
-        return Err(Fail::from("two passes"));
-    };
-    assert_eq!(rt; (caller.own().len(), raced.run.entries().len()), (6, 166));
+    let (closed, raced) = run_of(&rt, alloc, &plan, &NoGate)?;
+    assert!(rt; steps_of_caller(&closed) == Some(6));
+    assert!(rt; raced.run.entries().len() == 166);
     Ok(())
 }

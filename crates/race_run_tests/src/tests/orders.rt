@@ -1,24 +1,32 @@
 //! Which order a race keeps: the plane's last rounds come after all callers, and a link's steps one after the other.
-use super::plan;
+use super::{plan, run_of};
+use call_script::Do;
 use net_units::{ActorNo, Gate, LinkNo, NoGate};
-use race_run::{race, woven};
+use race_run::race;
+use std::process::Abort;
 use std::sync::atomic::{AtomicU64, Ordering};
 use std::test::Fail;
 use std::thread;
+
+// Whether the last item is the plane's, of the number 2, for so many steps, and those before it are the callers'.
+fn ends_with_plane(items: &[Do], steps: u64) -> bool {
+    match items.split_last() {
+        Some((last, callers)) => {
+            (last.actor.get(), last.count) == (2, steps)
+                && callers.iter().all(|item| item.actor.get() < 2)
+        }
+        None => false,
+    }
+}
 
 // Two callers make two steps each, and then the plane makes three rounds of two links.
 #[test]
 fn the_last_rounds_come_after_all_callers(rt: HostRuntime) -> Result<(), Fail> {
     let alloc = rt.alloc();
     let plan = plan(alloc, 2, 2, false, (0, 3))?;
-    let closed = race(&rt, alloc, &plan, &NoGate)?;
-    let raced = woven(alloc, &plan, &closed)?;
-    let Some((last, callers)) = raced.schedule.items.as_slice().split_last() else {
-        return Err(Fail::from("an item"));
-    };
-    assert_eq!(rt; (last.actor.get(), last.count), (2, 6));
-    assert!(rt; callers.iter().all(|item| item.actor.get() < 2));
-    assert_eq!(rt; raced.run.entries().len(), 10);
+    let (_closed, raced) = run_of(&rt, alloc, &plan, &NoGate)?;
+    assert!(rt; ends_with_plane(raced.schedule.items.as_slice(), 6));
+    assert!(rt; raced.run.entries().len() == 10);
     Ok(())
 }
 
@@ -63,7 +71,7 @@ fn no_step_of_a_link_comes_into_another(rt: HostRuntime) -> Result<(), Fail> {
         met: AtomicU64::new(0),
     };
     race(&rt, alloc, &plan, &gate)?;
-    assert_eq!(rt; gate.made.load(Ordering::SeqCst), 8);
-    assert_eq!(rt; gate.met.load(Ordering::SeqCst), 0);
+    assert!(rt; gate.made.load(Ordering::SeqCst) == 8);
+    assert!(rt; gate.met.load(Ordering::SeqCst) == 0);
     Ok(())
 }
