@@ -13,7 +13,7 @@ use crate::draft::Draft;
 use crate::fields::field;
 use crate::form::{Keyword, Part, has_form};
 use crate::values::{name, number, require};
-use call_script::{CallerEntry, Do};
+use call_script::{CallerEntry, Do, actor_name};
 use net_units::limits::MOST_STEPS;
 use net_units::{ActorNo, OutOfMemory};
 use std::alloc::Global;
@@ -93,8 +93,5 @@ pub(crate) fn do_line(
 ) -> Result<String, OutOfMemory>
     ensures { IfOk result (λ line. string_bytes line ≡ do_text callers.now item.now) }
 {
-    match callers.get(usize::from(item.actor.get())) {
-        Some(caller) => text_writer::do_line(alloc, caller.name.as_str(), item.count),
-        None => text_writer::do_line(alloc, "plane", item.count),
-    }
+    text_writer::do_line(alloc, actor_name(callers, item.actor), item.count)
 }
