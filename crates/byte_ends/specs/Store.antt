@@ -1,4 +1,4 @@
--- Bytes that are kept in memory as they are written, at most `most` of them in one write, in a room that was reserved
+-- Bytes that are kept in memory as they are written, at most `most` of them in one write, in room that was reserved
 -- before the first. A write takes as many as the piece has, up to that number. It fails where the plan says so, and
 -- where these bytes have no place in what is left of the room.
 use Rattle.std.specs.Prelude.{◌≡◌, ℕ, ◌+◌, ◌≤◌, ◌<◌, ◌⊎◌, min, List, ◌++◌, length, take}

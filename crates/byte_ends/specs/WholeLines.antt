@@ -1,7 +1,7 @@
 -- The lines of a list of bytes. A line ends with a line feed, which is not a part of it. Of the bytes, at most the first
--- `most` may stand in lines, line feeds included. The whole lines are those whose line feed is among these. Behind
--- them, either all bytes were given; or there are more than `most` bytes, so the bytes are too long; or they are cut
--- short: the last line has no line feed.
+-- `most` may stand in lines, line feeds included. The whole lines are those whose line feed is among these. After them,
+-- either all bytes were given; or there are more than `most` bytes, so the bytes are too long; or they are cut short:
+-- the last line has no line feed.
 use Rattle.std.specs.Prelude.{ℕ, suc, zero, Bool, false, not, ◌==◌, if◌then◌else◌, List, [], ◌∷◌}
 
 -- the byte that ends a line

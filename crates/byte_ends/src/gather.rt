@@ -40,9 +40,9 @@ impl Gather {
         })
     }
 
-    /// Gathers the piece after those before it. What is gathered is written whenever there is no more room. A fault comes
-    /// only where the sink's count of faults rose in this call, and then a prefix of what was gathered and of the piece was
-    /// written.
+    /// Adds the piece to those gathered before it. What is gathered is written whenever there is no more room. A fault
+    /// comes only where the sink's count of faults rose in this call, and then a prefix of what was gathered and of the
+    /// piece was written.
     pub fn push<K: Sink>(&mut self, sink: &mut K, piece: &[u8]) -> Result<(), WriteFault>
         ensures ok { OnOk result (Gathers (K.written sink.old) (K.written sink.new) self.old self.new piece.now) }
         ensures fault { OnErr result (FaultsRise (K.faults sink.old) (K.faults sink.new)) }

@@ -115,9 +115,9 @@ impl Lines {
 
     /// Cuts off the next line. It reads only where the bytes that it has taken decide nothing.
     ///
-    /// `Line` has put the next line in hand; `End` says that the source ended and all of its bytes were given.
-    /// After `ReadFault` and `Memory`, which give nothing away, the call may be made again; after `End` and after
-    /// every other refusal each later call answers the same.
+    /// `Line` has put the next line in hand; `End` says that the source ended and all of its bytes were given. After
+    /// `ReadFault` and `Memory`, which lose nothing, the call may be made again; after `End` and after every other
+    /// refusal each later call answers the same.
     pub fn read_line<S: Source>(&mut self, source: &mut S) -> Result<Cut, LineRefusal>
         ensures answers { Answers result self.old self.new (S.left source.old) (S.left source.new)
             (S.faults source.old) (S.faults source.new) }

@@ -10,8 +10,8 @@ use net_units::OutOfMemory;
 use std::alloc::Global;
 use std::marker::Model;
 
-/// A sink that keeps the bytes written to it, in a room that was reserved when it was made. A write that has no place
-/// in the room is a fault, and so is a planned one; it meets no other.
+/// A sink that keeps the bytes written to it, in room that was reserved when it was made. A write for which there is no
+/// room left is a fault, and so is a planned one; it meets no other.
 #[derive(Debug, Drop)]
 pub struct MemSink {
     bytes: Vec<u8>,

@@ -7,7 +7,7 @@ ghost use Rattle.byte_ends.specs.Writing.{Writes, WritesFront};
 /// What one write to a sink took.
 #[derive(Clone, Copy, Debug, PartialEq, Eq)]
 pub enum Put {
-    /// So many bytes of the piece, at least one, were written.
+    /// This many bytes of the piece, at least one, were written.
     Wrote(usize),
     /// The sink met a fault, which its count of faults shows. Nothing was written.
     Failed,

@@ -5,7 +5,7 @@ ghost use Rattle.byte_ends.specs.Reading.{Reads};
 /// What one read of a source took.
 #[derive(Clone, Copy, Debug, PartialEq, Eq)]
 pub enum Took {
-    /// So many bytes, at least one, stand at the front of the room.
+    /// This many bytes, at least one, stand at the front of the room.
     Taken(usize),
     /// No byte is left.
     End,

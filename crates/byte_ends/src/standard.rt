@@ -1,8 +1,8 @@
 //! Readers and writers of the standard library as sources and sinks.
 //!
 //! These adapters are the edge of what is proved: they tell nothing of content, and what a file, a pipe or a terminal
-//! gives and takes is outside. An interrupted call is tried again, at most [`RETRIES`] times; every other error is a
-//! fault, and so is a call that was interrupted once more.
+//! gives and takes is outside it. An interrupted call is tried again, at most [`RETRIES`] times; every other error is a
+//! fault, and so is a call that is interrupted once more than that.
 ghost use Rattle.std.specs.Prelude.{◌≡◌, ◌<◌, ◌≤◌, None, IfSome, length};
 ghost use Rattle.byte_ends.specs.Reading.{Reads};
 ghost use Rattle.byte_ends.specs.Writing.{Writes, WritesSome};

@@ -1,4 +1,4 @@
--- In a legal history that offers to a channel at most once, all packets of the channel are those of its one row.
+-- In an admissible history that offers to a channel at most once, all packets of the channel are those of its one row.
 use Rattle.std.proofs.Common.{◌≡◌, ◌≢◌, ℕ, suc, ◌+◌, ◌≤◌, Bool, true, false, List, [], ◌∷◌, ◌++◌, length, map, Option, Some, None, refl, sym, ap, ◌∙◌, subst, inl, inr, arith, append-nil}
 use Rattle.std.proofs.lemmas.Bool.{cases_Bool, eqb-true, eqb-false, eq-eqb, ne_eqb, lt-ltb, and_parts}
 use Rattle.std.proofs.lemmas.List.{length-reverse, map-append, reverse-append, length-map}

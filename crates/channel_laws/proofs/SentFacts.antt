@@ -1,5 +1,5 @@
--- A packet that leaves in a tick of a legal history has a size within the limits, was eligible before the tick's end, and
--- left within the bound of its level; so it may arrive at its next link.
+-- A packet that leaves in a tick of an admissible history has a size within the limits, was eligible before the tick's
+-- end, and left within the bound of its level; so it may arrive at its next link.
 use Rattle.std.proofs.Common.{◌≡◌, ℕ, suc, ◌^◌, ◌<◌, ◌≤◌, Bool, List, [], ◌∷◌, length, Option, Some, None, refl, sym, subst, inl, inr, arith}
 use Rattle.std.proofs.lemmas.Bool.{cases_Bool, eqb-true, ltb-false}
 use Rattle.std.proofs.lemmas.Option.{same_Some}

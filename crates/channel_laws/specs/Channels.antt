@@ -1,5 +1,5 @@
--- The packets of a channel at a link: those that name it and have a number, which counts them from 1. (A best-effort packet
--- has the number 0.) Where a channel is offered a reservation at most once at a link, all its packets there are of one row.
+-- The packets of a channel at a link: those that name it and have a number, which counts them from 1. (A best-effort packet has
+-- the number 0.) Where a channel is offered a reservation at most once at a link, all its packets there belong to one row.
 use Rattle.std.specs.Prelude.{◌≡◌, ◌≢◌, ◌≤◌, ℕ, suc, Bool, true, false, nat_eq, nat_lt, ◌&&◌, if◌then◌else◌, Option, List, [], ◌∷◌, filter, map, reverse}
 use Rattle.net_units.specs.Numbers.{channel_number, level_number}
 use Rattle.net_units.specs.declared.Kind.{Kind}

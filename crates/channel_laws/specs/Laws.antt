@@ -60,7 +60,7 @@ KeepingSourcesAreServed = (shape : LinkShape) (terms : HopTerms) (c : ℕ) (h : 
 
 -- what an entry makes of the reservation of a channel
 pub record EntriesChangeTheirReservation : Type 0 where
-  -- one that names another channel, or none, leaves it, unless it is closing
+  -- one that names another channel, or none, leaves it as it is, unless it is closing
   pub others : (shape : LinkShape) (h : List Entry) (e : Entry) (chan : ChanNo) → IsAdmissible shape h → IsOff (channel_number chan) e.ask → IsOpen (held_after shape chan h) → held_after shape chan (e ∷ h) ≡ held_after shape chan h
   -- after one that neither reserves, relaxes nor denies the channel it is the one before, or that one closing
   pub mild : (shape : LinkShape) (h : List Entry) (e : Entry) (chan : ChanNo) (terms : Reservation) → IsAdmissible shape h → IsMild (channel_number chan) e.ask → held_after shape chan (e ∷ h) ≡ Some terms → ComesOf terms (held_after shape chan h)

@@ -12,9 +12,9 @@ pub fn what_leaves_is_in_time()
     ensures { WhatLeavesIsInTime }
 {}
 
-/// In an admissible history that offers to a channel at most once, all packets of the channel are of one row, held or gone:
-/// they are numbered from 1, their eligible ticks are the row's and keep its contract, and their level is the row's. At a
-/// later hop the row has no source packets planned.
+/// In an admissible history that offers to a channel at most once, all packets of the channel belong to one row, held or
+/// gone: they are numbered from 1, their eligible ticks are the row's and keep its contract, and their level is the row's.
+/// At a later hop the row has no source packets planned.
 pub fn a_channel_has_one_row()
     ensures { AChannelHasOneRow }
 {}
@@ -25,7 +25,7 @@ pub fn packets_leave_in_order()
     ensures { PacketsLeaveInOrder }
 {}
 
-/// Each packet that a link has taken of a channel is within the size of the contract that the channel's reserves name.
+/// Each packet of a channel that a link has taken is within the size of the contract that the channel's reserves name.
 pub fn sizes_keep_the_contract()
     ensures { SizesKeepTheContract }
 {}
@@ -36,16 +36,16 @@ pub fn keeping_sources_are_served()
     ensures { KeepingSourcesAreServed }
 {}
 
-/// An entry that names another channel, or none, leaves a channel's reservation unless that is closing. A submit, a release,
-/// an arrival or a tick leaves it, closes it, or lets it expire. An offer is held as tentative, a relax commits it, and a
-/// deny gives it back.
+/// An entry that names another channel, or none, leaves a channel's reservation as it is unless that is closing. A submit, a
+/// release, an arrival or a tick leaves it as it is, closes it, or lets it expire. An offer is held as tentative, a relax
+/// commits it, and a deny gives it back.
 pub fn entries_change_their_reservation()
     ensures { EntriesChangeTheirReservation }
 {}
 
 /// Where a channel's reservation is committed, a submit at its first hop is planned, or refused as busy or too big, and a
-/// release of its hop is answered. Best-effort packets are planned, or refused as busy or
-/// too big. A packet that arrives is taken, or refused as full or stray.
+/// release of its hop is answered. Best-effort packets are planned, or refused as busy or too big. A packet that arrives
+/// is taken, or refused as full or stray.
 pub fn asks_are_answered()
     ensures { AsksAreAnswered }
 {}

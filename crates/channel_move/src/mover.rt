@@ -19,7 +19,7 @@ pub(crate) enum Stage {
     Leaving,
     // It has told this, and its cancelled packets are to be planned on the other channel.
     Joining(Shifted),
-    // It has told this, and so many hops of the channel that is left have replied.
+    // It has told this, and this many hops of the channel that is left have replied.
     Releasing { told: Shifted, made: u8 },
 }
 

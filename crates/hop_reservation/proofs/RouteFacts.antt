@@ -1,5 +1,5 @@
 -- Hops by different links are a route, and no others; two hops of a route over one link are the same; how the search for a
--- link that stood before goes on; and a filled array.
+-- link that has occurred before goes on; and a filled array.
 use Rattle.std.proofs.Common.{◌≡◌, ◌≢◌, ℕ, suc, ◌+◌, ◌-◌, ◌<◌, ◌≤◌, true, false, Some, None, List, [], ◌∷◌, ◌++◌, length, take, drop, replicate, get_or, inl, inr, ap, sym, subst, refl, ◌∙◌, ltb, arith}
 use Rattle.std.specs.List.{slice_get, list_any, AllPairs}
 use Rattle.std.proofs.Math.Seq.{drop-cons, take-suc, take-append_seam, get_or-append_seam}

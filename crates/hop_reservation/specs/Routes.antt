@@ -1,7 +1,7 @@
--- A route is the way of a channel's packets through the network: 1 to 16 hops in the order in which they pass them,
--- each by another link. (The limit of 16 is this project's.) A hop is seen as its link, the delay bounds of that link's
+-- A route is the way of a channel's packets through the network: 1 to 16 hops in the order in which they pass them, each
+-- by a different link. (The limit of 16 is this project's.) A hop is seen as its link, the delay bounds of that link's
 -- levels, and its propagation, both in ticks. Hops that aren't a route are refused with a number: 17 where there are more
--- than 16, 0 where there is none, and else the first place, from 1, whose link stood before.
+-- than 16, 0 where there is none, and else the first place, from 1, whose link has occurred before.
 use Rattle.std.specs.Prelude.{◌≡◌, ◌≢◌, ◌==◌, ℕ, suc, ◌-◌, ◌≤◌, Bool, nat_lt, if◌then◌else◌, Option, Some, None, List, [], ◌∷◌, ◌++◌, length, take, replicate}
 use Rattle.std.specs.List.{list_any, AllPairs}
 use Rattle.net_units.specs.Numbers.{link_number}
@@ -19,12 +19,12 @@ is_over_link link hop = link_of hop == link
 abbrev pub stands_among : List Hop → ℕ → Bool
 stands_among hops link = list_any (is_over_link link) hops
 
--- the first place of the hops after these whose link stood before
+-- the first place of the hops after these whose link has occurred before
 unfoldable pub repeated_from : List Hop → List Hop → Option ℕ
 repeated_from before [] = None
 repeated_from before (hop ∷ hops) = if stands_among before (link_of hop) then Some (suc (length before)) else repeated_from (before ++ hop ∷ []) hops
 
--- the first place, from 1, whose link stood before
+-- the first place, from 1, whose link has occurred before
 abbrev pub repeated_in : List Hop → Option ℕ
 repeated_in hops = repeated_from [] hops
 

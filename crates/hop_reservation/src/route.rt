@@ -22,12 +22,12 @@ pub struct Hop {
 /// Hops that aren't a route.
 #[derive(Clone, Copy, Debug, PartialEq, Eq)]
 pub struct BadRoute {
-    /// 17 where there are more than 16 hops, and 0 where there is none; else the first place, from 1, whose link
-    /// stood before.
+    /// 17 where there are more than 16 hops, and 0 where there is none; else the first place, from 1, whose link has
+    /// occurred before.
     pub place: u8,
 }
 
-/// A route: 1 to 16 hops in the order in which its packets pass them, each by another link.
+/// A route: 1 to 16 hops in the order in which its packets pass them, each by a different link.
 ///
 /// A contract sees the list of the hops.
 #[derive(Clone, Copy)]
@@ -53,7 +53,7 @@ impl Model for Route {
 }
 
 impl Route {
-    /// The route of these hops, refused where there are more than 16, or none, or where a link stands twice.
+    /// The route of these hops, refused where there are more than 16, or none, or where a link occurs twice.
     pub fn new(hops: &[Hop]) -> Result<Route, BadRoute>
         ensures found { IsOk result ↔ IsRoute hops.now }
         ensures refusal { MatchResult result
@@ -95,7 +95,7 @@ impl Route {
     }
 }
 
-// The first place, from 1, whose link stood before.
+// The first place, from 1, whose link has occurred before.
 fn repeated(hops: &[Hop]) -> Option<u8>
     requires { length hops.now ≤ 16 }
     ensures { result ≡ repeated_in hops.now }

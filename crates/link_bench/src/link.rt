@@ -9,13 +9,13 @@ use link_steps::{Ask, LinkStep, Reply};
 use net_units::{ChanNo, Kind, Level, OutOfMemory};
 use std::alloc::Global;
 
-/// What a new link makes of the work with so many channels. None where it has no memory for a row.
+/// What a new link makes of the work with this many channels. None where it has no memory for a row.
 pub fn work_through(alloc: Global, work: &Work, channels: u32) -> Option<Made> {
     let link = LinkState::new(alloc, work.shape()?).ok()?;
     make(link, work, channels)
 }
 
-/// What one makes of it that is split, where one group has all channels and all that the link can carry.
+/// What a new link that is split makes of it, where one group has all channels and all that the link can carry.
 pub fn work_through_split(alloc: Global, work: &Work, channels: u32) -> Option<Made> {
     let shape = work.shape()?;
     let split = split_of(alloc, &shape, channels)?;
@@ -49,7 +49,7 @@ fn open_all<L: LinkStep>(link: &mut L, work: &Work, channels: u32) -> Option<u64
     Some(accepted)
 }
 
-// Makes so many ticks. It answers how many packets depart.
+// Makes this many ticks. It answers how many packets depart.
 fn make_ticks<L: LinkStep>(link: &mut L, ticks: u32) -> Option<u64> {
     let tick = Ask::Tick;
     let mut departed = 0_u64;

@@ -44,8 +44,8 @@ fn main(rt: HostRuntime) -> ExitCode {
     }
 }
 
-// The work, the number of channels, and that of links, where these are the words after the program's name; before them may
-// stand that the links are split.
+// The work, the number of channels, and that of links, where these are the words after the program's name; a word before
+// them may say that the links are split.
 fn read_words(rt: &(impl Env + AllocGlobal)) -> io::Result<Option<Words>> {
     let mut split = false;
     let mut work = None;
@@ -79,7 +79,7 @@ fn read_words(rt: &(impl Env + AllocGlobal)) -> io::Result<Option<Words>> {
     }
 }
 
-// What so many links make of the work, in all.
+// What this many links make of the work, in all.
 fn work_times(alloc: Global, words: &Words) -> Option<Made> {
     let mut made = Made::default();
     for _ in 0..words.times {

@@ -8,8 +8,8 @@ use link_steps::{LinkShape, Quota, Split};
 use net_units::Level;
 use std::alloc::Global;
 
-/// One group has the channels of the first so many numbers, and all that a link of this shape with three levels can carry: at
-/// each what the blocking leaves of its bound, and the whole buffer. None where there are other levels, or memory lacks.
+/// One group has the first `channels` channel numbers, and all that a link of this shape with three levels can carry: at each
+/// what the blocking leaves of its bound, and the whole buffer. None where there aren't three levels, or not enough memory.
 pub fn split_of(alloc: Global, shape: &LinkShape, channels: u32) -> Option<Split>
     ensures { IfSome result (λ split. SplitFits (record { shape = shape.now; split = split })) }
 {

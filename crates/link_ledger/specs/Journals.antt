@@ -1,6 +1,6 @@
 -- The journal of a link lists its steps in the order in which they were made: the stamp, the actor, the ask and the reply of
--- each. What was asked and replied is the link's history, which is legal where each reply is the one of the rules of a link
--- at that point. So the marks of a journal, its stamps, actors and asks, determine its replies.
+-- each. What was asked and replied is the link's history, which is legal where each reply is the one that the rules of a
+-- link give at that point. So the marks of a journal, its stamps, actors and asks, determine its replies.
 use Rattle.std.specs.Prelude.{ℕ, ◌==◌, List, [], ◌∷◌, map, filter}
 use Rattle.net_units.specs.Numbers.{actor_number}
 use Rattle.link_steps.specs.Journals.{history_of}

@@ -1,6 +1,6 @@
--- A pass keeps an entry of its own for each step that it has made. All that its seat has drawn are the marks of these
--- entries, and what the seat knows of a link has of its actor exactly these, in their order, each at its place. So the
--- marks that it knows, whose replies follow from the rules, tell it the whole journal up to there.
+-- A pass keeps an entry of its own for each step that it has made. The marks of these entries are all that its seat has
+-- drawn. What the seat knows of a link has of its actor exactly these, in their order, each at its place. So the marks
+-- that it knows, whose replies follow from the rules, tell it the whole journal up to there.
 use Rattle.std.specs.Prelude.{◌≡◌, ℕ, ◌+◌, ◌-◌, ◌<◌, ◌≤◌, ◌==◌, ◌⊎◌, Some, List, [], ◌∷◌, ◌++◌, length, map, filter, slice_get}
 use mathlib.Core.List.{IsPrefix}
 use Rattle.net_units.specs.Numbers.{actor_number, link_number}
@@ -58,7 +58,7 @@ IsAnswered link known actor e = (before after : List Mark) → known ≡ before 
 abbrev pub AreAnswered : Link → ℕ → ActorNo → View → List OwnEntry → Type 0
 AreAnswered link l actor v own = Each (IsAnswered link (known_of l v) actor) (own_at l own)
 
--- one step under the lock, as the seat of the pass tells it: the journal before it, which the pass knew a beginning of, and the
+-- one step under the lock, as the seat of the pass tells it: the journal before it, of which the pass knew a beginning, and the
 -- entry made, which is the journal's next one. Its stamp is above all that the pass had seen, and so above those of all marks
 -- that it knew of this link or of any other
 pub record Acted (link : Link) (l : ℕ) (actor : ActorNo) (ask : Ask) (pass pass' : View) (entries : List Entry) (e : OwnEntry) : Type 0 where

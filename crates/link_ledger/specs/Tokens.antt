@@ -1,5 +1,5 @@
 -- A pass as callers see it: its actor, whether it has its seat and what that knows, its own entries, and whether a step has
--- met want of memory. And what a step of it at a link makes of it.
+-- met want of memory. And what a step at a link makes of it.
 use Rattle.std.specs.Prelude.{◌≡◌, ℕ, Bool, true, false, Option, Some, None, option_map, List, [], ◌∷◌, ◌++◌, length, map, slice_get}
 use Rattle.net_units.specs.Numbers.{actor_number}
 use Rattle.net_units.specs.declared.numbers.ActorNo.{ActorNo}

@@ -106,10 +106,10 @@ impl<L: LinkStep + Send, H: Home> LockedLink<L, H> {
     /// of any link (`made`). What it then knows of the link has rising stamps, each ask in it was asked by right, and each
     /// reserve's next link is one of the network's (`order`).
     ///
-    /// The pass has its seat (`seat`) and isn't spent, it owns its entries at this link (`own`), as a new pass and one
-    /// that has made its steps so does, and it has drawn fewer than 2^40 stamps. Its actor owns the channel that is asked
-    /// about, a reserve's next link is one of the network's, and the conditions on an ask hold. After want of memory the
-    /// pass is spent, with its own entries as they were, and it has drawn one stamp more at most.
+    /// The pass has to have its seat (`seat`), not be spent, own its entries at this link (`own`), as a new pass does and
+    /// one that has made its steps so, and have drawn fewer than 2^40 stamps. Its actor has to own the channel that is
+    /// asked about, a reserve's next link has to be one of the network's, and the conditions on an ask have to hold. After
+    /// want of memory the pass is spent, with its own entries as they were, and it has drawn at most one stamp more.
     pub fn step<W: Wait, G: Gate>(
         &self,
         rt: &W,
@@ -206,7 +206,8 @@ impl<L: LinkStep + Send, H: Home> LockedLink<L, H> {
     }
 
     // The lock, taken with the link under it that has the number beside it. That one lies there the first time, since no call
-    // moves a link from its lock; but of what lies under a lock only its type is known, so it is taken until it does.
+    // moves a link from its lock; but of what lies under a lock only its type is known, so the lock is taken again until it
+    // does.
     fn taken<W: Wait>(&self, rt: &W) -> MutexGuard<'_, Held<L, H>>
         ensures number { (mutex_guard_value result).number ≡ link_number self.now.link }
         ensures rules { IsLink H.links (link_number self.now.link) (mutex_guard_value result).rules }

@@ -83,7 +83,7 @@ impl Pass {
         }
     }
 
-    /// How many stamps were drawn by all so far: at least every stamp that the pass had seen. It then counts as seen.
+    /// How many stamps were drawn by all so far: at least every stamp that the pass had seen. This number then counts as seen.
     pub fn seen(&mut self, stamps: &Stamps) -> u64
         requires seat { self.old.has_seat ≡ true }
         requires table { self.old.table ≡ stamps_table stamps.now }

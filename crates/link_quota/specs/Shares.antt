@@ -1,4 +1,4 @@
--- Of each group that has a quota a split link keeps running numbers: at each level the load of the group's rows at the levels
+-- A split link keeps running numbers of each group that has a quota: at each level the load of the group's rows at the levels
 -- up to it, and the units of the buffer that they keep. A row is seen as a caller sees it, and changes the loads from its own
 -- level on. So no row is looked at to answer a reserve.
 use Rattle.std.specs.Prelude.{◌≡◌, ℕ, ◌+◌, ◌<◌, Some, List, length, slice_index, slice_get}
@@ -36,7 +36,7 @@ pub record AreShares (link : Link) (held : List Reservation) (shares : List Shar
   pub each : (k : ℕ) (quota : Quota) (share : Share)
       → slice_get link.split.quotas k ≡ Some quota → slice_get shares k ≡ Some share → IsShare link quota.group held share
 
--- there is one proof of it at most
+-- there is at most one proof of it
 IsShare-prop : (link : Link) (group : ℕ) (held : List Reservation) (share : Share) → IsProp (IsShare link group held share)
 IsShare-prop link group held share = Prim.hlevel ℕ_set
 

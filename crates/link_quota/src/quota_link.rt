@@ -22,8 +22,8 @@ use traffic_contract::Contract;
 /// A link that is split between groups of channels (*ours*): each group has quotas of its own, and a contract goes by those of
 /// its channel's group.
 ///
-/// It asks the link inside for all but a reserve. Beside it, it keeps what the rows of each group hold together, so that a
-/// reserve looks at no row.
+/// It leaves all asks but a reserve to the link inside. Beside that link it keeps what the rows of each group hold
+/// together, so that a reserve looks at no row.
 #[derive(Drop)]
 pub struct QuotaLink {
     pub(crate) link: LinkState,
@@ -57,8 +57,8 @@ impl QuotaLink {
     ghost use Rattle.link_steps.specs.Legal.{AskFits};
     ghost use Rattle.link_steps.specs.Scan.{clock_with};
 
-    /// A link of this shape, split so, that has made no step. The quotas of a level together leave room for the blocking, and
-    /// those of the buffer fit it.
+    /// A link of this shape, with this split, that has made no step. The quotas of a level together leave room for the
+    /// blocking, and those of the buffer fit it.
     pub fn new(alloc: Global, shape: LinkShape, split: Split) -> Result<QuotaLink, OutOfMemory>
         requires { SplitFits (record { shape = shape; split = split }) }
         ensures rules { IfOk result (λ quota. rules_of quota ≡ record { shape = shape; split = split }) }
@@ -215,8 +215,8 @@ impl QuotaLink {
         Ok(reply)
     }
 
-    // Makes a tick in which something may fall due, and looks then until when nothing does. Rows may expire in it. It answers what
-    // the link inside answers as it stands, since each copy of a reply takes as long as a part of the tick.
+    // Makes a tick in which something may fall due, and then looks until when nothing does. Rows may expire in it. It passes on
+    // the answer of the link inside as it stands, since each copy of a reply takes as long as a part of the tick.
     #[inline(never)]
     fn tick(&mut self, ask: &Ask) -> Result<Reply, OutOfMemory>
         requires fits { AskFits self.old.link.shape ask.now }
@@ -256,8 +256,8 @@ impl QuotaLink {
         self.link.step(ask)
     }
 
-    // Answers any ask. Most are ticks in which nothing falls due: one waits for none of what the others need, and is made where it
-    // is called, since to copy its reply once more takes longer than all of it.
+    // Answers any ask. Most are ticks in which nothing falls due: such a tick waits for none of what the others need, and is
+    // made where it is called, since to copy its reply once more takes longer than all of it.
     #[inline(always)]
     fn answer(&mut self, ask: &Ask) -> Result<Reply, OutOfMemory>
         requires fits { AskFits self.old.link.shape ask.now }
@@ -324,10 +324,10 @@ impl LinkStep for QuotaLink {
         self.link.clock()
     }
 
-    /// Makes one step. A refusal among the replies leaves the link as it was, and so does want of memory.
+    /// Makes one step. A reply that is a refusal leaves the link as it was, and so does want of memory.
     ///
-    /// Where the history is legal the next one has the hop guarantee (`guaranteed`): after each of its entries the held
-    /// rows, of all groups together, pass the admission test, and each packet leaves in time.
+    /// Where the history is legal, the next one has the hop guarantee (`guaranteed`): after each of its entries the
+    /// held rows, of all groups together, pass the admission test, and each packet leaves in time.
     #[inline(always)]
     fn step(&mut self, ask: &Ask) -> Result<Reply, OutOfMemory>
         requires fits { AskFits self.old.link.shape ask.now }

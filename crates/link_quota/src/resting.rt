@@ -21,7 +21,7 @@ impl QuotaLink {
         self.link.rests_until()
     }
 
-    /// Makes this many ticks, all before one until which it rests.
+    /// Makes this many ticks, all before a tick until which the link rests.
     pub fn rest(&mut self, ticks: u64)
         requires rests { (until : ℕ) × (RestsUntil self.old.link.shape until (kept_in self.old.link) × (self.old.link.clock + ticks ≤ until)) }
         requires early { self.old.link.clock + ticks ≤ 2 ^ 61 }
@@ -66,7 +66,7 @@ impl AnyLink {
         }
     }
 
-    /// Makes this many ticks, all before one until which it rests.
+    /// Makes this many ticks, all before a tick until which the link rests.
     pub fn rest(&mut self, ticks: u64)
         requires rests { (until : ℕ) × (RestsUntil (any_rules self.old).shape until (any_kept self.old) × (any_clock self.old + ticks ≤ until)) }
         requires early { any_clock self.old + ticks ≤ 2 ^ 61 }

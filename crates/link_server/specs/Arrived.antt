@@ -1,5 +1,6 @@
--- The packets at a link stand in no order of their own, the one on the link first, if there is one, and then those that wait. The
--- account has them in the order of their arrival: so they are told one arrival number after the other, up to the newest.
+-- A link keeps the packets that are here in no particular order: the one on the link first, if there is one, and then those
+-- that wait. The account has them in the order of their arrival. So here they are listed by arrival number, one after the
+-- other, up to the newest.
 use Rattle.std.specs.Prelude.{ℕ, zero, suc, ◌≤◌, Option, Some, None, List, [], ◌∷◌, ◌++◌, filter, length}
 use Rattle.link_steps.specs.Lists.{Each}
 use Rattle.link_steps.specs.Service.{Arrival, Start}

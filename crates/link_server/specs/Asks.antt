@@ -1,10 +1,10 @@
--- A reserve alone takes memory, and want of it comes in the place of an offer.
+-- Only a reserve takes memory, and want of it comes in place of an offer.
 use Rattle.link_steps.specs.declared.asks.Ask.{Ask}
 use Rattle.link_steps.specs.declared.asks.Ask.TheVariants.{Reserve, Relax, Deny, Submit, Release, Arrive, Tick, Pour}
 use Rattle.link_steps.specs.declared.replies.Reply.{Reply}
 use Rattle.link_steps.specs.declared.replies.Reply.TheVariants as Is
 
--- the ask takes no memory: it is no reserve
+-- the ask takes no memory: it isn't a reserve
 abbrev pub TakesNone : Ask → Type 0
 TakesNone (Reserve chan contract kind delay up_reach first next) = ⊥
 TakesNone (Relax chan level up_bound) = Unit {0}

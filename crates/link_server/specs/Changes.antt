@@ -1,4 +1,4 @@
--- A row of a table is changed at its place. What a change asks of the row there.
+-- A row of a table is changed at its place. Here is what a change asks of the row there.
 use Rattle.std.specs.Prelude.{◌≡◌, ℕ, zero, suc, ◌+◌, ◌-◌, ◌<◌, ◌≤◌, ◌^◌, true, None, IfSome, List, [], ◌∷◌, find, length, map, slice_get}
 use Rattle.net_units.specs.Numbers.{level_number}
 use Rattle.net_units.specs.declared.numbers.Level.{Level}

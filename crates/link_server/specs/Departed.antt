@@ -1,5 +1,5 @@
--- How many packets of a row are here stands in the row: it has taken so many, and of these so many have departed. A packet
--- that departs is of the row with its lead, if that is still held; and that row is found by the packet's channel.
+-- A row itself tells how many of its packets are here: it counts those that it has taken, and how many of these have departed.
+-- A packet that departs is of the row with its lead, if that row is still held, and the row is found by the packet's channel.
 use Rattle.std.specs.Prelude.{◌≡◌, ℕ, suc, ◌+◌, ◌&&◌, nat_eq, nat_lt, if◌then◌else◌, Option, Some, None, List, [], ◌∷◌}
 use Rattle.std.specs.Coded.{×_prop, Unit-prop}
 use native.Mathlib.Nat.{ℕ_set}
@@ -36,14 +36,15 @@ abbrev pub leaver : ℕ → ℕ → Option Start → Option Arrival
 leaver rate t None = None
 leaver rate t (Some start) = if leaves_by rate t start then Some start.packet else None
 
--- how many packets of each row have departed, once this one has: of its channel's, if that has its lead, and one here
+-- how many packets of each row have departed, once this one has: one more of its channel's row, if that has its lead
+-- and a packet here
 abbrev pub departed_after : Option Arrival → List KeptRow → List ℕ → List ℕ
 departed_after None rows departed = departed
 departed_after (Some p) [] departed = departed
 departed_after (Some p) (row ∷ rows) [] = []
 departed_after (Some p) (row ∷ rows) (n ∷ departed) = (if is_kept_of p.chan row && (nat_eq row.lead p.lead && nat_lt n row.taken) then suc n else n) ∷ departed_after (Some p) rows departed
 
--- ---- there is one proof at most that the rows are counted
+-- ---- there is at most one proof that the rows are counted
 
 pub AreCounted-prop : (here : List Arrival) (rows : List KeptRow) (departed : List ℕ) → IsProp (AreCounted here rows departed)
 AreCounted-prop here [] [] = Unit-prop

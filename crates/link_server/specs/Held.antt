@@ -1,7 +1,7 @@
--- A link tells the rows that it holds, in the order of their reserves: of each the channel, the contract, the level, the
--- phase, and the units that it keeps. They are the rows held after every history that the link stands for. A caller who
--- goes by rules of its own, as a link that is split between groups does, may so reserve at a level that it chooses: the
--- offer has to be one that a link may make that holds these rows.
+-- A link lists the rows that it holds, in the order of their reserves: of each the channel, the contract, the level, the
+-- phase, and the units that it keeps. They are the rows held after every history that the link stands for. So a caller
+-- with rules of its own, such as a link that is split between groups, may reserve at a level that it chooses. The offer
+-- has to be one that a link that holds these rows may make.
 use Rattle.std.specs.Prelude.{◌≡◌, ℕ, Option, Some, List, map, find, option_map, slice_get}
 use Rattle.net_units.specs.Numbers.{level_number}
 use Rattle.net_units.specs.declared.numbers.ChanNo.{ChanNo}

@@ -1,6 +1,6 @@
--- A link finds the rows whose hold ends by a calendar: once all packets of a closing row were taken, it has the tick by which the
--- hold ends, with the number of the row's channel. So a tick looks only at the rows of the entries that are due. An entry that is
--- no row's any more means nothing. For each row that has none yet the calendar keeps room for one.
+-- A link finds by a calendar the rows whose hold ends: once all packets of a closing row were taken, the calendar has the tick
+-- by which the hold ends, with the number of the row's channel. So a tick looks only at the rows of the entries that are due.
+-- An entry that no longer belongs to a row means nothing. For each row that has no entry yet the calendar keeps room for one.
 use Rattle.std.specs.Prelude.{◌≡◌, ℕ, ◌<◌, ◌≤◌, Bool, true, false, not, nat_eq, nat_le, ◌&&◌, ◌||◌, if◌then◌else◌, List, length, slice_index_or}
 use Rattle.std.specs.List.{list_any}
 use Rattle.net_units.specs.Numbers.{channel_number}

@@ -1,5 +1,5 @@
--- A link finds the row of a channel by an index: by the number of a channel it keeps the place of the channel's row. What it has
--- for a channel without a row means nothing, so a look-up compares the channel of the row at the place.
+-- A link finds the row of a channel by an index, which keeps the place of the channel's row under the channel's number. What it
+-- has for a channel without a row means nothing, so a look-up compares the channel of the row at the place.
 use Rattle.std.specs.Prelude.{◌≡◌, ℕ, suc, ◌<◌, ◌≤◌, List, length, map, slice_index_or}
 use Rattle.net_units.specs.Numbers.{channel_number}
 use Rattle.link_server.specs.declared.table.served_row.ServedRow.{ServedRow}

@@ -1,5 +1,5 @@
 -- A list whose values stand in a slab, each under a key of its own, which it keeps until it leaves. The keys stand in the order
--- of the list, so no value is moved where another comes or leaves.
+-- of the list, so no value is moved when another comes or leaves.
 use Rattle.std.specs.Prelude.{◌≡◌, ◌≢◌, ℕ, List, [], ◌∷◌, Option, None, IsSome, is_some, count_by, length, slice_index_or, refl}
 use Rattle.std.specs.Coded.{Coded, code_by, coded×, coded_ℕ, coded_list}
 use Rattle.std.specs.List.{filter_map}

@@ -1,4 +1,5 @@
--- The packets that wait in a link's line, and which of them is next: one that is eligible by the tick, where none that is goes before it.
+-- The packets that wait in a link's line, and which of them is next: one that is eligible by the tick, such that no other that
+-- is goes before it.
 use Rattle.std.specs.Prelude.{◌≡◌, ℕ, ◌<◌, ◌≤◌, false, List, ◌∷◌, ◌++◌}
 use Rattle.std.specs.List.Sorted.{IsPermutation}
 use Rattle.link_steps.specs.Lists.{Each}

@@ -1,4 +1,4 @@
--- There is one proof at most that a line's keys and packets are as they have to be.
+-- There is at most one proof that a line's keys and packets are as they have to be.
 use Rattle.std.specs.Prelude.{ℕ, suc, List, [], ◌∷◌, Option}
 use Rattle.std.specs.Coded.{×_prop, Unit-prop, le_prop}
 use mathlib.Core.HLevel.{×₃_prop}

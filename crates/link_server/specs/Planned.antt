@@ -1,5 +1,5 @@
--- The packets that are planned and left, of a source or best-effort ones, fall one each gap, and none of them is due before
--- the clock: what is planned for a tick is taken or dropped in that tick.
+-- The packets that are planned and left, of a source or best-effort ones, fall one every gap, and none of them is due
+-- before the clock: what is planned for a tick is taken or dropped in that tick.
 use Rattle.std.specs.Prelude.{ℕ, ◌≤◌, Option, Some, None, List, [], ◌∷◌}
 use Rattle.link_steps.specs.Lists.{Each}
 use Rattle.link_steps.specs.Rows.{SourcePacket, planned_from}

@@ -1,7 +1,7 @@
--- A link finds the rows that bring a packet in a tick by a calendar: for each row with source packets left it has the tick of the
--- next one, with the number of the row's channel. So a tick looks only at the rows of the entries that are due. These take their
--- turns in the order of the rows, whatever that of their entries. An entry that is no row's any more means nothing. For each row
--- that has no packet left and isn't closing the calendar keeps room for one entry.
+-- A link finds by a calendar the rows that bring a packet in a tick: for each row with source packets left, the calendar has
+-- the tick of the next one, with the number of the row's channel. So a tick looks only at the rows of the entries that are due.
+-- These take their turns in the order of the rows, whatever the order of their entries. An entry that no longer belongs to a
+-- row means nothing. For each row that has no packet left and isn't closing, the calendar keeps room for one entry.
 use Rattle.std.specs.Prelude.{◌≡◌, ℕ, suc, ◌+◌, ◌<◌, ◌≤◌, Bool, true, false, not, nat_eq, ◌&&◌, if◌then◌else◌, Some, None, is_none, find, List, [], ◌∷◌, map, length, slice_index_or}
 use Rattle.std.specs.List.{list_any}
 use Rattle.net_units.specs.Numbers.{channel_number}

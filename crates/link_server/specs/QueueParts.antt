@@ -1,4 +1,5 @@
--- A queue keeps the packets that wait in a line, beside it the one on the link, and how many best-effort packets wait. What holds of these together, and what a contract sees of them.
+-- A queue keeps the packets that wait in a line, and beside it the one on the link and how many best-effort packets wait. Here
+-- is what holds of these together, and what a contract sees of them.
 use Rattle.std.specs.Prelude.{◌≡◌, ◌≤◌, List, filter, length}
 use Rattle.link_steps.specs.BestEffort.{is_best}
 use Rattle.link_steps.specs.Service.{Arrival}

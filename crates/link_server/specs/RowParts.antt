@@ -1,5 +1,5 @@
--- What a table keeps of its rows beside the rows themselves goes with them: the admission sums are theirs, each is found by its
--- channel, at levels of the link, and the numbers of what they keep together are theirs.
+-- What a table keeps of its rows beside the rows themselves goes with them: the admission sums are theirs, each row is found by
+-- its channel and is at levels of the link, and the numbers of what they keep together are theirs.
 use Rattle.std.specs.Prelude.{◌≡◌, ℕ, List, length, map}
 use Rattle.rcsp_admission.specs.Sums.{Sums}
 use Rattle.link_server.specs.Index.{channels_in, IsIndex}

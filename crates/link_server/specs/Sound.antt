@@ -1,9 +1,9 @@
 -- An account is sound when its numbers keep their bounds and its packets have room, as in every state of a link. At most
--- one packet leaves in a tick: so a link has taken at most as many packets as it has made ticks and has packets here.
--- The packets here stand in the order of their arrival numbers, and no two rows have the same first packet. There is
--- room for the packets here, for one packet more in each slot that is free, and for one more a row. What a row plans lies
--- ahead, in order of time. The packet that occupies the link is one of those here, was eligible when it started, and
--- hasn't left.
+-- one packet leaves in a tick, so a link has taken at most as many packets as it has made ticks and has packets here,
+-- taken together. The packets here stand in the order of their arrival numbers, and no two rows have the same first
+-- packet. There is room for the packets here, for one packet more in each slot that is free, and for one more a row. What
+-- a row plans lies ahead, in order of time. The packet that occupies the link is one of those here, was eligible when it
+-- started, and hasn't left.
 use Rattle.std.specs.Prelude.{◌≡◌, ℕ, suc, ◌+◌, ◌-◌, ◌<◌, ◌≤◌, Bool, nat_eq, not, Some, List, [], ◌∷◌, length, filter, find}
 use Rattle.std.specs.Option.{ForSome}
 use Rattle.net_units.specs.Numbers.{level_number}

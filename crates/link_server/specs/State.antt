@@ -17,7 +17,7 @@ kept_in link = account link.clock link.queue link.table.rows
 abbrev pub LinkStands : LinkState → List Entry → Type 0
 LinkStands link h = StandsFor link.shape (kept_in link) h
 
--- it isn't split, which fits it
+-- it isn't split, and a link that isn't has a split that fits it
 pub stands-fits : (link : LinkState) (h : List Entry) → LinkStands link h → SplitFits (whole link.shape)
 stands-fits link h stands = whole-fits link.shape
 

@@ -1,7 +1,7 @@
 -- Every state of a link stands for an admissible history: it begins with the empty one, and each step goes on with an entry
--- that is admissible. Which one it is the state doesn't keep, so here it is said that none can't be. What the rules promise
--- of admissible histories, in whole numbers, so holds of every state: its rows keep no more than the buffer, and their
--- eligible ticks are soon.
+-- that is admissible. The state doesn't keep which one it is, so what is said here is that it can't be that there is none.
+-- So what the rules promise of admissible histories, in whole numbers, holds of every state: its rows keep no more than the
+-- buffer, and their eligible ticks are soon.
 use Rattle.std.specs.Prelude.{List}
 use Rattle.link_steps.specs.declared.replies.Entry.{Entry}
 use Rattle.link_steps.specs.declared.shape.LinkShape.{LinkShape}
@@ -16,6 +16,6 @@ StandsForNone shape k = (h : List Entry) → IsAdmissible shape h → StandsFor 
 abbrev pub IsStood : LinkShape → Kept → Type 0
 IsStood shape k = StandsForNone shape k → ⊥
 
--- there is one proof of it at most
+-- there is at most one proof of it
 pub IsStood-prop : (shape : LinkShape) (k : Kept) → IsProp (IsStood shape k)
 IsStood-prop shape k = Prim.hlevel

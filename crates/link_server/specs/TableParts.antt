@@ -1,6 +1,6 @@
--- A table keeps the rows in the order of their reserves, the places where the channels' rows stand, two calendars, of the holds that
--- end and of the packets that are planned, the admission sums, and the running numbers of what the rows keep together. What
--- holds of these, and what a contract sees of them.
+-- A table keeps the rows in the order of their reserves, the places where the channels' rows stand, two calendars (of the holds
+-- that end and of the packets that are planned), the admission sums, and the running numbers of what the rows keep together.
+-- Here is what holds of these, and what a contract sees of them.
 use Rattle.std.specs.Prelude.{◌≡◌, ◌<◌, ◌≤◌, ◌^◌, length, map}
 use Rattle.std.specs.Vec.{vec_capacity}
 use Rattle.buffer_budget.specs.Parts.{whole_of}

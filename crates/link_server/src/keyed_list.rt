@@ -9,7 +9,7 @@ use std::collections::VecDeque;
 use std::marker::Model;
 use std::ops::{Index, IndexMut};
 
-// A list whose values stand in a slab. A value keeps its key until it leaves, so none is moved where another comes or leaves.
+// A list whose values stand in a slab. A value keeps its key until it leaves, so none is moved when another comes or leaves.
 #[derive(Drop)]
 pub(crate) struct KeyedList<T> {
     slots: Slab<T>,
@@ -52,7 +52,7 @@ impl<T> KeyedList<T> {
         self.keys.len()
     }
 
-    // Makes room for so many values in all. Where there is that room already it takes no memory.
+    // Makes room for this many values in all. Where there is that room already it takes no memory.
     pub(crate) fn reserve(&mut self, room: usize) -> Result<(), OutOfMemory>
         ensures room { OnOk result (room ≤ self.new.room) }
         ensures had_room { room ≤ self.old.room → IsOk result }

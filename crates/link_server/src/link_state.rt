@@ -26,8 +26,8 @@ pub struct LinkState {
     pub(crate) clock: u64,
     // The reservations that it holds.
     pub(crate) table: Table,
-    // It has room for the packets of channels that are here, one in each free slot, one more a row, and the best-effort packets
-    // that may be here.
+    // It has room for the channels' packets that are here, for one in each free slot, for one more a row, and for the
+    // best-effort packets that may be here.
     pub(crate) queue: Queue,
     // Nothing falls due before this tick.
     pub(crate) due: u64,
@@ -72,7 +72,7 @@ impl LinkState {
     }
 
     /// The row at this place, from 0, among those that are held, in the order of their reserves, with the units that it
-    /// keeps; None exactly where no more are held.
+    /// keeps. None comes exactly where no row is at that place.
     pub fn held(&self, place: u32) -> Option<HeldRow>
         ensures row { result ≡ seen_at self.now.shape.bounds (reservations_held self.now) place }
         ensures stands { (h : List Entry) → LinkStands self.now h → result ≡ seen_at self.now.shape.bounds (map row_terms (scan_of self.now.shape h).rows) place }
@@ -115,8 +115,8 @@ impl LinkState {
         self.table.len() as u32
     }
 
-    /// The units that a new reservation of this contract would keep that is offered this level: the most packets that may be
-    /// here in the reach before this hop and the reach that goes with the level.
+    /// The units that a new reservation of this contract would keep if it were offered this level: the most packets that may
+    /// be here in the reach before this hop and the reach that goes with the level.
     pub fn need_at(&self, contract: &Contract, delay: u64, up_reach: u64, level: Level) -> u64
         requires before { up_reach ≤ most_bound }
         requires within { level_number level ≤ length self.now.shape.bounds }
@@ -154,9 +154,9 @@ impl LinkStep for LinkState {
     /// Makes one step. A refusal among the replies leaves the link as it was, and so does want of memory, which comes
     /// for a reserve alone, and there only in place of an offer.
     ///
-    /// Where the history is legal the next one has the hop guarantee (`guaranteed`): after each of its entries the held
-    /// rows pass the admission test, each packet that has departed did so later than its eligible tick and within its
-    /// level's bound, and each packet whose bound the clock has reached has departed.
+    /// Where the history is legal, the next one has the hop guarantee (`guaranteed`): after each of its entries the
+    /// held rows pass the admission test, each packet that has departed did so later than its eligible tick and within
+    /// its level's bound, and each packet whose bound the clock has reached has departed.
     fn step(&mut self, ask: &Ask) -> Result<Reply, OutOfMemory>
         requires fits { AskFits self.old.shape ask.now }
         requires early { self.old.clock < 2 ^ 61 }

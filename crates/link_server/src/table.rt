@@ -53,7 +53,7 @@ use traffic_contract::Contract;
 pub(crate) struct Table {
     // Those of the link's levels.
     bounds: Bounds,
-    // The tick in which it was last looked which rows fall due.
+    // The tick in which the link last looked which rows fall due.
     looked: u64,
     // In the order of their reserves.
     rows: KeyedList<ServedRow>,
@@ -83,7 +83,7 @@ impl Table {
     ghost use Rattle.link_server.specs.Sound.{all_places_of};
     ghost use Rattle.link_server.specs.Strays.{stray};
 
-    // That of no rows, at a link of this shape.
+    // The table of no rows, at a link of this shape.
     pub(crate) fn new(alloc: Global, shape: &LinkShape) -> Result<Table, OutOfMemory>
         ensures { IfOk result (λ made. made ≡ record { rows = []; departed = []; server = server_of shape.now; buffer = shape.now.buffer; looked = 0 }) }
     {
@@ -260,7 +260,7 @@ impl Table {
         taken
     }
 
-    // Takes the rows out whose hold has ended by this tick. It looks only at those of which the calendar tells so.
+    // Takes out the rows whose hold has ended by this tick. It looks only at those of which the calendar says so.
     pub(crate) fn expire(&mut self, clock: u64)
         requires looked { self.old.looked ≤ clock }
         requires ready { Each (IsReady clock) self.old.rows }
@@ -280,7 +280,7 @@ impl Table {
     }
 
     // The rows, in their order, take the packets that are planned for this tick. It answers how many packets found no slot
-    // free, and so were dropped. It looks only at the rows of which the calendar tells one.
+    // free, and so were dropped. It looks only at the rows for which the calendar has one.
     pub(crate) fn take_source_packets(&mut self, queue: &mut Queue, clock: u64) -> u32
         requires looked { self.old.looked ≤ clock }
         requires may { MayBring self.old.server.bounds clock queue.old self.old.rows }

@@ -1,4 +1,4 @@
--- That a history is legal or admissible has at most one proof, and so has that what is kept stands for it.
+-- There is at most one proof that a history is legal or admissible, and at most one that what is kept stands for it.
 use Rattle.std.specs.Prelude.{ℕ, List, [], ◌∷◌}
 use Rattle.std.specs.Coded.{×_prop, Unit-prop, le_prop}
 use mathlib.Core.Sum.{⊎_set}

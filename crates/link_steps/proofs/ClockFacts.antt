@@ -1,4 +1,4 @@
--- The clock of a history: an entry never moves it back, and moves it by a tick at most, so that it is at most the number of
+-- The clock of a history: an entry never moves it back, and moves it by at most one tick, so it is at most the number of
 -- entries.
 use Rattle.std.proofs.Common.{ℕ, suc, ◌≤◌, List, [], ◌∷◌, length, arith}
 use Rattle.link_steps.specs.declared.asks.Ask.{Ask}

@@ -1,5 +1,5 @@
--- In every admissible history each packet leaves the link within the bound of its level of its eligible tick, and later than
--- that tick.
+-- In every admissible history each packet leaves the link later than its eligible tick, and at most the bound of its level
+-- later.
 use Rattle.std.proofs.Common.{ℕ, ◌<◌, ◌≤◌, List, [], ◌∷◌, length, ⊎_elim, arith}
 use Rattle.std.proofs.lemmas.Bool.{cases_lt}
 use Rattle.net_units.specs.LevelBounds.{bound_at}

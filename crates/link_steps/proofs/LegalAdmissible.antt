@@ -1,4 +1,4 @@
--- Every legal history is admissible.
+-- Every legal history of a link whose split fits it is admissible.
 use Rattle.std.proofs.lemmas.Bool.{cases_Bool}
 use Rattle.net_units.proofs.BoundFacts.{bound_at-rising}
 use Rattle.net_units.specs.Quotient.{ceil_quotient}

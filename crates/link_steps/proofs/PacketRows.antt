@@ -1,5 +1,5 @@
--- Each packet of an admissible history that is of one of the link's levels is of a row, held or gone, which tells its eligible
--- tick and its level.
+-- Each packet of an admissible history that is of one of the link's levels belongs to a row, held or gone, which tells its
+-- eligible tick and its level.
 use Rattle.std.proofs.Common.{◌≡◌, ℕ, suc, ◌+◌, ◌≤◌, ◌⊎◌, Bool, true, false, not, cond, List, [], ◌∷◌, ◌++◌, length, Some, inl, inr, ⊎_elim, refl, sym, ap, ◌∙◌, subst, arith}
 use Rattle.std.proofs.lemmas.Bool.{cases_Bool, eq-eqb}
 use Rattle.std.proofs.lemmas.List.{length-map}

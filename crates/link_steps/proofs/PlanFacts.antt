@@ -1,5 +1,5 @@
--- The plan of a row rises: no two of its packets are planned for one tick, and they are in order of time. So each tick
--- that is made adds at most itself to what the source has offered, and a submit or a release adds and takes away nothing.
+-- The plan of a row rises: no two of its packets are planned for one tick, and they are in order of time. So each tick that
+-- is made adds at most itself to what the source has offered, and a submit or a release adds nothing and takes nothing away.
 use Rattle.std.proofs.Common.{◌≡◌, ◌≢◌, ℕ, zero, suc, ◌+◌, ◌<◌, ◌≤◌, Bool, true, false, List, [], ◌∷◌, ◌++◌, length, map, Some, None, inl, inr, sym, ap, ◌∙◌, arith, append-nil}
 use Rattle.std.proofs.lemmas.Bool.{cases_Bool, cases_lt, eqb-true, eqb-false, lt-ltb, le-ltb, ltb-true, lt-leb, le-leb, cond_both}
 use Rattle.std.proofs.lemmas.List.{nil_from_length}

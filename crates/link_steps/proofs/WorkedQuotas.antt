@@ -1,5 +1,5 @@
--- A group's buffer is what its own reservations leave of its own quota; and a channel's packet that waits takes no place of a
--- best-effort one.
+-- A group's buffer is what its own reservations leave of its own quota; and a channel's packet that waits takes no
+-- best-effort packet's place.
 use Rattle.std.proofs.Common.{◌≡◌, ◌∙◌, [], ◌∷◌, ◌++◌, None, true, false, refl}
 use Rattle.link_steps.specs.declared.asks.Ask.TheVariants.{Submit, Tick, Pour}
 use Rattle.link_steps.specs.declared.replies.Refusal.TheVariants.{NoBuffer}

@@ -1,4 +1,4 @@
--- Asks for which two causes and more apply at once: the reply tells the first of the fixed order.
+-- Asks for which two or more causes apply at once: the reply tells the first of the fixed order.
 use Rattle.std.proofs.Common.{◌≡◌, [], ◌∷◌, Some, refl, ◌∙◌, lit≤}
 use Rattle.net_units.specs.declared.Kind.TheVariants.{Rate}
 use Rattle.traffic_contract.specs.Contract.{terms_of}

@@ -1,7 +1,7 @@
 -- Two sources with one contract, at one link. That of the first channel offers packets at 0, 2, 4 and 6, which breaks the
 -- contract: one is held back until 5 and one until 20, and the last finds both slots taken and is dropped. That of the
--- second offers packets at 0, 10 and 20, which keeps it: each is eligible as it arrives, and leaves within the 20 ticks
--- of its level of its arrival. (In `WorkedPackets` the same fast source is alone, in `fast-source`.)
+-- second offers packets at 0, 10 and 20, which keeps it: each is eligible as it arrives, and leaves at most the 20 ticks
+-- of its level after it arrives. (In `WorkedPackets` the same fast source is alone, in `fast-source`.)
 use Rattle.std.proofs.Common.{◌≡◌, true, false, [], ◌∷◌, ◌++◌, Some, refl, ◌∙◌}
 use Rattle.traffic_contract.specs.Keeping.{keeps, are_spaced}
 use Rattle.link_steps.specs.declared.asks.Ask.TheVariants.{Submit}

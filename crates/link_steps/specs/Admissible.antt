@@ -2,7 +2,7 @@
 -- guarantees of a link allow: an offer of a contract no wider than the link, to a channel that holds no reservation here,
 -- at a level at which the contract passes the admission test with the rows held, with the reach of that level and a need
 -- that is free; any refusal of a reserve; and to every other ask the legal reply. A link that offers other levels than the
--- best, or refuses more than it has to, still has admissible histories, and so what is promised of these.
+-- best, or refuses more than it has to, still has admissible histories, so what is promised of these holds of it, too.
 use Rattle.std.specs.Prelude.{◌≡◌, ℕ, ◌≤◌, true, None, List, [], ◌∷◌, length, map, find}
 use Rattle.net_units.specs.Numbers.{level_number}
 use Rattle.net_units.specs.declared.numbers.ChanNo.{ChanNo}
@@ -26,7 +26,7 @@ use Rattle.link_steps.specs.Scan.{Scan, clock_of, scan_of}
 use Rattle.link_steps.specs.Shape.{server_of}
 use Rattle.link_steps.specs.Split.{whole}
 
--- an offer that a link may make that holds these reservations
+-- an offer that a link that holds these reservations may make
 pub record MayOffer (shape : LinkShape) (held : List Reservation) (chan : ChanNo) (contract : Traffic) (delay up_reach : ℕ) (level reach : Level) : Type 0 where
   pub narrow : contract.smax ≤ shape.cap
   pub new : find (is_of chan) held ≡ None

@@ -1,6 +1,6 @@
--- Each packet that a link has taken of a channel is of one row, held or gone. The packets of a row are those with its lead:
--- the arrival number of its first packet, which no other row has. Their eligible ticks are the row's, in the order in
--- which they came, and their level is the row's. Best-effort packets are of no row.
+-- Each packet of a channel that a link has taken belongs to one row, held or gone. The packets of a row are those with its
+-- lead: the arrival number of its first packet, which no other row has. Their eligible ticks are the row's, in the order in
+-- which they came, and their level is the row's. Best-effort packets belong to no row.
 use Rattle.std.specs.Prelude.{◌≡◌, ℕ, suc, ◌≤◌, ◌⊎◌, List, [], ◌∷◌, length, map, filter, reverse}
 use Rattle.net_units.specs.Numbers.{level_number}
 use Rattle.link_steps.specs.declared.replies.Entry.{Entry}

@@ -1,7 +1,7 @@
 -- Best-effort packets are served below all levels. A pour plans them as a submit plans those of a source, and they cross
--- this one link. The one planned for a tick arrives after the source packets of the tick, and is eligible in it; where as
--- many wait already as may, it is lost. To the service it is a packet of the level after the last. It is the first and
--- only packet of its own lead, so it is none of a reservation's.
+-- this one link. The one planned for a tick arrives after the source packets of the tick, and is eligible in it. Where as
+-- many as may wait are waiting already, it is lost. To the service it is a packet of the level after the last. It is the
+-- first and only packet of its own lead, so it belongs to no reservation.
 use Rattle.std.specs.Prelude.{ℕ, suc, Bool, not, nat_lt, ◌&&◌, None, List, [], ◌∷◌, length, filter, find}
 use Rattle.std.proofs.Common.{lit<}
 use Rattle.net_units.specs.declared.numbers.ChanNo.{ChanNo}
@@ -31,7 +31,7 @@ best_step waiting most t plan = source_step (nat_lt waiting most) (find (is_for 
 abbrev no_channel : ChanNo
 no_channel = record { number = 0; small = lit< tt }
 
--- it as the link takes it, with this arrival number
+-- the packet as the link takes it, with this arrival number
 abbrev pub best_arrival : List ℕ → ℕ → ℕ → ℕ → Arrival
 best_arrival bounds place size t = record {
   place = place;

@@ -1,8 +1,8 @@
--- A reservation keeps buffer for all packets of its channel that can be at the link at once. These fall into a
--- window as long as the bound of the hop before and the bound of its own level together. So it has as many slots
--- as its contract lets packets into such a window, each of the size of its largest packet. A tentative
--- reservation doesn't know its level yet, nor the hop before: it reckons with the reach of both. A packet holds
--- its slot from its arrival until it departs. What the held reservations don't keep is free.
+-- A reservation keeps buffer for all packets of its channel that can be at the link at once. These fall into a window
+-- as long as the bound of the hop before and the bound of its own level together. So it has as many slots as its
+-- contract allows packets in such a window, each of the size of its largest packet. A tentative reservation doesn't
+-- know its level yet, nor the hop before: it reckons with the reach of both. A packet holds its slot from its arrival
+-- until it departs. What the held reservations don't keep is free.
 use Rattle.std.specs.Prelude.{ℕ, ◌+◌, ◌-◌, ◌*◌, Bool, nat_eq, nat_lt, List, filter, length}
 use Rattle.net_units.specs.Numbers.{level_number}
 use Rattle.net_units.specs.LevelBounds.{bound_at}

@@ -1,8 +1,8 @@
 -- The account of a link: what it keeps of its history. It keeps its clock, how many packets it has taken, a row for
 -- each reservation held, in the order of the reserves, the packets here, in the order of their arrival, and the one
--- that occupies it. Of a row it keeps the terms, the lead, how many packets were taken, their newest eligible ticks,
--- a burst of them, and the planned packets that are left. The account gives the reply to each ask, and the account
--- after it: no rule needs more of the history.
+-- that occupies it. Of a row it keeps the terms, the lead, how many packets were taken, the newest of their eligible
+-- ticks, as many as a burst, and the planned packets that are left. The account gives the reply to each ask, and the
+-- account after it: no rule needs more of the history.
 use Rattle.std.specs.Prelude.{◌≡◌, ℕ, suc, ◌+◌, Bool, true, false, not, ◌&&◌, nat_eq, nat_le, nat_lt, if◌then◌else◌, Option, Some, None, List, [], ◌∷◌, ◌++◌, length, map, filter, find}
 use Rattle.net_units.specs.declared.numbers.ChanNo.{ChanNo}
 use Rattle.net_units.specs.declared.numbers.Level.{Level}

@@ -69,13 +69,13 @@ EveryWindowFits = (shape : LinkShape) (h : List Entry) (m t : ℕ) → IsAdmissi
 abbrev pub EveryPacketLeavesInTime : Type 0
 EveryPacketLeavesInTime = (shape : LinkShape) (h : List Entry) → IsAdmissible shape h → HopGuarantee shape h
 
--- every admissible history has the source guarantee: what a source has offered that keeps its contract has found buffer at its
--- channel's first hop, was eligible as it arrived, and has left within the bound of its level of its arrival. It doesn't
+-- every admissible history has the source guarantee: what a source that keeps its contract has offered has found buffer at its
+-- channel's first hop, was eligible as it arrived, and has left at most the bound of its level after it arrived. It doesn't
 -- matter what the other sources do, nor when channels come and go
 abbrev pub HonestSourcesFindBuffer : Type 0
 HonestSourcesFindBuffer = (shape : LinkShape) (h : List Entry) → IsAdmissible shape h → SourceGuarantee shape h
 
--- every legal history of a link whose split fits it is admissible, so each law of these is one of its own
+-- every legal history of a link whose split fits it is admissible, so what is promised of admissible histories holds of it, too
 abbrev pub LegalIsAdmissible : Type 0
 LegalIsAdmissible = (link : Link) (h : List Entry) → SplitFits link → IsLegal link h → IsAdmissible link.shape h
 

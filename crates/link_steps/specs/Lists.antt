@@ -1,7 +1,8 @@
--- Words on lists: the first element that passes a test changed, or taken out, a fact of each element, or of one, and membership.
+-- Words on lists: the first element that passes a test, changed or taken out; a fact of each element, or of one; and
+-- membership.
 use Rattle.std.specs.Prelude.{◌≡◌, Bool, if◌then◌else◌, List, [], ◌∷◌, ◌⊎◌}
 
--- the list with the first element changed that passes a test
+-- the list with the first element that passes a test changed
 unfoldable pub change_first : {X : Type 0} → (X → Bool) → (X → X) → List X → List X
 change_first test change [] = []
 change_first test change (x ∷ xs) = if test x then change x ∷ xs else x ∷ change_first test change xs

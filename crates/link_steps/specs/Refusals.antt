@@ -1,5 +1,5 @@
 -- An ask is refused by the first rule, in a fixed order, that applies to it, and the refusal carries the numbers by
--- which it applies. A rule is named by its refusal: it gives it where it applies, and nothing elsewhere.
+-- which it applies. A rule is named after its refusal: it gives that refusal where it applies, and nothing elsewhere.
 use Rattle.std.specs.Prelude.{ℕ, Bool, not, nat_eq, nat_lt, nat_le, ◌&&◌, if◌then◌else◌, Option, Some, None, List, [], ◌∷◌, suc}
 use Rattle.net_units.specs.Numbers.{level_number}
 use Rattle.net_units.specs.declared.numbers.Level.{Level}

@@ -1,7 +1,7 @@
 -- What a link has for a new contract. On a link that isn't split the best level is that of the admission test, and free is
 -- what all held reservations leave of the buffer. On a split link a contract goes by the quota of its channel's group: the
--- best level is the least one from which on the load of the group's reservations, with the new one, is within the group's
--- quota at each level, and free is what they leave of the group's buffer.
+-- best level is the least such that, at it and at each later level, the load of the group's reservations, with the new
+-- one, is within the group's quota. Free is what they leave of the group's buffer.
 use Rattle.std.specs.Prelude.{ℕ, zero, suc, ◌+◌, ◌-◌, Bool, true, nat_le, ◌&&◌, if◌then◌else◌, Option, List, length, map}
 use Rattle.net_units.specs.LevelBounds.{bound_at, last_bound}
 use Rattle.net_units.specs.declared.numbers.ChanNo.{ChanNo}

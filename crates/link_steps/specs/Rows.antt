@@ -1,7 +1,7 @@
 -- A row is a reservation with what its packets have made of it: the ticks at which they were eligible, which source
--- packets are planned, and which of these were dropped. A submit plans source packets at the channel's first hop,
--- one each gap from the link's clock on, and a release cancels those whose tick isn't made yet. Those whose tick was
--- made are what the source has offered, dropped ones included.
+-- packets are planned, and which of these were dropped. A submit plans source packets at the channel's first hop, one
+-- every gap from the link's clock on, and a release cancels those whose tick isn't made yet. Those whose tick was made
+-- are what the source has offered, dropped ones included.
 use Rattle.std.specs.Prelude.{ℕ, zero, suc, ◌+◌, Bool, nat_eq, nat_lt, nat_le, List, [], ◌∷◌, map, filter}
 use Rattle.link_steps.specs.Reservation.{Reservation}
 

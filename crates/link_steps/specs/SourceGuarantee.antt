@@ -1,6 +1,6 @@
--- The source guarantee says what a source gets that keeps its contract, at the first hop of its channel. It finds
--- buffer: each of its packets is taken in the tick for which it was planned, and none is dropped. Each is eligible in
--- that very tick, so the regulator never holds it back. And so each leaves within the bound of its level of its arrival,
+-- The source guarantee says what a source that keeps its contract gets at the first hop of its channel. It finds buffer:
+-- each of its packets is taken in the tick for which it was planned, and none is dropped. Each is eligible in that very
+-- tick, so the regulator never holds it back. And so each leaves at most the bound of its level after it arrives,
 -- whatever all other sources do. What counts is what the source has offered: the packets whose tick was made, in order
 -- of time, with any that were dropped. It is the same for the channels held and for those that are gone.
 use Rattle.std.specs.Prelude.{◌≡◌, ℕ, ◌+◌, ◌≤◌, true, IsTrue, List, [], map, filter, reverse}
@@ -27,7 +27,7 @@ arrival_of p = p.at
 pub record IsEligibleAtOnce (row : Row) (p : Arrival) : Type 0 where
   pub at_once : p.lead ≡ row.lead → p.eligible ≡ p.at
 
--- the last tick by which a packet departs that is eligible at once
+-- the last tick by which a packet that is eligible at once departs
 abbrev pub arrival_deadline : LinkShape → Arrival → ℕ
 arrival_deadline shape p = p.at + bound_at shape.bounds p.level
 

@@ -1,6 +1,6 @@
--- In the tick for which it is planned a source packet arrives, the rows in the order in which they were reserved. One
--- that finds each slot of its row taken is dropped. The others are taken: each gets the next arrival number of the
--- link, and its regulator says at which tick it is eligible.
+-- A source packet arrives in the tick for which it is planned. The rows bring theirs in the order in which they were
+-- reserved. One that finds each slot of its row taken is dropped. The others are taken: each gets the next arrival
+-- number of the link, and its regulator says at which tick it is eligible.
 use Rattle.std.specs.Prelude.{ℕ, suc, ◌+◌, Bool, true, false, nat_eq, if◌then◌else◌, Option, Some, None, List, [], ◌∷◌, ◌++◌, length, find}
 use Rattle.net_units.specs.Numbers.{level_number}
 use Rattle.link_steps.specs.Buffer.{has_slot}

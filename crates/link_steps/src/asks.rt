@@ -1,12 +1,12 @@
 //! What a link is asked.
 //!
-//! The numbers of an ask have limits (`AskFits` in `specs/Legal.antt`), which each variant names. Whoever asks has to see
-//! that they are kept.
+//! The numbers of an ask have limits (`AskFits` in `specs/Legal.antt`), which each variant names. Whoever asks has to
+//! keep them.
 use net_units::{ChanNo, Kind, Level, LinkNo};
 use traffic_contract::Contract;
 
-/// A packet as a link passes it on to the next one. An arrive wants its size from 1 to 65,536 units, and its due tick
-/// below 2^62.
+/// A packet as a link passes it on to the next one. An arrive wants a size from 1 to 65,536 units, and a due tick below
+/// 2^62.
 #[derive(Clone, Copy, Debug, PartialEq, Eq)]
 pub struct Packet {
     /// Its channel.
@@ -19,7 +19,7 @@ pub struct Packet {
     pub due: u64,
 }
 
-/// One ask of a link. Each names its channel, but for a tick.
+/// One ask of a link. Each names its channel, but for a tick and a pour.
 #[derive(Clone, Copy, Debug, PartialEq, Eq)]
 pub enum Ask {
     /// Reserve for a channel, with this contract and jitter control, and an end-to-end bound of `delay` ticks.
@@ -45,7 +45,7 @@ pub enum Ask {
     Deny {
         chan: ChanNo,
     },
-    /// Plan `count` packets of `size` units at the first hop, the first at the link's clock and then one each `gap`
+    /// Plan `count` packets of `size` units at the first hop, the first at the link's clock and then one every `gap`
     /// ticks. The count is from 1 to 262,144, the gap from 1 to 1,048,576 ticks, and the size from 1 to 65,536 units.
     Submit {
         chan: ChanNo,
@@ -65,8 +65,8 @@ pub enum Ask {
     },
     /// Let one tick pass.
     Tick,
-    /// Plan `count` best-effort packets of `size` units, the first at the link's clock and then one each `gap` ticks. The
-    /// link takes best-effort packets, and the numbers have the limits of a submit.
+    /// Plan `count` best-effort packets of `size` units, the first at the link's clock and then one every `gap` ticks.
+    /// The link has to be one that takes best-effort packets, and the numbers have the limits of a submit.
     Pour {
         count: u64,
         gap: u64,

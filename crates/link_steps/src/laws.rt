@@ -7,20 +7,20 @@ pub fn held_rows_pass()
     ensures { HeldRowsAlwaysPass }
 {}
 
-/// A busy period of the levels up to some level, over any list of packets, ends within a window that the work of
+/// A busy period of the levels up to some level, over any list of packets, ends within a window into which the work of
 /// these levels' packets fits together with the blocking.
 pub fn busy_period_ends()
     ensures { BusyPeriodEnds }
 {}
 
-/// For every history whose rows have contracts the legal reply to an ask is the one that the account of what the
-/// link keeps gives.
+/// For every history whose rows have contracts, the legal reply to an ask is the one that is given by the account of
+/// what the link keeps.
 pub fn account_gives_reply()
     ensures { AccountGivesReply }
 {}
 
-/// For every history whose rows have contracts the account of the history with one more entry is the one that the
-/// account before goes on to.
+/// For every history whose rows have contracts, the account of the history with one more entry is what that entry makes
+/// of the account before it.
 pub fn account_goes_on()
     ensures { AccountGoesOn }
 {}
@@ -49,16 +49,16 @@ pub fn every_window_fits()
 {}
 
 /// Every admissible history of every link has the hop guarantee. After each of its entries the held rows pass the admission
-/// test; each packet that has departed did so later than its eligible tick, and at most the bound of its level later;
-/// and each packet whose eligible tick and bound the clock has reached has departed. No premise is made on what
-/// arrives, nor on when channels come and go. (Static-priority service of regulated packets: Zhang & Ferrari 1993; the
-/// hold of released channels is ours.)
+/// test; each packet that has departed did so later than its eligible tick, and at most the bound of its level later; and
+/// each packet whose eligible tick and bound the clock has reached has departed. Nothing is assumed about what arrives, nor
+/// about when channels come and go. (Static-priority service of regulated packets: Zhang & Ferrari 1993; the hold of
+/// released channels is ours.)
 pub fn every_packet_leaves_in_time()
     ensures { EveryPacketLeavesInTime }
 {}
 
 /// In every admissible history a source that keeps its contract loses no packet at its channel's first hop. Each of its
-/// packets is eligible in the tick in which it arrives, and leaves within the bound of its level of its arrival. It
+/// packets is eligible in the tick in which it arrives, and leaves at most the bound of its level after it arrives. It
 /// doesn't matter what the other sources do, nor when channels come and go.
 pub fn honest_sources_find_buffer()
     ensures { HonestSourcesFindBuffer }

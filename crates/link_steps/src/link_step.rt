@@ -1,4 +1,4 @@
-//! What a type owes that acts as a link.
+//! What a type that acts as a link owes.
 ghost use Rattle.std.specs.Prelude.{◌≡◌, ℕ, ◌^◌, ◌<◌, List, ◌∷◌, IfOk, OnErr};
 ghost use Rattle.link_steps.specs.declared.asks.Ask.{Ask};
 ghost use Rattle.link_steps.specs.declared.replies.Entry.{Entry};
@@ -14,9 +14,9 @@ use net_units::OutOfMemory;
 
 /// A link that is asked one step at a time.
 ///
-/// It stands for a history when what it keeps is what the rules give for that history. For every history that it
-/// stands for, a step answers the legal reply at that point, and the link then stands for that history with the
-/// one entry added, newest first.
+/// It stands for a history when what it keeps is what the rules give for that history. For every history that it stands
+/// for, a step gives the legal reply at that point, and the link then stands for that history with the one entry added,
+/// newest first.
 pub trait LinkStep: Drop {
     /// The link as the rules see it: its shape, and how it is split.
     ghost link_of: { Self → Link };
@@ -36,7 +36,7 @@ pub trait LinkStep: Drop {
         ensures { result ≡ clock_at self.now };
 
     /// Makes one step. The ask has to keep the limits of its numbers (`fits`), and the clock has to be below 2^61
-    /// (`early`). A refusal among the replies leaves the link as it was, and so does want of memory.
+    /// (`early`). A reply that is a refusal leaves the link as it was, and so does want of memory.
     fn step(&mut self, ask: &Ask) -> Result<Reply, OutOfMemory>
         requires fits { AskFits (link_of self.old).shape ask.now }
         requires early { clock_at self.old < 2 ^ 61 }
@@ -45,7 +45,7 @@ pub trait LinkStep: Drop {
         ensures entered { IfOk result (λ reply. (h : List Entry) → stands_for self.old h → stands_for self.new (record { ask = ask.now; reply = reply } ∷ h)) }
         ensures memory { OnErr result ((h : List Entry) → stands_for self.old h → stands_for self.new h) }
 
-        // The same of the clock, where no history is at hand.
+        // The same for the clock, where no history is at hand.
         ensures ticked { IfOk result (λ _. clock_at self.new ≡ clock_with ask.now (clock_at self.old)) }
         ensures stopped { OnErr result (clock_at self.new ≡ clock_at self.old) };
 

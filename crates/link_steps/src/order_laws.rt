@@ -11,12 +11,13 @@ pub fn packets_start_in_order()
 {}
 
 /// After every entry of every admissible history the held rows keep no more units than the buffer has, the packets here of
-/// each held row take no more than it keeps, and all packets of channels that are here no more than the buffer has.
+/// each held row take no more than it keeps, and all channels' packets that are here take no more than the buffer has.
 pub fn the_buffer_always_holds()
     ensures { BufferAlwaysHolds }
 {}
 
-/// A tick is made in its order: rows expire, source packets arrive, the best-effort packet joins, a packet starts, one departs.
+/// A tick is made in this order: rows expire, source packets arrive, the best-effort packet joins, a packet starts, and one
+/// departs.
 pub fn a_tick_is_made_in_order()
     ensures { ATickIsMadeInOrder }
 {}

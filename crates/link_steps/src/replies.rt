@@ -57,7 +57,7 @@ pub enum Reply {
         clock: u64,
         eligible: u64,
     },
-    /// The tick of this number was made. So many source packets were dropped in it, and this packet left.
+    /// The tick of this number was made. This many source packets were dropped in it, and this packet left.
     Ticked {
         clock: u64,
         full: u32,
@@ -105,7 +105,7 @@ pub enum Refusal {
         reach: Level,
         up_reach: u64,
     },
-    /// So many planned packets are left.
+    /// This many planned packets are left.
     Busy {
         left: u64,
     },
@@ -149,7 +149,7 @@ pub struct Entry {
     pub reply: Reply,
 }
 
-/// A reply that isn't one of its ask's.
+/// A reply that isn't one to its ask.
 #[derive(Clone, Copy, Debug, PartialEq, Eq)]
 pub struct Unexpected {
     /// What was asked.

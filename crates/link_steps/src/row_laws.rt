@@ -6,16 +6,16 @@ pub fn packets_are_numbered()
     ensures { PacketsAreNumbered }
 {}
 
-/// Each packet of a channel is of a row, held or gone: the one with its lead. Its level is that of the row, and its eligible
-/// tick is one of the row's.
+/// Each packet of a channel belongs to a row, held or gone: the one with its lead. Its level is that of the row, and its
+/// eligible tick is one of the row's.
 pub fn each_packet_has_a_row()
     ensures { EachPacketHasARow }
 {}
 
-/// All rows with a packet of the levels up to m that is eligible in a window as long as the bound of m stand in one list
-/// that passes the admission test: those held when the clock last hadn't passed the window, or at the end. So the window
-/// that the link's test finds for level m fits all that they bring (`every_window_fits`), and a busy period ends within it
-/// (`busy_period_ends`).
+/// Take a window as long as the bound of level m. All rows with a packet of the levels up to m that is eligible in it
+/// stand in one list that passes the admission test: the rows held when the clock last hadn't passed the window, or at the
+/// end. So the window that the link's test finds for level m fits all that they bring (`every_window_fits`), and a busy
+/// period ends within it (`busy_period_ends`).
 pub fn rows_of_a_window_stand_together()
     ensures { RowsOfAWindowStandTogether }
 {}
@@ -25,7 +25,7 @@ pub fn packets_fit_their_slots()
     ensures { PacketsFitTheirSlots }
 {}
 
-/// While the clock of a link is at most 2^61, no eligible tick reaches 2^63.
+/// While a link's clock is at most 2^61, no eligible tick reaches 2^63.
 pub fn eligible_ticks_are_soon()
     ensures { EligibleTicksAreSoon }
 {}

@@ -31,7 +31,7 @@ pub struct BadShape {
     pub field: ShapeField,
 }
 
-/// A link: its number and its numbers, each within its limit. A packet of the largest size fits the first bound.
+/// A link: its place in the network and its numbers, each within its limit. A packet of the largest size fits the first bound.
 #[derive(Clone, Copy)]
 pub struct LinkShape {
     /// Its place among the links of the network.
@@ -46,7 +46,7 @@ pub struct LinkShape {
     pub buffer: u32,
     /// The delay bounds of its levels, in ticks.
     pub bounds: Bounds,
-    /// In which window its admission test compares the load of a level.
+    /// Which windows count when its admission test compares the load of a level.
     pub test: Test,
     /// The best-effort packets that may wait, up to 1,024; 0 where there are none.
     pub best: u32,
@@ -64,9 +64,9 @@ pub struct LinkShape {
 impl LinkShape {
     ghost use Rattle.link_steps.specs.Shape.{first_bad_field, blocking_of, IsShapeOf};
 
-    /// A link of these numbers, refused for the first field, in this order, that is out of its limit: a rate or a
-    /// cap from 1 to 65,536 units, a propagation of at most 1,048,576 ticks, a buffer of at most 262,144 units,
-    /// and bounds of which the first is at least the ticks of the largest packet.
+    /// A link of these numbers, refused for the first field, in this order, that is out of its limit: a rate or a cap
+    /// from 1 to 65,536 units, a propagation of at most 1,048,576 ticks, a buffer of at most 262,144 units, at most
+    /// 1,024 best-effort packets, and bounds of which the first is at least the ticks of the largest packet.
     pub fn new(
         link: LinkNo,
         rate: u32,

@@ -28,7 +28,7 @@ impl Model for Split {
 
 impl Split {
     /// These quotas on a link whose levels have these bounds, and the group of each channel number from 0 on: from 1 to 4,
-    /// or 0 for none. Each group has one quota at most, and no load after the link's last level.
+    /// or 0 for none. Each group has at most one quota, which has no load after the link's last level.
     pub fn new(
         alloc: Global,
         bounds: Bounds,

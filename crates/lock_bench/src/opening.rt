@@ -41,7 +41,7 @@ pub fn opened(alloc: Global, actors: u32) -> Result<(Stamps, LinkSeat, Vec<PassS
     Ok((stamps, link, passes))
 }
 
-/// The journal of a link behind a lock, after as many threads as there are seats have made the same number of ticks of it each.
+/// The journal of a link behind a lock, after as many threads as there are seats have each made the same number of its ticks.
 pub fn journal_of<H: Home + Send + Sync, R: Threads + Wait + Sync>(
     rt: &R,
     alloc: Global,
@@ -70,7 +70,7 @@ pub fn journal_of<H: Home + Send + Sync, R: Threads + Wait + Sync>(
     Ok(journal)
 }
 
-/// The journal of a new link after each of the threads has made the same number of ticks of it, where there was memory for all.
+/// The journal of a new link after each of the threads has made the same number of its ticks, where there was memory for all.
 pub fn ticked<R: Threads + Wait + Sync>(
     rt: &R,
     alloc: Global,

@@ -2,6 +2,6 @@
 use Rattle.std.specs.Prelude.{ℕ}
 use Rattle.std.specs.Int.{div_ceil}
 
--- the quotient, and one more where a rest is left; for b of at least 1
+-- the quotient, and one more where a remainder is left; for b of at least 1
 abbrev pub ceil_quotient : ℕ → ℕ → ℕ
 ceil_quotient a b = div_ceil a b

@@ -1,8 +1,8 @@
 //! Where a test may hold a step of a running network.
 use crate::numbers::{ActorNo, LinkNo};
 
-/// Called round each step of a running network, so that a test can order the steps of several threads. It
-/// promises nothing but that its calls return.
+/// Called around each step of a running network, so that a test can order the steps of several threads. It promises
+/// nothing but that its calls return.
 pub trait Gate {
     /// Called under the link's lock, before the step's stamp is drawn and the step is made.
     fn within(&self, link: LinkNo, actor: ActorNo);

@@ -1,5 +1,5 @@
--- What a link keeps of admission, by the fields of the struct that keeps it. Spare are the rows for which memory was taken, both for
--- the row and for its place in the index, and that aren't used.
+-- What a link keeps of admission, by the fields of the struct that keeps it. The spare rows are those for which memory was
+-- taken, both for the row and for its place in the index, and which aren't used.
 use Rattle.std.specs.Prelude.{◌+◌, ◌≤◌, length, map, vec_capacity}
 use Rattle.rcsp_admission.specs.Sums.{Sums, server_with}
 use Rattle.rcsp_admission.specs.Kept.{held_of}

@@ -1,6 +1,6 @@
--- A link finds the row of a key by an index. It keeps the place of each row under the row's key, and the keys stand in their order,
--- so a search finds one by halving. The rows themselves stay in the order in which they were added. Where one is taken out, the
--- rows after it move up by one.
+-- A link finds the row of a key by an index. It keeps the place of each row under the row's key, and the keys stand in their
+-- order, so a binary search finds one. The rows themselves stay in the order in which they were added. When one is taken out,
+-- the rows after it move up by one.
 use Rattle.std.specs.Prelude.{◌≡◌, ℕ, suc, ◌-◌, ◌<◌, ◌≤◌, nat_eq, nat_lt, if◌then◌else◌, Option, Some, None, List, [], ◌∷◌, length, slice_index_or}
 use Rattle.std.specs.List.{position_from}
 use Rattle.rcsp_admission.specs.Sums.{Held, has_key}
@@ -31,7 +31,7 @@ pub record IsGapFor (key : ℕ) (places : List KeyPlace) (i : ℕ) : Type 0 wher
   pub below : (k : ℕ) (d : KeyPlace) → k < i → (slice_index_or places k d).key < key
   pub above : (d : KeyPlace) → i < length places → key < (slice_index_or places i d).key
 
--- where a row stands once that at the place `left` is out
+-- where a row stands once the one at the place `left` is out
 abbrev pub place_after : ℕ → ℕ → ℕ
 place_after left place = if nat_lt left place then place - 1 else place
 

@@ -58,7 +58,7 @@ added rows key contract level = rows ++ held_at key contract level ∷ []
 abbrev pub put_at : ℕ → Held → Held
 put_at level held = held_at held.key held.row.contract level
 
--- this row, at the level where it has the key
+-- this row, moved to the level where it has the key
 abbrev pub move_row : ℕ → ℕ → Held → Held
 move_row key level held = if has_key key held then put_at level held else held
 

@@ -20,7 +20,7 @@ pub(crate) struct KeyIndex {
 }
 
 impl KeyIndex {
-    // That of no rows.
+    // The index of no rows.
     pub(crate) fn new(alloc: Global) -> KeyIndex
         ensures { result.places.items ≡ [] }
     {

@@ -29,10 +29,10 @@ pub struct NoLevel {
 
 /// The channels that a link has admitted, each as a row with its key, contract and level.
 ///
-/// The rows always pass: for every level m, the blocking and the work that the rows at levels 1 to m may bring into
-/// some window are together at most that window. By the link's test the window is as long as the bound of m, or any of a
-/// tick or more up to it. A contract sees the record `Sums`: the link, the rows in the order in which they were added, and
-/// the number of rows for which memory is spare.
+/// The rows always pass: for every level m, the blocking and the work that the rows at levels 1 to m may bring into some
+/// window are together at most that window. The link's test says which windows count: the one as long as the bound of m,
+/// or any of a tick or more up to it. A contract sees the record `Sums`: the link, the rows in the order in which they
+/// were added, and the number of rows for which memory is spare.
 #[derive(Drop)]
 pub struct LevelSums {
     bounds: Bounds,
@@ -42,7 +42,7 @@ pub struct LevelSums {
     rows: Vec<KeptRow>,
     // Where each of them stands.
     index: KeyIndex,
-    // For how many more both have room.
+    // How many more rows both have room for.
     spare: usize,
     // Of each level, the work of the rows at levels up to it in a window as long as its bound.
     loads: [u64; MOST_LEVELS as usize],
@@ -63,8 +63,8 @@ impl Model for LevelSums {
 }
 
 impl LevelSums {
-    /// A link without rows. `rate` is in units a tick. `blocking` is the time in ticks that the link's largest
-    /// packet takes, at most the first bound. `test` says in which window the load of a level is compared.
+    /// A link without rows. `rate` is in units a tick. `blocking` is the time in ticks that the link's largest packet
+    /// takes, at most the first bound. `test` says which windows count.
     pub fn new(alloc: Global, bounds: Bounds, rate: u32, blocking: u32, test: Test) -> LevelSums
         requires rate { 1 ≤ rate }
         requires blocking { 1 ≤ blocking }

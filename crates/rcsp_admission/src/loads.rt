@@ -2,7 +2,7 @@
 //!
 //! The load of a level is the work that the rows at this level and at those before it may bring into a window as long as the
 //! level's bound (Zhang & Ferrari 1993). Whoever keeps the loads of some rows, those of a link or of a part of it, tells the
-//! load of a level without a look at a row.
+//! load of a level without looking at a row.
 ghost use Rattle.std.specs.Prelude.{◌≡◌, ◌+◌, ◌^◌, ◌<◌, ◌≤◌, ℕ, length, slice_index};
 ghost use Rattle.net_units.specs.Numbers.{level_number};
 ghost use Rattle.net_units.specs.Limits.{most_bound};
@@ -36,7 +36,7 @@ pub fn add_row(loads: &mut [u64], bounds: &Bounds, rate: u32, contract: &Contrac
     }
 }
 
-/// Takes it out of them again. The loads have it in them.
+/// Takes what such a row brings out of the loads again. The loads have it in them.
 pub fn take_row(loads: &mut [u64], bounds: &Bounds, rate: u32, contract: &Contract, level: Level)
     requires rate { 1 ≤ rate }
     requires count { length bounds.now ≤ length loads.old }

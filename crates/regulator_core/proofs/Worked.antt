@@ -1,5 +1,5 @@
--- Worked values, found by computing with the definitions, for a contract of a packet each 5 ticks and two in any
--- 20, of up to 2 units: what a regulator answers and keeps.
+-- Worked values, found by computing with the definitions, for a contract of a packet every 5 ticks and two in any 20,
+-- of up to 2 units: what a regulator answers and keeps.
 use Rattle.std.proofs.Common.{◌≡◌, ℕ, [], ◌∷◌, refl}
 use Rattle.net_units.specs.declared.Kind.TheVariants.{Rate, Jitter}
 use Rattle.traffic_contract.specs.Contract.{Traffic, terms_of}

@@ -1,9 +1,8 @@
--- A regulator keeps the contract and the kind of control of its channel, and of the eligible ticks that it has
--- answered the newest ones, as many as the contract's burst. No older tick can hold a packet back, so the
--- regulator stands for every list of ticks that keeps the contract and has these as its newest ones: its next
--- answer is the eligible tick after each of them, and so after the whole list that it has answered. Under
--- rate-jitter control a packet may go from its arrival on, under delay-jitter control no earlier than it is due
--- (Zhang & Ferrari 1993).
+-- A regulator keeps the contract and the kind of control of its channel, and the newest of the eligible ticks that it
+-- has answered, as many as the contract's burst. No older tick can hold a packet back, so the regulator stands for
+-- every list of ticks that keeps the contract and has these as its newest ones: its next answer is the eligible tick
+-- after each of them, and so after the whole list that it has answered. Under rate-jitter control a packet may go from
+-- its arrival on, under delay-jitter control no earlier than it is due (Zhang & Ferrari 1993).
 use Rattle.std.specs.Prelude.{◌≡◌, ℕ, ◌+◌, max, List, [], ◌∷◌, reverse, take}
 use Rattle.net_units.specs.declared.Kind.{Kind}
 use Rattle.net_units.specs.declared.Kind.TheVariants.{Rate, Jitter}

@@ -50,9 +50,9 @@ impl Regulator {
         })
     }
 
-    /// The eligible tick of the channel's next packet, which arrives at the tick `at` and is due at the tick `due`:
-    /// the least tick that isn't below `at`, nor below `due` under delay-jitter control, and with which all ticks
-    /// answered so far keep the contract. Rate-jitter control doesn't count `due`, and a channel's first hop passes 0.
+    /// The eligible tick of the channel's next packet, which arrives at the tick `at` and is due at the tick `due`: the
+    /// least tick that isn't below `at`, nor below `due` under delay-jitter control, and with which all ticks answered
+    /// so far keep the contract. Rate-jitter control ignores `due`, and a channel's first hop passes 0.
     ///
     /// `at` and `due` are below 2^62, and the tick that it answered last is below 2^63. The call takes no memory.
     pub fn admit(&mut self, at: u64, due: u64) -> u64
@@ -122,7 +122,7 @@ mod tests {
     use super::*;
     use std::test::Fail;
 
-    // A packet each 5 ticks and two in any 20, of up to 2 units.
+    // A packet every 5 ticks and two in any 20, of up to 2 units.
     fn paced() -> Result<Contract, traffic_contract::BadContract> {
         Contract::new(5, 10, 20, 2)
     }

@@ -4,8 +4,9 @@ ghost use Rattle.traffic_contract.specs.Contract.{Traffic};
 ghost use Rattle.traffic_contract.specs.Keeping.{Keeps, keeps_newest_first};
 ghost use Rattle.regulator_core.specs.Shifted.{shifted_by};
 
-/// A list of ticks that keeps a contract, shifted by a constant, keeps it, and a list keeps a contract that keeps it
-/// when shifted. So packets that all leave a hop the same time after their eligible ticks still keep the contract.
+/// A list of ticks that keeps a contract still keeps it when shifted by a constant, and a list that keeps a contract when
+/// shifted keeps it unshifted, too. So packets that all leave a hop the same time after their eligible ticks still keep the
+/// contract.
 ///
 /// The call does nothing: the law is its contract, for the list in order of time and for the test of a list with the
 /// newest tick first.

@@ -1,6 +1,6 @@
 -- What an allotment is good for. Each hop gets one of its own levels, no smaller than the one that it has offered and no
 -- larger than its reach: the largest whose bound is within the delay bound of the request, or the one offered, if that is
--- larger. The bounds and propagations of the route add up to the delay bound at most, and under delay-jitter control the
+-- larger. The bounds and propagations of the route add up to at most the delay bound, and under delay-jitter control the
 -- bound of the last hop is at most the jitter bound.
 use Rattle.std.specs.Prelude.{◌≡◌, ℕ, ◌≤◌, IsTrue, max, Option, None, List, [], ◌∷◌}
 use Rattle.net_units.specs.LevelBounds.{are_bounds, bound_at, levels_within, reach_of}

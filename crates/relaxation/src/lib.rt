@@ -1,7 +1,7 @@
 //! The destination's tests of a request, and the levels that its hops are allotted.
 //!
-//! A channel is established in one round trip (after the Tenet suite, Banerjea, Ferrari et al. 1996). Behind the last
-//! hop's offer the destination tests what was offered, and then each hop gets its level on the way back. Nothing here takes
+//! A channel is established in one round trip (after the Tenet suite, Banerjea, Ferrari et al. 1996). After the last hop's
+//! offer the destination tests what was offered, and then each hop gets its level on the way back. Nothing here takes
 //! memory. Times are in ticks.
 #![tactic(auto)]
 

@@ -1,6 +1,6 @@
--- A certificate that no walk between two nodes has a smaller sum than a route. The route is a walk from the one to the other, and
--- its propagations have the sum that is told. The table has 0 at the end and nothing elsewhere for 0 links, each row follows from
--- the row before it, and its entry for 16 links at the start is that sum.
+-- A certificate that no walk between two nodes has a smaller sum than a route. The route is a walk from the one to the other,
+-- and its propagations have the sum that is given. The table has 0 at the end and nothing elsewhere for 0 links, each row
+-- follows from the row before it, and its entry for 16 links at the start is that sum.
 use Rattle.std.specs.Prelude.{◌≡◌, ℕ, suc, ◌+◌, ◌<◌, ◌≤◌, Option, Some, List, map}
 use Rattle.hop_reservation.specs.declared.route.Hop.{Hop}
 use Rattle.route_finder.specs.declared.edge.Edge.{Edge}
@@ -8,7 +8,7 @@ use Rattle.route_finder.specs.Rows.{entry}
 use Rattle.route_finder.specs.Table.{by_none, by_one_more}
 use Rattle.route_finder.specs.Walks.{hop_of, prop_over, AreAmong, Leads, IsWalk}
 
--- the first row is that of no link, and each row up to so many links is that of one link more than the row before it
+-- the first row is that of no link, and each row up to this many links is that of one link more than the row before it
 pub record HasRows (edges : List Edge) (to links : ℕ) (rows : List (List (Option ℕ))) : Type 0 where
   pub none : (node : ℕ) → node < 64 → entry rows 0 node ≡ by_none to node
   pub one_more : (few node : ℕ) → few < links → node < 64 → entry rows (suc few) node ≡ by_one_more (entry rows few) edges node

@@ -11,7 +11,7 @@ use Rattle.route_finder.specs.Table.{least_prop, IsLeastProp}
 use Rattle.route_finder.specs.Trace.{least_walk}
 use Rattle.route_finder.specs.Walks.{hop_of, prop_over, IsWalk, IsLeastWalk}
 
--- the rows tell the least propagation from each node by at most so many links
+-- the rows tell the least propagation from each node by at most each number of links
 pub record IsTable (edges : List Edge) (to : ℕ) (rows : List (List (Option ℕ))) : Type 0 where
   pub entries : (links node : ℕ) → links ≤ 16 → entry rows links node ≡ least_prop edges to links node
   pub least : (links node : ℕ) → links ≤ 16 → IsLeastProp edges to links node (entry rows links node)

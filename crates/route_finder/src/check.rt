@@ -14,8 +14,8 @@ use hop_reservation::{Hop, Route};
 use net_units::limits::MOST_HOPS;
 use net_units::{Bounds, Level};
 
-/// Whether the route is a walk from one node to the other with the propagation that is told, each row of the table follows
-/// from the row before it, and the propagation is the table's entry for 16 links.
+/// Whether the route is a walk from one node to the other with the propagation that is given, each row of the table
+/// follows from the row before it, and the propagation is the table's entry for 16 links.
 ///
 /// Where it answers yes, no walk has a smaller sum. It doesn't say that the route is the first of the walks with that sum. A
 /// hop is an edge's only where its bounds and its propagation are the edge's too.

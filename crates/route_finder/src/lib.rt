@@ -1,6 +1,6 @@
 //! Least routes: the walk of at most 16 links from one node of a network to another whose propagations have the least sum.
 //!
-//! [`least_route`] reads the walk off a table of least propagations, which it hands out with it as a certificate.
+//! [`least_route`] reads the walk off a table of least propagations, and hands out that table as a certificate, too.
 //! [`check_route`] checks such a certificate by itself: a yes says that no walk has a smaller sum. A search takes
 //! 16 * (64 + 32) steps, however many walks there are.
 #![tactic(auto)]

@@ -12,7 +12,7 @@ use hop_reservation::Hop;
 use net_units::limits::MOST_HOPS;
 use std::alloc::{AllocError, Global};
 
-// The hops of the least walk from a node. At each node the first edge is taken that is on the way.
+// The hops of the least walk from a node. At each node the first edge that is on the way is taken.
 pub(crate) fn hops_from(
     alloc: Global,
     edges: &[Edge],
@@ -50,7 +50,7 @@ fn fewest_links(least: &Least, from: u32) -> u8
     links
 }
 
-// The first edge from a node on the way, where so many links are left after it.
+// The first edge from a node on the way, where this many links are left after it.
 fn first_step(edges: &[Edge], least: &Least, left: u8, node: u32) -> Option<Edge>
     requires left { left < 16 }
     requires node { node < 64 }

@@ -1,4 +1,4 @@
--- A row that was kept while a run goes on gets its hop from the offers of the run in the end.
+-- A row that was kept while a run goes on gets its hop from the offers of the run at its end.
 use Rattle.std.specs.Prelude.{List}
 use Rattle.net_units.specs.Numbers.{channel_number, link_number}
 use Rattle.run_record.specs.Rows.{hop_among, links_of}

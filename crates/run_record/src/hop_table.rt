@@ -35,7 +35,8 @@ impl HopTable {
         note(&mut self.channels, done)
     }
 
-    /// The row that an entry tells, if it tells one, with its hop by the offers noted so far. A tick is told before 2^63.
+    /// The row that an entry tells, if it tells one, with its hop by the offers noted so far. A tick that it tells is
+    /// before 2^63.
     pub fn row_of(&self, done: &Done) -> Option<HopRow>
         requires { IsEarly done.now.reply }
         ensures some { IfSome result (λ told. (run : List Step) → AreHops run self.now.channels.items → rows_by run done.now.link done.now.reply ≡ told ∷ []) }

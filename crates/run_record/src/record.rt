@@ -78,8 +78,8 @@ impl Record {
         self.entries.as_slice()
     }
 
-    /// One row for each departure, in the order of channel, packet and hop. An `Err` comes only for want of memory. Ticks
-    /// are told before 2^63.
+    /// One row for each departure, in the order of channel, packet and hop. An `Err` comes only for want of memory. The
+    /// ticks told are before 2^63.
     pub fn rows(&self, alloc: Global) -> Result<HopRows, OutOfMemory>
         requires early { Each (λ done. IsEarly done.reply) self.now.entries }
         ensures { IfOk result (λ rows. rows ≡ rows_of self.now.entries) }

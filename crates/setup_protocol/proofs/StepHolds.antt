@@ -1,6 +1,6 @@
--- One reply more to a setup: where the reply is the one that the reservation of the hop asked gives, and that hop then holds what
--- the reply makes of it while the others hold what they held, the reply is one of its ask's, and all hops hold what the replies
--- with it have made.
+-- One reply more to a setup: where the reply is the one that the reservation of the hop asked gives, and that hop then holds
+-- what the reply makes of it while the others hold what they held, the reply is one to its ask, and all hops hold what the
+-- replies with it have made.
 use Rattle.std.proofs.Common.{◌≡◌, ◌≢◌, ℕ, zero, suc, ◌+◌, ◌-◌, ◌<◌, ◌≤◌, true, false, List, [], ◌∷◌, ◌++◌, length, get_or, Option, Some, None, refl, sym, ap, ◌∙◌, subst, inl, inr, arith}
 use Rattle.std.proofs.lemmas.Bool.{cases_Bool, eqb-true, eqb-false, le-leb, and_from}
 use Rattle.std.proofs.lemmas.List.{length_push, get_or_push}

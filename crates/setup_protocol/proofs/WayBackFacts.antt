@@ -1,4 +1,4 @@
--- Each hop that has offered is asked once more before the request settles: the replies up to that ask are the offers and so
+-- Each hop that has offered is asked once more before the request settles: the replies up to that ask are the offers and as
 -- many after them as there are hops after this one.
 use Rattle.std.proofs.Common.{◌≡◌, ℕ, zero, suc, ◌+◌, ◌-◌, ◌<◌, ◌≤◌, Option, Some, None, List, [], ◌∷◌, ◌++◌, length, take, inl, inr, ap, subst, sym, refl, ◌∙◌, arith}
 use Rattle.std.specs.List.{slice_get}

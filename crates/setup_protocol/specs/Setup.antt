@@ -170,7 +170,7 @@ is_reserve_refusal (NoBuffer need free) = true
 is_reserve_refusal (TooWide smax cap) = true
 is_reserve_refusal _ = false
 
--- whether this is a reply to a reserve of a hop with so many levels, to a deny, or to a relax
+-- whether this is a reply to a reserve of a hop with this many levels, to a deny, or to a relax
 abbrev pub answers_reserve : ℕ → Reply → Bool
 answers_reserve levels (Offer level reach) = nat_le (level_number level) levels && nat_le (level_number reach) levels
 answers_reserve levels (Refused refusal) = is_reserve_refusal refusal

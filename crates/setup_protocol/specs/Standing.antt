@@ -1,4 +1,4 @@
--- A setup stands for the replies with which it has come as far as it has.
+-- A setup stands for the replies after which it has come as far as it has.
 use Rattle.std.specs.Prelude.{◌≡◌, List}
 use Rattle.link_steps.specs.declared.replies.Reply.{Reply}
 use Rattle.setup_protocol.specs.Setup.{Progress, progress_of}

@@ -1,5 +1,5 @@
 -- A channel is released by a message that goes forward along its route. The first hop is told no count, cancels the packets
--- whose tick isn't made, and replies how many it has taken. Each later hop is told that count, since so many packets are
+-- whose tick isn't made, and replies how many it has taken. Each later hop is told that count, since that many packets are
 -- still to pass it.
 use Rattle.std.specs.Prelude.{ℕ, Bool, true, false, Option, Some, None, List, [], ◌∷◌, length}
 use Rattle.std.specs.List.{slice_get}

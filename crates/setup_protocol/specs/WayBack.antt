@@ -2,8 +2,8 @@
 -- its row back where the request is denied, or to relax to the level that it is allotted. A hop refuses a relax that is
 -- below its offer or beyond its reach, or whose bound before it is over the one that its reserve carried. No hop refuses
 -- so where each offer tells the reach that a link tells: the largest level whose bound is within the delay asked for, or
--- within that of the level offered, if that is larger. A channel is released by asks of the hops of its route, each of its
--- own.
+-- within that of the level offered, if that is larger. A channel is released hop by hop: each ask of a teardown goes to
+-- the hop of its route that is next.
 use Rattle.std.specs.Prelude.{◌≡◌, ℕ, suc, ◌<◌, ◌≤◌, true, Some, List, [], ◌∷◌, ◌++◌, length, take}
 use Rattle.std.specs.List.{slice_get}
 use Rattle.net_units.specs.Numbers.{level_number}

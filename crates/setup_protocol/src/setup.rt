@@ -275,7 +275,7 @@ fn test(request: &Request, it: &Itinerary) -> State
     }
 }
 
-// So many hops are left to give their rows back.
+// This many hops are left to give their rows back.
 fn undo(left: u8, deny: Deny) -> State
     ensures progress { (offers : List ℕ) (reach : ℕ) → progress_at offers reach result ≡ undoing left deny }
     ensures range { (route : List Hop) (offers : List ℕ) → left ≤ length route → IsDenyOf route deny → IsStateOf route offers result }
@@ -287,7 +287,7 @@ fn undo(left: u8, deny: Deny) -> State
     }
 }
 
-// So many hops are left to be relaxed.
+// This many hops are left to be relaxed.
 fn relax_on(route: &Route, left: u8, levels: Levels) -> State
     requires place { left ≤ length route.now }
     requires levels { HaveLevels route.now (levels_of levels) }

@@ -106,7 +106,7 @@ impl LevelQueues {
     }
 }
 
-// So many empty queues.
+// This many empty queues.
 fn empty_queues(alloc: Global, levels: u8) -> Result<Vec<VecDeque<u32>>, OutOfMemory>
     ensures { IfOk result (λ queues. map keys_of queues.items ≡ replicate levels []) }
 {

@@ -1,5 +1,5 @@
--- A mark goes into a link's list: the pass hands it over to a copy, and the copy joins the link's seat. The list then
--- rises still, since the stamp is above all that the seat had seen.
+-- A mark goes into a link's list: the pass hands it over to a copy, and the copy joins the link's seat. The list still
+-- rises then, since the stamp is above all that the seat had seen.
 use Rattle.std.proofs.Common.{◌≡◌, ℕ, eqb, ◌<◌, ◌≤◌, max, cond, List, [], ◌∷◌, ◌++◌, length, refl, sym, ap, ◌∙◌, subst, inl, ⊎_elim, set, arith}
 use Rattle.std.proofs.lemmas.Bool.{cond_both, eq-eqb, eqb-true}
 use Rattle.std.proofs.Math.Nat.{le-max_right, max-le, max-eq_right}

@@ -1,4 +1,4 @@
--- A view of which something holds is there still, at its number or at the one to which that was moved, through each change of
+-- A view of which something holds is still there, at its number or at the one to which that was moved, through each change of
 -- the views.
 use Rattle.std.proofs.Common.{◌≡◌, ℕ, zero, suc, eqb, ◌<◌, cond, List, [], ◌∷◌, ◌++◌, length, set, refl, sym, ap, ◌∙◌, subst, ⊎_elim, arith}
 use Rattle.std.proofs.lemmas.Bool.{cond_both, cases_eq, eq-eqb, eqb-true}

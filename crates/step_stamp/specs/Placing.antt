@@ -1,4 +1,4 @@
--- Where each mark stands that was drawn: in the hand of one view, or in its link's list.
+-- Where each mark that was drawn stands: in the hand of one view, or in its link's list.
 use Rattle.std.specs.Prelude.{◌≡◌, ℕ, zero, suc, ◌⊎◌, List, [], ◌∷◌}
 use Rattle.link_steps.specs.Lists.{Each}
 use Rattle.step_stamp.specs.declared.marks.Drawn.{Drawn}

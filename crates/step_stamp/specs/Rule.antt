@@ -1,11 +1,11 @@
--- The word holds how many stamps were drawn. Behind it stand all draws in their order, the list of marks entered at each
--- link, which view has that list, and which view each actor is in. The rule says how the word and every view agree with
--- these and with the opening. The draws are numbered from 1 to the word. Each link's list rises and holds marks drawn for it
--- alone, and it stands in exactly one view, as each actor does. What any view knows of a link begins that link's list; the
--- view that has the list knows all of it; a view that has an actor has all that the actor drew; and each view has seen the stamps of the marks that it knows and of those that it has drawn. There are at most 65 actors, and none
--- draws more than 2^40 marks. A view without an actor has drawn nothing and speaks of one link alone, and a spent one has seen
--- nothing and has nothing. Each drawn mark stands either in one hand or in its link's list, and no other mark stands there. It
--- holds between any two steps.
+-- The word holds how many stamps were drawn. Behind it stand all draws in their order, the list of marks entered at each link,
+-- which view has that list, and which view each actor is in. The rule says how the word and every view agree with these and
+-- with the opening. The draws are numbered from 1 to the word. Each link's list rises and holds marks drawn for it alone, and
+-- it stands in exactly one view, as each actor does. What any view knows of a link begins that link's list; the view that has
+-- the list knows all of it; a view that has an actor has all that the actor drew; and each view has seen the stamps of the
+-- marks that it knows and of those that it has drawn. There are at most 65 actors, and none draws more than 2^40 marks. A view
+-- without an actor has drawn nothing and speaks of one link alone, and a spent one has seen nothing and has nothing. Each drawn
+-- mark stands either in one hand or in its link's list, and no other mark stands there. The rule holds between any two steps.
 use Rattle.std.specs.Prelude.{◌≡◌, ℕ, ◌*◌, ◌^◌, ◌<◌, ◌≤◌, ◌⊎◌, List, [], ◌∷◌, length}
 use mathlib.Core.Option.{some}
 use mathlib.Core.List.{IsPrefix}

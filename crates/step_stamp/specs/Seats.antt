@@ -84,7 +84,7 @@ pub record DrawsMark (actor : ActorNo) (l : ℕ) (ask : Ask) (pass pass' : View)
   pub actors : pass'.actors ≡ pass.actors
   pub among : pass'.among ≡ pass.among
 
--- a draw that wanted memory: it has drawn one mark more at most
+-- a draw that wanted memory: it has drawn at most one mark more
 pub record DrawsNone (pass pass' : View) : Type 0 where
   pub lost : List Drawn
   pub one : length lost ≤ 1

@@ -103,8 +103,8 @@ impl PassSeat {
 
     /// Draws a stamp for this ask at this link. The pass has to have met the link (`knows`, `saw`) and drawn fewer than
     /// 2^40 marks (`few`). The stamp is above every stamp that the pass had seen, and so above those of all marks that it
-    /// knew of any link and of all that it had drawn; and it is at most 65 * 2^40. After want of memory one mark more at
-    /// most is drawn.
+    /// knew of any link and of all that it had drawn; and it is at most 65 * 2^40. After want of memory at most one mark
+    /// more is drawn.
     pub fn draw(
         &mut self,
         stamps: &Stamps,
@@ -150,7 +150,7 @@ impl PassSeat {
         }
     }
 
-    /// How many stamps were drawn by all so far: at least every stamp that the pass had seen. It then counts as seen.
+    /// How many stamps were drawn by all so far: at least every stamp that the pass had seen. This number then counts as seen.
     pub fn seen(&mut self, stamps: &Stamps) -> u64
         requires pass { pass_table self.old ≡ stamps_table stamps.now }
         ensures least { (pass_view self.old).seen ≤ result }
@@ -161,8 +161,8 @@ impl PassSeat {
     }
 
     /// Joins another pass's seat into this one at closing. No stamp stands in both drawn lists, and this one's is then its
-    /// own followed by the other's, its actors likewise. Of each link it then knows the longer of the two lists, which the
-    /// other begins.
+    /// own followed by the other's, its actors likewise. Of each link it then knows the longer of the two lists, of which
+    /// the other is a beginning.
     pub fn gather(&mut self, stamps: &Stamps, other: PassSeat)
         requires this { pass_table self.old ≡ stamps_table stamps.now }
         requires that { pass_table other ≡ stamps_table stamps.now }

@@ -5,7 +5,7 @@ ghost use Rattle.text_writer.specs.Lines.{do_line};
 use net_units::OutOfMemory;
 use std::alloc::Global;
 
-/// The line of so many steps of the actor with this name.
+/// The line of this many steps of the actor with this name.
 pub fn do_line(alloc: Global, actor: &str, count: u64) -> Result<String, OutOfMemory>
     ensures { IfOk result (λ line. string_bytes line ≡ do_line actor.now count) }
 {

@@ -138,9 +138,8 @@ impl Calendar {
         Some(self.wheel.first_key(first))
     }
 
-    /// Takes out the key with the least tick, the earliest put among equals, where that tick is at most
-    /// `now`. None comes exactly where there is none. `now` isn't below that of the call before. It takes no
-    /// memory.
+    /// Takes out the key with the least tick, the earliest put among equals, where that tick is at most `now`. None
+    /// comes exactly where there is no such key. `now` isn't below that of the call before. It takes no memory.
     pub fn take_due(&mut self, now: u64) -> Option<u32>
         requires { self.old.clock ≤ now }
 

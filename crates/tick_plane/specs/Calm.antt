@@ -26,7 +26,7 @@ rounds_later n plane = record plane { round = plane.round + n }
 abbrev pub IsStill : Reply → Type 0
 IsStill reply = flight_in reply ≡ []
 
--- the ticks of n rounds of so many links
+-- the ticks of n rounds of this many links
 unfoldable pub ticks_in : ℕ → ℕ → List (LinkNo × Ask)
 ticks_in zero links = []
 ticks_in (suc n) links = ticks_from 0 links ++ ticks_in n links

@@ -14,7 +14,7 @@ use Rattle.tick_plane.specs.Planes.{Plane, is_due, plane_after, plane_ask, IsDue
 abbrev pub arrival_of : Flight → LinkNo × Ask
 arrival_of flight = (flight.to, Arrive flight.packet)
 
--- the ticks of so many links from number n on
+-- the ticks of this many links from number n on
 unfoldable pub ticks_from : ℕ → ℕ → List (LinkNo × Ask)
 ticks_from n zero = []
 ticks_from n (suc count) = (link_at n, Tick) ∷ ticks_from (suc n) count

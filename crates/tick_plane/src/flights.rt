@@ -127,7 +127,7 @@ impl Flights {
         self.rounds.rests_until()
     }
 
-    // Begins the round that comes so many later, where none is due before it.
+    // Begins the round that comes this many later, where none is due before it.
     pub(crate) fn pass_rounds(&mut self, rounds: u64)
         requires early { self.old.round + rounds ≤ 2 ^ 60 }
         requires none { Each (IsDueFrom (self.old.round + rounds)) self.old.list }
@@ -173,7 +173,7 @@ fn listed(
     Ok(all)
 }
 
-// A copy of a slab, with room for so many flights, each of whose keys fits in a u32.
+// A copy of a slab, with room for this many flights, each of whose keys fits in a u32.
 fn grown(carried: &Slab<Flight>, room: usize) -> Result<Slab<Flight>, OutOfMemory>
     ensures slots { IfOk result (λ made. made.slots ≡ carried.now.slots) }
     ensures room { IfOk result (λ made. room ≤ made.capacity) }

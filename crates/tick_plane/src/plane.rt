@@ -17,8 +17,8 @@ use std::marker::Model;
 
 /// The plane of a network of 1 to 32 links, with its number of rounds.
 ///
-/// A contract sees these two numbers; at which round, link and flights it is, as `at`; and for how many more flights there
-/// is room, as `spare`.
+/// A contract sees these two numbers; where it stands, by round, link and flights, as `at`; and for how many more flights
+/// there is room, as `spare`.
 #[derive(Drop)]
 pub struct Plane {
     links: u32,
@@ -96,10 +96,10 @@ impl Plane {
         }
     }
 
-    /// Takes the reply to the next ask. An ask has to be left, and `ready` has to have made room in this round, so it takes
-    /// no memory; there is that room for the rest of the round. A packet that leaves with it is due at its next link after this round. A reply that isn't one of the ask's is
-    /// answered with the ask, and changes nothing: to an arrive a packet is taken, or refused as full or as stray; to a tick
-    /// the tick is made.
+    /// Takes the reply to the next ask. An ask has to be left, and `ready` has to have made room in this round, so it takes no
+    /// memory; there is that room for the rest of the round. A packet that leaves with the reply has to be due at its next link
+    /// after this round. A reply that isn't one to the ask is answered with the ask, and changes nothing: to an arrive, a
+    /// packet is taken, or refused as full or as stray; to a tick, the tick is made.
     pub fn take(&mut self, reply: Reply) -> Result<(), Unexpected>
         requires left { self.old.at.round < self.old.rounds }
         requires room { self.old.links - self.old.at.ticked ≤ self.old.spare }
@@ -154,7 +154,8 @@ impl Plane {
         Ok(asks)
     }
 
-    /// How many rounds it makes from here at least before a packet reaches a link: none where the round has begun, or all are made.
+    /// At least how many rounds it makes from here before a packet reaches a link: none where the round has begun, or all are
+    /// made.
     pub fn calm_rounds(&self) -> u64
         ensures { 1 ≤ result → IsCalm self.now.rounds result self.now.at }
     {
@@ -165,8 +166,8 @@ impl Plane {
         until.saturating_sub(self.round)
     }
 
-    /// Makes so many rounds in one stride, in which no packet reaches a link and none leaves for another one. In them it would ask for
-    /// the ticks of the links alone, and come to stand here
+    /// Makes this many rounds in one stride, in which no packet reaches a link and none leaves for another one. In them it
+    /// would ask for the ticks of the links alone, and come to stand here
     /// ([`calm_rounds_are_ticks_alone`](crate::laws::calm_rounds_are_ticks_alone)).
     pub fn stride(&mut self, rounds: u64)
         requires { IsCalm self.old.rounds rounds self.old.at }

@@ -33,9 +33,9 @@ impl Model for Window {
 }
 
 impl Window {
-    /// Adds what a link is asked in these rounds, in order: in each the packets arrive that reach it then, and it makes its tick.
-    /// That is what the plane asks of it where no packet that leaves a link in these rounds reaches another in them. An `Err`,
-    /// which comes for want of memory alone, may leave some asks added.
+    /// Adds what a link is asked in these rounds, in order: in each, the packets that reach it then arrive, and it makes its
+    /// tick. That is what the plane asks of it where no packet that leaves a link in these rounds reaches another in them. An
+    /// `Err`, which comes for want of memory alone, may leave some asks added.
     pub fn asks(&self, alloc: Global, link: LinkNo, asks: &mut Vec<Ask>) -> Result<(), OutOfMemory>
         ensures { OnOk result (asks.new.items ≡ asks.old.items ++ window_at (link_number link) self.now.until self.now.at) }
     {
@@ -105,7 +105,7 @@ fn add_rounds(
     Ok(())
 }
 
-// Adds the tick of a round, where so many links have made it and this one hasn't.
+// Adds the tick of a round, where this many links have made it and this one hasn't.
 fn add_tick(link: LinkNo, ticked: u32, asks: &mut Vec<Ask>) -> Result<(), OutOfMemory>
     ensures { OnOk result (asks.new.items ≡ asks.old.items ++ (if nat_lt (link_number link) ticked then [] else Tick ∷ [])) }
 {

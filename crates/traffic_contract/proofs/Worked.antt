@@ -1,6 +1,6 @@
--- Worked values, found by computing with the definitions. The contract allows a packet each 5 ticks and two in
--- any 20, of 2 units each. The link sends a unit a tick, has levels of 10, 20 and 40 ticks, and is blocked for
--- up to 4 ticks.
+-- Worked values, found by computing with the definitions. The contract allows a packet every 5 ticks and two in any
+-- 20, of 2 units each. The link sends a unit a tick, has levels of 10, 20 and 40 ticks, and is blocked for up to 4
+-- ticks.
 use Rattle.std.proofs.Common.{◌≡◌, true, false, List, [], ◌∷◌, Some, None, refl}
 use Rattle.traffic_contract.specs.Contract.{Traffic, terms_of, burst_of, most_in}
 use Rattle.traffic_contract.specs.Refusal.{first_bad}

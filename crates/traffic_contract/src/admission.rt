@@ -1,6 +1,6 @@
 //! How a link tests whether its rows pass.
 
-/// In which window the load of a level is compared with the window's length.
+/// Which windows count when the load of a level is compared with a window's length.
 #[derive(Clone, Copy, Debug, PartialEq, Eq)]
 pub enum Test {
     /// In the window as long as the level's bound.

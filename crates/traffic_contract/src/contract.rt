@@ -181,7 +181,7 @@ mod tests {
     use super::*;
     use std::test::Fail;
 
-    // A packet each 5 ticks and two in any 20, of up to 2 units.
+    // A packet every 5 ticks and two in any 20, of up to 2 units.
     fn paced() -> Result<Contract, BadContract> {
         Contract::new(5, 10, 20, 2)
     }

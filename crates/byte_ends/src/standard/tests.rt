@@ -6,7 +6,7 @@ use std::alloc::Global;
 use std::io::{self, Error, ErrorKind, Read, Write};
 use std::test::Fail;
 
-// So many calls fail in this way before one succeeds.
+// This many calls fail in this way before one succeeds.
 #[derive(Clone, Copy)]
 struct Trouble {
     times: u32,

@@ -112,7 +112,7 @@ fn relax<L: LinkStep>(link: &L, chan: ChanNo, level: u8) -> Result<Ask, Fail>
     })
 }
 
-// A packet of this number, of up to three units, due so many ticks after the clock.
+// A packet of this number, of up to three units, due this many ticks after the clock.
 fn arrive<L: LinkStep>(link: &L, chan: ChanNo, number: u64, due: u64) -> Result<Ask, Fail>
     requires { due < 128 }
     ensures { (shape : Shape) → IfOk result (AskFits shape) }
@@ -143,7 +143,8 @@ fn pour<L: LinkStep>(link: &L, count: u64, gap: u64, size: u32) -> Result<Ask, F
 
 // A link that makes ticks in which nothing falls due in one stride.
 trait Stride: LinkStep {
-    // Makes the ticks before the next one in which something falls due, but at most so many, in one stride. It answers how many they are.
+    // Makes the ticks before the next one in which something falls due, but at most `most` of them, in one stride. It answers
+    // how many they are.
     fn stride(&mut self, most: u64) -> Result<u64, Fail>
         requires { most < 2 ^ 32 };
 }
@@ -164,7 +165,7 @@ impl Stride for LinkState {
     }
 }
 
-// Whether the plain lists have so many quiet ticks, from this one on.
+// Whether the plain lists have this many quiet ticks, from this one on.
 fn are_quiet(plain: &mut PlainLink, clock: u64, ticks: u64) -> Result<bool, Fail> {
     for tick in 0..ticks {
         let quiet = Reply::Ticked {
@@ -207,7 +208,7 @@ fn compare<L: Stride>(link: L, plain: PlainLink, list: u64) -> Result<Outcome, F
     Ok(Outcome::Same { rested })
 }
 
-// The loop over the asks is generic in the link: of it that knows what each link owes, and none of what this one keeps.
+// The loop over the asks is generic in the link: it knows what each link owes, and nothing of what this one keeps.
 #[test]
 fn a_link_replies_as_plain_lists_do(rt: HostRuntime) -> Result<(), Fail> {
     let mut all = 0_u64;

@@ -1,4 +1,4 @@
--- The rule by which a row expires agrees with the end of a hold by all eligible ticks.
+-- The rule by which a row expires agrees with the rule of holds, which goes by all eligible ticks.
 use Rattle.std.proofs.Common.{◌≡◌, ℕ, ◌+◌, ◌≤◌, Bool, true, ◌&&◌, ◌||◌, inl, inr, List, [], ◌∷◌, length, refl, sym, ap}
 use Rattle.std.proofs.lemmas.Bool.{cases_Bool, eqb-false, leb-true, ne_eqb}
 use Rattle.std.specs.List.{list_all}

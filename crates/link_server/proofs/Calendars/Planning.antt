@@ -1,4 +1,4 @@
--- Planned packets are as many as their count, and fall one each gap.
+-- Planned packets are as many as their count, and fall one every gap.
 use Rattle.std.proofs.Common.{◌≡◌, ℕ, zero, suc, ◌+◌, ◌-◌, ◌<◌, ◌≤◌, ◌++◌, List, [], ◌∷◌, length, Some, None, refl, sym, ap, arith}
 use Rattle.std.proofs.lemmas.Bool.{eqb-true, eq-eqb, ne_eqb, lt-leb}
 use Rattle.link_server.proofs.Words.{nat_eq, find, Each, busy}

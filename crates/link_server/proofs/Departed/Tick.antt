@@ -1,4 +1,4 @@
--- The rows of a sound account stay counted through a tick: packets come, and one leaves, of whose row one more has departed then.
+-- The rows of a sound account stay counted through a tick: packets come, and one leaves, so one more of its row has departed.
 use Rattle.std.proofs.Common.{◌≡◌, ℕ, suc, ◌+◌, ◌≤◌, true, false, ◌&&◌, inl, inr, None, Some, Option, List, [], ◌∷◌, ◌++◌, length, refl, sym, subst, arith, append_assoc}
 use Rattle.std.proofs.lemmas.Bool.{cases_Bool, eq-eqb, eqb-false, eqb-true, lt-ltb, ne_eqb}
 use Rattle.std.proofs.Math.Bool.{and-false}

@@ -1,5 +1,5 @@
 -- Best-effort packets among those here: they are none of the channels', and those that are here are as many as wait, and
--- one more at most.
+-- at most one more.
 use Rattle.std.proofs.Common.{◌≡◌, ℕ, suc, ◌+◌, ◌<◌, ◌≤◌, Bool, true, false, List, [], ◌∷◌, ◌++◌, length, Option, Some, None, inl, inr, refl, ap, ◌∙◌, arith, append-nil, length-append}
 use Rattle.std.proofs.lemmas.Bool.{cases_Bool, le-ltb, lt-ltb, ltb-true}
 use Rattle.std.proofs.lemmas.List.Elements.{filter-append}

@@ -45,11 +45,12 @@ impl LinkState {
     }
 
     /// Answers a reserve with an offer of this level and its reach: the largest level whose bound is within the ask's
-    /// end-to-end bound or that of this level. The caller chooses the level: the rows with the new one at it pass, its
-    /// need is free, its channel holds no row here, and its packets are no wider than the link (`may`).
+    /// end-to-end bound or that of this level. The caller chooses the level, where these hold (`may`): the rows with the
+    /// new one at it pass, its need is free, its channel holds no row here, and its packets are no wider than the link.
     ///
-    /// Where the history is admissible so is the next one, with all that is promised of these (`admissible`, `guaranteed`).
-    /// The reply is the legal one exactly where this is the best level (`legal`). Want of memory leaves the link as it was.
+    /// Where the history is admissible, so is the next one, with all that is promised of admissible ones (`admissible`,
+    /// `guaranteed`). The reply is the legal one exactly where this is the best level (`legal`). Want of memory leaves the
+    /// link as it was.
     pub fn reserve_at(&mut self, ask: &Ask, level: Level) -> Result<Reply, OutOfMemory>
         requires fits { AskFits self.old.shape ask.now }
         requires may { MayReserve self.old.shape (reservations_held self.old) ask.now level }

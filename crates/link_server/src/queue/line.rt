@@ -87,7 +87,7 @@ impl Line {
         Ok(())
     }
 
-    // Makes the slab able to hold so many packets.
+    // Makes the slab able to hold this many packets.
     fn reserve_packets(&mut self, room: usize) -> Result<(), OutOfMemory>
         ensures room { OnOk result (room ≤ self.new.packets.capacity) }
         ensures slots { self.new.packets.slots ≡ self.old.packets.slots }
@@ -196,7 +196,7 @@ impl Line {
     }
 }
 
-// A copy of a slab, with room for so many packets, each of whose keys fits in a u32.
+// A copy of a slab, with room for this many packets, each of whose keys fits in a u32.
 fn grown(packets: &Slab<HeldPacket>, room: usize) -> Result<Slab<HeldPacket>, OutOfMemory>
     ensures slots { IfOk result (λ made. made.slots ≡ packets.now.slots) }
     ensures room { IfOk result (λ made. room ≤ made.capacity) }

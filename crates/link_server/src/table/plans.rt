@@ -27,7 +27,7 @@ pub(crate) struct Plans {
 }
 
 impl Plans {
-    // Those of no rows.
+    // The plans of no rows.
     pub(crate) fn new(alloc: Global) -> Result<Plans, OutOfMemory>
         ensures { IfOk result (λ plans. plans.calendar ≡ record { entries = []; spare = 0; clock = 0 }) }
     {
@@ -37,7 +37,7 @@ impl Plans {
         })
     }
 
-    // Makes room for so many rows. The calendar stays, an `Err` or not.
+    // Makes room for this many rows. The calendar stays, an `Err` or not.
     pub(crate) fn reserve(&mut self, rows: usize) -> Result<(), OutOfMemory>
         ensures room { OnOk result (rows ≤ self.new.calendar.spare) }
         ensures turns { OnOk result (rows ≤ vec_capacity self.new.turns) }

@@ -16,7 +16,7 @@ pub(crate) struct RowIndex {
 }
 
 impl RowIndex {
-    // That of no rows.
+    // The index of no rows.
     pub(crate) fn new(alloc: Global) -> RowIndex
         ensures { result.places.items ≡ [] }
     {

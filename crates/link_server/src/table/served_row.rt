@@ -49,8 +49,8 @@ pub(crate) struct ServedRow {
     pub(crate) reach: Level,
     pub(crate) up_reach: u64,
     pub(crate) up_bound: u64,
-    // The time that its packets may be here, and its slots for that: a slot is looked for with each packet, and they are told by two
-    // divisions.
+    // The time that its packets may be here, and its slots for that time. They are kept since a slot is looked for with each
+    // packet, and to tell them takes two divisions.
     pub(crate) stay: u64,
     pub(crate) slots: u64,
     pub(crate) count: u64,
@@ -345,7 +345,7 @@ impl ServedRow {
         }
     }
 
-    // A packet with this lead departs. It is one of the row's where the row has that lead, and one here.
+    // A packet with this lead departs. It counts as the row's where the row has that lead, and a packet here.
     pub(crate) fn depart(&mut self, lead: u64)
         ensures row { row_in self.new ≡ row_in self.old }
         ensures departed { self.new.departed ≡ (if nat_eq self.old.lead lead && nat_lt self.old.departed self.old.taken then suc self.old.departed else self.old.departed) }

@@ -25,7 +25,7 @@ impl LinkState {
         next_due(&self.table, &self.queue, &self.shape)
     }
 
-    /// Makes this many ticks, all before one until which it rests.
+    /// Makes this many ticks, all before a tick until which the link rests.
     pub fn rest(&mut self, ticks: u64)
         requires rests { (until : ℕ) × (RestsUntil self.old.shape until (kept_in self.old) × (self.old.clock + ticks ≤ until)) }
         requires early { self.old.clock + ticks ≤ 2 ^ 61 }

@@ -1,4 +1,4 @@
--- What the link that it is tells.
+-- What the link inside tells.
 use Rattle.std.proofs.Common.{sym, subst}
 use Rattle.link_steps.specs.Quiet.{RestsUntil}
 use Rattle.link_quota.specs.Any.{any_kept, any_rules}

@@ -1,4 +1,4 @@
--- Where the first isn't for this tick, none is, and where none are planned neither.
+-- Where the first isn't for this tick, none is, nor is any where none are planned.
 use Rattle.std.proofs.Common.{arith}
 use Rattle.std.proofs.lemmas.Bool.{eqb-false}
 use Rattle.link_server.proofs.Calendars.Planning.{none-due, empty-due}

@@ -1,4 +1,4 @@
--- The channel has one row at most, which is at the hop or isn't.
+-- The channel has at most one row, which is at the hop or isn't.
 use Rattle.std.proofs.Common.{◌∙◌, sym}
 use Rattle.link_server.proofs.RowFacts.Index.{no-other-hop}
 use Rattle.link_server.proofs.table.rows.place_at_hop.Goals as goal

@@ -1,4 +1,4 @@
--- The least of two ticks is before each of them.
+-- The lesser of two ticks is before each of them.
 use Rattle.std.proofs.Common.{◌≤◌, ℕ, List, arith}
 use Rattle.link_server.proofs.Words.{KeptRow, RowRests}
 use Rattle.link_steps.proofs.ListFacts.{Each-if}

@@ -1,4 +1,4 @@
--- Neither one of the eight queues has a key nor the ninth.
+-- None of the eight queues has a key, and neither has the ninth.
 use Rattle.std.proofs.Common.{◌≡◌, deque_len, List, [], ◌∷◌, ◌++◌, All, ap, sym, ◌∙◌, suc, arith}
 use Rattle.std.proofs.lemmas.Bool.{eqb-true}
 use Rattle.std.proofs.lemmas.List.{nil_from_length}
