@@ -1,5 +1,5 @@
--- What is kept of the channels is what was learnt: at the beginning, and with one note more, which changes what is kept of the channels
--- that it is of.
+-- What is kept of the channels is what was learnt: at the beginning, and with one more note, which changes what is kept of the
+-- channels that it is about.
 use Rattle.std.proofs.Common.{◌≡◌, ℕ, ◌<◌, ◌≤◌, Bool, true, false, List, [], ◌∷◌, ◌++◌, length, get_or, set, replicate, refl, sym, ap, ◌∙◌, subst, inl, inr}
 use Rattle.std.specs.Prelude.{nat_eq, if◌then◌else◌, Some}
 use Rattle.std.proofs.lemmas.Bool.{cases_Bool, cases_lt, eqb-true, eqb-false}

@@ -1,5 +1,5 @@
--- What the table says of each operation: which task it makes, and what it is to one channel. The proofs that go by the five operations
--- stand here, so that a line more of the table wants a line more of each; what follows from them goes by the roles.
+-- What the table says of each operation: which task it makes, and what it is to one channel. The proofs that go by the five
+-- operations stand here, so one more line of the table takes one more line of each; what follows from them goes by the roles.
 use Rattle.std.proofs.Common.{◌≡◌, ◌≢◌, ℕ, ◌<◌, Option, Some, None, List, [], ◌∷◌, length, refl, sym, ap, ◌∙◌, inl, inr, nat_eq, option_map}
 use Rattle.std.proofs.lemmas.Bool.{cases_Bool, eqb-true, eqb-false}
 use Rattle.std.specs.List.{slice_get}

@@ -1,5 +1,5 @@
--- A caller with one reply more. Where its task goes on, its work alone changes; where the task is over, the next one begins
--- that takes a step.
+-- A caller with one more reply. Where its task goes on, its work alone changes; where the task is over, the next one that takes a
+-- step begins.
 use Rattle.std.proofs.Common.{◌≡◌, ℕ, Option, Some, None, List, [], ◌∷◌, ◌++◌, length, map, drop, refl, sym, ap, ◌∙◌, subst, option_map}
 use Rattle.std.proofs.lemmas.List.{length-map}
 use Rattle.std.proofs.lemmas.Option.{same_Some}

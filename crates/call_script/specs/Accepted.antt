@@ -1,4 +1,4 @@
--- The levels with which requests of a plan were accepted: one entry a request, which, where the request was accepted, has a level
+-- The levels with which requests of a plan were accepted: one entry a request. Where the request was accepted, its entry has a level
 -- of the link for each hop of its route, and keeps the delay and the jitter that were asked for.
 use Rattle.std.specs.Prelude.{◌≡◌, ℕ, Option, Some, List, length}
 use Rattle.std.specs.List.{slice_get}

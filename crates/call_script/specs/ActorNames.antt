@@ -1,4 +1,4 @@
--- In the lines of a schedule each actor has a name: a caller its own, and the actor after the callers is the plane.
+-- In the lines of a schedule each actor has a name: a caller has its own, and the actor after the callers is the plane.
 use Rattle.std.specs.Prelude.{ℕ, Option, Some, None, List, codes}
 use Rattle.call_script.specs.declared.entries.CallerEntry.{CallerEntry}
 

@@ -1,5 +1,5 @@
--- The least rule that parts of a plan break, by the number of its cause: those of `Rules`, and those of `Groups` on groups and
--- quotas.
+-- The least rule that the parts of a plan break, by the number of its cause. The rules are those of `Rules`, and those of `Groups` on
+-- groups and quotas.
 use Rattle.std.specs.Prelude.{ℕ, Bool, if◌then◌else◌, Option, Some, None}
 use Rattle.call_script.specs.Groups.{groups_have_version, groups_have_names, groups_are_there, quotas_are_in_range, groups_are_few, quotas_are_fit}
 use Rattle.call_script.specs.Parts.{PlanParts}

@@ -1,6 +1,6 @@
--- A network whose parts fit: it has 1 to 32 links, whose splits fit them; its requests go over its links, each hop with the
--- bounds and the propagation of its link; it sends packets at its links, their numbers within their limits, and best-effort
--- ones at links that take them; what it moves, it moves between two requests of one contract.
+-- A network whose parts fit. It has 1 to 32 links, whose splits fit them. Its requests go over its links, each hop with the bounds
+-- and the propagation of its link. It sends packets at its links, with numbers within their limits, and best-effort ones at links
+-- that take them. What it moves, it moves between two requests with the same contract.
 use Rattle.std.specs.Prelude.{◌≡◌, ◌≢◌, ℕ, ◌≤◌, Option, Some, List, length}
 use Rattle.std.specs.List.{slice_get}
 use Rattle.net_units.specs.Numbers.{link_number, channel_number}

@@ -1,11 +1,11 @@
--- What a plan keeps of its groups and quotas. A caller is of one group or of none, 0; a link has a quota for each group that has a
--- share of it: units of its buffer, and at each level so much of its load. Each rule goes under the number of the cause by which
--- a line is refused that breaks it.
+-- What a plan keeps of its groups and quotas. A caller belongs to one group or to none, which is 0. A link has a quota for each group
+-- that has a share of it: units of its buffer, and at each level a part of its load. Each rule goes by the number of the cause by
+-- which a line that breaks it is refused.
 --   1 only a version that has groups has them, quotas, and callers of groups
 --   6 no two groups have one name, and no two quotas of a link are of one group
---   7 a caller's group and that of a quota are there
+--   7 the group of a caller and the group of a quota are there
 --   8 the numbers of a quota are in their ranges
---   9 there are no more groups than may be
+--   9 there are no more groups than are allowed
 --  23 the quotas of a link leave room at each level for the blocking within its bound, and fit its buffer
 use Rattle.std.specs.Prelude.{◌≡◌, ◌≤◌, ◌+◌, ℕ, Bool, true, not, nat_eq, nat_le, ◌&&◌, ◌||◌, List, [], length}
 use Rattle.std.specs.List.{list_all, list_any}
@@ -24,7 +24,7 @@ use Rattle.call_script.specs.declared.entries.LinkEntry.{LinkEntry}
 use Rattle.call_script.specs.declared.entries.CallerEntry.{CallerEntry}
 use Rattle.call_script.specs.declared.version.Version.{Version}
 
--- groups of a plan
+-- the most groups of a plan
 abbrev pub most_groups : ℕ
 most_groups = 4
 

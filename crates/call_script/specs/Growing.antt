@@ -1,7 +1,8 @@
 -- How the parts of a plan grow, a line at a time. Links without quotas, groups, and quotas of the links that are there are added
 -- while there is no caller; then callers, each first without operations; after the operations of the last caller an open, with its
--- request, or another operation, which is judged by its attributes; and at last the numbers of rounds. Each addition has what a reader judges of its line. Parts that grew so keep all rules but two, that
--- there is a link and that the ticks of all links are within the limit; with these they are those of a plan.
+-- request, or another operation, which is judged by its attributes; and at last the numbers of rounds. Each addition has what a
+-- reader judges of its line. Parts that grew this way keep all rules but two: that there is a link, and that the ticks of all links
+-- are within the limit. With these two they are the parts of a plan.
 use Rattle.std.specs.Prelude.{◌≡◌, ℕ, zero, suc, Some, None, ◌+◌, ◌*◌, ◌<◌, ◌≤◌, true, false, List, [], ◌∷◌, ◌++◌, length}
 use Rattle.std.specs.List.{list_any}
 use Rattle.net_units.specs.Numbers.{link_number, actor_number, channel_number}
@@ -32,11 +33,11 @@ use Rattle.call_script.specs.declared.version.Version.{Version}
 abbrev pub nothing_of : Version → PlanParts
 nothing_of version = parts_of version [] [] [] 0 0
 
--- a link with one quota more
+-- a link with one more quota
 abbrev pub with_its_quota : Quota → LinkEntry → LinkEntry
 with_its_quota quota entry = record { name = entry.name; from = entry.from; to = entry.to; shape = entry.shape; quotas = entry.quotas ++ quota ∷ [] }
 
--- the link at this place with one quota more
+-- the link at this place with one more quota
 abbrev pub add_quota : ℕ → Quota → List LinkEntry → List LinkEntry
 add_quota place quota [] = []
 add_quota zero quota (entry ∷ links) = with_its_quota quota entry ∷ links
@@ -46,11 +47,11 @@ add_quota (suc place) quota (entry ∷ links) = entry ∷ add_quota place quota 
 abbrev pub new_caller : List ℕ → ℕ → CallerEntry
 new_caller name group = record { name = name; group = group; ops = [] }
 
--- a caller with one operation more
+-- a caller with one more operation
 abbrev pub with_its_op : Op → CallerEntry → CallerEntry
 with_its_op op caller = record { name = caller.name; group = caller.group; ops = caller.ops ++ op ∷ [] }
 
--- the last caller with one operation more
+-- the last caller with one more operation
 abbrev pub add_op : Op → List CallerEntry → List CallerEntry
 add_op op [] = []
 add_op op (caller ∷ []) = with_its_op op caller ∷ []
@@ -88,7 +89,7 @@ with_rounds rounds parts = record parts { rounds = rounds }
 abbrev pub with_tail : ℕ → PlanParts → PlanParts
 with_tail tail parts = record parts { tail = tail }
 
--- ---- what is judged of each
+-- ---- the conditions on each addition
 
 pub record MayAddLink (parts : PlanParts) (entry : LinkEntry) : Type 0 where
   pub first : parts.callers ≡ []
@@ -104,7 +105,7 @@ pub record MayAddGroup (parts : PlanParts) (name : List ℕ) : Type 0 where
   pub new : is_new parts.groups name ≡ true
   pub few : length parts.groups < most_groups
 
--- a quota of a link that has none of its group, and that it fits beside the others
+-- a quota for a link that has none of its group, where it fits beside the others
 pub record MayAddQuota (parts : PlanParts) (place : ℕ) (quota : Quota) : Type 0 where
   pub first : parts.callers ≡ []
   pub version : has_groups parts.version ≡ true

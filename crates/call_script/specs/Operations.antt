@@ -1,8 +1,9 @@
--- What an operation is to channels and links, in one table with a line for each. A line says to which channel the operation is what a
--- role says: which one it opens; uses, as a send, a close and a move from it do; closes; leaves, as a move from it does; keeps in
--- use, as a send and a move from it do; and joins, as a move onto it does. It says how many packets the operation plans, and over
--- which hops: those of a channel's route, or one link, which is asked for best-effort packets. And it says what a version of the
--- language must have. The rules on plans, what a plan's packets come to, and which caller owns a channel follow from these lines.
+-- What an operation is to channels and links, in one table with a line for each. For each role a line says which channel the
+-- operation has in it: which one it opens; which it uses, as a send, a close and a move from it do; which it closes; which it leaves,
+-- as a move from it does; which it keeps in use, as a send and a move from it do; and which it joins, as a move onto it does. It says
+-- how many packets the operation plans, and over which hops: those of a channel's route, or one link, which is asked for best-effort
+-- packets. And it says what a version of the language must have. The rules on plans, what a plan's packets come to, and which caller
+-- owns a channel follow from these lines.
 use Rattle.std.specs.Prelude.{Option, Some, None}
 use Rattle.net_units.specs.declared.numbers.ChanNo.{ChanNo}
 use Rattle.call_script.specs.declared.attributes.Attributes.{Attributes}

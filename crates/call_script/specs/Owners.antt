@@ -1,4 +1,4 @@
--- Whose a channel is. One caller opens a request, sends on it and then may close it; after that it names it no more. No other
+-- Who owns a channel. One caller opens a request, sends on it and then may close it; after that it never names it again. No other
 -- caller names its channel.
 use Rattle.std.specs.Prelude.{◌≡◌, ◌≢◌, ℕ, ◌<◌, ◌⊎◌, Option, Some, None, List, [], ◌∷◌, length}
 use Rattle.std.specs.List.{slice_get}

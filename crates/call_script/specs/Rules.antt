@@ -1,6 +1,6 @@
--- A plan keeps the rules of the scenario's language, as far as a plan can break them. Each has the number of the cause by
--- which a line is refused that breaks it. (A plan has numbers and names where a scenario has text, so it breaks no rule on
--- text. Those on groups and quotas are in `Groups`, and `Broken` has them all in their order.)
+-- A plan keeps the rules of the scenario's language, as far as a plan can break them. Each has the number of the cause by which a
+-- line that breaks it is refused. (A plan has numbers and names where a scenario has text, so it breaks no rule on text. Those on
+-- groups and quotas are in `Groups`, and `Broken` has them all in their order.)
 --   1 a link's test is its version's; best-effort packets come from version three on, routes that are found from version four
 --     on, and moves from version six on
 --   2 there is a link
@@ -8,13 +8,13 @@
 --   7 a route and best-effort packets go over links that are there; a send, a close and both sides of a move are of requests
 --     that the caller has opened above
 --   8 numbers are in their ranges
---   9 there are no more links, callers and requests than may be
+--   9 there are no more links, callers and requests than are allowed
 --  12 each hop of a route begins at the node where the one before it ends
 --  13 a send, a close and a move are of a request that wasn't closed above, and a send and a move of one that no move above left
 --  14 the packets that are sent or moved, once for each hop that they may cross, and the best-effort ones are within the
 --     limit, and so are the ticks of all links together
 --  19 best-effort packets are sent at a link that takes them
---  24 a move is between two requests of one contract whose routes begin and end at the same nodes; and no send, close or move
+--  24 a move is between two requests with the same contract whose routes begin and end at the same nodes; and no send, close or move
 --     above names the one that is joined
 use Rattle.std.specs.Prelude.{ℕ, ◌+◌, ◌-◌, ◌*◌, Bool, true, false, not, nat_eq, nat_le, nat_lt, ◌&&◌, ◌||◌, if◌then◌else◌, Option, Some, None, is_none, option_map, List, [], ◌∷◌, ◌++◌, length, map, max, set, get_or}
 use Rattle.std.specs.List.{list_any, list_all, slice_get}
@@ -252,7 +252,7 @@ abbrev pub with_opened : Option ChanNo → List ℕ → List ℕ
 with_opened None loads = loads
 with_opened (Some chan) loads = loads ++ 0 ∷ []
 
--- the one over whose hops packets go has to carry so many at least
+-- the one over whose hops packets go has to carry at least this many
 abbrev pub raised_over : Way → ℕ → List ℕ → List ℕ
 raised_over Nowhere n loads = loads
 raised_over (OverRoute chan) n loads = raised chan n loads
@@ -265,7 +265,7 @@ unfoldable pub loads_after : List ℕ → List Op → List ℕ
 loads_after loads [] = loads
 loads_after loads (op ∷ ops) = loads_after (loads_with loads op) ops
 
--- so many packets, once for each hop
+-- this many packets, once for each hop
 abbrev pub load_over : List RequestEntry → Way → ℕ → ℕ
 load_over requests Nowhere n = 0
 load_over requests (OverRoute chan) n = n * hops_of (slice_get requests (channel_number chan))

@@ -1,5 +1,5 @@
--- What a caller asks next follows from its own replies alone. It goes through its tasks in order. The one under way has
--- the replies since it began; with its last reply the next task begins that takes a step at all.
+-- What a caller asks next follows from its own replies alone. It goes through its tasks in order. The one under way has the replies
+-- since it began; with its last reply, the next task that takes any step begins.
 use Rattle.std.specs.Prelude.{ℕ, Bool, true, false, not, ◌&&◌, nat_eq, if◌then◌else◌, Option, Some, None, List, [], ◌∷◌, ◌++◌}
 use Rattle.net_units.specs.Numbers.{channel_number}
 use Rattle.net_units.specs.declared.numbers.LinkNo.{LinkNo}
@@ -177,7 +177,7 @@ unfoldable pub resumed : List Learnt → List Task → List Reply → Standing
 resumed outcomes [] replies = record { tasks = []; replies = []; outcomes = outcomes }
 resumed outcomes (task ∷ tasks) replies = continued outcomes task tasks replies (task_ask task replies)
 
--- with one reply more
+-- with one more reply
 abbrev pub replied : Standing → Reply → Standing
 replied at reply = resumed at.outcomes at.tasks (at.replies ++ reply ∷ [])
 

@@ -1,4 +1,4 @@
--- How the links of a plan are split. A channel is of the group of the caller that opens its request. A link with quotas is split
+-- How the links of a plan are split. A channel belongs to the group of the caller that opens its request. A link with quotas is split
 -- by them between the groups; a link without isn't split.
 use Rattle.std.specs.Prelude.{ℕ, Option, Some, None, List, [], ◌∷◌, map}
 use Rattle.std.specs.List.{slice_get}

@@ -1,5 +1,5 @@
--- A caller as it is kept: the task under way, the next operation, and what its requests came to. It stands for the replies
--- after which the rules say that a caller stands so. Of each request something is kept.
+-- A caller as it is kept: the task under way, the next operation, and what its requests came to. It stands for the replies that by
+-- the rules bring a caller to this point. Something is kept of each request.
 use Rattle.std.specs.Prelude.{◌≡◌, ◌≤◌, ℕ, if◌then◌else◌, Option, Some, None, IsSome, List, length, map, drop}
 use Rattle.std.specs.List.{slice_get}
 use Rattle.net_units.specs.Numbers.{actor_number}

@@ -1,8 +1,7 @@
--- The scenario's language has versions. In the first one a link compares the load of a level in the window as long as the
--- level's bound; from the second one on in some window up to the bound. From the third one on a link may take best-effort
--- packets, and a caller may send them. From the fourth one on the route of a request may be found between two nodes. From
--- the fifth one on callers may be of groups, between which links may be split. From the sixth one on the packets of a channel
--- may move to another one.
+-- The scenario's language has versions. In the first one a link compares the load of a level in the window as long as the level's
+-- bound; from the second one on in some window up to the bound. From the third one on a link may take best-effort packets, and a
+-- caller may send them. From the fourth one on the route of a request may be found between two nodes. From the fifth one on callers
+-- may belong to groups, between which links may be split. From the sixth one on the packets of a channel may move to another one.
 use Rattle.std.specs.Prelude.{Bool, true, false}
 use Rattle.traffic_contract.specs.declared.admission.Test.{Test}
 use Rattle.traffic_contract.specs.declared.admission.Test.TheVariants.{Whole, Least}

@@ -101,7 +101,7 @@ abbrev pub is_over : Turn → Bool
 is_over On = false
 is_over _ = true
 
--- ---- one reply more
+-- ---- one more reply
 
 -- the task goes on: it has an ask left
 pub record TaskGoesOn (work : Work) (task : Task) (tasks : List Task) (replies : List Reply) : Type 0 where

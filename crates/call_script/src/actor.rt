@@ -25,7 +25,7 @@ use net_units::{ActorNo, ChanNo, LinkNo, OutOfMemory};
 use setup_protocol::{Request, Verdict};
 use std::alloc::Global;
 
-/// A caller on its way through its script, which each call is given with the plan.
+/// A caller on its way through its script. Each call is given the plan, which has the script.
 ///
 /// It stands for the replies that it has taken.
 #[derive(Drop)]
@@ -41,8 +41,7 @@ pub struct Actor {
 impl Actor {
     ghost use Rattle.call_script.specs.Standing.{CallerStands, StandsAt, HasAskLeft, if_step, standing_in};
 
-    /// A caller of the plan that has asked nothing yet. It takes all memory that it needs; an `Err` comes only for want of
-    /// it.
+    /// A caller of the plan that has asked nothing yet. It takes all the memory that it needs; an `Err` comes only for want of memory.
     pub fn new(alloc: Global, plan: &Plan, caller: ActorNo) -> Result<Actor, OutOfMemory>
         requires { actor_number caller < length plan.now.callers }
         ensures caller { IfOk result (λ actor. actor.caller ≡ caller) }
@@ -60,8 +59,7 @@ impl Actor {
         Ok(actor)
     }
 
-    /// The next ask, and the link that it goes to; None exactly at the end of the script. The plan is the one that it was
-    /// made for.
+    /// The next ask, and the link that it goes to; None exactly at the end of the script. The plan is the one that the actor was made for.
     pub fn next_ask(&self, _plan: &Plan) -> Option<(LinkNo, Ask)>
         requires { (replies : List Replied) × CallerStands _plan.now self.now replies }
         ensures { (replies : List Replied) → CallerStands _plan.now self.now replies → result ≡ ask_at (standing_in _plan.now (actor_number self.now.caller) replies) }
@@ -84,8 +82,8 @@ impl Actor {
         self.channels.of(chan).moved
     }
 
-    /// Takes the reply to the next ask. One that isn't a reply to it changes nothing. An ask has to be left. It takes no
-    /// memory.
+    /// Takes the reply to the next ask. A reply that doesn't answer that ask changes nothing. An ask has to be left. The call takes
+    /// no memory.
     pub fn take(&mut self, plan: &Plan, reply: Reply) -> Result<(), Unexpected>
         requires { (replies : List Replied) × HasAskLeft plan.now self.old replies }
         ensures caller { self.new.caller ≡ self.old.caller }

@@ -19,7 +19,7 @@ pub(crate) struct Attributes {
     // The packets that it plans, and over which hops.
     pub(crate) amount: Amount,
     pub(crate) way: Way,
-    // What a version needs that has it.
+    // What a version needs to have it.
     pub(crate) needs: Feature,
 }
 
@@ -28,7 +28,7 @@ pub(crate) struct Attributes {
 pub(crate) enum Amount {
     // None.
     Nothing,
-    // So many, one each gap, of this size.
+    // This many, one each gap, of this size.
     Fresh { count: u64, gap: u64, size: u32 },
     // As many as the request of a channel has to carry.
     Carried(ChanNo),

@@ -20,15 +20,15 @@ pub struct Channel {
     pub verdict: Option<Verdict>,
     /// Whether it is established: accepted, and not left by a move.
     pub established: bool,
-    /// The ticks from each to the next of the packets that were planned on it last; 1 where none were.
+    /// The ticks from one packet to the next, of those that were planned on it last; 1 where none were.
     pub gap: u64,
     /// Their size; 1 where none were.
     pub size: u32,
-    /// What the move has told that has left it.
+    /// What the move that has left it has told.
     pub moved: Option<Shifted>,
 }
 
-/// What it has learnt of each channel, by the channels' numbers: so a look at one takes one step, whatever has been learnt.
+/// What a caller has learnt of each channel, by the channels' numbers, so a look at one takes one step, whatever has been learnt.
 #[derive(Drop)]
 pub struct Channels {
     /// One for each channel.
@@ -36,7 +36,7 @@ pub struct Channels {
 }
 
 impl Channels {
-    /// Nothing is learnt of so many channels. An `Err` comes only for want of memory.
+    /// This many channels, of which nothing is learnt. An `Err` comes only for want of memory.
     pub fn new(alloc: Global, count: usize) -> Result<Channels, OutOfMemory>
         ensures count { IfOk result (λ channels. length channels.by_number.items ≡ count) }
         ensures none { IfOk result (λ channels. AreTold channels.by_number.items []) }
@@ -45,7 +45,7 @@ impl Channels {
         Ok(Channels { by_number })
     }
 
-    /// What is learnt of a channel, nothing where it isn't kept.
+    /// What is learnt of a channel: nothing where it isn't kept.
     pub fn of(&self, chan: ChanNo) -> Channel
         ensures { result ≡ channel_in self.now.by_number.items chan }
     {
@@ -73,7 +73,7 @@ impl Channels {
         );
     }
 
-    /// A submit on a channel was answered so.
+    /// A submit on a channel got this reply.
     pub fn answer(&mut self, chan: ChanNo, gap: u64, size: u32, reply: &Reply)
         requires { channel_number chan < length self.old.by_number.items }
         ensures count { length self.new.by_number.items ≡ length self.old.by_number.items }
@@ -84,7 +84,7 @@ impl Channels {
         }
     }
 
-    /// Packets of this gap and size have moved from a channel to another, so many as `told` says.
+    /// Packets of this gap and size have moved from one channel to another, as many as `told` says.
     pub fn leave(&mut self, old: ChanNo, new: ChanNo, told: &Shifted, gap: u64, size: u32)
         requires old { channel_number old < length self.old.by_number.items }
         requires new { channel_number new < length self.old.by_number.items }
@@ -113,7 +113,7 @@ impl Channels {
         }
     }
 
-    // Notes one thing more, of channels that are kept.
+    // Notes one more thing, of channels that are kept.
     pub(crate) fn note(&mut self, known: &Known)
         requires { IsWithin (length self.old.by_number.items) (learnt_of known.now) }
         ensures count { length self.new.by_number.items ≡ length self.old.by_number.items }

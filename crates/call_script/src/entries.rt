@@ -20,7 +20,7 @@ pub struct LinkEntry {
     pub from: Name,
     /// The node where it ends.
     pub to: Name,
-    /// Its number and its numbers.
+    /// Its number and its parameters.
     pub shape: LinkShape,
     /// The quotas of the groups that have a share of it; a link without quotas isn't split.
     pub quotas: Quotas,
@@ -46,11 +46,11 @@ pub struct CallerEntry {
     pub name: Name,
     /// The number of its group, from 1, or 0 for none.
     pub group: u8,
-    /// What it does, in its order.
+    /// What it does, in order.
     pub ops: Ops,
 }
 
-/// The name of an actor in the lines of a schedule: that of the caller at its number, and `plane` where there is none.
+/// The name of an actor in the lines of a schedule: the name of the caller with its number, or `plane` where there is none.
 pub fn actor_name(callers: &[CallerEntry], actor: ActorNo) -> &str
     ensures { result.now ≡ name_of_actor (slice_get callers.now (actor_number actor)) }
 {
@@ -60,7 +60,7 @@ pub fn actor_name(callers: &[CallerEntry], actor: ActorNo) -> &str
     }
 }
 
-/// Adds a request at the end of the list. Out of memory, the list stays as it was.
+/// Adds a request at the end of the list. Where memory runs out, the list stays as it was.
 pub fn push_request(requests: &mut Vec<RequestEntry>, entry: RequestEntry) -> Result<(), AllocError>
     ensures ok { OnOk result (requests.new.items ≡ requests.old.items ++ entry ∷ []) }
     ensures err { OnErr result (requests.new.items ≡ requests.old.items) }

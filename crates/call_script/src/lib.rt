@@ -1,9 +1,9 @@
 //! What the callers of a network do: the plan of a run, and each caller's script, asked one step at a time.
 //!
-//! A plan names the links of the network and how they are split between groups, the requests for channels, the callers with
-//! their groups and their operations in order, and how many rounds the plane makes. [`Plan::new`] makes one only of parts that keep the rules of the scenario's
-//! language. An [`Actor`] goes through the script of one caller: what it asks next follows from the replies that it
-//! has got so far. Times are in ticks, sizes in units.
+//! A plan names the links of the network and how they are split between groups, the requests for channels, the callers with their
+//! groups and their operations in order, and how many rounds the plane makes. [`Plan::new`] makes one only of parts that keep the
+//! rules of the scenario's language. An [`Actor`] goes through the script of one caller: what it asks next follows from the replies
+//! that it has got so far. Times are in ticks, sizes in units.
 #![tactic(auto)]
 
 pub mod actor;

@@ -9,7 +9,7 @@ use hop_reservation::Route;
 use net_units::LinkNo;
 use traffic_contract::Contract;
 
-/// Whether packets may move from the channel of one request to that of the other: they have one contract, and their routes begin
+/// Whether packets may move from the channel of one request to that of the other: they have the same contract, and their routes begin
 /// and end at the same nodes.
 pub fn may_move(links: &[LinkEntry], old: &RequestEntry, new: &RequestEntry) -> bool
     ensures { result ≡ may_move links.now (Some old.now) (Some new.now) }

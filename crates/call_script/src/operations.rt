@@ -19,8 +19,8 @@ pub enum Op {
     },
     /// Close an established channel.
     Close(ChanNo),
-    /// Move the packets of an established channel that aren't sent yet to another one of the same contract, which begins and
-    /// ends at the same nodes.
+    /// Move the packets of an established channel that haven't been sent yet to another channel, which has the same contract and
+    /// begins and ends at the same nodes.
     Move {
         old: ChanNo,
         new: ChanNo,
@@ -59,7 +59,7 @@ impl Ops {
         Ops { ops: items }
     }
 
-    /// Adds an operation at the end. Want of memory changes nothing.
+    /// Adds an operation at the end. Where memory runs out, nothing changes.
     pub fn push(&mut self, op: Op) -> Result<(), OutOfMemory>
         ensures ok { OnOk result (self.new ≡ self.old ++ op ∷ []) }
         ensures err { OnErr result (self.new ≡ self.old) }

@@ -1,4 +1,4 @@
-//! What a run is of.
+//! The plan of a run.
 ghost use Rattle.std.specs.Prelude.{◌≡◌, ◌<◌, ℕ, IfOk, IfErr, Some, length};
 ghost use Rattle.std.specs.List.{slice_get};
 ghost use Rattle.net_units.specs.Numbers.{link_number};
@@ -42,8 +42,9 @@ impl From<OutOfMemory> for BadPlan {
     }
 }
 
-/// What a run is of: the links of a network, how they are split between groups, the requests for channels, the callers with
-/// their groups and operations, and how many rounds the plane makes beside the callers and after them. It keeps the rules of the scenario's language.
+/// The plan of a run: the links of a network, how they are split between groups, the requests for channels, the callers with their
+/// groups and operations, and how many rounds the plane makes beside the callers and after them. It keeps the rules of the scenario's
+/// language.
 ///
 /// A contract sees the record of its parts.
 #[derive(Drop)]
@@ -182,7 +183,7 @@ fn split_of(
     Ok(Some(split))
 }
 
-// The group of each channel: that of the caller which opens it.
+// The group of each channel: that of the caller that opens it.
 fn channel_groups(
     alloc: Global,
     callers: &[CallerEntry],

@@ -42,7 +42,7 @@ impl Quotas {
         Quotas { quotas: items }
     }
 
-    /// Adds a quota at the end. Out of memory, nothing changes.
+    /// Adds a quota at the end. Where memory runs out, nothing changes.
     pub fn push(&mut self, quota: Quota) -> Result<(), OutOfMemory>
         ensures ok { OnOk result (self.new ≡ self.old ++ quota ∷ []) }
         ensures err { OnErr result (self.new ≡ self.old) }

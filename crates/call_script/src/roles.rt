@@ -8,7 +8,7 @@ use crate::operations::Op;
 /// What an operation is to a channel.
 #[derive(Clone, Copy, Debug, PartialEq, Eq)]
 pub enum Role {
-    /// It opens it.
+    /// The operation opens the channel.
     Opens,
     /// It uses it, as a send, a close and a move from it do.
     Uses,
@@ -16,13 +16,13 @@ pub enum Role {
     Closes,
     /// It leaves it, as a move from it does.
     Leaves,
-    /// It keeps it in use, as a send and a move from it do.
+    /// It keeps the channel in use, as a send and a move from it do.
     Keeps,
     /// It joins it, as a move onto it does.
     Joins,
 }
 
-// Where an operation may stand that asks for a channel.
+// Where an operation that asks for a channel may stand.
 #[derive(Clone, Copy)]
 pub(crate) enum Place {
     // After one that adds it.

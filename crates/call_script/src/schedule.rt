@@ -1,10 +1,10 @@
-//! In which order the actors of a run make their steps.
+//! The order in which the actors of a run make their steps.
 ghost use Rattle.std.specs.Prelude.{◌≡◌};
 
 use net_units::ActorNo;
 use std::marker::Model;
 
-/// An item of a schedule: a count of steps of one actor, one after the other.
+/// An item of a schedule: how many steps one actor makes in a row.
 #[derive(Clone, Copy, Debug, PartialEq, Eq)]
 pub struct Do {
     /// The number of its line in the scenario, from 1, or 0 where it has none.
@@ -55,10 +55,10 @@ impl Dos {
     }
 }
 
-/// In which order the actors of a run make their steps.
+/// The order in which the actors of a run make their steps.
 #[derive(Drop)]
 pub struct Schedule {
-    /// Whether the scenario has one. One that isn't written has no items.
+    /// Whether the scenario has a schedule. One that isn't written has no items.
     pub written: bool,
     /// Its items.
     pub items: Dos,

@@ -15,7 +15,7 @@ pub enum Version {
     Three,
     /// As version three; the route of a request may be found between two nodes.
     Four,
-    /// As version four; callers may be of groups, between which links may be split.
+    /// As version four; callers may belong to groups, between which links may be split.
     Five,
     /// As version five; callers may move the packets of a channel to another one.
     Six,

@@ -140,7 +140,7 @@ impl Work {
         }
     }
 
-    // Takes the reply to the next ask. One that isn't a reply to it changes nothing. A task has to be under way.
+    // Takes the reply to the next ask. A reply that doesn't answer that ask changes nothing. A task has to be under way.
     pub(crate) fn take(&mut self, reply: Reply) -> Result<Turn, Unexpected>
         requires left { is_under_way self.old ≡ true }
         requires stands { (tasks : List Under) × (replies : List Replied) × WorkStands self.old tasks replies }

@@ -16,7 +16,7 @@ use traffic_contract::Test;
 
 mod moves;
 
-// Of the group of this number.
+// A quota of the group of this number.
 fn quota(group: u8) -> Quota
     ensures { result.levels ≡ 4 ∷ 8 ∷ 20 ∷ 0 ∷ 0 ∷ 0 ∷ 0 ∷ 0 ∷ [] }
 {
@@ -96,7 +96,7 @@ fn a_link_without_quotas_is_not_split(rt: HostRuntime) -> Result<(), Fail> {
     Ok(())
 }
 
-// A plan of that link with a quota, of that caller, which is of its group, and of a group more.
+// A plan of that link with a quota, of that caller, which is of the quota's group, and of one more group.
 fn split_plan(alloc: Global, version: Version) -> Result<Result<Plan, BadPlan>, Fail>
     ensures { IfOk result (λ made. IfOk made (λ plan. length plan.links ≡ 1)) }
 {

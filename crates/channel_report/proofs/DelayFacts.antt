@@ -1,4 +1,4 @@
--- The delays after one row more.
+-- The delays after one more row.
 use Rattle.std.proofs.Common.{◌≡◌, ℕ, zero, suc, ◌+◌, ◌-◌, ◌^◌, ◌<◌, ◌≤◌, Option, Some, None, IfSome, IfNone, List, [], ◌∷◌, ◌++◌, length, set, get_or, take, reverse, replicate, refl, sym, ap, ◌∙◌, subst, inl, inr, arith, length-set, length-take, length-append}
 use Rattle.std.specs.Prelude.{nat_eq}
 use Rattle.std.proofs.lemmas.Bool.{cases_eq, cases_Bool, eq-eqb, ne_eqb}

@@ -1,4 +1,4 @@
--- Rows that are no ends may be left out, before the rows are put in order or after.
+-- Rows that aren't ends may be left out, before the rows are put in order or after.
 use Rattle.std.proofs.Common.{◌≡◌, Bool, true, false, List, [], ◌∷◌, ◌++◌, reverse, refl, sym, ap, ◌∙◌, inl, inr, nat_eq, append-nil}
 use Rattle.std.proofs.lemmas.Bool.{cases_Bool}
 use Rattle.std.proofs.lemmas.List.{reverse-append}

@@ -1,4 +1,4 @@
--- The counts of all links after one entry more of a run.
+-- The counts of all links after one more entry of a run.
 use Rattle.std.proofs.Common.{◌≡◌, ℕ, ◌<◌, ◌≤◌, List, [], ◌∷◌, length, get_or, set, take, reverse, refl, sym, ◌∙◌, inl, inr, arith, get_or-set_same, get_or-set_other, length-set, length-take}
 use Rattle.std.proofs.lemmas.Bool.{cases_Bool, cases_eq}
 use Rattle.std.proofs.lemmas.List.{length-map, length-reverse}

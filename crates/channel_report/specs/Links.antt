@@ -1,6 +1,6 @@
--- What the history of a link tells of the link: its clock; how many of the channels' packets have departed; how many source
--- packets were dropped, since they found no slot; and of its best-effort packets how many have departed and were lost, and how
--- many pours were refused.
+-- What the history of a link tells of the link: its clock; how many of the channels' packets have departed; how many source packets
+-- were dropped because they found no slot; and of its best-effort packets how many have departed, how many were lost, and how many
+-- pours were refused.
 use Rattle.std.specs.Prelude.{ℕ, ◌+◌, Bool, true, false, not, ◌&&◌, Option, Some, None, List, [], ◌∷◌, codes, nat_eq}
 use Rattle.std.specs.Fmt.{decimal}
 use Rattle.net_units.specs.Numbers.{link_number}

@@ -1,6 +1,6 @@
 -- The report of a run of a plan: a line for each request with what it has come to, a line for each route that was found, a line for
--- each move that was made, a line for each channel that was established, a line for each link, the number of steps, and, where it is asked for, the table of the packets.
--- It is a function of the plan and of the run's entries, which are listed in the order of time.
+-- each move that was made, a line for each channel that was established, a line for each link, the number of steps, and, where it is
+-- asked for, the table of the packets. It is a function of the plan and of the run's entries, which are listed in the order of time.
 use Rattle.std.specs.Prelude.{ℕ, Bool, true, false, List, [], ◌∷◌, ◌++◌, length, reverse, codes}
 use Rattle.std.specs.List.{flat_map}
 use Rattle.std.specs.Fmt.{decimal}

@@ -1,5 +1,5 @@
 -- The table of a run's packets: a header, and a line for each departure, in the order of the channels' requests, the packets and the
--- hops. Fields are divided by commas, and each line ends with a line feed.
+-- hops. Fields are separated by commas, and each line ends with a line feed.
 use Rattle.std.specs.Prelude.{ℕ, Option, Some, None, List, [], ◌∷◌, ◌++◌, codes}
 use Rattle.std.specs.List.{flat_map, join_with_byte, slice_get}
 use Rattle.std.specs.Fmt.{decimal}

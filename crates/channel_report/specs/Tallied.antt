@@ -1,6 +1,6 @@
--- What a tally keeps of a run, which is listed newest first: the counts of the links, what the sources of the channels have planned, the
--- hops of the channels, the rows of their first and last hops, or all rows where there is to be a table, and how many steps
--- there were and each actor has made.
+-- What a tally keeps of a run, which is listed newest first: the counts of the links, what the sources of the channels have planned,
+-- the hops of the channels, the rows of their first and last hops, or all rows where there is to be a table, how many steps there
+-- were, and how many each actor has made.
 use Rattle.std.specs.Prelude.{◌≡◌, List, length, reverse}
 use Rattle.call_script.specs.Parts.{PlanParts}
 use Rattle.call_script.specs.Tasks.{network_of}

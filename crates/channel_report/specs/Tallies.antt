@@ -31,11 +31,11 @@ pub record AreLinkTallies (count : ℕ) (run : List Done) (tallies : List LinkTa
 
 -- ---- quiet ticks
 
--- the counts with so many quiet ticks more
+-- the counts with this many quiet ticks more
 abbrev pub ticks_later : ℕ → LinkTally → LinkTally
 ticks_later n tally = record tally { clock = tally.clock + n }
 
--- each of these links has made so many
+-- each of these links has made this many
 pub record HaveRested (n : ℕ) (old new : List LinkTally) : Type 0 where
   pub same : length new ≡ length old
   pub each : (k : ℕ) (d : LinkTally) → k < length old → slice_index_or new k d ≡ ticks_later n (slice_index_or old k d)

@@ -28,9 +28,9 @@ use run_record::Record;
 use std::alloc::Global;
 use text_writer::{ReportFault, finish};
 
-/// Writes the report of a run of this plan: its requests, the routes that were found, the moves that were made, its established channels, its links, the
-/// number of its steps, and, where it is asked for, the table of its packets. A write fault comes only where the sink's count of
-/// faults rose in this call. Where the report isn't written whole, a prefix of it is.
+/// Writes the report of a run of this plan: its requests, the routes that were found, the moves that were made, its established
+/// channels, its links, the number of its steps, and, where it is asked for, the table of its packets. A write fault comes only where
+/// the sink's count of faults rose in this call. Where the report isn't written whole, a prefix of it is.
 pub fn write_report<K: Sink>(
     alloc: Global,
     plan: &Plan,
@@ -46,8 +46,8 @@ pub fn write_report<K: Sink>(
     write_tallied(alloc, plan, callers, tally, sink)
 }
 
-/// Writes the report of a run of this plan that no record has, by its tally and the callers after it: the bytes that [`write_report`]
-/// writes of the same run, with the table of packets where the tally has it.
+/// Writes the report of a run of this plan that wasn't recorded, by its tally and the callers after it: the bytes that
+/// [`write_report`] writes of the same run, with the table of packets where the tally has it.
 pub fn write_tallied<K: Sink>(
     alloc: Global,
     plan: &Plan,

@@ -8,7 +8,7 @@ use net_units::ChanNo;
 // What an entry does for the source of a channel.
 #[derive(Clone, Copy)]
 pub(crate) enum Act {
-    // So many packets are planned, the first at a tick and then one each gap.
+    // This many packets are planned, the first at a tick and then one each gap.
     Plans {
         chan: ChanNo,
         tick: u64,
@@ -19,7 +19,7 @@ pub(crate) enum Act {
     Refuses {
         chan: ChanNo,
     },
-    // The packets are cancelled whose tick isn't made yet.
+    // The packets whose tick isn't made yet are cancelled.
     Cancels {
         chan: ChanNo,
     },

@@ -58,9 +58,9 @@ impl Sums {
     }
 }
 
-/// Writes the summary of a run of this plan, which was made from this number with so many requests: how many requests were accepted and how
-/// many denied, how many packets were delivered, and how many steps the run has. A write fault comes only where the sink's count of faults rose in
-/// this call. Where the line isn't written whole, a prefix of it is.
+/// Writes the summary of a run of this plan, which was made from this number with this many requests: how many requests were accepted
+/// and how many denied, how many packets were delivered, and how many steps the run has. A write fault comes only where the sink's
+/// count of faults rose in this call. Where the line isn't written whole, a prefix of it is.
 pub fn write_summary<K: Sink>(
     alloc: Global,
     number: u32,
@@ -77,7 +77,7 @@ pub fn write_summary<K: Sink>(
     write_tallied_summary(alloc, number, size, plan, callers, tally, sink)
 }
 
-/// Writes the summary of a run of this plan that no record has, by its tally and the callers after it: the bytes that
+/// Writes the summary of a run of this plan that wasn't recorded, by its tally and the callers after it: the bytes that
 /// [`write_summary`] writes of the same run.
 pub fn write_tallied_summary<K: Sink>(
     alloc: Global,

@@ -46,8 +46,8 @@ pub struct Tally {
 }
 
 impl Tally {
-    /// Before any step of a run of this plan; with `packets` it keeps what the table of packets tells. An `Err` comes only for want of
-    /// memory.
+    /// The tally before any step of a run of this plan; with `packets` it keeps what the table of packets tells. An `Err` comes only
+    /// for want of memory.
     pub fn new(alloc: Global, plan: &Plan, packets: bool) -> Result<Tally, OutOfMemory>
         ensures fresh { IfOk result (IsTallied plan.now []) }
         ensures packets { IfOk result (λ tally. tally.packets ≡ packets) }
@@ -94,7 +94,7 @@ impl Watch for Tally {
     }
 }
 
-// Counts so many quiet ticks of each link.
+// Counts this many quiet ticks of each link.
 fn rest_links(links: &mut [LinkTally], ticks: u64)
     requires { (k : ℕ) (d : Counts) → k < length links.old → (slice_index_or links.old k d).clock + ticks < 2 ^ 62 }
     ensures { HaveRested ticks links.old links.new }

@@ -33,7 +33,7 @@ fn plan(alloc: Global, version: Version, found: Option<(Name, Name)>) -> Result<
     Ok(plans::plan(alloc, version, link, Vec::new(alloc), request, caller, 30)??)
 }
 
-// So many steps of one actor.
+// This many steps of one actor.
 fn steps(core: &mut Core, plan: &Plan, actor: u8, count: u64) -> Result<(), Fail>
     requires { CoreStands plan.now core.old }
     ensures { OnOk result (CoreStands plan.now core.new) }
@@ -45,7 +45,7 @@ fn steps(core: &mut Core, plan: &Plan, actor: u8, count: u64) -> Result<(), Fail
     Ok(())
 }
 
-// The run in which each of these actors in turn, the caller 0 or the plane 1, makes so many steps.
+// The run in which each of these actors in turn, the caller 0 or the plane 1, makes this many steps.
 fn run(alloc: Global, plan: &Plan, turns: &[(u8, u64)]) -> Result<Record, Fail>
     ensures { IfOk result (λ made. IsRun (network_of plan.now) (reverse made.entries)) }
 {
@@ -56,7 +56,7 @@ fn run(alloc: Global, plan: &Plan, turns: &[(u8, u64)]) -> Result<Record, Fail>
     Ok(core.finish())
 }
 
-// A sink that takes at most so many bytes at a time.
+// A sink that takes at most this many bytes at a time.
 fn sink(alloc: Global, piece: usize) -> Result<MemSink, Fail>
     requires { 1 ≤ piece }
 {
@@ -68,7 +68,7 @@ fn holds<R: Abort>(rt: &R, sink: &MemSink, text: &str) {
     assert_eq!(rt; sink.bytes(), text.as_bytes());
 }
 
-// The run of these turns has this report, with the table of packets or without it, which is written in pieces of at most so many bytes.
+// The run of these turns has this report, with the table of packets or without it, which is written in pieces of at most this many bytes.
 fn reports<R: Abort>(
     rt: &R,
     alloc: Global,
@@ -119,7 +119,7 @@ fn a_route_that_was_found_has_a_line(rt: HostRuntime) -> Result<(), Fail> {
     reports(&rt, alloc, &plan, &[(0, 1)], false, 4, text)
 }
 
-// A tally that saw this run tells that the caller made so many steps, and its report, without the record.
+// A tally that saw this run tells that the caller made this many steps, and its report, without the record.
 fn tallies<R: Abort>(
     rt: &R,
     alloc: Global,

@@ -1,4 +1,4 @@
--- What an engine and what watches it make of a run, step by step and by strides.
+-- What an engine and its watcher make of a run, step by step and by strides.
 pub mod WatchFacts
 pub mod QuietRounds
 pub mod RestFacts

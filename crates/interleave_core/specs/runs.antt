@@ -1,4 +1,4 @@
--- Runs, their parts on each link and for each actor, their merge, how many steps they have, and the laws of them.
+-- Runs, their parts on each link and for each actor, their merge, how many steps they have, and their laws.
 pub mod Runs
 pub mod Parts
 pub mod Weave

@@ -69,7 +69,7 @@ impl Actors {
     }
 }
 
-/// The actor of this number: the callers of a plan have theirs from 0 on in their order, and the plane has the next.
+/// The actor with this number: the callers of a plan have the numbers from 0 on, in their order, and the plane has the next.
 pub fn actor_of(number: usize) -> ActorNo
     requires { number < 65 }
     ensures { result ≡ actor_at number }

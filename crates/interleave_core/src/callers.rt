@@ -67,7 +67,7 @@ impl Callers {
         self.by_number[owner].moved(entry.request.chan)
     }
 
-    // Hands the reply of the next step to the caller that made it. That of a step of the plane goes to none of them.
+    // Hands the reply of the next step to the caller that made it. The reply to a step of the plane goes to none of them.
     pub(crate) fn take(&mut self, plan: &Plan, done: &Done)
         requires { (past : List Entry) × IsNextStep plan.now self.old past done.now }
         ensures { (past : List Entry) → IsNextStep plan.now self.old past done.now → CallersStand plan.now self.new (done.now ∷ past) }
@@ -92,8 +92,8 @@ pub fn replay(alloc: Global, plan: &Plan, run: &Record) -> Result<Callers, OutOf
     Ok(callers)
 }
 
-/// The callers of a plan after a run of it, as [`replay`] answers them, where each entry is shown to what watches, which has seen
-/// nothing before. An `Err` comes only for want of memory, and then nothing is said of what watches.
+/// The callers of a plan after a run of it, as [`replay`] answers them. Each entry is shown to the watcher, which has seen nothing
+/// before. An `Err` comes only for want of memory, and then nothing is said of the watcher.
 pub fn replay_watched<W: Watch>(
     alloc: Global,
     plan: &Plan,

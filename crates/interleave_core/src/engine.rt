@@ -19,8 +19,8 @@ use run_record::Done;
 use std::alloc::Global;
 use tick_plane::Plane;
 
-/// The links and the actors of a plan, which each call is given. Its clauses hold for every run that it stands for
-/// (`EngineStands`), so that whoever has it may record the run, tally it, or send its steps elsewhere.
+/// The links and the actors of a plan, which each call is given. The engine's clauses hold for every run that it stands for
+/// (`EngineStands`), so whoever has it may record the run, tally it, or send its steps elsewhere.
 #[derive(Drop)]
 pub struct Engine {
     pub(crate) links: Vec<AnyLink>,
@@ -45,8 +45,8 @@ impl Engine {
         self.actors.next_ask(plan, actor)
     }
 
-    /// Makes the step that the actor asks for next. An `Err` comes only for want of memory, and then it stands for the runs that
-    /// it stood for.
+    /// Makes the step that the actor asks for next. An `Err` comes only for want of memory, and then the engine stands for the runs
+    /// that it stood for before.
     pub fn make(
         &mut self,
         plan: &Plan,
@@ -77,8 +77,8 @@ impl Engine {
         self.actors.plane.round()
     }
 
-    /// For how many rounds it rests: in them no packet reaches a link, and nothing falls due in one. It is 0 in the middle of a round,
-    /// and where it can't tell.
+    /// For how many rounds it rests: in them no packet reaches a link, and nothing falls due in a link. It is 0 in the middle of a
+    /// round, and where the engine can't tell.
     pub fn rounds_at_rest(&self) -> u64
         ensures { 1 ≤ result → EngineRests self.now result }
     {
@@ -89,8 +89,8 @@ impl Engine {
         ticks_at_rest(&self.links, calm)
     }
 
-    /// Makes so many rounds, for which it rests, in one stride: it stands for its runs gone on by as many quiet rounds, each of which
-    /// is a turn of the plane a link. It takes no memory.
+    /// Makes this many rounds, for which it rests, in one stride: it then stands for its runs continued by as many quiet rounds, in
+    /// each of which the plane makes one turn for each link. It takes no memory.
     pub fn stride(&mut self, rounds: u64)
         requires stands { (parts : PlanParts) × (run : List Entry) × EngineStands parts self.old run }
         requires rests { EngineRests self.old rounds }

@@ -29,8 +29,8 @@ pub fn held_rows_pass_on_every_link()
     ensures { HeldRowsPassOnEveryLink }
 {}
 
-/// The part of every run on each link has the hop guarantee: what has departed did so later than its eligible tick and within
-/// the bound of its level, and what the clock has reached the bound of has departed.
+/// The part of every run on each link has the hop guarantee: what has departed did so later than its eligible tick and within the
+/// bound of its level, and a packet whose bound the clock has reached has departed.
 pub fn every_hop_is_guaranteed()
     ensures { EveryHopIsGuaranteed }
 {}
@@ -42,9 +42,9 @@ pub fn no_flight_is_late()
     ensures { NoFlightIsLate }
 {}
 
-/// Where each channel has one owner, each ask of a run gets one of its replies. So no reserve finds a reservation of its
-/// channel, no relax, deny or release is refused, and packets are refused only while planned ones are left or since they
-/// are too large. That arrivals are taken is said by `every_run_is_guaranteed`.
+/// Where each channel has one owner, each ask of a run gets one of its replies. So no reserve finds a reservation of its channel, no
+/// relax, deny or release is refused, and packets are refused only while planned ones are left or because they are too large. That
+/// arrivals are taken is said by `every_run_is_guaranteed`.
 pub fn every_ask_is_answered()
     ensures { EveryAskIsAnswered }
 {}
@@ -61,16 +61,15 @@ pub fn verdicts_follow_the_replies()
     ensures { VerdictsFollowTheReplies }
 {}
 
-/// Where the caller of a request knows it accepted, the delay that it knows is the sum of the level bounds and propagations of
-/// its route, and is within what it asks for. The bound at its last hop is within the jitter that it asks for, if it does.
+/// Where the caller of a request knows it accepted, the delay that it knows is the sum of the level bounds and propagations of its
+/// route, and is within what it asks for. The bound at its last hop is within the jitter that it asks for, if it asks for one.
 pub fn accepted_requests_are_kept()
     ensures { AcceptedRequestsAreKept }
 {}
 
-/// Where the caller of a request knows it accepted, each packet of its channel is eligible at every hop at most the level
-/// bounds and propagations of the hops before it later than at the first hop, and under delay-jitter control exactly so
-/// much later. A packet that has left a hop did so within that and the hop's own bound. So it is in every run, beside
-/// whatever other callers ask.
+/// Where the caller of a request knows it accepted, each packet of its channel is eligible at every hop no later than at the first
+/// hop plus the level bounds and propagations of the hops before, and under delay-jitter control exactly that much later. A packet
+/// that has left a hop did so within that and the hop's own bound. This holds in every run, whatever other callers ask.
 pub fn accepted_channels_keep_their_delays()
     ensures { AcceptedChannelsKeepTheirDelays }
 {}
@@ -78,20 +77,20 @@ pub fn accepted_channels_keep_their_delays()
 /// The whole guarantee. Where each channel has one owner, all of this holds at the beginning of every run and after each of its
 /// entries, in the middle of a setup or of a round too:
 ///
-/// - On each link the held rows pass the admission test, what has departed did so within the bound of its level, and what the
-///   clock has reached the bound of has departed.
-/// - No source packet was dropped on a row whose source keeps its contract, and past the first hop each packet that arrives is
-///   taken, never refused as stray or full.
-/// - Only accepted channels have packets, and only at the hops of their routes. (Best-effort packets are of none.)
-/// - Each packet of an accepted channel is eligible at every hop, and has left it, within the level bounds and propagations so
-///   far from its eligible tick at the first hop on, and once the hop's clock has reached that bound it has departed. The sum over
-///   the route is within the delay that was asked for. Where the source keeps its contract, that eligible tick is the tick of its
+/// - On each link the held rows pass the admission test, what has departed did so within the bound of its level, and a packet whose
+///   bound the clock has reached has departed.
+/// - No source packet was dropped on a row whose source keeps its contract, and past the first hop each packet that arrives is taken,
+///   never refused as stray or full.
+/// - Only accepted channels have packets, and only at the hops of their routes. (Best-effort packets belong to no channel.)
+/// - Each packet of an accepted channel is eligible at every hop, and has left it, within the level bounds and propagations so far,
+///   counted from its eligible tick at the first hop. Once the hop's clock has reached that bound, it has departed. The sum over the
+///   route is within the delay that was asked for. Where the source keeps its contract, that eligible tick is the tick of its
 ///   arrival.
-/// - Under delay-jitter control the delays of two packets of such a source differ by less than the bound of the last hop, which
-///   is within the jitter that was asked for.
+/// - Under delay-jitter control the delays of two packets of such a source differ by less than the bound of the last hop, which is
+///   within the jitter that was asked for.
 ///
-/// Nothing is said of the jitter of other channels, of best-effort packets, or that a run goes on. (Banerjea, Ferrari et al.
-/// 1996 for the rules; that they hold over every order of the steps is ours.)
+/// Nothing is said of the jitter of other channels or of best-effort packets, nor that a run goes on. (Banerjea, Ferrari et al. 1996
+/// for the rules; that they hold over every order of the steps is ours.)
 pub fn every_run_is_guaranteed()
     ensures { EveryRunIsGuaranteed }
 {}
@@ -123,20 +122,20 @@ pub fn journals_weave_to_a_run()
     ensures { JournalsWeaveToARun }
 {}
 
-/// An actor's steps come to an end. One that has a step left makes one, and how many it has left at most falls with it, whatever
-/// the links reply. The steps of other actors change nothing of that number.
+/// An actor's steps come to an end. One that has a step left makes one, and with it the greatest number of steps that it may have
+/// left falls, whatever the links reply. The steps of other actors don't change that number.
 pub fn steps_come_to_an_end()
     ensures { StepsComeToAnEnd }
 {}
 
-/// A schedule comes to a run or asks too much at a line: to exactly one of these, to no second run, and to no second line.
-/// What it comes to is a run of the network.
+/// A schedule either comes to a run or asks too much at a line: exactly one of these, with no second run and no second line. What it
+/// comes to is a run of the network.
 pub fn schedules_come_to_one_end()
     ensures { SchedulesComeToOneEnd }
 {}
 
-/// Once a channel was left by a move, its first hop has taken as many packets as the move told were kept, numbered from 1 on,
-/// and takes no more.
+/// Once a move has left a channel, the channel's first hop has taken as many packets as the move has told were kept, numbered from 1
+/// on, and takes no more.
 pub fn every_move_keeps_what_was_taken()
     ensures { EveryMoveKeeps }
 {}
@@ -146,20 +145,20 @@ pub fn no_planned_packet_is_lost()
     ensures { NonePlannedIsLost }
 {}
 
-/// Where each channel has one owner, the submit of a move is planned, and then the channel that it joins has exactly its packets
-/// planned.
+/// Where each channel has one owner, the submit of a move is planned, and then exactly its packets are planned on the channel that it
+/// joins.
 pub fn every_move_plans_what_was_shifted()
     ensures { EveryMovePlansTheShifted }
 {}
 
-/// Once a channel was left by a move, the packets that its source has offered at its first hop, dropped ones included, and those
-/// that the move has told were shifted are all that its submits planned there.
+/// Once a move has left a channel, the packets that its source has offered at its first hop, dropped ones included, and those that
+/// the move has told were shifted are all that its submits planned there.
 pub fn no_packet_is_lost_in_a_move()
     ensures { NoneIsLostInAMove }
 {}
 
 /// Where each channel has one owner, the packets of a move have the gap and the size of the last submit on the channel that it
-/// leaves which the run has answered as planned; where it has answered none so, they are 1 and 1.
+/// leaves, of those that the run has answered as planned; where it has answered none as planned, they are 1 and 1.
 pub fn every_move_takes_the_last_packets()
     ensures { EveryMoveTakesTheLast }
 {}

@@ -66,7 +66,7 @@ pub(crate) fn step_link(
     links[number].step(ask)
 }
 
-// How many ticks these links rest for, so many at most.
+// How many ticks these links rest for, at most this many.
 pub(crate) fn ticks_at_rest(links: &[AnyLink], most: u64) -> u64
     ensures most { result ≤ most }
     ensures rests { 1 ≤ result → Each (RestsBy result) links.now }
@@ -81,7 +81,7 @@ pub(crate) fn ticks_at_rest(links: &[AnyLink], most: u64) -> u64
     ticks
 }
 
-// Each link makes so many ticks in which nothing falls due.
+// Each link makes this many ticks, in which nothing falls due.
 pub(crate) fn rest_links(links: &mut [AnyLink], ticks: u64)
     requires rests { Each (RestsBy ticks) links.old }
     requires early { Each (λ link. any_clock link + ticks ≤ 2 ^ 61) links.old }

@@ -40,9 +40,9 @@ impl From<OutOfMemory> for PlayFault {
     }
 }
 
-/// Plays a schedule of a plan, and answers the record of its run. A written schedule's items are played in their order, each
-/// as many steps of its actor in a row. Where none is written, the callers in their order, and then the plane, each make
-/// their steps until none is left.
+/// Plays a schedule of a plan, and answers the record of its run. A written schedule's items are played in their order, each of them
+/// a number of steps of its actor in a row. Where none is written, the callers in their order, and then the plane, each make their
+/// steps until none is left.
 ///
 /// `Step` comes exactly where a written item asks for a step that isn't left, and names the first such line. The run has the
 /// whole guarantee at its beginning and after each of its entries. Each item's actor is a caller of the plan or the plane.
@@ -57,8 +57,8 @@ pub fn play(alloc: Global, plan: &Plan, schedule: &Schedule) -> Result<Record, P
     Ok(record)
 }
 
-/// Plays a schedule of a plan as [`play`] does, shows each step to what watches the run, and answers the callers after it. What
-/// watches has seen nothing before. After an `Err` nothing is said of it.
+/// Plays a schedule of a plan as [`play`] does, shows each step to the watcher of the run, and answers the callers after it. The
+/// watcher has seen nothing before. After an `Err` nothing is said of it.
 pub fn play_watched<W: Watch>(
     alloc: Global,
     plan: &Plan,
@@ -160,8 +160,8 @@ fn make_all<W: Watch>(
     unreachable!()
 }
 
-// Makes steps of the actor, so many at most: a stride of whole rounds where it is the plane and all rests, or else one step. Answers
-// how many, which is 0 exactly where it has none left.
+// Makes steps of the actor, at most this many: a stride of whole rounds where it is the plane and all rests, or else one step.
+// Answers how many it made, which is 0 exactly where the actor has none left.
 fn make_some<W: Watch>(
     engine: &mut Engine,
     watch: &mut W,
@@ -191,7 +191,7 @@ fn make_some<W: Watch>(
     }
 }
 
-// How many rounds the actor makes in one stride, so many at most: none where it isn't the plane.
+// How many rounds the actor makes in one stride, at most this many: none where it isn't the plane.
 fn rounds_at_once(engine: &Engine, plan: &Plan, actor: ActorNo, most: u64) -> u64
     ensures most { result ≤ most }
     ensures rests { 1 ≤ result → EngineRests engine.now result }

@@ -17,7 +17,7 @@ pub(crate) fn plane_of(plan: &Plan) -> ActorNo
     actor_of(plan.callers().len())
 }
 
-// Records so many quiet rounds of the plane over these links, from the first on.
+// Records this many quiet rounds of the plane over these links, from the first on.
 pub(crate) fn record_rounds(
     kept: &mut Record,
     plane: ActorNo,

@@ -38,7 +38,7 @@ impl Core {
         })
     }
 
-    /// Whether the actor has a step left: false where there is no such actor. The plan is the one that it was made for.
+    /// Whether the actor has a step left: false where there is no such actor. The plan is the one that the core was made for.
     pub fn has_step(&self, plan: &Plan, actor: ActorNo) -> bool
         requires { CoreStands plan.now self.now }
         ensures { IsTrue result ↔ IsSome (next_for (network_of plan.now) (actor_number actor) (run_in self.now)) }
@@ -46,9 +46,9 @@ impl Core {
         self.next_ask(plan, actor).is_some()
     }
 
-    /// Makes the actor's next step, and records it: asks the link, and hands the actor the reply. The plan is the one that
-    /// it was made for. The run has the whole guarantee at its beginning and after each of its entries. A refusal leaves the run
-    /// as it was: there is no such actor, or it has no step left, or memory ran out.
+    /// Makes the actor's next step, and records it: asks the link, and hands the actor the reply. The plan is the one that the core
+    /// was made for. The run has the whole guarantee at its beginning and after each of its entries. A refusal leaves the run as it
+    /// was: there is no such actor, or it has no step left, or memory ran out.
     pub fn step(&mut self, plan: &Plan, actor: ActorNo) -> Result<Reply, CoreRefusal>
         requires { CoreStands plan.now self.old }
         ensures stands { CoreStands plan.now self.new }
@@ -60,7 +60,7 @@ impl Core {
         self.make_step(plan, actor)
     }
 
-    /// The record of its steps. It is a run of the plan that the core was made for, with the whole guarantee at its beginning
+    /// The record of the core's steps. It is a run of the plan that the core was made for, with the whole guarantee at its beginning
     /// and after each of its entries.
     pub fn finish(self) -> Record
         ensures steps { result ≡ self.steps }

@@ -1,4 +1,4 @@
-//! What watches a run as it is made.
+//! A watcher of a run as it is made.
 ghost use Rattle.std.specs.Prelude.{◌≡◌, ◌*◌, ◌∷◌, Bool, true, List, OnOk, length, reverse};
 ghost use Rattle.net_units.specs.Numbers.{actor_number};
 ghost use Rattle.call_script.specs.Parts.{PlanParts};
@@ -17,7 +17,7 @@ use link_steps::Ask;
 use net_units::{ActorNo, LinkNo, OutOfMemory};
 use run_record::{Done, Record};
 
-/// What watches a run of a plan as it is made: it sees each step, in the order of time, and keeps of it what it wants.
+/// A watcher of a run of a plan as it is made: it sees each step, in the order of time, and keeps what it wants of it.
 pub trait Watch: Drop {
     /// Whether it has seen this run of a plan, newest first.
     ghost saw: { Self → PlanParts → List Entry → Type 0 };
@@ -25,20 +25,20 @@ pub trait Watch: Drop {
     /// Whether it keeps what a table of the run's packets tells. That never changes.
     ghost has_table: { Self → Bool };
 
-    /// Sees the next step of the run. An `Err` comes only for want of memory, and then nothing is said of it any more.
+    /// Sees the next step of the run. An `Err` comes only for want of memory, and then nothing more is said of the watcher.
     fn see(&mut self, plan: &Plan, done: &Done) -> Result<(), OutOfMemory>
         requires { (past : List Entry) × IsNextSeen saw plan.now self.old past done.now }
         ensures seen { OnOk result ((past : List Entry) → IsNextSeen saw plan.now self.old past done.now → saw self.new plan.now (done.now ∷ past)) }
         ensures table { OnOk result (has_table self.new ≡ has_table self.old) };
 
-    /// Sees the next rounds of the run at once, so many quiet ones, the first of which has this number. An `Err` comes only for want
-    /// of memory, and then nothing is said of it any more.
+    /// Sees the next rounds of the run at once: this many quiet ones, the first of which has this number. An `Err` comes only for
+    /// want of memory, and then nothing more is said of the watcher.
     fn rested(&mut self, plan: &Plan, first: u64, rounds: u64) -> Result<(), OutOfMemory>
         requires { (past : List Entry) × IsRestSeen saw plan.now self.old past first rounds }
         ensures seen { OnOk result ((past : List Entry) → IsRestSeen saw plan.now self.old past first rounds → saw self.new plan.now (rested (network_of plan.now) rounds past)) }
         ensures table { OnOk result (has_table self.new ≡ has_table self.old) };
 
-    /// How many steps of the run that it has seen this actor made.
+    /// How many steps this actor made in the run that it has seen.
     fn steps_of(&self, actor: ActorNo) -> u64
         ensures { (parts : PlanParts) (run : List Entry) → saw self.now parts run → result ≡ length (replies_to (actor_number actor) run) };
 }
@@ -78,7 +78,7 @@ pub(crate) fn steps_among(entries: &[Done], actor: ActorNo) -> u64
     made
 }
 
-/// Makes the step that the actor asks for next, and shows it to what watches the run. An `Err` comes only for want of memory.
+/// Makes the step that the actor asks for next, and shows it to the watcher. An `Err` comes only for want of memory.
 pub fn make_watched<W: Watch>(
     engine: &mut Engine,
     watch: &mut W,
@@ -96,8 +96,8 @@ pub fn make_watched<W: Watch>(
     Ok(())
 }
 
-/// Makes so many rounds, for which the engine rests, in one stride, and shows them to what watches the run. An `Err` comes only for
-/// want of memory.
+/// Makes this many rounds, for which the engine rests, in one stride, and shows them to the watcher. An `Err` comes only for want of
+/// memory.
 pub fn stride_watched<W: Watch>(
     engine: &mut Engine,
     watch: &mut W,

@@ -42,7 +42,7 @@ fn a_caller_makes_its_steps(rt: HostRuntime) -> Result<(), Fail> {
     Ok(())
 }
 
-// How many steps the run has of a schedule whose line 8 asks for so many of the caller, or where it asks too much.
+// How many steps the run of a schedule has whose line 8 asks for this many steps of the caller, or where it asks too much.
 fn steps_of_written(
     alloc: Global,
     plan: &Plan,
@@ -82,7 +82,7 @@ fn a_written_schedule_is_played_as_far_as_it_asks(rt: HostRuntime) -> Result<(),
     Ok(())
 }
 
-// Who watches sees each step: a record that is watched with has those of the run, and tells how many each actor made.
+// A watcher sees each step: a record that watches a run has the run's steps, and tells how many each actor made.
 #[test]
 fn what_watches_sees_each_step(rt: HostRuntime) -> Result<(), Fail> {
     let alloc = rt.alloc();
@@ -122,7 +122,7 @@ fn without_a_schedule_each_plays_to_its_end(rt: HostRuntime) -> Result<(), Fail>
     Ok(())
 }
 
-// A link that was never asked has nothing due: each item, of three and of two ticks, is one stride, and what watches has seen five ticks.
+// A link that was never asked has nothing due: each item, of three and of two ticks, is one stride, and the watcher has seen five ticks.
 #[test]
 fn a_stride_is_seen_as_its_ticks(rt: HostRuntime) -> Result<(), Fail> {
     let alloc = rt.alloc();

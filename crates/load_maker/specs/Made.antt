@@ -1,7 +1,7 @@
--- The plan of a load. It has four links in a row, four callers and some requests, which belong to the callers in turn. The
--- script of a caller opens each of its requests and sends on it; and from the third one on it closes after that the request two
--- before it. Requests and links are counted from 0 here, and from 1 in their names. Channels have the order in which the callers,
--- one after the other, open them.
+-- The plan of a load. It has four links in a row, four callers and some requests, which belong to the callers in turn. The script of
+-- a caller opens each of its requests and sends on it; and from the third one on it then closes the request two before. Requests and
+-- links are counted from 0 here, and from 1 in their names. Channels have the order in which the callers, one after the other, open
+-- them.
 use Rattle.std.specs.Prelude.{None, ℕ, zero, suc, ◌+◌, ◌%◌, refl, Bool, nat_eq, if◌then◌else◌, List, [], ◌∷◌, ◌++◌, take, drop}
 use Rattle.std.specs.Fmt.{decimal}
 use Rattle.std.proofs.Common.{lit≤}
@@ -97,7 +97,7 @@ unfoldable pub share : ℕ → ℕ → ℕ
 share caller zero = 0
 share caller (suc n) = if belongs_to caller n then suc (share caller n) else share caller n
 
--- the channel of a caller's first request: so many requests the callers before it have
+-- the channel of a caller's first request, whose number is how many requests the callers before it have
 unfoldable pub first_channel : ℕ → ℕ → ℕ
 first_channel size zero = 0
 first_channel size (suc caller) = first_channel size caller + share caller size

@@ -1,4 +1,4 @@
--- Turns that are made by an engine while something watches the run. `saw` tells which runs of a plan it has seen.
+-- Turns that an engine makes while a watcher sees the run. `saw` tells which runs of a plan the watcher has seen.
 use Rattle.std.specs.Prelude.{◌≡◌, ℕ, Some, List}
 use Rattle.net_units.specs.Numbers.{actor_number}
 use Rattle.net_units.specs.declared.numbers.ActorNo.{ActorNo}

@@ -1,6 +1,7 @@
--- The run of a plan by turns. The actors stand in a circle: the callers by their numbers, and then the plane. The circle begins at the first
--- caller, and goes on after the actor of the last step. The turn is the first actor's from there on that has a step left; those that have none are
--- passed over. Each turn makes one step, and the run ends when nobody has a step left. A plan has one such run.
+-- The run of a plan by turns. The actors stand in a circle: the callers by their numbers, and then the plane. The circle begins at
+-- the first caller, and goes on after the actor of the last step. It is the turn of the first actor from there on that has a step
+-- left; those that have none are passed over. Each turn makes one step, and the run ends when nobody has a step left. A plan has one
+-- such run.
 use Rattle.std.specs.Prelude.{◌≡◌, ℕ, suc, ◌+◌, ◌%◌, ◌<◌, ◌≤◌, None, IsSome, List, [], ◌∷◌}
 use Rattle.net_units.specs.Numbers.{actor_number}
 use Rattle.call_script.specs.Parts.{PlanParts}
@@ -16,11 +17,11 @@ abbrev pub goes_on_at : List Done → ℕ
 goes_on_at [] = 0
 goes_on_at (done ∷ past) = suc (actor_number done.actor)
 
--- the actor that stands so many places further in the circle
+-- the actor that stands this many places further in the circle
 abbrev pub further : Network → List Done → ℕ → ℕ
 further network past places = (goes_on_at past + places) % suc (plane_no network)
 
--- the turn is this actor's: it has a step left, and so many before it, which have none, are passed over
+-- the turn is this actor's: it has a step left, and a number of actors before it, which have none, are passed over
 pub record IsItsTurn (network : Network) (past : List Done) (actor : ℕ) : Type 0 where
   pub passed : ℕ
   pub within : passed ≤ plane_no network

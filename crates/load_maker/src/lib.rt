@@ -1,8 +1,8 @@
 //! Plans of large loads, made from a number and a size.
 //!
 //! [`made`] draws the requests of a plan from its number: their routes over four links in a row, their contracts, bounds and packets.
-//! The same number and size always give the same plan. [`take_turns`] lets the actors of a plan make their steps in turn. Times are in ticks,
-//! sizes in units.
+//! The same number and size always give the same plan. [`take_turns`] lets the actors of a plan make their steps in turn. Times are
+//! in ticks, sizes in units.
 #![tactic(auto)]
 
 mod draws;

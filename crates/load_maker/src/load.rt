@@ -65,7 +65,7 @@ fn contract(kind: u64) -> Contract
     }
 }
 
-// Rate-jitter control where the draw is even, and else delay-jitter control.
+// Rate-jitter control where the draw is even, or else delay-jitter control.
 fn control(odd: u64) -> Control
     requires { odd < 2 }
     ensures { result ≡ control_of odd }

@@ -14,8 +14,8 @@ use net_units::{ActorNo, LinkNo, OutOfMemory};
 use run_record::Record;
 use std::alloc::Global;
 
-/// Lets the callers of a plan in their order, and then the plane, again and again make one step each, until nobody has a step left, and
-/// answers the record of that run. An actor that has no step left is passed over. An `Err` comes only for want of memory.
+/// Lets the callers of a plan, in their order, and then the plane make one step each, again and again until nobody has a step left,
+/// and answers the record of that run. An actor that has no step left is passed over. An `Err` comes only for want of memory.
 ///
 /// The run has the whole guarantee at its beginning and after each of its entries.
 pub fn take_turns(alloc: Global, plan: &Plan) -> Result<Record, OutOfMemory>
@@ -27,8 +27,9 @@ pub fn take_turns(alloc: Global, plan: &Plan) -> Result<Record, OutOfMemory>
     Ok(record)
 }
 
-/// Lets the actors of a plan make their steps in turn as [`take_turns`] does, shows each step to what watches the run, and answers the
-/// callers after it. What watches has seen nothing before. After an `Err`, which comes only for want of memory, nothing is said of it.
+/// Lets the actors of a plan make their steps in turn as [`take_turns`] does, shows each step to the watcher of the run, and answers
+/// the callers after it. The watcher has seen nothing before. After an `Err`, which comes only for want of memory, nothing is said of
+/// it.
 pub fn take_watched_turns<W: Watch>(
     alloc: Global,
     plan: &Plan,

@@ -1,5 +1,5 @@
 -- The network of the tour: two links in a row, with the levels 10, 20 and 40 and a propagation of 2, and one channel over both, which
--- actor 0 owns. Its plane is actor 1. And what the passes of both may do.
+-- actor 0 owns. Its plane is actor 1. And what the passes of the two actors may do.
 use Rattle.std.specs.Prelude.{◌≡◌, ℕ, ◌<◌, List, [], ◌∷◌, length, map}
 use Rattle.atomic_table.specs.Seated.{TableId}
 use Rattle.net_units.specs.Numbers.{actor_number, channel_number, link_number}

@@ -144,8 +144,8 @@ fn call<H: Home, W: Wait>(
     Ok((verdict, pass))
 }
 
-// The plane's part: it goes on until it has made so many rounds. That its pass has stamps left for each step is tested, and so the
-// loop is seen to end.
+// The plane's part: it goes on until it has made this many rounds. It tests that its pass has stamps left for each step, so the loop
+// is seen to end.
 fn go_on<H: Home, W: Wait>(
     rt: &W,
     network: &Network<LinkState, H>,

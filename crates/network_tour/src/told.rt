@@ -13,8 +13,8 @@ pub struct Told {
 }
 
 impl Told {
-    /// The delay of the packet of this number, in ticks: from its arrival at the first link to its arrival behind the last one.
-    /// None while it is on its way.
+    /// The delay of the packet of this number, in ticks: from its arrival at the first link to its arrival at the far end of the last
+    /// one. None while it is on its way.
     pub fn delay(&self, number: u64) -> Option<u64> {
         let first = self.sents.iter().find(|sent| sent.packet.number == number)?;
         let last = self
@@ -25,7 +25,7 @@ impl Told {
     }
 }
 
-/// Adds the packet that a reply tells to have left a link, if it does: a tick tells one at most.
+/// Adds the packet that has left a link by this reply, if one has: a tick tells at most one.
 pub fn note(sents: &mut Vec<Sent>, reply: &Reply) -> Result<(), OutOfMemory> {
     if let Reply::Ticked {
         sent: Some(sent),

@@ -46,7 +46,7 @@ pub fn second_channel() -> Result<ChanNo, Fail>
     Ok(ChanNo::new(1).ok_or("channel")?)
 }
 
-/// The link, with this admission test and so many units of best-effort packets. It isn't split.
+/// The link, with this admission test and room for this many best-effort packets. It isn't split.
 pub fn link(alloc: Global, test: Test, best: u32) -> Result<LinkEntry, Fail>
     ensures is { IfOk result IsThatLink }
     ensures unsplit { IfOk result (λ made. made.quotas ≡ []) }
@@ -95,7 +95,7 @@ pub fn request(control: Control, found: Option<(Name, Name)>) -> Result<RequestE
     })
 }
 
-/// The second request, for a delay of at most so many ticks.
+/// The second request, for a delay of at most this many ticks.
 pub fn second_request(delay: u64) -> Result<RequestEntry, Fail>
     ensures { IfOk result IsNextRequest }
 {

@@ -11,7 +11,7 @@ use std::alloc::Global;
 use std::test::Fail;
 use traffic_contract::Test;
 
-/// A plan of these parts, over so many rounds.
+/// A plan of these parts, over this many rounds.
 pub fn plan(
     alloc: Global,
     version: Version,
@@ -73,7 +73,7 @@ pub fn plan_of_two(
     ))
 }
 
-/// A plan of the first version in which the caller opens the request, over so many rounds.
+/// A plan of the first version in which the caller opens the request, over this many rounds.
 pub fn opened(alloc: Global, rounds: u64) -> Result<Plan, Fail>
     ensures request { IfOk result HasThatRequest }
     ensures links { IfOk result (λ plan. length plan.links ≡ 1) }
@@ -93,8 +93,8 @@ pub fn opened(alloc: Global, rounds: u64) -> Result<Plan, Fail>
     )??)
 }
 
-/// A plan of the sixth version in which the caller opens both requests, the second for a delay of at most so many ticks, sends four packets
-/// on the first channel, and moves those that are left to the second, over 40 rounds.
+/// A plan of the sixth version in which the caller opens both requests, the second for a delay of at most this many ticks, sends four
+/// packets on the first channel, and moves those that are left to the second, over 40 rounds.
 pub fn moved(alloc: Global, delay: u64) -> Result<Plan, Fail> {
     let link = link(alloc, Test::Least, 0)?;
     let first = request(Control::Rate, None)?;

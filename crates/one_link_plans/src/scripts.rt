@@ -28,7 +28,7 @@ pub fn opener(alloc: Global) -> Result<CallerEntry, Fail>
     caller(0, vec![in alloc; Op::Open(channel()?)]?)
 }
 
-/// It opens the first request, and sends so many packets of 2 units, one each ten ticks.
+/// It opens the first request, and sends this many packets of 2 units, one each ten ticks.
 #[tactic(auto, unfolding(call_script::specs::Parts::openings_in))]
 pub fn sender(alloc: Global, count: u64) -> Result<CallerEntry, Fail>
     ensures { IfOk result IsThatScript }
@@ -48,7 +48,7 @@ pub fn sender(alloc: Global, count: u64) -> Result<CallerEntry, Fail>
     )
 }
 
-/// It opens both requests, sends so many such packets on the first channel, and moves those of the one channel to the other.
+/// It opens both requests, sends this many such packets on the first channel, and moves those of the one channel to the other.
 #[tactic(auto, unfolding(call_script::specs::Parts::openings_in))]
 pub fn mover(alloc: Global, count: u64, old: ChanNo, new: ChanNo) -> Result<CallerEntry, Fail>
     ensures { IfOk result OpensBoth }

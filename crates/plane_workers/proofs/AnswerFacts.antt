@@ -1,4 +1,4 @@
--- Asks made one after the other: one ask more.
+-- Asks made one after the other: one more ask.
 use Rattle.std.proofs.Common.{◌≡◌, ℕ, ◌+◌, ◌<◌, ◌≤◌, List, [], ◌∷◌, ◌++◌, length, take, drop, get_or, refl, sym, ap, ◌∙◌, subst, arith}
 use Rattle.std.proofs.lemmas.List.{length-append, take-append-drop}
 use Rattle.call_script.proofs.Walks.{before-at}

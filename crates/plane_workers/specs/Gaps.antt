@@ -1,6 +1,6 @@
--- How long a packet is on its way at least. What leaves a link from which its route goes on takes the link's propagation. So where
--- each hop of each route but the last has a propagation of at least `gap`, what leaves in a round reaches the next link more
--- than `gap` rounds later.
+-- The least time that a packet is on its way. What leaves a link from which its route goes on takes the link's propagation. So where
+-- each hop of each route but the last has a propagation of at least `gap`, what leaves in a round reaches the next link more than
+-- `gap` rounds later.
 use Rattle.std.specs.Prelude.{◌≡◌, ℕ, suc, ◌≤◌, Some, List}
 use Rattle.std.specs.List.{slice_get}
 use Rattle.hop_reservation.specs.declared.route.Hop.{Hop}

@@ -19,8 +19,8 @@ use std::alloc::Global;
 use std::thread;
 use std::thread::Threads;
 
-/// Makes these asks, each of the link of its number, by so many workers. It answers the replies that the asks made one after the
-/// other get, in their order, and the links, which then stand for the histories that these asks leave (`made`).
+/// Makes these asks, each of the link with its number, by this many workers. It answers the replies that the asks get when they are
+/// made one after the other, in their order, and the links, which then stand for the histories that these asks leave (`made`).
 ///
 /// The links stand at the places of their numbers, each ask's link is among them, and each ask meets the conditions on an
 /// ask. A worker calls the gate's `within` before each ask and `after` after it, with the ask's link and this actor. An `Err`
@@ -53,7 +53,7 @@ pub fn batch<R: Threads + Sync, L: LinkStep + Send, G: Gate + Sync>(
     Ok((links, replies))
 }
 
-// Each link answers its own asks of these, by so many workers.
+// Each link answers its own asks of these, by this many workers.
 fn answer_batch<R: Threads + Sync, L: LinkStep + Send, G: Gate + Sync>(
     rt: &R,
     desks: &mut [Desk<L>],

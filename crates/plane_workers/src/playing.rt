@@ -1,4 +1,4 @@
-//! Runs that are played by a schedule, the plane's rounds by several workers.
+//! Runs that are played by a schedule, with the plane's rounds made by several workers.
 ghost use Rattle.std.specs.Prelude.{◌≡◌, ◌+◌, ◌<◌, ◌≤◌, [], List, IfOk, IfErr, OnOk, length, reverse};
 ghost use Rattle.call_script.specs.Tasks.{network_of};
 ghost use Rattle.interleave_core.specs.schedules.Schedules.{IsActorOf, IsFaultOf, IsPlayed};
@@ -20,8 +20,8 @@ use std::alloc::Global;
 use std::thread::Threads;
 
 /// Plays a schedule of a plan, and answers the record of its run: that of [`play`](interleave_core::play), whatever the number of
-/// workers, with the same fault. Where no schedule is written the plane's rounds are made by 1 to 16 workers. A written one is
-/// played step by step, and so is any by one worker.
+/// workers, with the same fault. Where no schedule is written the plane's rounds are made by 1 to 16 workers. A written one is played
+/// step by step, and so is any with one worker.
 ///
 /// Each of several workers calls the gate's `within` before each ask of a round and `after` after it, with the ask's link and the
 /// plane.
@@ -44,9 +44,9 @@ pub fn played<R: Threads + Sync, G: Gate + Sync>(
     Ok(record)
 }
 
-/// Plays a schedule of a plan as [`played`] does, shows the run to what watches it, and answers the callers after it: what
-/// [`play_watched`](interleave_core::play_watched) comes to, whatever the number of workers. What watches sees the steps in the
-/// order in which the plane asks for them, on the thread of the call. It has seen nothing before, and after an `Err` nothing is said of it.
+/// Plays a schedule of a plan as [`played`] does, shows the run to its watcher, and answers the callers after it: what
+/// [`play_watched`](interleave_core::play_watched) comes to, whatever the number of workers. The watcher sees the steps in the order
+/// in which the plane asks for them, on the thread of the call. It has seen nothing before, and after an `Err` nothing is said of it.
 pub fn played_watched<R: Threads + Sync, W: Watch, G: Gate + Sync>(
     rt: &R,
     alloc: Global,

@@ -1,4 +1,4 @@
-//! The steps of a window, shown to what watches the run in the order in which the plane asks.
+//! The steps of a window, shown to the watcher of the run in the order in which the plane asks.
 ghost use Rattle.std.specs.Prelude.{◌≡◌, ◌≢◌, ℕ, ◌+◌, ◌<◌, ◌≤◌, ◌∷◌, List, length, drop, Some, OnOk};
 ghost use Rattle.std.specs.List.{slice_get};
 ghost use Rattle.net_units.specs.Numbers.{actor_number};
@@ -16,7 +16,7 @@ use net_units::{ActorNo, OutOfMemory};
 use run_record::Done;
 use tick_plane::Plane;
 
-/// The plane's steps from where it stands until round `until` begins, each shown to what watches the run. Each link has answered
+/// The plane's steps from where it stands until round `until` begins, each shown to the watcher of the run. Each link has answered
 /// what it is asked until then.
 pub(crate) fn tell_all<L: LinkStep, W: Watch>(
     plan: &Plan,

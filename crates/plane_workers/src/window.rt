@@ -24,7 +24,7 @@ use std::thread;
 use std::thread::Threads;
 use tick_plane::{Plane, Window};
 
-// Each link answers what it is asked in the window, by so many workers.
+// Each link answers what it is asked in the window, by this many workers.
 pub(crate) fn answer_windows<R: Threads + Sync, L: LinkStep + Send, G: Gate + Sync>(
     rt: &R,
     alloc: Global,
@@ -52,8 +52,8 @@ pub(crate) fn answer_windows<R: Threads + Sync, L: LinkStep + Send, G: Gate + Sy
     );
 }
 
-// The rounds from where the plane stands until one begins, which is no further than the gap allows: each link answers on its
-// own, by so many workers, and then the steps are shown to what watches the run in the order in which the plane asks.
+// The rounds from where the plane stands until one begins, which is no further than the gap allows: each link answers on its own, by
+// this many workers, and then the steps are shown to the watcher of the run in the order in which the plane asks.
 fn make_window<R: Threads + Sync, L: LinkStep + Send, W: Watch, G: Gate + Sync>(
     rt: &R,
     alloc: Global,
@@ -101,7 +101,7 @@ pub(crate) fn any_wanted<L: LinkStep>(desks: &[Desk<L>]) -> bool
 }
 
 /// The rounds from where the plane stands until one begins, by windows. What leaves a link reaches the next one more than `gap`
-/// rounds later, so a window has no more rounds than that and one.
+/// rounds later, so a window has at most one round more than `gap`.
 pub(crate) fn make_rounds<R: Threads + Sync, L: LinkStep + Send, W: Watch, G: Gate + Sync>(
     rt: &R,
     alloc: Global,
@@ -138,7 +138,7 @@ pub(crate) fn make_rounds<R: Threads + Sync, L: LinkStep + Send, W: Watch, G: Ga
     Ok(())
 }
 
-// How many workers are worth starting for so many rounds of so many links: one for each thousand ticks beside the first. To start
+// How many workers are worth starting for this many rounds of this many links: one for each thousand ticks beside the first. Starting
 // one takes as long as some 600 ticks.
 fn worth(links: usize, rounds: u64) -> usize
     ensures { 1 ≤ result }

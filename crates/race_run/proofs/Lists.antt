@@ -1,4 +1,4 @@
--- Facts on lists: what stands in a list turned round and seen through a map, and what a look-up by number answers.
+-- Facts on lists: what stands in a list that is reversed or mapped, and what a look-up by number answers.
 use Rattle.std.proofs.Common.{◌≡◌, ℕ, suc, List, [], ◌∷◌, ◌++◌, map, reverse, Some, None, refl, sym, ap, ◌∙◌, inl, inr, true, false, get_or, length}
 use Rattle.std.proofs.lemmas.List.{map-append, reverse-append}
 use Rattle.std.proofs.lemmas.Bool.{ltb-true, ltb-false}

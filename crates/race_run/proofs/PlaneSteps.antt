@@ -1,5 +1,5 @@
--- Each reply leaves a plane fewer steps at most. So the steps that it has made and those that are left at most are no more than
--- those of all rounds: twice the ticks of all links.
+-- With each reply the greatest number of steps that a plane may have left falls. So the steps that it has made and this number are
+-- together no more than the steps of all rounds: twice the ticks of all links.
 use Rattle.std.proofs.Common.{◌≡◌, ℕ, ◌+◌, ◌*◌, ◌-◌, ◌<◌, ◌≤◌, false, Some, None, List, [], ◌∷◌, ◌++◌, length, map, reverse, refl, sym, ap, ◌∙◌, inl, inr, arith}
 use Rattle.std.proofs.lemmas.Bool.{cases_Bool, ltb-true}
 use Rattle.std.proofs.lemmas.List.{append_assoc, append-nil, reverse-append}

@@ -1,4 +1,4 @@
--- A caller's own entries with one entry more, and with all entries of one task more: they are what it asks, and after the
+-- A caller's own entries with one more entry, and with all entries of one more task: they are what it asks, and after the
 -- task's last reply it stands before its next task.
 use Rattle.std.proofs.Common.{◌≡◌, false, List, [], ◌∷◌, ◌++◌, map, reverse, Some, None, refl, sym, ap, ◌∙◌, subst}
 use Rattle.std.proofs.lemmas.List.{append_assoc, map-append, reverse-append}

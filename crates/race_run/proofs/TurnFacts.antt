@@ -1,4 +1,4 @@
--- One turn more: the last item has a step more where it is of this actor, and else there is an item more. Either way the items
+-- One more turn: the last item has a step more where it is of this actor, and else there is an item more. Either way the items
 -- are the maximal runs of the actors with this one.
 use Rattle.std.proofs.Common.{◌≡◌, ◌≢◌, ℕ, zero, suc, ◌+◌, ◌-◌, ◌<◌, ◌≤◌, ◌^◌, true, false, Some, None, List, [], ◌∷◌, ◌++◌, length, take, get_or, set, refl, sym, ap, ◌∙◌, subst, arith}
 use Rattle.std.proofs.lemmas.Bool.{eqb-true, eqb-false}

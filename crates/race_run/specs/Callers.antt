@@ -63,7 +63,7 @@ pub record StandsBetween (network : Network) (front rest : List Task) (pass : To
   pub live : (request : Request) → Has (Opens request) front → Each (LeavesOpen (channel_number request.chan)) front → is_established request.chan outcomes ≡ true → IsEstablished request pass.own
   pub packets : PacketsStand network.requests front pass.own outcomes
 
--- the caller of this number has done its first operations, so many
+-- the caller of this number has done its first operations, as many as `place`
 pub record CallerIsAt (parts : PlanParts) (caller place : ℕ) (pass : Token) (channels : List Channel) : Type 0 where
   pub entry : CallerEntry
   pub found : slice_get parts.callers caller ≡ Some entry

@@ -40,7 +40,7 @@ pub record IsUnbegun (parts : PlanParts) (pass : Token) : Type 0 where
   pub own : pass.own ≡ []
   pub drawn : stamps_drawn pass ≡ 0
 
--- the plane stands where so many of its rounds are made
+-- the plane stands where this many of its rounds are made
 pub record IsAtRound (parts : PlanParts) (round : ℕ) (plane : KeptPlane) (pass : Token) : Type 0 where
   pub at : PlaneIsAt (network_of parts) plane pass
   pub round_is : plane.at.round ≡ round

@@ -25,7 +25,8 @@ pub record PlaneIsAt (network : Network) (plane : KeptPlane) (pass : Token) : Ty
 
 -- ---- a step
 
--- the plane has taken the reply to one more ask: it is in the same round, or has ended it, and has fewer steps left at most
+-- the plane has taken the reply to one more ask: it is in the same round, or has ended it, and the greatest number of steps that it
+-- may have left falls
 pub record IsStepped (plane plane' : KeptPlane) : Type 0 where
   pub round : (plane'.at.round ≡ plane.at.round) ⊎ ((plane'.at.round ≡ plane.at.round + 1) × (plane'.at.ticked ≡ 0))
   pub fewer : plane_most plane'.links plane'.rounds plane'.at < plane_most plane.links plane.rounds plane.at

@@ -1,5 +1,5 @@
--- The plane's last rounds follow once all callers have ended. Of its own entries those of its first rounds stand in front, and the
--- stamp of each one behind these is above all stamps of the callers. So in order of stamp no caller makes a step any more.
+-- The plane's last rounds follow once all callers have ended. Of its own entries those of its first rounds come first, and the stamp
+-- of each entry after these is above all stamps of the callers. So from there on, in order of stamp, no caller makes a step any more.
 use Rattle.std.specs.Prelude.{◌≡◌, ℕ, ◌<◌, ◌≤◌, List, [], ◌∷◌, ◌++◌, length, map, reverse}
 use Rattle.link_steps.specs.Lists.{Each}
 use Rattle.link_ledger.specs.Tokens.{Token}

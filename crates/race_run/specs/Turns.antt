@@ -25,7 +25,7 @@ pub record IsUnwritten (item : Do) : Type 0 where
   pub line : item.line ≡ 0
   pub some : 1 ≤ item.count
 
--- the scenario's language writes it, where there are so many callers: its actor is one of them or the plane, and its steps are
+-- the scenario's language can write it, where there are this many callers: its actor is one of them or the plane, and its steps are
 -- within the limit
 pub record IsWritable (callers : ℕ) (item : Do) : Type 0 where
   pub actor : actor_number item.actor ≤ callers

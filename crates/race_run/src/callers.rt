@@ -13,15 +13,16 @@ use net_units::{ChanNo, Gate, LinkNo, OutOfMemory};
 use shared_network::Network;
 use std::sync::Wait;
 
-/// Makes the operation of a caller at a place of its script, from 0 on, with its pass: an open sets its channel up, a send and a
-/// close of a channel that is established send and tear it down, a move between two of these moves what is planned on the one
-/// to the other, and those of other channels make no step; best-effort packets are sent over a link. `at` is the caller's number and
+/// Makes the operation of a caller at a place of its script, from 0 on, with its pass. An open sets its channel up. A send and a
+/// close of a channel that is established send on it and tear it down, a move between two such channels moves what is planned on the
+/// one to the other, and sends, closes and moves of other channels make no step. Best-effort packets are sent over a link. `at` is
+/// the caller's number and the place.
 /// the place.
 ///
 /// The network's links are the plan's, and its owners the callers of the plan's requests (`network`). The pass has made the
-/// operations before this one and no others; `channels` is what they have taught of each channel, and is kept so (`at`). Each
-/// operation draws 32 stamps at most (`few`, `drew`). An `Err` comes only for want of memory; nothing further is claimed of the
-/// pass then. It may wait for each link.
+/// operations before this one and no others; `channels` is what the caller has learnt from them of each channel, and is kept so
+/// (`at`). Each operation draws at most 32 stamps (`few`, `drew`). An `Err` comes only for want of memory; nothing further is claimed
+/// of the pass then. It may wait for each link.
 pub(crate) fn make_op<L: LinkStep + Send, H: Home, W: Wait, G: Gate>(
     rt: &W,
     network: &Network<L, H>,

@@ -15,10 +15,10 @@ use shared_network::Network;
 use std::sync::Wait;
 use tick_plane::Plane;
 
-/// Makes rounds of the plane with its pass, until `until` rounds are made in all. In each round each packet that reaches its
-/// next link arrives there, and then each link makes one tick. The network's links are the plan's, and its owners the callers
-/// of the plan's requests (`network`). The plane stands between two rounds, and its pass has made its steps so far and no others
-/// (`stands`), and so it is again.
+/// Makes rounds of the plane with its pass, until `until` rounds are made in all. In each round each packet that reaches its next
+/// link arrives there, and then each link makes one tick. The network's links are the plan's, and its owners the callers of the
+/// plan's requests (`network`). The plane stands between two rounds, and its pass has made its steps so far and no others (`stands`),
+/// before the call and after it.
 ///
 /// An `Err` comes only for want of memory, and nothing further is claimed of the plane and the pass then. It may wait for each
 /// link.

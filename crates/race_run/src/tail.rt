@@ -44,7 +44,7 @@ pub(crate) fn make_tail<L: LinkStep + Send, H: Home, W: Wait, G: Gate>(
     Ok(pass)
 }
 
-// Loads the count of stamps until the pass has seen as many as this. Where so many were drawn that is at once, since the count
+// Loads the count of stamps until the pass has seen as many as this. Where that many were drawn, that is at once, since the count
 // never falls.
 fn see_up_to<L: LinkStep + Send, H: Home, W: Wait>(
     rt: &W,

@@ -19,7 +19,7 @@ pub(crate) fn turns_in(alloc: Global, entries: &[Done]) -> Result<Vec<Do>, OutOf
     Ok(items)
 }
 
-// One turn more: in the last item, where that is of the actor, and else in an item of its own.
+// One more turn: in the last item, where that is of the actor, or else in an item of its own.
 fn add_turn(items: &mut Vec<Do>, actor: ActorNo) -> Result<(), OutOfMemory>
     requires few { length (turns_of items.old.items) < 2 ^ 64 - 1 }
     ensures { OnOk result ((actors : _) → AreMaximalRuns actors items.old.items → AreMaximalRuns (actors ++ actor ∷ []) items.new.items) }

@@ -25,11 +25,11 @@ pub struct Raced {
     pub schedule: Schedule,
 }
 
-/// The run that a closed network's journals tell: all their entries in order of stamp, with the schedule of their actors in
-/// maximal runs, written, with no lines. The journals and passes are whole for the plan. Then this is the run of the plan by
-/// that schedule, in it every actor makes all its steps, and it has the whole guarantee at its beginning and after each of
-/// its entries. The scenario's language writes the schedule: its actors are the plan's, and each item has 1 to 1,048,576
-/// steps (`language`). An `Err` comes only for want of memory. It waits for nobody.
+/// The run that a closed network's journals tell: all their entries in order of stamp, with the schedule of their actors in maximal
+/// runs, written, with no line numbers. The journals and passes are whole for the plan. Then this is the run of the plan by that
+/// schedule, in it every actor makes all its steps, and it has the whole guarantee at its beginning and after each of its entries.
+/// The scenario's language can write the schedule: its actors are the plan's, and each item has 1 to 1,048,576 steps (`language`). An
+/// `Err` comes only for want of memory. The call waits for nobody.
 pub fn woven(alloc: Global, plan: &Plan, closed: &Closed) -> Result<Raced, OutOfMemory>
     requires whole { IsWhole (network_of plan.now) closed.now.passes closed.now.journals }
     ensures weave { IfOk result (λ raced. reverse raced.run.entries ≡ weave_of closed.now.journals) }

@@ -1,5 +1,5 @@
--- Words of the worked plans: their links have the levels 10, 20 and 40 and a propagation of 2 and no quotas, and the request of each number is
--- opened by the caller of that number, which opens no other.
+-- Words for the plans that are worked by hand: their links have the levels 10, 20 and 40 and a propagation of 2 and no quotas, and
+-- the request of each number is opened by the caller of that number, which opens no other.
 use Rattle.std.specs.Prelude.{◌≡◌, ℕ, suc, List, [], ◌∷◌}
 use Rattle.net_units.specs.Numbers.{link_number, actor_number, channel_number}
 use Rattle.hop_reservation.specs.declared.route.Hop.{Hop}

@@ -157,7 +157,7 @@ fn callers(alloc: Global, count: u8, closes: bool) -> Result<Vec<CallerEntry>, F
     Ok(callers)
 }
 
-// A plan of so many links and callers, each of which opens a channel over the link of its number, or over four links.
+// A plan of this many links and callers, each of which opens a channel over the link of its number, or over four links.
 fn plan(
     alloc: Global,
     count: u8,
@@ -219,7 +219,7 @@ fn a_race_of_nothing_leaves_nothing(rt: HostRuntime) -> Result<(), Fail> {
 // The most turns that a step waits.
 const MOST_TURNS: u64 = 10_000_000;
 
-// Whether the number has risen so far before long.
+// Whether the number rises to this one before long.
 fn rises(number: &AtomicU64, least: u64) -> bool {
     for _ in 0..MOST_TURNS {
         if number.load(Ordering::SeqCst) >= least {
@@ -347,7 +347,7 @@ fn the_first_caller_goes_first(rt: HostRuntime) -> Result<(), Fail> {
 
 // ---- many races
 
-// Each step yields before and after it, so many turns as a generator draws.
+// Each step yields before and after it, for as many turns as a generator draws.
 #[derive(Drop)]
 struct Shuffles {
     state: AtomicU64,
@@ -438,7 +438,7 @@ fn all_replay(alloc: Global, plan: &Plan, closed: &Closed) -> Result<bool, OutOf
     Ok(true)
 }
 
-// Whether the journals of a race replay whose gate begins at this state.
+// Whether the journals of a race replay where its gate begins at this state.
 fn shuffled<R: Threads + Wait + Sync>(
     rt: &R,
     alloc: Global,

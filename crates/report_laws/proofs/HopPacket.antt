@@ -1,4 +1,4 @@
--- Two hops of a route with one index are one hop; and the packet with an index at a first hop arrived at the tick that stands at this index.
+-- Two hops of a route with one index are one hop; and the packet with an index at a first hop arrived at the tick at that index.
 use Rattle.std.proofs.Common.{◌≡◌, ℕ, zero, suc, ◌+◌, ◌<◌, ◌≤◌, true, List, [], ◌∷◌, map, get_or, sym, ap, ◌∙◌, subst, inl, inr, arith}
 use Rattle.std.proofs.lemmas.Option.{same_Some}
 use Rattle.std.specs.List.{slice_get}

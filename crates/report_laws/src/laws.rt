@@ -4,8 +4,8 @@ ghost use Rattle.report_laws.specs.Rows.{RowsTellDepartures};
 ghost use Rattle.report_laws.specs.Bounds.{ReportsKeepTheirBounds};
 
 /// Where a link offers to a channel at most once, the ticks that the report takes for those at which the channel's source has offered
-/// a packet are those that the link keeps of the channel's row, whether it is held or gone. So the report's *offered* and *keeps*
-/// are what the whole guarantee calls so.
+/// a packet are those that the link keeps of the channel's row, whether it is held or gone. So the report's *offered* and *keeps* are
+/// what the whole guarantee means by these words.
 pub fn reports_tell_what_sources_offer()
     ensures { ReportsTellWhatSourcesOffer }
 {}

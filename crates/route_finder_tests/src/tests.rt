@@ -98,7 +98,7 @@ fn way_of(alloc: Global, lines: &[Line], from: u32, to: u32) -> Result<Option<Wa
     }
 }
 
-// From the node 0 to the node 3 over 1, over 2, and at once.
+// From node 0 to node 3 over 1, over 2, and directly.
 const LINES: [Line; 5] = [
     Line {
         from: 0,
@@ -127,7 +127,7 @@ const LINES: [Line; 5] = [
     },
 ];
 
-// The fewest links are one, by the link 4. Over the links 0 and 1 it takes as long as over 2 and 3.
+// The fewest links are one, by link 4. Over links 0 and 1 it takes as long as over 2 and 3.
 #[test]
 fn propagation_comes_before_links(rt: HostRuntime) -> Result<(), Fail> {
     let mut lines = LINES;

@@ -1,4 +1,4 @@
--- A draft stays one with each line that is let pass, and is a plan once it is complete.
+-- A draft stays one with each line that passes, and is a plan once it is complete.
 use Rattle.std.proofs.Common.{◌≡◌, ℕ, ◌+◌, ◌*◌, ◌≤◌, true, List, [], ◌∷◌, ◌++◌, length, Option, Some, None, IfSome, refl, sym, ◌∙◌, subst, arith}
 use Rattle.std.proofs.lemmas.Bool.{true≢false}
 use Rattle.std.specs.Prelude.{is_some, unwrap_or}

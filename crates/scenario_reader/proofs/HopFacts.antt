@@ -1,4 +1,4 @@
--- Hops in cells: one more after those that stand there; and the hops over the links of names, one name more.
+-- Hops in cells: one more after those that stand there; and the hops over the links of names, one more name.
 use Rattle.std.proofs.Common.{◌≡◌, ℕ, zero, suc, ◌+◌, ◌<◌, ◌≤◌, List, [], ◌∷◌, ◌++◌, Some, None, length, take, get_or, set, refl, ◌∙◌, ap, arith, add-one, length-take-le, option_map, Option, subst}
 use Rattle.std.proofs.lemmas.Option.{same_Some}
 use Rattle.std.proofs.lemmas.List.{take_more_set, take_all}

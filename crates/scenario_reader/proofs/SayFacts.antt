@@ -1,4 +1,4 @@
--- What a line says that is let pass may be added to what was read.
+-- What a line that passes says may be added to what was read.
 use Rattle.std.proofs.Common.{ℕ, ◌≡◌, Bool, true, false, not, List, Option, Some, None, Result, Ok, Err, option_map, cond, if◌then◌else◌, refl, subst, IfOk}
 use Rattle.call_script.specs.declared.version.Version.{Version}
 use Rattle.scenario_reader.specs.Causes.{AnswersWithRoom}

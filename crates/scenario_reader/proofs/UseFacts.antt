@@ -1,4 +1,4 @@
--- What is kept of the requests of the last caller, with one operation more.
+-- What is kept of the requests of the last caller, with one more operation.
 use Rattle.std.proofs.Common.{◌≡◌, ◌≢◌, ℕ, zero, suc, ◌+◌, ◌-◌, ◌<◌, ◌≤◌, Bool, true, false, ◌||◌, List, [], ◌∷◌, ◌++◌, length, max, set, get_or, Some, refl, sym, ◌∙◌, ap, subst, inl, inr, arith, length-set, get_or-set_other}
 use Rattle.std.proofs.Math.Bool.{or-false, or-true}
 use Rattle.std.proofs.lemmas.Bool.{cases_Bool, eqb-true, eqb-false, ne_eqb, and_parts, not-true}

@@ -1,9 +1,9 @@
--- What the bytes of an audit's input come to. Its lines are judged one after another, as those of a scenario are. Up to the line `report`,
--- which may stand where a scenario may end, they are those of a scenario. Then those that begin with `accept ` tell levels, and others are
--- passed over, up to the header of the table. After it each line is a row. The first line that is refused gives the verdict: before
--- `report` by the scenario's causes; a line that tells levels and isn't right by `Accept`; a line of the table that isn't a row by `Table`.
--- Where the input ends before `report` the cause is `End`, and where it ends before the table's header `Table`, both at the line after the
--- last one. A line that is cut is refused for it anywhere.
+-- What the bytes of an audit's input come to. Its lines are judged one after another, as those of a scenario are. Up to the line
+-- `report`, which may stand where a scenario may end, they are those of a scenario. Then those that begin with `accept ` tell levels,
+-- and others are passed over, up to the header of the table. After it each line is a row. The first line that is refused gives the
+-- verdict: before `report` by the scenario's causes; a line that tells levels and isn't right by `Accept`; a line of the table that
+-- isn't a row by `Table`. Where the input ends before `report` the cause is `End`, and where it ends before the table's header
+-- `Table`, both at the line after the last one. A line that is cut is refused as cut wherever it stands.
 use Rattle.std.specs.Prelude.{ℕ, suc, Bool, nat_eq, ◌&&◌, if◌then◌else◌, Option, Some, None, Result, Ok, Err, List, [], ◌∷◌, ◌++◌, codes, length, replicate, slice_set}
 use Rattle.std.specs.Cmp.Lexicographic.{pointwise}
 use Rattle.byte_ends.specs.WholeLines.{Ending, all_given, cut_short, too_long, Outlook, outlook}
@@ -32,7 +32,7 @@ pub record AuditSaid : Type 0 where
 abbrev pub audit_said : Said → Place → List (Option (List ℕ)) → List HopRow → AuditSaid
 audit_said said place levels rows = record { said = said; place = place; levels = levels; rows = rows }
 
--- before the first line
+-- nothing has been read yet
 abbrev pub nothing_read : AuditSaid
 nothing_read = audit_said nothing_said place.Scenario [] []
 
@@ -83,7 +83,7 @@ line_at place.Scenario read number line = scenario_line read number line
 line_at place.Report read number line = report_line read line
 line_at place.Table read number line = with_row read (row_told read.said line)
 
--- what was read once the line of this number was, too, or the cause by which it is refused
+-- what was read up to and with the line of this number, or the cause by which that line is refused
 unfoldable pub audit_line : AuditSaid → ℕ → List ℕ → Result AuditSaid Cause
 audit_line read number line = line_at read.place read number line
 

@@ -28,7 +28,7 @@ is_plain b = is_graphic b && not (nat_eq b 34)
 abbrev pub is_row_text : List ℕ → Bool
 is_row_text line = not (nat_eq (length line) 0) && list_all is_plain line
 
--- the parts of a line round its commas
+-- the parts of a line between its commas
 abbrev pub is_comma : ℕ → Bool
 is_comma b = nat_eq b 44
 

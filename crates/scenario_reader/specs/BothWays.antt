@@ -1,7 +1,7 @@
--- A plan's text is read as that plan and its schedule, where it has at most 4,194,304 bytes: the items of the schedule then
--- have the numbers of their lines. So no text is that of two plans. The names of a plan are names, and its quotas have
--- eight loads, as those of each plan that is made do; a route that it has as found between two nodes is the least one between them; and its schedule is one that a
--- scenario can have.
+-- A plan's text is read as that plan and its schedule, where it has at most 4,194,304 bytes: the items of the schedule then have the
+-- numbers of their lines. So no text is that of two plans. The names of a plan are names, and its quotas have eight loads, as those
+-- of each plan that is made do; a route that it has as found between two nodes is the least one between them; and its schedule is one
+-- that a scenario can have.
 use Rattle.std.specs.Prelude.{◌≡◌, ◌≤◌, ℕ, true, Option, Some, None, List, length, map}
 use Rattle.hop_reservation.specs.declared.route.Hop.{Hop}
 use Rattle.net_units.specs.Text.{is_name}

@@ -1,4 +1,4 @@
--- Scenarios and audits' inputs are judged line by line: the first line, and, where it is let pass, what stands after it. Behind the last
+-- Scenarios and audits' inputs are judged line by line: the first line, and, where it passes, what stands after it. After the last
 -- line it is judged whether they may end there.
 use Rattle.std.specs.Prelude.{◌≡◌, refl, ℕ, suc, Bool, true, false, if◌then◌else◌, ⊤, None, Some, Result, Ok, Err}
 use Rattle.std.proofs.Common.{ap, subst}

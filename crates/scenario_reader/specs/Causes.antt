@@ -35,7 +35,7 @@ stated None (Some said) = Ok said
 stated None None = Err cause.Shape
 stated (Some cause) said = Err cause
 
--- the result says this where the rule lets it pass, and else has the rule's cause
+-- the result says this where the rule lets it pass, or else has the rule's cause
 abbrev pub Judges : {X : Type 0} → Result X Cause → Rule → X → Type 0
 Judges (Ok x) rule said = (rule ≡ None) × (x ≡ said)
 Judges (Err cause) rule said = rule ≡ Some cause

@@ -1,5 +1,5 @@
--- The lines of a table that may be rows have no quote, no space and no carriage return. So a reader of CSV finds in each of them, up to
--- its line feed and whatever stands behind that, exactly the fields round its commas.
+-- The lines of a table that may be rows have no quote, no space and no carriage return. So a reader of CSV finds in each of them, up
+-- to its line feed and whatever stands after that, exactly the fields between its commas.
 use Rattle.std.specs.Prelude.{◌≡◌, ℕ, true, Some, List, [], ◌∷◌, ◌++◌}
 use Rattle.csv.specs.Machine.{next_record}
 use Rattle.csv.specs.Reading.{default_config}

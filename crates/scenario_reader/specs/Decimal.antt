@@ -1,5 +1,5 @@
--- A number is written in decimal: 1 to 18 digits with no sign, and with no 0 in front unless it is 0 itself. So
--- each number has one form.
+-- A number is written in decimal: 1 to 18 digits with no sign and no leading 0, unless the number is 0 itself. So each number has one
+-- form.
 use Rattle.std.specs.Prelude.{ℕ, Bool, nat_eq, nat_le, not, ◌&&◌, ◌||◌, List, length, slice_index}
 use Rattle.std.specs.Str.{all_ascii_digits}
 use Rattle.std.specs.Str.Parse.{digits_value}

@@ -1,7 +1,8 @@
 -- What was read of a scenario so far: the version that its header says; the links with their quotas, the names of the groups, the
--- requests, and the callers with their operations, as a plan has them; the numbers of rounds, once they were said; and the schedule: whether it was begun, and its
--- items. When `tail` was said, the first parts are those of the plan. Links, requests and callers have the numbers of their
--- places, from 0, in the order of their lines, and groups from 1. The operations that are read belong to the last caller.
+-- requests, and the callers with their operations, as a plan has them; the numbers of rounds, once they were said; and the schedule:
+-- whether it was begun, and its items. When `tail` was said, the first parts are those of the plan. Links, requests and callers have
+-- the numbers of their places, from 0, in the order of their lines, and groups from 1. The operations that are read belong to the
+-- last caller.
 use Rattle.std.specs.Prelude.{ℕ, suc, ◌-◌, Bool, true, false, not, nat_eq, if◌then◌else◌, Option, Some, None, List, [], ◌∷◌, ◌++◌, length, find, position, is_some, unwrap_or, option_map}
 use Rattle.std.specs.List.{list_any}
 use Rattle.net_units.specs.Numbers.{link_number, actor_number, channel_number}
@@ -41,11 +42,11 @@ abbrev pub said_of : Option Version → List LinkEntry → List (List ℕ) → L
 said_of version links groups requests callers rounds tail written items =
     record { version = version; links = links; groups = groups; requests = requests; callers = callers; rounds = rounds; tail = tail; written = written; items = items }
 
--- before the first line
+-- nothing has been read yet
 abbrev pub nothing_said : Said
 nothing_said = record { version = None; links = []; groups = []; requests = []; callers = []; rounds = None; tail = None; written = false; items = [] }
 
--- what was read once this line was, too
+-- what was read up to and with this line
 abbrev pub with_item : Item → Said → Said
 with_item item.Nothing said = said
 with_item (item.Header version) said = record said { version = Some version }

@@ -1,5 +1,5 @@
--- What the numbers of a line make: the number of a link, an actor or a channel, the shape of a link, and a hop of a route.
--- Only numbers within the limits of a link, of which the largest packet fits the first bound, have a shape.
+-- What the numbers of a line make: the number of a link, an actor or a channel, the shape of a link, and a hop of a route. Only
+-- numbers within the limits of a link whose largest packet fits the first bound have a shape.
 use Rattle.std.specs.Prelude.{◌≡◌, ℕ, refl, Bool, true, nat_le, ◌&&◌, Option, Some, None, List}
 use Rattle.std.proofs.lemmas.Bool.{and_parts, leb-true}
 use Rattle.net_units.specs.Limits.{most_best, most_buffer, most_rate, most_size, most_propagation, is_within}

@@ -8,7 +8,7 @@ use Rattle.text_writer.specs.Lines.{whole_line}
 abbrev pub is_space : ℕ → Bool
 is_space b = nat_eq b 32
 
--- the parts of a line round its spaces; a line with no byte has one part, which is empty
+-- the parts into which spaces divide a line; a line with no byte has one part, which is empty
 abbrev pub fields_of : List ℕ → List (List ℕ)
 fields_of line = slice_split is_space line
 

@@ -1,7 +1,7 @@
 -- The lines of a scenario, in their order: the header, which says the version of the language; the links; the groups of callers, and
--- the quotas that groups have of links; the callers, each followed by its operations; `rounds`; `tail`; and then a schedule may stand,
--- with its `do` lines. How a line is judged after what was read: an empty line and one that begins with `#` are passed over, the first
--- one of the others is the header, and each after it goes by the word that begins it (`line.Table`).
+-- the quotas that groups have of links; the callers, each followed by its operations; `rounds`; `tail`; and then a schedule may
+-- stand, with its `do` lines. How a line is judged after what was read: an empty line and one that begins with `#` are passed over,
+-- the first one of the others is the header, and each line after it is judged by the word that begins it (`line.Table`).
 use Rattle.std.specs.Prelude.{ℕ, Bool, true, nat_eq, not, if◌then◌else◌, Option, Some, None, Result, Ok, Err, List, [], ◌∷◌}
 use Rattle.call_script.specs.declared.version.Version.{Version}
 use Rattle.scenario_reader.specs.Drafts.{Said}

@@ -1,6 +1,7 @@
--- What was read of a scenario so far, where no line was refused, keeps the rules of a plan, as far as it has come. Its parts
--- come in order: the header; the links; the groups, and the quotas of the links; the callers with their operations; `rounds`; `tail`; and the schedule. Behind a part
--- that wasn't read nothing was read, but that a scenario needs no groups, no quotas, no callers and no schedule.
+-- What was read of a scenario so far, where no line was refused, keeps the rules of a plan, as far as it has come. Its parts come in
+-- order: the header; the links; the groups, and the quotas of the links; the callers with their operations; `rounds`; `tail`; and the
+-- schedule. After a part that wasn't read nothing was read, except that a scenario needs no groups, no quotas, no callers and no
+-- schedule.
 use Rattle.std.specs.Prelude.{ℕ, ◌≡◌, ◌+◌, ◌*◌, ◌≤◌, false, None, Some, IfSome, List, [], length, get_or}
 use Rattle.std.specs.List.{slice_get}
 use Rattle.net_units.specs.Numbers.{actor_number}

@@ -1,5 +1,5 @@
--- How a text of lines, a scenario or an audit's input, is read line by line: after each line, what is to come of the bytes ahead, after
--- what was read so far, comes to the same. So the answer is a function of all bytes, where the source tells them.
+-- How a text of lines, a scenario or an audit's input, is read line by line: whatever line was read last, what the bytes ahead come
+-- to, after what was read so far, is the same. So the answer is a function of all bytes, where the source tells them.
 use Rattle.std.specs.Prelude.{◌≡◌, ℕ, suc, ◌+◌, ◌≤◌, ◌++◌, length, Bool, true, false, List, [], ◌∷◌, Option, Some, None, IfSome, Result, Ok, Err, ⊤}
 use Rattle.std.specs.Io.KnownBytes.{Consumes, IsAtEnd}
 use Rattle.byte_ends.specs.Cutting.{Cutting, IsCutting, IsOf, allowance}
@@ -28,7 +28,7 @@ pub record Language (Words Whole : Type 0) : Type 0 where
   pub refused : ℕ → Cause → Whole
   pub over : Whole
 
--- what a line that was judged and the bytes after it come to, after so many lines
+-- what a line that was judged and the bytes after it come to, after this many lines
 abbrev pub judged_on : {W R : Type 0} → Language W R → Result W Cause → ℕ → Outlook → R
 judged_on k (Ok after) count rest = k.on count rest after
 judged_on k (Err cause) count rest = k.refused count cause
@@ -67,8 +67,8 @@ AddsLine (Err refusal.Memory) number after judged = ⊤
 AddsLine (Err refusal.ReadFault) number after judged = ⊥
 AddsLine (Err (refusal.TooLong _)) number after judged = ⊥
 
--- bytes were taken, and what they say was added: whatever stands after them, the lines that were ahead are let pass
--- exactly where those that are ahead now are
+-- bytes were taken, and what they say was added: whatever stands after them, the lines that were ahead pass exactly where those that
+-- are ahead now do
 pub record PassesOn {W R : Type 0} (k : Language W R) (s t : Cutting) (said after : W) (left left' : Option (List ℕ)) : Type 0 where
   pub bytes : List ℕ
   pub from_source : Consumes left left' bytes
@@ -87,7 +87,7 @@ pub record FailsWhileReading {W R : Type 0} (k : Language W R) (s : Cutting) (sa
   pub rises : FaultsRise faults faults'
   pub stops : StopsPassing k s said left left'
 
--- one line more was read and added
+-- one more line was read and added
 pub record ReadsOn {W R : Type 0} (k : Language W R) (s t : Cutting) (said after : W) (left left' : Option (List ℕ)) : Type 0 where
   pub number : t.number ≡ s.number + 1
   pub most : t.most ≡ s.most
@@ -103,7 +103,7 @@ pub record ComesToEnd {W R : Type 0} (k : Language W R) (s t : Cutting) (said af
   pub nothing_left : IsAtEnd left'
   pub ends : IfSome (ahead k s said left) (λ r. r ≡ k.on s.number (record { lines = []; ending = all_given }) said)
 
--- what reading one line more answers: whether there was one, or why the input is refused
+-- what reading one more line answers: whether there was one, or why the input is refused
 abbrev pub ReadsLine : {W R : Type 0} → Language W R → Result Bool ReadRefusal → Cutting → Cutting → W → W → Option (List ℕ) → Option (List ℕ) → ℕ → ℕ → Type 0
 ReadsLine k (Ok true) s t said after left left' faults faults' = ReadsOn k s t said after left left'
 ReadsLine k (Ok false) s t said after left left' faults faults' = ComesToEnd k s t said after left left'

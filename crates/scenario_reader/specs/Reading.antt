@@ -1,7 +1,7 @@
--- What the bytes of a scenario come to. Lines are judged one after another, each after what the lines before it
--- said; the first that is refused gives the verdict. A line ends with a line feed, and only the lines that are
--- whole within the first `most` bytes are judged. Where none is refused, more bytes than that are too many; a rest
--- after the last line feed is a line that was cut; and without a `tail` line the input ended too early.
+-- What the bytes of a scenario come to. Lines are judged one after another, each after what the lines before it said; the first that
+-- is refused gives the verdict. A line ends with a line feed, and only the lines that are whole within the first `most` bytes are
+-- judged. Where none is refused, more bytes than that are too many; what is left after the last line feed is a line that was cut; and
+-- without a `tail` line the input ended too early.
 use Rattle.std.specs.Prelude.{◌≡◌, ℕ, ◌≤◌, suc, length, Bool, true, false, if◌then◌else◌, Option, Result, Ok, Err, List, [], ◌∷◌}
 use Rattle.std.specs.Io.KnownBytes.{Consumes}
 use Rattle.byte_ends.specs.WholeLines.{Ending, all_given, cut_short, too_long, Outlook, outlook, whole_lines}
@@ -46,7 +46,7 @@ reading most bytes = reading_on 0 (outlook most bytes) nothing_said
 
 -- ---- what was taken before a fault
 
--- what was said once the line of this number was, too, or its cause
+-- what was said up to and with the line of this number, or its cause
 abbrev pub with_judged : Said → Result Item Cause → Result Said Cause
 with_judged said (Ok item) = Ok (with_item item said)
 with_judged said (Err cause) = Err cause
@@ -54,13 +54,13 @@ with_judged said (Err cause) = Err cause
 abbrev pub said_line : Said → ℕ → List ℕ → Result Said Cause
 said_line said number line = with_judged said (judge said number line)
 
--- a line that is let pass, and then those after it
+-- a line that passes, and then those after it
 abbrev pub passes_and : {X : Type 0} → Result X Cause → (X → Bool) → Bool
 passes_and (Ok after) go_on = go_on after
 passes_and (Err cause) go_on = false
 
--- each of these lines, the first of which is the one after `count`, is let pass, after what was said and the lines before it, where
--- `says` tells what was said after a line
+-- each of these lines, the first of which is the one after `count`, passes, after what was said and the lines before it, where `says`
+-- tells what was said after a line
 abbrev pub are_let_pass : {X : Type 0} → (X → ℕ → List ℕ → Result X Cause) → ℕ → List (List ℕ) → X → Bool
 are_let_pass says count [] said = true
 are_let_pass says count (line ∷ lines) said = passes_and (says said (suc count) line) (λ after. are_let_pass says (suc count) lines after)

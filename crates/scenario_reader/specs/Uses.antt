@@ -32,7 +32,7 @@ left was = record was { left = true; used = true }
 abbrev pub joined : ℕ → Uses → Uses
 joined load was = record was { joined = true; load = max load was.load }
 
--- with one operation more
+-- with one more operation
 abbrev pub used_by : Op → List Uses → List Uses
 used_by (Open chan) uses = uses
 used_by (Send chan count gap size) uses = with_use chan (sent count (use_at uses chan)) uses

@@ -5,22 +5,22 @@ ghost use Rattle.scenario_reader.specs.Words.{cause_word};
 use net_units::OutOfMemory;
 use std::fmt::{self, Display};
 
-/// Why a line of a scenario is refused. Where several causes apply to a line, the order in which a line is
-/// judged gives the one: bytes and spacing, the header or the first word, the form, the fields from left to right
-/// by `Name` to `Range`, and then the causes from `Many` on in their order.
+/// Why a line of a scenario is refused. Where several causes apply to a line, the first in the order of judging is given: bytes and
+/// spacing, the header or the first word, the form, the fields from left to right by `Name` to `Range`, and then the causes from
+/// `Many` on in their order.
 #[derive(Clone, Copy, Debug, PartialEq, Eq)]
 pub enum Cause {
     /// The first line isn't a known header.
     Header,
     /// The first field isn't a word that may stand here.
     Word,
-    /// A byte or a spacing isn't allowed, or the line hasn't the form of its word.
+    /// A byte or a spacing isn't allowed, or the line doesn't have the form of its word.
     Shape,
     /// A field that has to be a name isn't one.
     Name,
     /// A field that has to be a number isn't one.
     Number,
-    /// A new name is known already, or the link has a quota of the group.
+    /// A new name is known already, or the link already has a quota of the group.
     Known,
     /// A used name isn't known.
     Unknown,
@@ -48,7 +48,8 @@ pub enum Cause {
     Best,
     /// No walk of at most 16 links leads from the first node to the second.
     Reach,
-    /// In an audit's input, a line that begins with `accept ` and isn't a report's for a request of the scenario, or is its second.
+    /// In an audit's input, a line that begins with `accept ` isn't one of a report for a request of the scenario, or is the second
+    /// one for it.
     Accept,
     /// In an audit's input, a line of the table isn't a row, or the input ended before the table's header.
     Table,
@@ -58,7 +59,7 @@ pub enum Cause {
     Move,
 }
 
-/// Why a line isn't let pass.
+/// Why a line doesn't pass.
 #[derive(Clone, Copy, Debug, PartialEq, Eq)]
 pub enum LineFault {
     /// Out of memory while its route was searched for; whether it is refused isn't known.

@@ -76,7 +76,7 @@ impl TakesLines for Draft {
 }
 
 impl Draft {
-    /// Before the first line. An `Err` comes only for want of memory.
+    /// Nothing has been read yet. An `Err` comes only for want of memory.
     pub fn new(alloc: Global) -> Result<Draft, OutOfMemory>
         ensures { IfOk result (λ draft. draft ≡ nothing_said) }
     {

@@ -3,7 +3,7 @@ ghost use Rattle.std.specs.Prelude.{◌≡◌, length};
 ghost use Rattle.std.specs.List.{list_all};
 ghost use Rattle.scenario_reader.specs.Fields.{is_graphic, is_field, are_fields, fields_of, field_at};
 
-/// Whether each part of the line round its spaces is a field: one or more bytes from 0x21 to 0x7E.
+/// Whether each part into which spaces divide the line is a field: one or more bytes from 0x21 to 0x7E.
 pub fn has_fields(line: &[u8]) -> bool
     ensures { result ≡ are_fields (fields_of line.now) }
 {
@@ -21,7 +21,7 @@ pub fn field(line: &[u8], place: usize) -> &[u8]
     }
 }
 
-/// How many parts the line has round its spaces.
+/// How many parts spaces divide the line into.
 pub fn field_count(line: &[u8]) -> usize
     ensures { result ≡ length (fields_of line.now) }
 {

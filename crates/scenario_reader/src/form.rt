@@ -138,8 +138,8 @@ fn up_to(most: usize, count: usize) -> Option<usize>
     }
 }
 
-/// How many fields stand from a place on before the word `contract`, or before the line's end; 17 where there are more
-/// than that, so that a long line isn't looked through for each of its fields.
+/// How many fields stand from a place on before the word `contract`, or before the line's end. It is 17 where there are more than 17,
+/// so a long line isn't looked through for each of its fields.
 pub fn route_length(line: &[u8], from: usize) -> usize
     ensures value { result ≡ min 17 (route_length (drop from (fields_of line.now))) }
     ensures within { result ≤ length (fields_of line.now) - from }

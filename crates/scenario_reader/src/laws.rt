@@ -11,7 +11,7 @@ pub fn a_plans_text_is_read()
     ensures { APlansTextIsRead }
 {}
 
-/// A text of at most 4,194,304 bytes is that of one plan, with one schedule up to the numbers of lines.
+/// A text of at most 4,194,304 bytes is the text of one plan only, with one schedule up to the numbers of lines.
 pub fn a_text_is_of_one_plan()
     ensures { ATextIsOfOnePlan }
 {}
@@ -22,12 +22,12 @@ pub fn a_found_route_is_the_least()
     ensures { FindsLeastRoutes }
 {}
 
-/// Two nodes of a network have two numbers.
+/// Two nodes of a network have different numbers.
 pub fn two_nodes_have_two_numbers()
     ensures { TellsNodesApart }
 {}
 
-/// A scenario may have 4,194,304 bytes.
+/// A scenario may have at most 4,194,304 bytes.
 pub fn a_scenario_has_at_most_4194304_bytes()
     ensures { MOST_BYTES ≡ 4194304 }
 {}

@@ -17,7 +17,7 @@ use std::alloc::Global;
 use std::fmt::{self, Display};
 use thiserror::Error;
 
-/// The bytes that a scenario may have at most.
+/// The most bytes that a scenario may have.
 pub const MOST_BYTES: u64 = 4_194_304;
 
 /// Why no scenario was read.

@@ -46,7 +46,7 @@ pub(crate) fn use_at(uses: &[Uses], chan: ChanNo) -> Uses
 }
 
 impl Uses {
-    // Sent on, so many packets.
+    // Sent on: this many packets.
     fn sent(self, count: u64) -> Uses
         ensures { result ≡ sent count self }
     {
@@ -91,7 +91,7 @@ impl Uses {
     }
 }
 
-// With one operation more.
+// With one more operation.
 pub(crate) fn use_by(uses: &mut Vec<Uses>, op: &Op)
     requires light { Each IsLight uses.old.items }
     ensures value { uses.new.items ≡ used_by op.now uses.old.items }

@@ -9,7 +9,7 @@ use crate::cause::Cause;
 use crate::names::Names;
 use net_units::Name;
 
-/// Nothing where the condition holds, and else this cause.
+/// Nothing where the condition holds, or else this cause.
 pub fn require(holds: bool, cause: Cause) -> Result<(), Cause>
     ensures { Judges result (unless holds cause) tt }
 {

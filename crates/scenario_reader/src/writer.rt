@@ -28,9 +28,9 @@ use net_units::Name;
 use std::alloc::Global;
 use text_writer::{ReportFault, finish, tell_line};
 
-/// Writes the one text of the plan: the header, the links, the groups, the quotas link by link, the callers each with its operations in their order, `rounds` and
-/// `tail`, and, where the schedule is written, `schedule` and its `do` lines. A request whose route was found has its two nodes in
-/// place of the links. The schedule's actors are those of the plan.
+/// Writes the one text of the plan: the header, the links, the groups, the quotas link by link, the callers each with its operations
+/// in their order, `rounds` and `tail`, and, where the schedule is written, `schedule` and its `do` lines. A request whose route was
+/// found has its two nodes in place of the links. The schedule's actors are those of the plan.
 ///
 /// The text is gathered and written in pieces of at most 65,536 bytes. `WriteFault` comes only where the sink's count of
 /// faults rose in this call. After a refusal a prefix of the text was written.

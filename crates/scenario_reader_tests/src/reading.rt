@@ -35,7 +35,7 @@ do k2 2
 do plane 10
 ";
 
-// What is read of a text by a source that gives at most so many bytes at a time.
+// What is read of a text by a source that gives at most this many bytes at a time.
 pub(crate) fn read(
     alloc: Global,
     text: &str,
@@ -82,7 +82,7 @@ fn are_links(links: &[LinkEntry]) -> bool {
     }
 }
 
-// Whether a request has this name, is opened by this caller, goes over so many links, within this delay, and has this control.
+// Whether a request has this name, is opened by this caller, goes over this many links, within this delay, and has this control.
 fn is_request(
     entry: &RequestEntry,
     name: &str,

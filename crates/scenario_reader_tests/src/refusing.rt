@@ -194,7 +194,7 @@ fn an_input_that_ends_early_is_refused_at_its_end(rt: HostRuntime) -> Result<(),
     answers_all(&rt, rt.alloc(), "", &EARLY)
 }
 
-// Whether what refuses is written so.
+// Whether the refusal is written like this.
 fn says(alloc: Global, refusal: &ReadRefusal, text: &str) -> Result<bool, Fail> {
     Ok(format!(in alloc; "{refusal}")?.as_str() == text)
 }

@@ -1,4 +1,4 @@
--- Entries that don't name a channel leave it as it was: one that was established is so, and one that no entry names has none. The
+-- Entries that don't name a channel leave it as it was: one that was established still is, and one that no entry names has none. The
 -- entries of a setup and of a teardown name their own channel alone, and those of a move two.
 use Rattle.std.proofs.Common.{◌≡◌, ◌≢◌, ℕ, List, [], ◌∷◌, ◌++◌, length, Option, Some, None, sym, ◌∙◌, subst}
 use Rattle.std.specs.List.{slice_get}

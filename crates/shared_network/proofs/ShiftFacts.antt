@@ -1,6 +1,6 @@
 -- A move of planned packets goes on with each step: the hops of the channel that is left which weren't asked yet hold their committed
--- reservations, so each release is answered; and the other channel holds its route, and nothing was submitted on it, so that
--- its submit is planned.
+-- reservations, so each release is answered; and the other channel holds its route, and nothing was submitted on it, so its submit is
+-- planned.
 use Rattle.std.proofs.Common.{◌≡◌, ◌≢◌, ℕ, suc, ◌+◌, ◌<◌, ◌≤◌, true, List, [], ◌∷◌, ◌++◌, length, map, Option, Some, refl, sym, ap, ◌∙◌, subst, inl, inr, arith}
 use Rattle.std.proofs.lemmas.Bool.{cases_Bool}
 use Rattle.std.proofs.lemmas.List.{append_assoc, append-nil, map-append}

@@ -1,5 +1,5 @@
--- Entries that don't change what a link holds of a channel: those that name another channel, or none, and those that send. What
--- the own entries tell is the same with them, so a channel that holds its route does so still.
+-- Entries that don't change what a link holds of a channel: those that name another channel, or none, and those that send. What the
+-- own entries tell is the same with them, so a channel that holds its route still does.
 use Rattle.std.proofs.Common.{◌≡◌, ◌≢◌, ℕ, cond, List, [], ◌∷◌, ◌++◌, sym, refl, ap, ◌∙◌, subst}
 use Rattle.std.proofs.lemmas.Bool.{ne_eqb}
 use Rattle.std.proofs.lemmas.List.Elements.{filter-append}

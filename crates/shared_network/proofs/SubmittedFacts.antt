@@ -1,5 +1,5 @@
 -- What calls leave of the submits on a channel: the entries of a setup, of a teardown and of the plane submit on none, those of a
--- move on the channel that is joined alone, and a send on its own. So it is told which packets were planned last.
+-- move on the channel that is joined alone, and a send on its own. So these tell which packets were planned last.
 use Rattle.std.proofs.Common.{◌≡◌, ◌≢◌, ℕ, cond, List, [], ◌∷◌, ◌++◌, map, Option, Some, None, refl, sym, ap, ◌∙◌, subst}
 use Rattle.std.proofs.lemmas.Bool.{ne_eqb, eq-eqb}
 use Rattle.std.specs.List.{slice_get}

@@ -1,5 +1,5 @@
--- What a call adds to the own entries of a pass: each ask that it makes, with its link's reply, in order. And what every call
--- leaves of the pass as it was.
+-- What a call adds to the own entries of a pass: each ask that it makes, with its link's reply, in order. And what every call leaves
+-- unchanged in the pass.
 use Rattle.std.specs.Prelude.{◌≡◌, ℕ, ◌+◌, ◌<◌, ◌≤◌, true, List, ◌++◌, length, map}
 use Rattle.net_units.specs.declared.numbers.LinkNo.{LinkNo}
 use Rattle.link_steps.specs.declared.asks.Ask.{Ask}

@@ -55,7 +55,7 @@ pub record IsSettled (links : List Link) (v : View) (journal : Journal) : Type 0
   pub begins : IsPrefix (known_of (number_of journal) v) (marks_in journal.entries)
   pub drawn : (m : Mark) → Has m (marks_in journal.entries) → Has (drawn_for (number_of journal) m) v.drawn
 
--- its link is one of so many
+-- its link is one of this many
 abbrev pub IsBelow : ℕ → Journal → Type 0
 IsBelow links journal = number_of journal < links
 

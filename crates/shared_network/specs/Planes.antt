@@ -1,6 +1,6 @@
--- The plane of a network makes its rounds with a pass. The arrives and ticks among the pass's own entries are, in their order,
--- what the plane has asked, each after the replies of those before it, and the plane stands where these replies bring it. A
--- step of it adds its next ask, with the link's reply, which it has then taken.
+-- The plane of a network makes its rounds with a pass. The arrives and ticks among the pass's own entries are, in their order, what
+-- the plane has asked, each after the replies of those before it, and the plane stands where these replies bring it. A step of the
+-- plane adds its next ask, with the link's reply, which the plane has then taken.
 use Rattle.std.specs.Prelude.{◌≡◌, ℕ, Bool, true, false, Option, Some, List, [], ◌∷◌, map, filter, reverse}
 use Rattle.net_units.specs.declared.numbers.LinkNo.{LinkNo}
 use Rattle.link_steps.specs.declared.asks.Ask.{Ask}
@@ -23,11 +23,11 @@ is_round _ = false
 abbrev pub rounds_in : List OwnEntry → List OwnEntry
 rounds_in own = filter (λ (e : OwnEntry). is_round e.ask) own
 
--- what a plane of so many links and rounds asks next after these replies
+-- what a plane of this many links and rounds asks next after these replies
 abbrev pub next_round : ℕ → ℕ → List Reply → Option (LinkNo × Ask)
 next_round links rounds replies = plane_ask rounds (plane_of links (reverse replies))
 
--- the arrives and ticks are the plane's, of a network of so many links, and it has taken their replies
+-- the arrives and ticks are the plane's, of a network of this many links, and it has taken their replies
 pub record IsPlanes (links : ℕ) (plane : KeptPlane) (own : List OwnEntry) : Type 0 where
   pub follows : Follows (next_round links plane.rounds) [] (rounds_in own)
   pub stands : plane.at ≡ plane_of links (reverse (map reply_in (rounds_in own)))

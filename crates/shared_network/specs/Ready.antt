@@ -1,7 +1,6 @@
--- When a pass may step the links of a network: it has its seat, of the network's stamps, and no step of it has met want of
--- memory. Then its own entries are exact, and their stamps rise. What it knows of each link tells a legal journal, in which
--- each channel was asked for by its owner and the entries of its actor are its own. So its own entries tell what the link holds
--- of its channels.
+-- When a pass may step the links of a network: it has its seat, of the network's stamps, and no step of it has run out of memory.
+-- Then its own entries are exact, and their stamps rise. What it knows of each link tells a legal journal, in which each channel was
+-- asked for by its owner and the entries of its actor are its own. So its own entries tell what the link holds of its channels.
 use Rattle.std.specs.Prelude.{◌≡◌, ℕ, ◌<◌, ◌≤◌, true, false, List, [], ◌∷◌, length, map}
 use Rattle.atomic_table.specs.Seated.{TableId}
 use Rattle.net_units.specs.Numbers.{actor_number, channel_number, link_number}

@@ -1,4 +1,5 @@
--- Words of the worked networks: their links have the levels 10, 20 and 40 and a propagation of 2, and each channel has one hop.
+-- Words for the networks that are worked by hand: their links have the levels 10, 20 and 40 and a propagation of 2, and each channel
+-- has one hop.
 use Rattle.std.specs.Prelude.{◌≡◌, ◌≢◌, ◌≤◌, ℕ, List, [], ◌∷◌, length}
 use Rattle.atomic_table.specs.Seated.{TableId}
 use Rattle.net_units.specs.Numbers.{channel_number, link_number}

@@ -22,9 +22,9 @@ use std::sync::Wait;
 
 impl<L: LinkStep + Send, H: Home> Network<L, H> {
     /// Sets a channel up over its route, from its first reserve to its verdict, which is that of the replies that the pass then
-    /// holds. Each hop of the route is over a link of the network, with its bounds and its propagation (`hops`), the pass's
-    /// actor owns the channel, and the pass has no entry of it (`new`). An accepted channel is then established, and each other
-    /// one of the pass is as it was. It may wait for each link.
+    /// holds. Each hop of the route is over a link of the network, with its bounds and its propagation (`hops`), the pass's actor
+    /// owns the channel, and the pass has no entry of it (`new`). An accepted channel is then established, and each other channel of
+    /// the pass is as it was. The call may wait for each link.
     ///
     /// The pass has its seat, isn't spent (`pass`) and has drawn fewer than 2^40 - 64 stamps. After want of memory it is
     /// spent, the steps made so far stand in the journals and among its own entries (`stand`), and nothing further is claimed of
@@ -65,10 +65,10 @@ impl<L: LinkStep + Send, H: Home> Network<L, H> {
         }
     }
 
-    /// Releases an established channel at all hops of its route, in their order, and answers the count of packets that the
-    /// first hop has taken or still takes. The pass's actor owns the channel, this pass's setup of the request was accepted,
-    /// and it has neither torn it down nor moved its packets off it (`established`). Each other channel of the pass stays as it
-    /// was. It may wait for each link.
+    /// Releases an established channel at all hops of its route, in their order, and answers the count of packets that the first hop
+    /// has taken or still takes. The pass's actor owns the channel, this pass's setup of the request was accepted, and it has neither
+    /// torn it down nor moved its packets off it (`established`). Each other channel of the pass stays as it was. The call may wait
+    /// for each link.
     ///
     /// The pass has its seat, isn't spent (`pass`) and has drawn fewer than 2^40 - 64 stamps. After want of memory it is
     /// spent, the steps made so far stand in the journals and among its own entries (`stand`), and nothing further is claimed of

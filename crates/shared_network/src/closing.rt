@@ -126,7 +126,7 @@ impl<L: LinkStep + Send, H: Home> Network<L, H> {
     /// rise; no stamp stands twice in all journals; each own entry stands in its journal at its place; each entry of a journal
     /// is the own entry of exactly one pass; and a pass's own entries are in order of stamp (`closed`).
     ///
-    /// It takes its memory before it changes anything. Want of memory hands all back as it was (`fault`), and nothing else does.
+    /// The call takes its memory before it changes anything. Want of memory, and nothing else, makes it hand all back as it was (`fault`).
     pub fn close(self, alloc: Global, passes: Vec<Pass>) -> Result<Closed, CloseFault<L, H>>
         requires all { AreAll H.table H.owners H.links passes.items }
         ensures closed { IfOk result (λ closed. IsClosed H.links passes.items closed.journals) }
@@ -150,7 +150,7 @@ impl<L: LinkStep + Send, H: Home> Network<L, H> {
 }
 
 impl Room {
-    // Room for so many links and passes.
+    // Room for this many links and passes.
     fn new(alloc: Global, links: usize, passes: usize) -> Result<Room, OutOfMemory>
         ensures journals { IfOk result (λ room. (room.journals.items ≡ []) × (links ≤ vec_capacity room.journals)) }
         ensures passes { IfOk result (λ room. (room.passes.items ≡ []) × (passes ≤ vec_capacity room.passes)) }

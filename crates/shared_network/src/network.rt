@@ -26,8 +26,8 @@ use std::marker::Model;
 use std::sync::Wait;
 use step_stamp::{LinkSeat, PassSeat, Stamps};
 
-/// The links of a network, each behind a lock, and the stamps of their steps. It is seen with its links as the rules see
-/// them and with the owner of each channel, which no call changes.
+/// The links of a network, each behind a lock, and the stamps of their steps. A contract sees its links as the rules see them, and
+/// the owner of each channel, which no call changes.
 #[derive(Drop)]
 pub struct Network<L: LinkStep, H: Home> {
     pub(crate) stamps: Stamps,
@@ -49,10 +49,9 @@ impl<L: LinkStep, H: Home> Model for Network<L, H> {
 
 impl<L: LinkStep + Send, H: Home> Network<L, H> {
     /// A network of these links, in their order, with a pass for each actor, in the order of the actors. `opened` is what
-    /// `Stamps::open` gave for 1 to 32 links and 1 to 65 actors, with nothing done to it since (`seats`, `passes`). Each link
-    /// stands for the empty history (`stand`). `owners` gives the actor of each channel, by the
-    /// channels' numbers. All these are as `H` says. Each pass has its seat and has drawn nothing. An `Err` comes only for
-    /// want of memory.
+    /// `Stamps::open` gave for 1 to 32 links and 1 to 65 actors, with nothing done to it since (`seats`, `passes`). Each link stands
+    /// for the empty history (`stand`). `owners` gives the actor of each channel, by the channels' numbers. All these are as `H`
+    /// says. Each pass has its seat and has drawn nothing. An `Err` comes only for want of memory.
     pub fn open(
         alloc: Global,
         opened: (Stamps, Vec<LinkSeat>, Vec<PassSeat>),
@@ -102,11 +101,11 @@ impl<L: LinkStep + Send, H: Home> Network<L, H> {
         self.links[usize::from(link.get())].step(rt, &self.stamps, pass, gate, ask)
     }
 
-    /// Sends packets at a link of the network: of a channel that the pass's actor owns, by a submit, or best-effort ones. It
-    /// is one ask, whose reply is the answer. An established channel stays so, and so does one that no entry names, if the ask
-    /// doesn't (`unopened`). Packets are planned at the first hop of such a channel only where its contract allows their
-    /// size (`small`). It may wait for the link. After want of memory the pass is spent, and the link's journal may have the
-    /// entry.
+    /// Sends packets at a link of the network: those of a channel that the pass's actor owns, by a submit, or best-effort ones. It is
+    /// one ask, whose reply is the answer. An established channel stays established, and a channel that no entry names stays so if
+    /// the ask doesn't name it (`unopened`). Packets are planned at the first hop of such a channel only where its contract allows
+    /// their size (`small`). The call may wait for the link. After want of memory the pass is spent, and the link's journal may have
+    /// the entry.
     ///
     /// The pass has its seat, isn't spent (`pass`) and has drawn fewer than 2^40 - 64 stamps, and the conditions on an ask
     /// hold.
@@ -137,8 +136,8 @@ impl<L: LinkStep + Send, H: Home> Network<L, H> {
         self.step_at(rt, pass, gate, link, ask)
     }
 
-    /// How many stamps were drawn by all passes so far: at least every stamp that the pass had seen. It then counts as seen by
-    /// the pass, of which nothing else changes. It takes no lock and no memory.
+    /// How many stamps all passes have drawn so far: at least every stamp that the pass had seen. This number is then the last that
+    /// the pass has seen, and nothing else of the pass changes. The call takes no lock and no memory.
     pub fn steps_seen(&self, pass: &mut Pass) -> u64
         requires pass { (pass.old.has_seat ≡ true) × (pass.old.table ≡ H.table) }
         ensures least { last_seen pass.old ≤ result }

@@ -16,14 +16,14 @@ use std::sync::Wait;
 use tick_plane::Plane;
 
 impl<L: LinkStep + Send, H: Home> Network<L, H> {
-    /// Makes the plane's next ask with its pass: a packet arrives at a link, or a link ticks. The answer is the link's reply,
-    /// which the plane has then taken (`made`), with a stamp above all that the pass had seen (`later`). The arrives and ticks among the pass's entries are those of this plane, of as
-    /// many links as the network has (`planes`), and remain so. Channels of the pass stay as they were. It may wait for the
-    /// link.
+    /// Makes the plane's next ask with its pass: a packet arrives at a link, or a link ticks. The answer is the link's reply, which
+    /// the plane has then taken (`made`), with a stamp above all that the pass had seen (`later`). The arrives and ticks among the
+    /// pass's entries are those of this plane, of as many links as the network has (`planes`), and remain so. Channels of the pass
+    /// stay as they were. The call may wait for the link.
     ///
-    /// A step of the plane is left (`left`), and it has room for the flights of this round (`room`), as `Plane::ready` makes.
-    /// The pass has its seat, isn't spent (`pass`) and has drawn fewer than 2^40 - 64 stamps. After want of memory it is
-    /// spent, the plane is as it was, and the link's journal may have the entry.
+    /// The plane has a step left (`left`), and room for the flights of this round (`room`), which `Plane::ready` makes. The pass has
+    /// its seat, isn't spent (`pass`) and has drawn fewer than 2^40 - 64 stamps. After want of memory it is spent, the plane is as it
+    /// was, and the link's journal may have the entry.
     pub fn plane_step<W: Wait, G: Gate>(
         &self,
         rt: &W,

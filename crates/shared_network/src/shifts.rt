@@ -21,10 +21,10 @@ use net_units::Gate;
 use std::sync::Wait;
 
 impl<L: LinkStep + Send, H: Home> Network<L, H> {
-    /// Moves the packets that are planned on one channel, and not taken by its first hop yet, to another channel: makes all
-    /// asks of the mover, and answers how many packets stay and how many go. The channel that is left is released at all hops
-    /// of its route, and can be neither torn down nor left again; each other one of the pass stays as it was, the one that is
-    /// joined too. It may wait for each link.
+    /// Moves the packets that are planned on one channel, and not taken by its first hop yet, to another channel: makes all asks of
+    /// the mover, and answers how many packets stay and how many go. The channel that is left is released at all hops of its route,
+    /// and can be neither torn down nor left again; each other channel of the pass stays as it was, and so does the one that is
+    /// joined. The call may wait for each link.
     ///
     /// The mover has taken no reply (`start`). The two channels differ (`apart`), and the pass's actor owns both. This pass's
     /// setups of both were accepted over the mover's routes, and it has neither torn them down nor moved packets off them

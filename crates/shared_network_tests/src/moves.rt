@@ -81,7 +81,7 @@ fn step<L: LinkStep + Send, H: Home, W: Wait>(
     Ok(())
 }
 
-// Makes so many rounds of the plane.
+// Makes this many rounds of the plane.
 fn play<L: LinkStep + Send, H: Home, W: Wait>(
     rt: &W,
     alloc: Global,
@@ -113,7 +113,7 @@ fn shift<L: LinkStep + Send, H: Home, W: Wait>(
     Ok(network.shift(rt, pass, &NoGate, &mut mover)?)
 }
 
-// A move after so many rounds, of a caller and of what makes the rounds.
+// A move after this many rounds, with the pass of its caller and the pass that makes the rounds.
 fn moved_by<L: LinkStep + Send, H: Home, W: Wait>(
     rt: &W,
     alloc: Global,
@@ -198,8 +198,8 @@ fn moved_after<W: Wait>(rt: &W, alloc: Global, rounds: u8) -> Result<(Shifted, P
     moved_at_home(rt, alloc, opened, links(alloc)?, owner, &requests, rounds)
 }
 
-// The pass has set both channels up and planned the packets; it has then released channel 0, which told so much, and planned what
-// was shifted on channel 1, at this clock.
+// The pass has set both channels up and planned the packets; it has then released channel 0, which told these counts, and planned
+// what was shifted on channel 1, at this clock.
 fn has_moved(pass: &Pass, told: Shifted, clock: u64) -> Result<bool, Fail> {
     let [_, _, _, _, _, release, submit] = pass.own() else {
         return Ok(false);
@@ -225,7 +225,7 @@ fn has_moved(pass: &Pass, told: Shifted, clock: u64) -> Result<bool, Fail> {
     )
 }
 
-// After so many rounds, so many packets stay and so many move.
+// After this many rounds, this many packets stay and this many move.
 fn moves<R: Wait + Abort>(
     rt: &R,
     alloc: Global,

@@ -18,7 +18,7 @@ use Rattle.tenet_app.specs.Playing.{IsDueFor}
 use Rattle.tenet_app.specs.Racing.{IsRaceOf}
 use Rattle.tenet_app.specs.declared.status.Status.TheVariants as status
 
--- the text of the plan and the schedule is read as the plan and a schedule, that is played to this run, and its report is due for the
+-- the text of the plan and the schedule is read as the plan and a schedule that is played to this run, and its report is due for the
 -- text, with the table of packets or without it
 pub record IsPlayedAgain (parts : PlanParts) (schedule : Schedule) (entries : List Done) : Type 0 where
   pub again : Schedule

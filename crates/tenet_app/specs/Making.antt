@@ -73,7 +73,7 @@ pub record LoadsDetermine : Type 0 where
 
 -- ---- the words
 
--- the number from `low` to `high` that a word is: in decimal, with no sign, and with no 0 in front unless it is 0 itself
+-- the number from `low` to `high` that a word is: in decimal, with no sign and no leading 0, unless it is 0 itself
 abbrev pub number_from : ℕ → ℕ → List ℕ → Option ℕ
 number_from low high word = if is_number word && (nat_le low (value_of word) && nat_le (value_of word) high) then Some (value_of word) else None
 

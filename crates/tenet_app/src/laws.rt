@@ -5,9 +5,9 @@ ghost use Rattle.tenet_app.specs.Making.{LoadsDetermine};
 ghost use Rattle.tenet_app.specs.Playing.{BytesDetermine};
 ghost use Rattle.tenet_app.specs.Racing.{RacesAreDue};
 
-/// Where nothing fails, the bytes determine the answer: a status that `play` may give is due for what the bytes come to, or
-/// memory ran out; and only one status and one text are due for them. So it is for `audit`, for `make`, of which the number and the size
-/// determine the answer, and so for the status of `race`, whose text is that of some race.
+/// Where nothing fails, the bytes determine the answer: a status that `play` may give is due for what the bytes come to, or memory
+/// ran out; and only one status and one text are due for them. The same holds for `audit`; for `make`, where the number and the size
+/// determine the answer; and for the status of `race`, whose text is that of some race.
 pub fn without_a_fault_the_bytes_determine_the_answer()
     ensures plays { BytesDetermine }
     ensures races { RacesAreDue }
@@ -15,8 +15,8 @@ pub fn without_a_fault_the_bytes_determine_the_answer()
     ensures audits { AuditsDetermine }
 {}
 
-/// A race is played again, exactly: its schedule, written under its scenario where that makes at most 4,194,304 bytes, is read as
-/// one by which the plan is played to the race's run, and so the race's report is due for that text.
+/// A race is played again, exactly. Its schedule, written under its scenario where that makes at most 4,194,304 bytes, is read as one
+/// by which the plan is played to the race's run. So the race's report is due for that text.
 pub fn a_race_is_played_again()
     ensures { RacesArePlayedAgain }
 {}

@@ -61,7 +61,7 @@ fn words_after_first(words: &[String]) -> &[String]
     }
 }
 
-// Words that can't be read aren't accepted, unless it is memory for them that is missing.
+// Words that can't be read aren't accepted, unless it was memory for them that ran out.
 fn unread_words(error: &io::Error) -> Status
     ensures memory { (result ≡ Memory) ↔ (error_kind error.now ≡ OutOfMemory) }
     ensures words { (result ≡ Words) ↔ ¬ (error_kind error.now ≡ OutOfMemory) }

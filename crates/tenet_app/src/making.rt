@@ -8,8 +8,8 @@ use channel_report::{ReportFault, Tally, write_tallied_summary};
 use load_maker::{made, take_watched_turns};
 use std::alloc::Global;
 
-/// Makes the plan of a number with so many requests, lets its actors make their steps in turn, and writes the summary of that run. It reads nothing,
-/// and waits for nobody.
+/// Makes the plan of a number with this many requests, lets its actors make their steps in turn, and writes the summary of that run.
+/// It reads nothing, and waits for nobody.
 pub fn make<K: Sink>(alloc: Global, number: u32, size: u32, sink: &mut K) -> Status
     requires number { number ≤ 2147483647 }
     requires least { 1 ≤ size }

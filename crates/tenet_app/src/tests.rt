@@ -308,7 +308,7 @@ type Row = (
     &'static str,
 );
 
-// Each run ends so. A table is gone through where its rows aren't known, which keeps them out of the facts of each step.
+// Each run ends like this. A table is gone through where its rows aren't known, which keeps them out of the facts of each step.
 fn end_so<R: Threads + Wait + Abort + Sync>(
     rt: &R,
     alloc: Global,

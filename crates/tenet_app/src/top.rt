@@ -22,16 +22,20 @@ use std::thread::Threads;
 
 /// Does what the words after the program's name ask for, over a source and a sink.
 ///
-/// Accepted are the one word `play`, and `play` and `--packets` in either order. They read a scenario, play its schedule, and
-/// write the report of its run, with the table of packets where it is asked for. Accepted are also `play --workers N`, with N from 1
-/// to 16, and `--packets` at any place beside it but before N: they write the same bytes, whatever N is, and the rounds of the plane
-/// are made by so many workers. Accepted are also `race`, and `race` and `--packets`
-/// in either order. They read a scenario and make a race of its plan: each caller and the plane make their steps in a thread of
-/// their own, where the machine can start one. They write the schedule that the race has followed and the report of its run, and
-/// hand back the journals and passes of the race. Accepted are also the three words `make NUMBER SIZE`,
-/// with a number from 0 to 2,147,483,647 and a size from 1 to 1,024, in decimal. They read nothing, and write the summary of a run by turns
-/// of the load that is made from these. Accepted is also the one word `audit`. It reads a scenario, the line `report`, a report and its table of
-/// packets, and writes in one line what an audit finds in the table. Other words read nothing and write nothing.
+/// `play` is accepted alone, or with `--packets` before or after it. It reads a scenario, plays its schedule, and writes the report
+/// of its run, with the table of packets where it is asked for. `play --workers N` is accepted, too, with N from 1 to 16, and with
+/// `--packets` at any place beside it but before N. It writes the same bytes, whatever N is, and N workers make the rounds of the
+/// plane.
+///
+/// `race` is accepted alone, or with `--packets` before or after it. It reads a scenario and makes a race of its plan: each caller
+/// and the plane make their steps in a thread of their own, where the machine can start one. It writes the schedule that the race has
+/// followed and the report of its run, and hands back the journals and passes of the race.
+///
+/// `make NUMBER SIZE` is accepted, three words with a number from 0 to 2,147,483,647 and a size from 1 to 1,024, in decimal. It reads
+/// nothing, and writes the summary of a run by turns of the load that is made from these.
+///
+/// `audit` is accepted alone. It reads a scenario, the line `report`, a report and its table of packets, and writes in one line what
+/// an audit finds in the table. Other words read nothing and write nothing.
 ///
 /// A race may wait, and `--workers` joins threads; no other part does either. The gate is called round each step of a race, and
 /// round each ask of a round that workers make.

@@ -7,13 +7,13 @@ ghost use Rattle.tenet_app.specs.Racing.{are_both_to_race, race_words};
 
 use scenario_reader::values::number;
 
-// The number that a load is made from, at most.
+// The largest number that a load is made from.
 const MOST_NUMBER: u64 = 2_147_483_647;
 
-// The requests of a load, at most.
+// The most requests of a load.
 const MOST_SIZE: u64 = 1_024;
 
-// Whether the words ask to play, and then whether for the table of packets.
+// Whether the words ask to play, and if so, whether they ask for the table of packets.
 pub(crate) fn to_play(words: &[String]) -> Option<bool>
     ensures { result ≡ play_words (map string_bytes words.now) }
 {
@@ -43,7 +43,7 @@ fn are_both(first: &str, second: &str) -> bool
     is_word(first, "play") && is_word(second, "--packets")
 }
 
-// Whether the words ask to race, and then whether for the table of packets.
+// Whether the words ask to race, and if so, whether they ask for the table of packets.
 pub(crate) fn to_race(words: &[String]) -> Option<bool>
     ensures { result ≡ race_words (map string_bytes words.now) }
 {

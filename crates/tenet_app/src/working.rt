@@ -21,10 +21,10 @@ use scenario_reader::{Cause, ReadRefusal, read_plan};
 use std::alloc::Global;
 use std::thread::Threads;
 
-// The workers at most.
+// The most workers.
 const MOST_WORKERS: u64 = 16;
 
-// Whether the words ask to play by workers, and then whether for the table of packets, and by how many.
+// Whether the words ask to play by workers, and if so, whether they ask for the table of packets, and by how many workers.
 pub(crate) fn to_work(words: &[String]) -> Option<(bool, u32)>
     ensures asked { result ≡ work_words (map string_bytes words.now) }
     ensures range { IfSome result (λ work. (1 ≤ work.1) × (work.1 ≤ 16)) }
@@ -78,7 +78,7 @@ fn work_of(packets: bool, number: &str) -> Option<(bool, u32)>
     Some((packets, workers as u32))
 }
 
-/// Reads a scenario, plays its schedule by so many workers, and writes the report of its run, with the table of packets where
+/// Reads a scenario, plays its schedule by this many workers, and writes the report of its run, with the table of packets where
 /// `packets` is set: what [`play`](crate::playing::play) writes. It joins threads. The gate is called round each ask of a round.
 pub fn work<R: Threads + Sync, S: Source, K: Sink, G: Gate + Sync>(
     rt: &R,
@@ -129,7 +129,7 @@ fn answer<R: Threads + Sync, K: Sink, G: Gate + Sync>(
     }
 }
 
-// Plays the schedule of a plan by so many workers while a tally sees its run.
+// Plays the schedule of a plan by this many workers while a tally sees its run.
 fn tallied<R: Threads + Sync, G: Gate + Sync>(
     rt: &R,
     alloc: Global,

@@ -1,5 +1,5 @@
 -- The rows at one hop of a channel, and those at the next: the eligible ticks at a hop keep the contract; and at the next hop each
--- packet is eligible at the latest when it is due, and under delay-jitter control no sooner.
+-- packet is eligible no later than when it is due, and under delay-jitter control no sooner.
 use Rattle.std.proofs.Common.{◌≡◌, ℕ, suc, ◌+◌, ◌<◌, ◌≤◌, true, false, List, [], ◌∷◌, ◌++◌, length, get_or, max, Option, Some, refl, sym, ap, ◌∙◌, subst, inl, inr, arith}
 use Rattle.std.proofs.lemmas.Bool.{cases_Bool, cases_lt, eqb-true, leb-true, and_parts, eq-eqb, ne_eqb, and_right}
 use Rattle.std.proofs.lemmas.List.{get_or_append_left, get_or_push, length_push, length-reverse, length-map, reverse-append}

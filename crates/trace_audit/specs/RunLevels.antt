@@ -1,5 +1,5 @@
--- The levels with which the requests of a plan were accepted in a run: a request has levels where its setup has come to an
--- acceptance, and then those.
+-- The levels with which the requests of a plan were accepted in a run: a request has levels where its setup has ended in an
+-- acceptance, and has those of that acceptance.
 use Rattle.std.specs.Prelude.{◌≡◌, ℕ, Option, Some, None, List, length, reverse}
 use Rattle.std.specs.List.{slice_get}
 use Rattle.net_units.specs.Allotted.{levels_of}

@@ -1,5 +1,5 @@
--- Of which rows an audit's trail is: they all pass, and it keeps the last of them, and for each hop of its channel what those
--- there leave.
+-- The rows that an audit's trail stands for: they all pass, and the trail keeps the last of them and, for each hop of its channel,
+-- what the rows there leave.
 use Rattle.std.specs.Prelude.{◌≡◌, ℕ, suc, Option, Some, None, List, [], ◌∷◌, length}
 use Rattle.std.specs.List.{slice_get}
 use Rattle.net_units.specs.Numbers.{channel_number}

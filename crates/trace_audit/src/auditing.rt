@@ -17,8 +17,8 @@ use std::alloc::Global;
 /// fails, numbered from 1, and the first check that it fails, or that none does. Where it answers `Sound`, the packets of the table
 /// keep the bounds of their hops and of their requests.
 ///
-/// An `Err` comes only for want of memory. It keeps what the rows of one channel leave alone, so a table takes time as its
-/// length.
+/// An `Err` comes only for want of memory. The audit keeps only what the rows of one channel leave, so the time that a table takes
+/// grows as its length.
 pub fn audit(
     alloc: Global,
     plan: &Plan,

@@ -14,7 +14,7 @@ pub enum Check {
     Order,
     /// Its size is from 1 to the contract's, and that of the hop before.
     Size,
-    /// At hop 1 it arrives no sooner than the packet before, and later a propagation after its departure from the hop before.
+    /// At hop 1 it arrives no sooner than the packet before, and at a later hop a propagation after its departure from the hop before.
     Arrive,
     /// It is eligible at the tick that its regulator says.
     Eligible,

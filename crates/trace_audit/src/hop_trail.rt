@@ -25,7 +25,7 @@ pub(crate) struct HopTrail {
 }
 
 impl HopTrail {
-    // Of no row yet. It takes all memory that it will ever need.
+    // What is kept before the first row. It takes all the memory that it will ever need.
     pub(crate) fn new(
         alloc: Global,
         contract: Contract,
@@ -103,7 +103,7 @@ fn has_size_of(near: Option<HopRow>, row: &HopRow) -> bool
     }
 }
 
-// When a packet is due that left the hop before, 0 at the first hop.
+// When a packet that left the hop before is due, 0 at the first hop.
 fn due(terms: &Terms, near: Option<HopRow>) -> u64
     requires { IfSome near IsSmall }
     ensures value { result ≡ due_of terms.now near }

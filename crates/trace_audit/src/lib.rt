@@ -1,4 +1,4 @@
-//! An audit of a packet table: the checks of a table that somebody else made, a simulator, a capture or another switch.
+//! An audit of a packet table: the checks of a table that was made elsewhere, by a simulator, a capture or another switch.
 //!
 //! The table has a row for each packet and hop. It is checked against a plan and the levels with which the requests of the plan were
 //! accepted, row by row. A sound table keeps every bound; the table of every run is sound.

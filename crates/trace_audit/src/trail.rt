@@ -23,7 +23,7 @@ pub(crate) struct Trail {
 }
 
 impl Trail {
-    // Of no row yet. It takes no memory.
+    // What is kept before the first row. It takes no memory.
     pub(crate) fn new(alloc: Global) -> Trail
         ensures last { result.last ≡ None }
         ensures hops { result.hops.items ≡ [] }

@@ -15,7 +15,7 @@ use net_units::{Name, OutOfMemory};
 use std::alloc::Global;
 use std::collections::HashSet;
 
-// Groups of a plan.
+// The most groups that a plan may have.
 const MOST_GROUPS: usize = 4;
 
 impl Parts {
@@ -46,7 +46,7 @@ impl Parts {
             && callers_are_there(&self.groups, &self.callers)
     }
 
-    // Whether there are no more groups than may be.
+    // Whether there are no more groups than are allowed.
     #[tactic(auto, unfolding(crate::specs::Groups::groups_are_few))]
     pub(crate) fn groups_are_few(&self) -> bool
         ensures { result ≡ groups_are_few (parts_in self.now) }

@@ -35,7 +35,7 @@ pub(crate) fn is_small(
     Ok(true)
 }
 
-// The load with that of these operations, where it is within the limit. `loads` tells what each request has to carry so far.
+// The load with that of these operations added, where it is within the limit. `loads` tells what each request has to carry so far.
 fn load_with(
     before: u64,
     requests: &[RequestEntry],
@@ -86,7 +86,7 @@ fn amount_in(loads: &[u64], amount: &Amount) -> u64
     }
 }
 
-// So many packets, once for each hop.
+// This many packets, once for each hop.
 fn load_over(requests: &[RequestEntry], way: &Way, packets: u64) -> u64
     requires { IsFew packets }
     ensures value { result ≡ load_over requests.now way.now packets }
@@ -122,7 +122,7 @@ fn load_at(loads: &[u64], chan: ChanNo) -> u64
     }
 }
 
-// What the requests have to carry with one operation more.
+// What the requests have to carry with one more operation.
 fn put_load(loads: &mut Vec<u64>, op: &Op) -> Result<(), OutOfMemory>
     requires range { IsTrue (op_in_range op.now) }
     requires few { Each IsFew loads.old.items }
@@ -149,7 +149,7 @@ fn put_opened(loads: &mut Vec<u64>, opens: Option<ChanNo>) -> Result<(), OutOfMe
     Ok(())
 }
 
-// The request over whose hops packets go has to carry so many at least.
+// The request over whose hops packets go has to carry at least this many.
 fn raise_over(loads: &mut Vec<u64>, way: &Way, packets: u64)
     requires load { IsFew packets }
     requires few { Each IsFew loads.old.items }
@@ -162,7 +162,7 @@ fn raise_over(loads: &mut Vec<u64>, way: &Way, packets: u64)
     }
 }
 
-// A request has to carry so many packets at least.
+// A request has to carry at least this many packets.
 fn raise(loads: &mut Vec<u64>, chan: ChanNo, load: u64)
     requires load { IsFew load }
     requires few { Each IsFew loads.old.items }

@@ -1,4 +1,4 @@
-//! Moves between requests of one contract, whose routes begin and end at the same nodes.
+//! Moves between requests with the same contract, whose routes begin and end at the same nodes.
 ghost use Rattle.std.specs.Prelude.{◌≡◌, ◌&&◌, nat_eq, not};
 ghost use Rattle.std.specs.List.{list_all, slice_get};
 ghost use Rattle.net_units.specs.Numbers.{channel_number};

@@ -1,4 +1,4 @@
-//! Names that no two have.
+//! Names, of which no two may be the same.
 ghost use Rattle.std.specs.Prelude.{◌≡◌, IfOk};
 ghost use Rattle.call_script.specs.Rules.{are_distinct, link_names, caller_names, request_names};
 

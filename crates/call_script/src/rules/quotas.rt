@@ -103,7 +103,7 @@ fn level_fits(shape: &LinkShape, quotas: &[Quota], level: Level) -> bool
     )
 }
 
-// The same with one quota more.
+// The same with one more quota.
 fn level_fits_with(shape: &LinkShape, quotas: &[Quota], more: &Quota, level: Level) -> bool
     requires { level_number level ≤ length shape.now.bounds }
     ensures { result ≡ level_fits shape.now (quotas.now ++ more.now ∷ []) (level_number level) }
@@ -119,7 +119,7 @@ fn load_at(quota: &Quota, level: Level) -> u32
     quota.levels[usize::from(level.get()) - 1]
 }
 
-// Whether so much load, and what the quotas have of a level, are within a bound.
+// Whether this load, and what the quotas have of a level, are together within a bound.
 fn loads_fit(first: u64, quotas: &[Quota], level: Level, bound: u32) -> bool
     requires { first < 2 ^ 33 }
     ensures { result ≡ nat_le (first + total (level_part (level_number level)) quotas.now) bound }
@@ -146,7 +146,7 @@ fn level_at(number: u8) -> Level
     }
 }
 
-// Whether so many units, and those of the quotas, are within those of the buffer.
+// Whether this many units, and those of the quotas, are together within those of the buffer.
 fn buffer_fits(first: u64, quotas: &[Quota], units: u32) -> bool
     requires { first < 2 ^ 33 }
     ensures { result ≡ nat_le (first + total buffer_part quotas.now) units }

@@ -6,7 +6,7 @@ use std::alloc::Global;
 use std::process::Abort;
 use std::test::Fail;
 
-// The run with so many steps of the caller and of the plane has this summary.
+// The run with this many steps of the caller and of the plane has this summary.
 fn sums_up<R: Abort>(
     rt: &R,
     alloc: Global,

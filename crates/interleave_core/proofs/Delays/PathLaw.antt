@@ -1,5 +1,5 @@
--- Over a whole route: each packet of a channel is eligible at a hop at most the level bounds and propagations of the hops
--- before it later than at the first hop; and under delay-jitter control exactly so much later.
+-- Over a whole route: each packet of a channel is eligible at a hop no later than at the first hop plus the level bounds and
+-- propagations of the hops before; and under delay-jitter control exactly that much later.
 use Rattle.std.proofs.Common.{◌≡◌, ℕ, zero, suc, ◌+◌, ◌<◌, List, [], ◌∷◌, ◌++◌, length, get_or, take, Some, sym, ap, ◌∙◌, subst, arith}
 use Rattle.std.proofs.lemmas.List.{length-take-le}
 use Rattle.std.proofs.lemmas.Option.{same_Some, slice_get_within}

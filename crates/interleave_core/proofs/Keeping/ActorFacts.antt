@@ -1,4 +1,4 @@
--- The actors of a run, as they are kept: before any step, what they ask next, and with one step more.
+-- The actors of a run, as they are kept: before any step, what they ask next, and with one more step.
 use Rattle.std.proofs.Common.{◌≡◌, ◌≢◌, ℕ, ◌+◌, ◌<◌, true, Option, Some, None, IsSome, List, [], ◌∷◌, ◌++◌, length, set, refl, sym, ap, ◌∙◌, subst, inl, inr, arith}
 use Rattle.std.proofs.lemmas.Bool.{cases_Bool, eqb-true, eqb-false}
 use Rattle.std.proofs.lemmas.List.{length-map, length-set}

@@ -1,4 +1,4 @@
--- The links of a run, as they are kept: before any step, and with one step more. Their clocks are small.
+-- The links of a run, as they are kept: before any step, and with one more step. Their clocks are small.
 use Rattle.std.proofs.Common.{◌≡◌, ◌≢◌, ℕ, suc, ◌+◌, ◌<◌, ◌≤◌, ◌^◌, Option, Some, None, List, [], ◌∷◌, ◌++◌, length, map, sym, ap, ◌∙◌, subst, inl, inr, option_map, nat_lt, arith}
 use Rattle.std.proofs.lemmas.Bool.{cases_Bool, eqb-true, eqb-false}
 use Rattle.std.proofs.lemmas.List.{length-map}

@@ -1,4 +1,4 @@
--- The element at an index: after a write, and with one element more. What an answer's value has, another fact may follow from.
+-- The element at an index: after a write, and with one more element. Another fact may follow from what an answer's value has.
 use Rattle.std.proofs.Common.{◌≡◌, ◌≢◌, ◌⊎◌, ℕ, zero, suc, ◌<◌, Some, List, [], ◌∷◌, ◌++◌, length, get_or, set, refl, sym, ap, ◌∙◌, inl, inr, Result, Ok, Err, IfOk, IfErr, OnOk, arith}
 use Rattle.std.proofs.lemmas.Option.{same_Some, slice_get_cases, slice_get_read}
 use Rattle.std.specs.List.{slice_get}

@@ -1,5 +1,5 @@
--- The planned packets of a channel at one link: as long as its reservation isn't closing none was cancelled, and once it is none
--- is left.
+-- The planned packets of a channel at one link: as long as its reservation isn't closing, none was cancelled, and once it is, none is
+-- left.
 use Rattle.std.proofs.Common.{◌≡◌, ℕ, suc, ◌+◌, ◌≤◌, Bool, true, false, List, [], ◌∷◌, length, Option, Some, None, refl, ap, ◌∙◌, inl, inr, arith, option_map}
 use Rattle.std.proofs.lemmas.Bool.{cases_Bool, cond_both, and_parts, lt-leb, eqb-true, eq-eqb}
 use Rattle.std.specs.Prelude.{filter, find, nat_eq, if◌then◌else◌}

@@ -1,5 +1,5 @@
--- The packets of a move have the gap and the size of the last submit on the channel that it leaves which the run has answered as
--- planned, and 1 and 1 where there is none.
+-- The packets of a move have the gap and the size of the last submit on the channel that it leaves, of those that the run has
+-- answered as planned, and 1 and 1 where there is none.
 use Rattle.std.proofs.Common.{◌≡◌, ◌≢◌, ℕ, ◌≤◌, Bool, true, false, List, [], ◌∷◌, ◌++◌, length, Option, Some, None, refl, sym, ap, ◌∙◌, subst, inl, inr, arith}
 use Rattle.std.proofs.lemmas.Bool.{cases_Bool, cond_both, eqb-true, eqb-false, ne_eqb}
 use Rattle.std.proofs.lemmas.Option.{same_Some}

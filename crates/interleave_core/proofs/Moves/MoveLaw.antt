@@ -1,4 +1,4 @@
--- Once a channel was left by a move its first hop has taken as many packets as were kept, and takes no more.
+-- Once a move has left a channel, the channel's first hop has taken as many packets as were kept, and takes no more.
 use Rattle.std.proofs.Common.{◌≡◌, ◌≢◌, ℕ, true, false, List, [], ◌∷◌, ◌++◌, length, Option, Some, None, refl, sym, ap, ◌∙◌, subst, inl, inr, arith}
 use Rattle.std.proofs.lemmas.Bool.{cases_Bool, eqb-true, eqb-false, and_parts}
 use Rattle.std.proofs.lemmas.Option.{same_Some}

@@ -1,4 +1,4 @@
--- An actor's steps come to an end: how many it has left at most falls with each step that it makes.
+-- An actor's steps come to an end: the greatest number of steps that it may have left falls with each step that it makes.
 use Rattle.channel_move.proofs.MoveFacts.{MoveAsks, AsksFirst, AsksSubmit, AsksRest, move-asks, rest-length}
 use Rattle.call_script.specs.Fits.{TaskFits}
 use Rattle.link_steps.specs.Lists.{Each}

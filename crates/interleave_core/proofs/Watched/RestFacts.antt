@@ -1,4 +1,4 @@
--- An engine whose links and plane have rested for n rounds stands for the run gone on by n quiet rounds.
+-- An engine whose links and plane have rested for n rounds stands for the run continued by n quiet rounds.
 use Rattle.std.proofs.Common.{◌≡◌, ℕ, suc, ◌+◌, ◌-◌, ◌<◌, ◌≤◌, ◌^◌, Some, List, [], ◌∷◌, length, take, get_or, set, refl, sym, ap, ◌∙◌, subst, inl, inr, arith, length-set}
 use Rattle.std.proofs.lemmas.Bool.{cases_eq, le-ltb}
 use Rattle.std.proofs.lemmas.Option.{same_Some, slice_get_within}

@@ -1,4 +1,4 @@
--- What an engine's steps make of a schedule while something watches them.
+-- What an engine's steps make of a schedule while a watcher sees them.
 use Rattle.std.proofs.Common.{◌≡◌, ℕ, ◌+◌, ◌^◌, ◌<◌, true, false, None, List, [], ◌∷◌, length, take, get_or, refl, sym, ap, ◌∙◌, subst}
 use Rattle.net_units.specs.Numbers.{actor_number, actor_at}
 use Rattle.net_units.specs.declared.numbers.ActorNo.{ActorNo}

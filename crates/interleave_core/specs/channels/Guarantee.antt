@@ -1,10 +1,10 @@
--- What a network guarantees at any moment of a run, in whatever order its actors make their steps. On every link the rows that
--- are held pass the admission test, and each packet of a channel leaves within the bound of its level. Past the first hop each
--- packet that arrives is taken, whatever its source does. No packet is dropped of a source that keeps its contract. Only accepted
--- channels have packets, and at each hop they have the level with which the channel was accepted there. A packet of an accepted
--- channel is eligible at each hop within the delays of the hops before, has departed once the hop's clock has reached its bound, and
--- reaches its destination within the delay that was asked for. Under delay-jitter control the delays of any two packets of a channel
--- whose source keeps its contract differ by less than the bound of the last hop, which is within the jitter that was asked for.
+-- What a network guarantees at any moment of a run, in whatever order its actors make their steps. On every link the rows that are
+-- held pass the admission test, and each packet of a channel leaves within the bound of its level. Past the first hop each packet
+-- that arrives is taken, whatever its source does. No packet of a source that keeps its contract is dropped. Only accepted channels
+-- have packets, and at each hop they have the level with which the channel was accepted there. A packet of an accepted channel is
+-- eligible at each hop within the delays of the hops before, has departed once the hop's clock has reached its bound, and reaches its
+-- destination within the delay that was asked for. Under delay-jitter control the delays of any two packets of a channel whose source
+-- keeps its contract differ by less than the bound of the last hop, which is within the jitter that was asked for.
 use Rattle.std.specs.Prelude.{◌≡◌, ℕ, suc, ◌+◌, ◌<◌, ◌≤◌, true, IsTrue, Some, List, length, get_or}
 use Rattle.std.specs.List.{slice_get}
 use Rattle.net_units.specs.Numbers.{link_number, channel_number}
@@ -58,13 +58,13 @@ TakesArrive _ reply = Unit {0}
 
 -- ---- channels with packets
 
--- the caller that stands there knows the request accepted
+-- the caller that stands there knows the request to be accepted
 pub record IsAccepted (request : Request) (at : Standing) : Type 0 where
   pub levels : List ℕ
   pub delay : ℕ
   pub is : outcome_in request.chan at.outcomes ≡ Some (Accepts levels delay)
 
--- its owner knows the request accepted
+-- its owner knows the request to be accepted
 abbrev pub AcceptedIn : Network → Request → ℕ → List Done → Type 0
 AcceptedIn network request owner run =
     (tasks : List Task) → slice_get network.scripts owner ≡ Some tasks → IsAccepted request (standing tasks (replies_to owner run))
@@ -142,7 +142,7 @@ pub record Guaranteed (network : Network) (run : List Done) : Type 0 where
   pub links : (n : ℕ) (link : Link) → slice_get network.links n ≡ Some link → LinkGuaranteed network run n link
   -- each packet that arrives from another link is taken
   pub arrives : Each (λ done. TakesArrive done.ask done.reply) run
-  -- each channel whose owner knows it accepted
+  -- each channel whose owner knows it to be accepted
   pub channels : (request : Request) (owner : ℕ) (tasks : List Task) (levels : List ℕ) (delay : ℕ) (first : HopAt network request 0)
       → RequestFits network.links request → OwnedFully network request owner → slice_get network.scripts owner ≡ Some tasks
       → outcome_in request.chan (standing tasks (replies_to owner run)).outcomes ≡ Some (Accepts levels delay)

@@ -1,4 +1,5 @@
--- What was planned on a channel at its first hop, what of it was cancelled, and what its source has offered there. And what comes of a move, told by what its caller has learnt: how many packets stay with the channel that was left.
+-- What was planned on a channel at its first hop, how much of it was cancelled, and what its source has offered there. And what comes
+-- of a move, as its caller has learnt it: how many packets stay with the channel that was left.
 use Rattle.std.specs.Prelude.{◌≡◌, ◌≢◌, ℕ, ◌+◌, nat_eq, true, find, Option, Some, None, List, [], ◌∷◌, length, if◌then◌else◌}
 use Rattle.net_units.specs.Numbers.{link_number, actor_number, channel_number}
 use Rattle.traffic_contract.specs.Admission.{total}

@@ -91,7 +91,7 @@ delay_of first at run k start = reaches_at at start - arrived_at first run k
 
 -- ---- how far a hop is behind the first one
 
--- the ticks of a hop, each at most so much behind that of the hop before
+-- the ticks of a hop, each at most this much behind that of the hop before
 pub record IsBehind (shift : ℕ) (before ticks : List ℕ) : Type 0 where
   pub fewer : length ticks ≤ length before
   pub after : (k : ℕ) → k < length ticks → get_or ticks k 0 ≤ get_or before k 0 + shift

@@ -1,6 +1,6 @@
--- Which replies an ask gets in a run. A setup's asks are never refused but as a reserve is: for its packets, its level or its
--- buffer. An ask for packets is planned, or refused while planned packets are left or since its own are too large. A
--- release is answered. A packet that arrives is taken, or refused as stray or as finding no slot.
+-- Which replies an ask gets in a run. Of a setup's asks only a reserve may be refused: for its packets, its level or its buffer. An
+-- ask for packets is planned, or refused while planned packets are left or because its own are too large. A release is answered. A
+-- packet that arrives is taken, or refused as stray or as finding no slot.
 use Rattle.std.specs.Prelude.{◌≡◌, true}
 use Rattle.link_steps.specs.declared.asks.Ask.{Ask}
 use Rattle.link_steps.specs.declared.asks.Ask.TheVariants.{Reserve, Relax, Deny, Release, Arrive, Tick}
@@ -22,7 +22,7 @@ abbrev pub IsTicked : Reply → Type 0
 IsTicked (Ticked clock full sent best_sent best_lost) = Unit {0}
 IsTicked _ = ⊥
 
--- the ask gets one of its replies: the last clause is of the asks for packets
+-- the ask gets one of its replies: the last clause is for the asks for packets
 abbrev pub IsReplyOf : Ask → Reply → Type 0
 IsReplyOf (Reserve chan contract kind delay up_reach first next) reply = IsReserveReply reply
 IsReplyOf (Relax chan level up_bound) reply = IsRelaxed reply

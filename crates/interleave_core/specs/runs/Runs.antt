@@ -1,6 +1,6 @@
--- A run of a network lists what was done, newest first. Each entry is the next step of its actor, as this one's own replies
--- so far have it, and has the reply that the rules of the link give after the link's history so far. The actors are the
--- callers, by their numbers from 0 on, and then the plane. A run follows from the list of its actors.
+-- A run of a network lists what was done, newest first. Each entry is the next step of its actor, which follows from the actor's own
+-- replies so far, and has the reply that the rules of the link give after the link's history so far. The actors are the callers, by
+-- their numbers from 0 on, and then the plane. A run follows from the list of its actors.
 use Rattle.std.specs.Prelude.{◌≡◌, ℕ, nat_eq, if◌then◌else◌, Option, Some, None, List, [], ◌∷◌, length}
 use Rattle.std.specs.List.{slice_get}
 use Rattle.net_units.specs.Numbers.{link_number, actor_number}

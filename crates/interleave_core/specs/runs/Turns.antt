@@ -1,7 +1,7 @@
--- How many steps an actor has left at most. Its steps come to an end: each step that it makes leaves it fewer at most, whatever
--- the links reply, and the steps of the others leave it as many. A caller takes at most two steps a hop to open a request, one
--- step to send packets, and one a hop to close. The plane asks each link for one tick in each round, and a packet that
--- leaves with a tick arrives at most once more.
+-- The greatest number of steps that an actor may have left. Its steps come to an end: each step that it makes lowers that number,
+-- whatever the links reply, and the steps of the others leave it as it is. A caller takes at most two steps a hop to open a request,
+-- one step to send packets, one a hop to close, and one a hop and one more to move packets. The plane asks each link for one tick in
+-- each round, and a packet that leaves with a tick arrives at most once more.
 use Rattle.std.specs.Prelude.{suc, ◌≡◌, ◌≢◌, ℕ, ◌+◌, ◌*◌, ◌-◌, ◌<◌, nat_eq, if◌then◌else◌, IsSome, List, [], ◌∷◌, length}
 use Rattle.std.specs.List.{slice_get}
 use Rattle.net_units.specs.Numbers.{actor_number}
@@ -50,7 +50,7 @@ most_left network actor run =
 
 -- ---- the law
 
--- the actor makes one step, and has fewer left at most
+-- the actor makes one step, and the most that it may have left falls
 pub record MakesOne (network : Network) (actor : ActorNo) (past : List Done) : Type 0 where
   pub done : Done
   pub by : done.actor ≡ actor
@@ -60,5 +60,5 @@ pub record MakesOne (network : Network) (actor : ActorNo) (past : List Done) : T
 pub record StepsComeToAnEnd : Type 0 where
   -- an actor that has a step left makes one
   pub makes : (network : Network) (past : List Done) (actor : ActorNo) → NetworkFits network → IsRun network past → IsSome (next_for network (actor_number actor) past) → MakesOne network actor past
-  -- and the others have as many left at most as before
+  -- and the most that the others may have left stays as it was
   pub others : (network : Network) (past : List Done) (actor : ActorNo) (other : ℕ) → other ≢ actor_number actor → most_left network other (step network actor past) ≡ most_left network other past

@@ -104,7 +104,7 @@ abbrev pub run_of : List (List Stamped) → List Done
 run_of journals = map done_of (woven_of journals)
 
 pub record JournalsWeaveToARun : Type 0 where
-  -- the merge is in order of stamp, has what stands in a journal and nothing else, and its part on each link is that one's journal
+  -- the merge is in order of stamp, has what stands in a journal and nothing else, and its part on each link is that link's journal
   pub falls : (network : Network) (journals : List (List Stamped)) → AreJournals network journals → Falls (woven_of journals)
   pub stands : (journals : List (List Stamped)) (x : Stamped) → Among x (woven_of journals) → InOne x journals
   pub all : (journals : List (List Stamped)) (x : Stamped) → InOne x journals → Among x (woven_of journals)

@@ -24,7 +24,7 @@ use Rattle.interleave_core.specs.schedules.Schedules.{repeated, FollowsTurns}
 abbrev pub quiet_step : ActorNo → ℕ → ℕ → Done
 quiet_step plane t n = record { actor = plane; link = link_at n; ask = Tick; reply = quiet_reply t }
 
--- the run gone on by those of the first links in round t
+-- the run continued by those of the first links in round t
 unfoldable pub quiet_round : ActorNo → ℕ → ℕ → List Done → List Done
 quiet_round plane t zero run = run
 quiet_round plane t (suc links) run = quiet_step plane t links ∷ quiet_round plane t links run
@@ -37,7 +37,7 @@ quiet_rounds plane links t (suc n) run = quiet_round plane (t + n) links (quiet_
 abbrev pub the_plane : Network → ActorNo
 the_plane network = actor_at (plane_no network)
 
--- a run of a network gone on by n of them
+-- a run of a network continued by n of them
 abbrev pub rested : Network → ℕ → List Done → List Done
 rested network n run = quiet_rounds (the_plane network) (length network.links) (plane_at network run).round n run
 

@@ -1,5 +1,5 @@
--- An engine that rests: no packet reaches a link in the next n rounds, and nothing falls due in one. Then it makes these rounds in one
--- stride, and stands for its runs gone on by n quiet rounds.
+-- An engine that rests: no packet reaches a link in the next n rounds, and nothing falls due in a link. Then it makes these rounds in
+-- one stride, and stands for its runs continued by n quiet rounds.
 use Rattle.std.specs.Prelude.{◌≡◌, ℕ, ◌+◌, ◌<◌, ◌≤◌, Some, List, length}
 use Rattle.std.specs.List.{slice_get}
 use Rattle.link_quota.specs.Any.{any_clock, any_kept, any_rules, AnyStands}

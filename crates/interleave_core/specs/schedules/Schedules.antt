@@ -103,7 +103,7 @@ AsksTooMuch network schedule line made = StopsBy network schedule.written schedu
 
 -- ---- what playing answers
 
--- a fault is right: a step is missing where the schedule asks too much; of want of memory nothing is said
+-- a fault is right: a step is missing where the schedule asks too much; nothing is said of want of memory
 abbrev pub IsFaultOf : Network → Schedule → PlayFault → Type 0
 IsFaultOf network schedule Memory = Unit {0}
 IsFaultOf network schedule (Step line made) = AsksTooMuch network schedule line made

@@ -11,7 +11,7 @@ use std::alloc::Global;
 use std::process::Abort;
 use std::test::Fail;
 
-// So many steps of one actor.
+// This many steps of one actor.
 fn steps(core: &mut Core, plan: &Plan, actor: u8, count: u64) -> Result<(), Fail>
     requires { CoreStands plan.now core.old }
     ensures { OnOk result (CoreStands plan.now core.new) }
@@ -23,8 +23,8 @@ fn steps(core: &mut Core, plan: &Plan, actor: u8, count: u64) -> Result<(), Fail
     Ok(())
 }
 
-// What is told of the move from the channel of the request of this number, after so many ticks between the send and the move, and
-// so many steps of the move.
+// What is told of the move from the channel of the request of this number, after this many ticks between the send and the move, and
+// this many steps of the move.
 fn moved(alloc: Global, ticks: u64, moving: u64, number: usize) -> Result<Option<Shifted>, Fail> {
     let plan = plans::moved(alloc, 50)?;
     let mut core = Core::new(alloc, &plan)?;

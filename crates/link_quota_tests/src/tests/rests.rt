@@ -60,7 +60,7 @@ fn left(clock: u64, until: u64) -> Result<u64, Fail>
     Ok(until - clock)
 }
 
-// A link that makes ticks in which nothing falls due at once.
+// A link that makes at once the ticks in which nothing falls due.
 trait Stride: LinkStep {
     // Makes the ticks before the one until which it rests, and answers how many they are.
     fn stride(&mut self) -> Result<u64, Fail>;
@@ -84,7 +84,7 @@ impl Stride for AnyLink {
     }
 }
 
-// Whether so many ticks, made one by one, are quiet.
+// Whether this many ticks, made one by one, are quiet.
 fn are_quiet<L: LinkStep>(link: &mut L, ticks: u64) -> Result<bool, Fail> {
     for _tick in 0..ticks {
         let quiet = Reply::Ticked {
@@ -122,8 +122,8 @@ fn leave_alike<L: LinkStep, M: LinkStep>(
     Ok(Some(left))
 }
 
-// In how many of the twenty ticks after the next seven a packet leaves, where two links answer all of them alike, of which one makes the seven at
-// once and the other one by one.
+// In how many of the twenty ticks after the next seven a packet leaves, where two links answer all of them alike, of which one makes
+// the seven at once and the other one by one.
 fn leave_after_seven<L: Stride, M: LinkStep>(one: L, other: M) -> Result<Option<u64>, Fail> {
     let mut one = one;
     let mut other = other;

@@ -8,7 +8,7 @@ use std::sync::atomic::{AtomicU64, Ordering};
 use std::test::Fail;
 use std::thread;
 
-// Whether the last item is the plane's, of the number 2, for so many steps, and those before it are the callers'.
+// Whether the last item is the plane's, of the number 2, for this many steps, and those before it are the callers'.
 fn ends_with_plane(items: &[Do], steps: u64) -> bool {
     match items.split_last() {
         Some((last, callers)) => {

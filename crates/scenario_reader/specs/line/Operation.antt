@@ -1,4 +1,4 @@
--- The operations of a caller, of any kind: the line of each, and what one has to pass that is added.
+-- The operations of a caller, of any kind: the line of each, and what an operation has to pass to be added.
 use Rattle.std.specs.Prelude.{ℕ, Option, List, option_map, ◌≤◌, length}
 use Rattle.std.specs.List.{slice_get}
 use Rattle.net_units.specs.Numbers.{link_number, channel_number}

@@ -1,6 +1,6 @@
--- The line of a quota: quota LINK GROUP buffer U levels Q1 .. Qn. The group may have so many units of the link's buffer, and at each
--- level so much of its load. A group has one quota of a link at most. There are as many loads as the link has levels; and with
--- this quota those of the link leave room at each level for the blocking within its bound, and fit its buffer.
+-- The line of a quota: quota LINK GROUP buffer U levels Q1 .. Qn. The group may have U units of the link's buffer, and at each level
+-- the given part of its load. A group has at most one quota of a link. There are as many loads as the link has levels; and with this
+-- quota those of the link leave room at each level for the blocking within its bound, and fit its buffer.
 use Rattle.std.specs.Prelude.{ℕ, ◌&&◌, Bool, true, false, not, nat_eq, Option, Some, None, List, [], ◌∷◌, ◌++◌, length, map, drop, is_some, option_map, take, codes}
 use Rattle.net_units.specs.Limits.{most_bound, most_buffer}
 use Rattle.link_steps.specs.declared.quota.Quota.{Quota}

@@ -1,6 +1,6 @@
 -- The line of a request: open NAME route LINK1 .. LINKh contract XMIN XAVE I SMAX delay D, and then either rate or jitter J. From
--- version four on it may have from NODE1 to NODE2 in place of the route, which is then the least one between these nodes. Such a
--- line has three fields where the other has its links, so what stands behind has the same places in both.
+-- version four on it may have from NODE1 to NODE2 in place of the route, which is then the least one between these nodes. Such a line
+-- has three fields where the other has its links, so what follows has the same places in both.
 use Rattle.std.specs.Prelude.{ℕ, ◌+◌, Bool, nat_lt, not, ◌&&◌, ◌||◌, if◌then◌else◌, unwrap_or, Option, Some, None, List, [], ◌∷◌, length, map, take, drop, is_some, is_none, ◌++◌, codes}
 use Rattle.net_units.specs.Limits.{most_interval, most_requests, most_delay, most_size, most_gap}
 use Rattle.net_units.specs.Numbers.{actor_at, channel_at, link_number}
@@ -106,14 +106,14 @@ found_in said fields = route_between said.links (field_at fields 3) (field_at fi
 abbrev pub route_in : Said → List (List ℕ) → List Hop
 route_in said fields = if is_found fields then unwrap_or (found_in said fields) [] else hops_in said fields
 
--- the links of a route are known, each
+-- a link of a route is known
 abbrev pub route_link_rule : Said → List ℕ → Rule
 route_link_rule said field = used_name_rule (is_some (link_named said.links field)) field
 
 abbrev pub route_names_rule : Said → List (List ℕ) → Rule
 route_names_rule said route = first_cause (map (route_link_rule said) route)
 
--- so are the nodes
+-- so is a node
 abbrev pub node_rule : Said → List ℕ → Rule
 node_rule said field = used_name_rule (is_node said.links field) field
 

@@ -1,4 +1,4 @@
--- The line `schedule`, and those of its items behind it: do ACTOR COUNT. The actor is a caller or the plane.
+-- The line `schedule`, and those of its items after it: do ACTOR COUNT. The actor is a caller or the plane.
 use Rattle.std.specs.Prelude.{ℕ, Bool, nat_eq, if◌then◌else◌, Option, Some, None, List, [], ◌∷◌, length, option_map, codes, is_some, ◌≡◌, true, false, map}
 use Rattle.std.specs.Cmp.Lexicographic.{pointwise}
 use Rattle.call_script.specs.declared.schedule.Do.{Do}

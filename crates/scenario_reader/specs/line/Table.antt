@@ -1,6 +1,6 @@
--- The kinds of lines, each with the word that begins it, what may be read when it comes, what it says or the cause by which it is
--- refused, and what it may add. Best-effort packets have their forms from version three on, groups and quotas from version five on, and
--- moves from version six on; before them these forms don't exist.
+-- The kinds of lines, each with the word that begins it, when it may stand, what it says or the cause by which it is refused, and
+-- what it may add. Best-effort packets have their forms from version three on, groups and quotas from version five on, and moves from
+-- version six on; before those versions these forms don't exist.
 use Rattle.std.specs.Prelude.{ℕ, Bool, false, nat_eq, not, ◌&&◌, if◌then◌else◌, Option, Some, None, Result, Err, List, length, option_map, is_some, is_none, ◌≡◌}
 use Rattle.call_script.specs.Versions.{has_best_effort, has_groups, has_moves}
 use Rattle.call_script.specs.declared.version.Version.{Version}
@@ -83,7 +83,7 @@ judge_as word.Schedule version said number fields = judged (schedule_rule fields
 judge_as word.Do version said number fields = stated (do_rule said fields) (option_map item.Do (do_said said number fields))
 judge_as other version said number fields = Err cause.Word
 
--- what a line says that is let pass has these
+-- what a line that passes says has these
 abbrev pub MayAdd : Said → Item → Type 0
 MayAdd said item.Nothing = Unit {0}
 MayAdd said (item.Header version) = said.version ≡ None

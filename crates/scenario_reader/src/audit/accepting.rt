@@ -96,7 +96,7 @@ fn has_accept_words(line: &[u8]) -> bool
     Keyword::Delay.is(field(line, 2)) && Keyword::Levels.is(field(line, 4))
 }
 
-// The levels that the line tells, where they are one of the link for each hop.
+// The levels that the line tells, where they are levels of the links, one for each hop.
 fn levels_told(route: &Route, line: &[u8]) -> Option<Levels>
     ensures there { is_some result ≡ are_level_fields route.now (drop 5 (fields_of line.now)) }
     ensures value { IfSome result (λ levels. levels_of levels ≡ levels_told (fields_of line.now)) }

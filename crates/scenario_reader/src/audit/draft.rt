@@ -78,7 +78,7 @@ impl TakesLines for AuditDraft {
 }
 
 impl AuditDraft {
-    /// Before the first line. An `Err` comes only for want of memory.
+    /// Nothing has been read yet. An `Err` comes only for want of memory.
     pub fn new(alloc: Global) -> Result<AuditDraft, OutOfMemory>
         ensures { IfOk result (λ draft. draft ≡ nothing_read) }
     {
@@ -173,7 +173,7 @@ impl AuditDraft {
     }
 }
 
-// No levels of so many requests.
+// No levels of this many requests.
 fn no_levels(alloc: Global, count: usize) -> Result<Vec<Option<Levels>>, OutOfMemory>
     ensures { IfOk result (λ levels. levels.items ≡ replicate count None) }
 {

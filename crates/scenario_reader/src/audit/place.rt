@@ -1,4 +1,4 @@
-//! Where the reading of an audit's input has come.
+//! How far the reading of an audit's input has come.
 
 /// Which lines are read now.
 #[derive(Clone, Copy, Debug, PartialEq, Eq)]

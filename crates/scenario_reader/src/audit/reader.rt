@@ -17,9 +17,9 @@ use net_units::Levels;
 use run_record::HopRow;
 use std::alloc::Global;
 
-/// Reads an audit's input to its end, or up to the line that is refused: a scenario, the line `report`, the lines of a report, and its
-/// table of packets. The answer is the plan; one entry a request, the levels with which an `accept` line tells that it was accepted;
-/// and the rows of the table.
+/// Reads an audit's input to its end, or up to the line that is refused: a scenario, the line `report`, the lines of a report, and
+/// its table of packets. The answer is the plan; one entry a request, with the levels with which an `accept` line tells that it was
+/// accepted; and the rows of the table.
 ///
 /// The schedule is judged for its form and not used.
 pub fn read_audit<S: Source>(

@@ -17,7 +17,7 @@ use crate::values::{name, require};
 use net_units::{Name, OutOfMemory};
 use std::alloc::Global;
 
-// Groups of a plan.
+// The most groups that a plan may have.
 const MOST_GROUPS: usize = 4;
 
 const GROUP_FORM: [Part; 2] = [Part::Word(Keyword::Group), Part::Field];

@@ -45,7 +45,7 @@ pub(crate) struct Packets {
 }
 
 impl Draft {
-    // With these packets more, the load of all is within the limit.
+    // With these packets added, the load of all is within the limit.
     pub(crate) fn judge_load(&self, packets: u64) -> Result<(), Cause>
         requires { packets ≤ 4194304 }
         ensures { Judges result (load_rule self.now packets) tt }
@@ -146,7 +146,7 @@ pub(crate) fn judge_packets(line: &[u8]) -> Result<Packets, Cause>
     })
 }
 
-// Adds an operation after those of the last caller. Want of memory changes nothing.
+// Adds an operation after those of the last caller. Where memory runs out, nothing changes.
 pub(crate) fn add_op(callers: &mut Vec<CallerEntry>, op: Op) -> Result<(), OutOfMemory>
     requires { 1 ≤ length callers.old.items }
     ensures ok { OnOk result (callers.new.items ≡ add_op op callers.old.items) }
@@ -156,7 +156,7 @@ pub(crate) fn add_op(callers: &mut Vec<CallerEntry>, op: Op) -> Result<(), OutOf
     callers[last].ops.push(op)
 }
 
-// The line of an operation, where what it is of is there.
+// The line of an operation, where what the operation names is there.
 #[tactic(auto, unfolding(crate::specs::line::Operation::op_text))]
 pub(crate) fn op_line(
     alloc: Global,

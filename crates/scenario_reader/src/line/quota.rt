@@ -135,7 +135,7 @@ fn judge_loads(line: &[u8]) -> Result<[u32; MOST_LEVELS as usize], Cause>
     Ok(cells)
 }
 
-// Adds a quota to those of the link at this place. Want of memory changes nothing.
+// Adds a quota to those of the link at this place. Where memory runs out, nothing changes.
 fn add_quota(links: &mut Vec<LinkEntry>, place: usize, quota: Quota) -> Result<(), OutOfMemory>
     requires { place < length links.old.items }
     ensures ok { OnOk result (links.new.items ≡ add_quota place quota links.old.items) }

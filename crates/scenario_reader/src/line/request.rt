@@ -218,7 +218,7 @@ fn is_found_line(line: &[u8]) -> bool
     has_form(&FOUND_RATE_FORM, line) || has_form(&FOUND_JITTER_FORM, line)
 }
 
-// The field that stands so many places after the route, from 0: the word `contract` and what follows it.
+// The field that stands this many places after the route, from 0: the word `contract` and what follows it.
 fn after_route(line: &[u8], hops: usize, place: usize) -> &[u8]
     requires hops { hops ≡ route_hops (fields_of line.now) }
     requires few { hops ≤ 16 }
@@ -241,7 +241,7 @@ fn judge_terms(line: &[u8], hops: usize) -> Result<Option<Contract>, Cause>
     Ok(Contract::new(xmin as u32, xave as u32, interval as u32, smax as u32).ok())
 }
 
-// Delay-jitter control with its bound, where the line has one, and else rate-jitter control.
+// Delay-jitter control with its bound, where the line has one, or else rate-jitter control.
 fn judge_control(line: &[u8], hops: usize) -> Result<Control, Cause>
     requires hops { hops ≡ route_hops (fields_of line.now) }
     requires few { hops ≤ 16 }

@@ -87,7 +87,7 @@ impl Draft {
         !self.links.is_empty() && self.callers.is_empty() && self.rounds.is_none()
     }
 
-    /// Adds what a line says that was let pass. Want of memory changes nothing.
+    /// Adds what a line that passed says. Where memory runs out, nothing changes.
     pub fn put(&mut self, alloc: Global, item: Item) -> Result<(), OutOfMemory>
         requires { MayAdd self.old item }
         ensures ok { OnOk result (self.new ≡ with_item item self.old) }

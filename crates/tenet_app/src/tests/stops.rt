@@ -116,7 +116,7 @@ fn the_first_bad_line_is_refused(rt: HostRuntime) -> Result<(), Fail> {
     are_refused(&rt, rt.alloc(), &BAD_INPUTS)
 }
 
-// A header, and after it a line of so many bytes that doesn't end.
+// A header, and after it a line of this many bytes that doesn't end.
 fn header_and(alloc: Global, second: &[u8], bytes: usize) -> Result<Vec<u8>, Fail> {
     let mut input = Vec::from_slice(alloc, b"tenet 1\n")?;
     input.extend_from_slice(second)?;

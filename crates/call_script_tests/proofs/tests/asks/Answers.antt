@@ -1,4 +1,4 @@
--- The caller stands for one reply more.
+-- The caller stands for one more reply.
 use Rattle.std.proofs.Common.{◌∷◌}
 use Rattle.call_script_tests.proofs.tests.asks.Goals as goal
 

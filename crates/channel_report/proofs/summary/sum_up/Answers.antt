@@ -1,4 +1,4 @@
--- One request more.
+-- One more request.
 use Rattle.std.proofs.Common.{◌<◌, length, reverse, ◌∙◌}
 use Rattle.std.specs.Prelude.{option_map}
 use Rattle.interleave_core.proofs.Keeping.Lookups.{held}

@@ -1,4 +1,4 @@
--- The link of the entry has one entry more.
+-- The link of the entry has one more entry.
 use Rattle.std.proofs.Common.{◌<◌, length, sym, ap, subst, ◌∙◌, arith}
 use Rattle.link_steps.specs.Scan.{clock_of}
 use Rattle.run_record.specs.Runs.{part_of}

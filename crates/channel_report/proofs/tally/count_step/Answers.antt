@@ -1,4 +1,4 @@
--- The actor of the entry has one step more.
+-- The actor of the entry has one more step.
 use Rattle.std.proofs.Common.{◌∙◌, arith}
 use Rattle.channel_report.proofs.StepTallies.{replies-few, steps-more}
 use Rattle.channel_report.proofs.tally.count_step.Goals as goal

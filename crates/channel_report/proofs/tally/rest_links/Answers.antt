@@ -1,4 +1,4 @@
--- One link more has its ticks, and then all.
+-- One more link has its ticks, and then all.
 use Rattle.std.proofs.Common.{◌≡◌, get_or, refl, ap, arith}
 use Rattle.channel_report.specs.declared.link_tally.LinkTally.{LinkTally}
 use Rattle.channel_report.proofs.RestTallies.{rested-more}

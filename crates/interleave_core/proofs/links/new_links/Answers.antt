@@ -1,4 +1,4 @@
--- One link more, and then all.
+-- One more link, and then all.
 use Rattle.std.proofs.Common.{Some, sym, ap, subst, ◌∙◌, ◌≡◌, [], ◌∷◌, refl, length, arith}
 use Rattle.std.proofs.lemmas.List.{length-append}
 use Rattle.std.proofs.lemmas.Option.{slice_get_read}

@@ -1,4 +1,4 @@
--- One link more has rested, and then all.
+-- One more link has rested, and then all.
 use Rattle.std.proofs.Common.{◌+◌, ◌^◌, ◌<◌, ◌≤◌, length, get_or, refl, sym, subst, arith}
 use Rattle.link_quota.specs.Any.{any_clock}
 use Rattle.link_quota.specs.declared.any_link.AnyLink.{AnyLink}

@@ -1,4 +1,4 @@
--- One link more rests for as many ticks.
+-- One more link rests for as many ticks.
 use Rattle.std.proofs.Common.{arith}
 use Rattle.interleave_core.proofs.Watched.RestFacts.{least-more}
 use Rattle.interleave_core.proofs.links.ticks_at_rest.Goals as goal

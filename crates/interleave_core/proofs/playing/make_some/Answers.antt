@@ -1,4 +1,4 @@
--- A stride is so many turns of the plane, and a step is one.
+-- A stride is a number of turns of the plane, and a step is one.
 use Rattle.std.proofs.Common.{length, sym, ap, ◌∙◌, arith}
 use Rattle.interleave_core.proofs.Watched.StrideFacts.{links-some, plays-once}
 use Rattle.interleave_core.proofs.Watched.WatchFacts.{plays-none, plays-one}

@@ -1,4 +1,4 @@
--- One actor more has played out.
+-- One more actor has played out.
 use Rattle.std.proofs.Common.{◌≡◌, length, refl, ap, ◌∙◌, arith}
 use Rattle.interleave_core.proofs.Keeping.StepFacts.{callers-few}
 use Rattle.interleave_core.proofs.Watched.WatchFacts.{none-yet, one-out}

@@ -1,4 +1,4 @@
--- One item more, or the first that asks for a step that isn't left.
+-- One more item, or the first that asks for a step that isn't left.
 use Rattle.std.proofs.Common.{refl, ◌∙◌}
 use Rattle.std.proofs.lemmas.Result.{err_from_is_err_and}
 use Rattle.call_script.specs.Tasks.{network_of}

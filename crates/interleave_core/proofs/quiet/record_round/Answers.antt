@@ -1,4 +1,4 @@
--- One tick more is recorded.
+-- One more tick is recorded.
 use Rattle.std.proofs.Common.{◌-◌, ◌∷◌, reverse, refl, ap, ◌∙◌}
 use Rattle.interleave_core.specs.schedules.Quiet.{quiet_step}
 use Rattle.interleave_core.proofs.Keeping.StepFacts.{recorded}

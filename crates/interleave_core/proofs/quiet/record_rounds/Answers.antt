@@ -1,4 +1,4 @@
--- One round more is recorded.
+-- One more round is recorded.
 use Rattle.std.proofs.Common.{◌+◌, reverse, refl, ap, ◌∙◌}
 use Rattle.interleave_core.specs.schedules.Quiet.{quiet_round}
 use Rattle.interleave_core.proofs.Watched.StrideFacts.{no-rounds, rounds-more}

@@ -1,4 +1,4 @@
--- The rounds are turns of the plane, and what watches has seen them.
+-- The rounds are turns of the plane, and the watcher has seen them.
 use Rattle.interleave_core.proofs.Watched.StrideFacts.{plays-rest, rest-seen}
 use Rattle.interleave_core.proofs.watching.stride_watched.Goals as goal
 

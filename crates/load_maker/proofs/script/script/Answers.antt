@@ -1,4 +1,4 @@
--- One request more, if it is the caller's.
+-- One more request, if it is the caller's.
 use Rattle.std.proofs.Common.{◌∙◌, length, ap, refl}
 use Rattle.load_maker.proofs.MakeFacts.{no-requests, no-ops, no-draws, draws-more, chan-small, place-small, requests-more, ops-more, requests-stay, ops-stay}
 use Rattle.load_maker.specs.Made.{request_entry_of}

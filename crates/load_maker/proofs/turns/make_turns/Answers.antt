@@ -1,4 +1,4 @@
--- One turn more, until nobody has a step left. A run is too short for the loop to end before.
+-- One more turn, until nobody has a step left. A run is too short for the loop to end before.
 use Rattle.std.proofs.Common.{refl, ◌∙◌, arith}
 use Rattle.load_maker.proofs.SeenFacts.{circle-at, no-turns, one-turn, never-ending, next-within}
 use Rattle.load_maker.proofs.turns.make_turns.Goals as goal

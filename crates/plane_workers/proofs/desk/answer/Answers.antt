@@ -1,4 +1,4 @@
--- Nothing is asked yet, and then one ask more is answered.
+-- Nothing is asked yet, and then one more ask is answered.
 use Rattle.std.proofs.Common.{List, [], ◌∷◌, ◌++◌, sym, ap, ◌∙◌, subst, arith}
 use Rattle.link_steps.specs.declared.replies.Reply.{Reply}
 use Rattle.plane_workers.specs.Answered.{IsAnswered}

@@ -1,4 +1,4 @@
--- One route more.
+-- One more route.
 use Rattle.std.proofs.Common.{◌+◌, List, ◌∷◌, [], take, sym, subst, arith}
 use Rattle.call_script.proofs.Walks.{before-at}
 use Rattle.call_script.specs.declared.entries.RequestEntry.{RequestEntry}

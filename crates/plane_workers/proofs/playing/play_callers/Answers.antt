@@ -1,4 +1,4 @@
--- One caller more has played out, and then all.
+-- One more caller has played out, and then all.
 use Rattle.std.proofs.Common.{◌≡◌, length, refl, ap, ◌∙◌, arith}
 use Rattle.interleave_core.proofs.Keeping.StepFacts.{callers-few}
 use Rattle.interleave_core.proofs.Watched.WatchFacts.{none-yet, one-out}

@@ -1,4 +1,4 @@
--- The caller with one reply more.
+-- The caller with one more reply.
 use Rattle.std.proofs.Common.{◌∙◌, ap, subst, option_map, IsSome}
 use Rattle.call_script.specs.Scripts.{Standing, ask_at, standing}
 use Rattle.call_script.specs.Standing.{requests_of}

@@ -1,4 +1,4 @@
--- Each part of the tally has the entry more.
+-- Each part of the tally has the new entry.
 use Rattle.std.proofs.Common.{◌≡◌, [], ◌∷◌, ◌++◌, refl, reverse, sym, subst, arith}
 use Rattle.std.proofs.lemmas.List.{reverse-append}
 use Rattle.interleave_core.proofs.Runs.RunLength.{run-short}

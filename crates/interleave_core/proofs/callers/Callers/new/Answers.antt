@@ -1,4 +1,4 @@
--- One caller more, and then all.
+-- One more caller, and then all.
 use Rattle.std.proofs.Common.{sym, ap, subst, ◌∙◌, ◌≡◌, [], ◌∷◌, length, arith}
 use Rattle.std.proofs.lemmas.List.{length-append}
 use Rattle.interleave_core.proofs.Keeping.ActorFacts.{CallersMade, one-made, all-made}
