@@ -19,7 +19,7 @@ use Rattle.setup_protocol.specs.declared.request.Request.{Request}
 use Rattle.call_script.specs.declared.tasks.Task.{Task}
 use Rattle.call_script.specs.declared.tasks.Task.TheVariants.{Opens, Sends, Closes, Moves}
 
--- what a caller has learnt: what a request has come to; that packets were planned on a channel, one each gap, of this size; or
+-- what a caller has learnt: what a request has come to; that packets were planned on a channel, one every gap, of this size; or
 -- that a move was made from one channel to another, whose packets have this gap and size
 pub data Learnt : Type 0 where
   Settles : ChanNo → Outcome → Learnt

@@ -28,7 +28,7 @@ pub(crate) struct Attributes {
 pub(crate) enum Amount {
     // None.
     Nothing,
-    // This many, one each gap, of this size.
+    // This many, one every gap, of this size.
     Fresh { count: u64, gap: u64, size: u32 },
     // As many as the request of a channel has to carry.
     Carried(ChanNo),

@@ -9,7 +9,7 @@ use std::marker::Model;
 pub enum Op {
     /// Open a channel: its request is set up.
     Open(ChanNo),
-    /// Send `count` packets of `size` units on an established channel, the first at once and then one each `gap` ticks.
+    /// Send `count` packets of `size` units on an established channel, the first at once and then one every `gap` ticks.
     /// The count is from 1 to 262,144, the gap from 1 to 1,048,576 ticks, and the size from 1 to 65,536 units.
     Send {
         chan: ChanNo,

@@ -17,7 +17,7 @@ pub enum Task {
     },
     /// Release the request's channel, hop by hop.
     Closes(Request),
-    /// Move what is planned on one request's channel to the other's. The packets have this size, one each gap.
+    /// Move what is planned on one request's channel to the other's. The packets have this size, one every gap.
     Moves {
         old: Request,
         new: Request,

@@ -1,5 +1,5 @@
 -- What a run tells of the source of a channel, by the history of its first link. A submit that was answered plans packets: one at the
--- tick of the answer, and then one each gap. A release that was answered cancels those whose tick the link hadn't made yet. Those
+-- tick of the answer, and then one every gap. A release that was answered cancels those whose tick the link hadn't made yet. Those
 -- that are left and whose tick the link has made are what the source has offered, including packets that found no slot and were
 -- dropped. A send is refused while planned packets are left, or because its packets are too large.
 use Rattle.std.specs.Prelude.{ℕ, zero, suc, ◌+◌, Bool, nat_eq, nat_lt, if◌then◌else◌, Option, Some, None, List, [], ◌∷◌, ◌++◌, filter}
@@ -33,7 +33,7 @@ chan_of Nothing = None
 abbrev pub is_channel : ℕ → ChanNo → Bool
 is_channel number chan = nat_eq (channel_number chan) number
 
--- a count of ticks, the first at u and then one each gap
+-- a count of ticks, the first at u and then one every gap
 abbrev pub ticks_from : ℕ → ℕ → ℕ → List ℕ
 ticks_from u gap zero = []
 ticks_from u gap (suc count) = u ∷ ticks_from (u + gap) gap count

@@ -58,7 +58,7 @@ impl ChannelTally {
         }
     }
 
-    // Plans `count` packets, the first at a tick and then one each gap.
+    // Plans `count` packets, the first at a tick and then one every gap.
     fn plan(&mut self, tick: u64, gap: u64, count: u64) -> Result<(), OutOfMemory>
         ensures ticks { OnOk result (self.new.ticks.items ≡ self.old.ticks.items ++ filter (is_made never) (ticks_from tick gap count)) }
         ensures refused { self.new.refused ≡ self.old.refused }

@@ -8,7 +8,7 @@ use net_units::ChanNo;
 // What an entry does for the source of a channel.
 #[derive(Clone, Copy)]
 pub(crate) enum Act {
-    // This many packets are planned, the first at a tick and then one each gap.
+    // This many packets are planned, the first at a tick and then one every gap.
     Plans {
         chan: ChanNo,
         tick: u64,

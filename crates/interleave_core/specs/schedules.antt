@@ -1,4 +1,4 @@
--- How a schedule is played, what stands for the run meanwhile, and what watches it.
+-- How a schedule is played, what stands for the run meanwhile, and its watcher.
 pub mod Standing
 pub mod Schedules
 pub mod Watching

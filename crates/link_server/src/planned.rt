@@ -1,7 +1,7 @@
 //! The packets that are planned and left: those of a row's source, or best-effort packets.
 ghost use Rattle.std.specs.Prelude.{◌≡◌, ◌+◌, ◌*◌, ◌^◌, ◌<◌, ◌≤◌, false, None, find, IfSome};
 
-// The first at `tick`, and then one each `gap` ticks, `count` in all, each of `size` units.
+// The first at `tick`, and then one every `gap` ticks, `count` in all, each of `size` units.
 #[derive(Clone, Copy)]
 pub(crate) struct Planned {
     pub(crate) tick: u64,

@@ -75,7 +75,7 @@ is_changed chan (Closes first count) row = is_row_at_hop chan first row
 -- ---- an effect
 
 -- a row with this reservation is added; a channel's row is changed, or taken out; this row takes a packet; a tick passes;
--- a count of best-effort packets is planned, one each gap, of a size; or nothing
+-- a count of best-effort packets is planned, one every gap, of a size; or nothing
 pub data Effect : Type 0 where
   Adds : Reservation → Effect
   Changes : ChanNo → Change → Effect

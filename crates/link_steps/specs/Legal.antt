@@ -26,7 +26,7 @@ pub record RelaxFits (levels level up_bound : ℕ) : Type 0 where
   pub level_most : level ≤ levels
   pub bound_most : up_bound ≤ most_bound
 
--- on a submit of `count` packets, one each gap, of this size
+-- on a submit of `count` packets, one every gap, of this size
 pub record SubmitFits (count gap size : ℕ) : Type 0 where
   pub count_least : 1 ≤ count
   pub count_most : count ≤ most_packets

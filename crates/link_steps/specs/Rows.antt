@@ -27,7 +27,7 @@ row_terms row = row.terms
 abbrev pub new_row : Reservation → Row
 new_row terms = record { terms = terms; lead = 0; ticks = []; plan = []; dropped = [] }
 
--- `count` packets of one size, the first at tick u and then one each gap
+-- `count` packets of one size, the first at tick u and then one every gap
 unfoldable pub planned_from : ℕ → ℕ → ℕ → ℕ → List SourcePacket
 planned_from u gap size zero = []
 planned_from u gap size (suc count) = record { tick = u; size = size } ∷ planned_from (u + gap) gap size count

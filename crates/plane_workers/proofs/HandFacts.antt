@@ -87,6 +87,6 @@ module _ {X : Type 0} (rules : X → Link) (stands : X → List Entry → Type 0
   hand-goes = one-goes rules stands left parts from until old plane run is early link ask hands.asked actor by reply new hands.before hands.after hands.found hands.told
 
   module _ {W : Type 0} (saw : W → PlanParts → List Done → Type 0) where
-    -- what watches sees it next
+    -- the watcher sees it next
     pub hand-seen : (watch : W) → saw watch parts run → IsNextSeen saw parts watch run done
     hand-seen watch seen = record { plan = is.plan; run = is.run_is; next = hand-next; seen = seen }

@@ -102,7 +102,7 @@ between-again rules stands left parts gap from until links plane run keeps is ov
   keeps = keeps;
 }
 
--- ---- what watches has seen the run
+-- ---- the watcher has seen the run
 
 module _ {X W : Type 0} (rules : X → Link) (stands : X → List Entry → Type 0) (left : X → List Reply) (saw : W → PlanParts → List Done → Type 0) (parts : PlanParts) (gap from until : ℕ) where
   pub seen-begins : (links new : List X) (plane : KeptPlane) (watch : W) (run : List Done) → SeenBetween rules stands saw parts gap links plane watch run → from ≡ plane.at.round → until ≤ plane.at.round + gap + 1 → plane.at.round < until → until ≤ plane.rounds → length new ≡ length links
