@@ -24,8 +24,8 @@ use std::thread::Threads;
 ///
 /// `play` is accepted alone, or with `--packets` before or after it. It reads a scenario, plays its schedule, and writes the report
 /// of its run, with the table of packets where it is asked for. `play --workers N` is accepted, too, with N from 1 to 16, and with
-/// `--packets` at any place beside it but before N. It writes the same bytes, whatever N is, and N workers make the rounds of the
-/// plane.
+/// `--packets` at any place beside it but before N. It writes the same bytes, whatever N is, and at most N workers make the rounds of
+/// the plane.
 ///
 /// `race` is accepted alone, or with `--packets` before or after it. It reads a scenario and makes a race of its plan: each caller
 /// and the plane make their steps in a thread of their own, where the machine can start one. It writes the schedule that the race has
