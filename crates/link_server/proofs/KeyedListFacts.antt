@@ -1,17 +1,18 @@
 -- The values under the keys of a list, as one is changed, comes, or leaves.
-use Rattle.std.proofs.Common.{◌≡◌, ◌≢◌, ℕ, zero, suc, ◌+◌, ◌<◌, List, [], ◌∷◌, ◌++◌, Option, Some, None, IsSome, is_some, count_by, length, get_or, set, remove, refl, sym, ap, ◌∙◌, subst, true≢false, cond, inl, inr, arith}
+use Rattle.std.proofs.Common.{◌≡◌, ◌≢◌, ℕ, zero, suc, ◌+◌, ◌<◌, ◌≤◌, List, [], ◌∷◌, ◌++◌, Option, Some, None, IsSome, is_some, count_by, length, get_or, set, remove, refl, sym, ap, ◌∙◌, subst, true≢false, cond, inl, inr, arith}
 use Rattle.std.proofs.lemmas.List.{get_or-set_same, get_or-set_other, get_or_past, length-append}
 use Rattle.std.proofs.lemmas.List.Elements.{filter_map-append}
 use Rattle.std.proofs.lemmas.List.Edits.{length-remove}
 use Rattle.std.proofs.lemmas.List.Sums.{sum_by-set}
-use Rattle.std.proofs.lemmas.Bool.{cases_lt, cases_eq}
+use Rattle.std.proofs.lemmas.Bool.{cases_Bool, cases_lt, cases_eq, eqb-false}
+use Rattle.std.specs.Prelude.{nat_eq}
 use Rattle.slab.specs.Slab.{Slab, Updates, get}
 use Rattle.std.specs.List.{cons_option}
-use Rattle.link_server.specs.KeyedList.{slot_at, items_at, AreHeld, IsNoneOf, AreApart, AreKeys}
+use Rattle.link_server.specs.KeyedList.{Listed, position, slot_at, items_at, AreHeld, IsNoneOf, AreApart, AreKeys}
 
 -- ---- keys that stand once
 
-apart-last : (key : ℕ) (keys : List ℕ) → IsNoneOf keys key → AreApart keys → AreApart (keys ++ key ∷ [])
+pub apart-last : (key : ℕ) (keys : List ℕ) → IsNoneOf keys key → AreApart keys → AreApart (keys ++ key ∷ [])
 apart-last key [] none apart = (tt, tt)
 apart-last key (other ∷ keys) none apart = (last keys apart.0, apart-last key keys none.1 apart.1) where
   last : (keys : List ℕ) → IsNoneOf keys other → IsNoneOf (keys ++ key ∷ []) other
@@ -23,7 +24,7 @@ none-left other [] place inside none = absurd (omega (arith, inside))
 none-left other (k ∷ keys) zero inside none = none.1
 none-left other (k ∷ keys) (suc place) inside none = (none.0, none-left other keys place (omega (arith, inside)) none.1)
 
-apart-left : (keys : List ℕ) (place : ℕ) → place < length keys → AreApart keys → AreApart (remove keys place)
+pub apart-left : (keys : List ℕ) (place : ℕ) → place < length keys → AreApart keys → AreApart (remove keys place)
 apart-left [] place inside apart = absurd (omega (arith, inside))
 apart-left (k ∷ keys) zero inside apart = apart.1
 apart-left (k ∷ keys) (suc place) inside apart = (none-left k keys place (omega (arith, inside)) apart.0, apart-left keys place (omega (arith, inside)) apart.1)
@@ -37,6 +38,16 @@ left-none (k ∷ keys) (suc place) d inside apart = (other keys place apart.0 (o
   other [] place none inside = absurd (omega (arith, inside))
   other (j ∷ keys) zero none inside = λ same. none.0 (sym same)
   other (j ∷ keys) (suc place) none inside = other keys place none.1 (omega (arith, inside))
+
+-- a key that stands past them all is none of them
+none-of : (keys : List ℕ) (key : ℕ) → length keys ≤ position keys key → IsNoneOf keys key
+unfolding position
+none-of [] key past = tt
+none-of (other ∷ keys) key past =
+    elim (cases_Bool (nat_eq other key)) [
+      | inl same ↦ absurd (let here = rw same at past in omega (arith, here))
+      | inr not ↦ (let later = rw not at past in ((λ same. eqb-false other key not same), none-of keys key (omega (arith, later))))
+    ]
 
 module _ {T : Type 0} where
   -- ---- each key has a value
@@ -63,6 +74,13 @@ module _ {T : Type 0} where
     one None some rest = absurd (true≢false (sym some))
     one (Some first) some rest = rest
 
+  -- a key that is seen among the others stands among them
+  pub key-inside : (slots : List (Option T)) (keys : List ℕ) (spare key : ℕ) (list : Listed T) → AreKeys slots keys → record { items = items_at slots keys; keys = keys; spare = spare } ≡ list → position list.keys key < length list.items → position keys key < length keys
+  key-inside slots keys spare key list are same inside =
+      let long = length-items slots keys are.held in
+      let own = subst (λ (l : Listed T). position l.keys key < length l.items) (sym same) inside in
+      omega (arith, own, long)
+
   -- ---- other keys keep their values
 
   abbrev SameBut : List (Option T) → List (Option T) → ℕ → Type 0
@@ -79,23 +97,23 @@ module _ {T : Type 0} where
 
   -- ---- one is changed
 
-  module _ (slots : List (Option T)) (key : ℕ) (value : T) where
-    -- where it has a value, the key is one of the slots
-    slot-inside : IsSome (slot_at slots key) → key < length slots
-    slot-inside some = elim (cases_lt key (length slots)) [
-      | inl inside ↦ inside
-      | inr past ↦ absurd (true≢false (sym some ∙ ap is_some (get_or_past slots key None past)))
-    ]
+  -- where it has a value, the key is one of the slots
+  some-inside : (slots : List (Option T)) (key : ℕ) → IsSome (slot_at slots key) → key < length slots
+  some-inside slots key some = elim (cases_lt key (length slots)) [
+    | inl inside ↦ inside
+    | inr past ↦ absurd (true≢false (sym some ∙ ap is_some (get_or_past slots key None past)))
+  ]
 
+  module _ (slots : List (Option T)) (key : ℕ) (value : T) where
     slot-set : IsSome (slot_at slots key) → slot_at (set slots key (Some value)) key ≡ Some value
-    slot-set some = get_or-set_same slots key (Some value) None (slot-inside some)
+    slot-set some = get_or-set_same slots key (Some value) None (some-inside slots key some)
 
     slot-others : SameBut slots (set slots key (Some value)) key
     slot-others other apart = get_or-set_other slots key other (Some value) None apart
 
     count-set : IsSome (slot_at slots key) → count_by is_some (set slots key (Some value)) ≡ count_by is_some slots
     count-set some =
-        let was = sum_by-set (λ (slot : Option T). cond (is_some slot) 1 0) slots key (Some value) None (slot-inside some) in
+        let was = sum_by-set (λ (slot : Option T). cond (is_some slot) 1 0) slots key (Some value) None (some-inside slots key some) in
         let one = ap {B = ℕ} (λ b. cond b 1 0) some in
         omega (arith, was, one)
 
@@ -138,6 +156,23 @@ module _ {T : Type 0} where
     whole = count-set slots (get_or keys place d) value (held-at slots keys place d are.held inside) ∙ are.whole;
   }
 
+  -- ---- a key with a value is one of theirs
+
+  -- as many slots have a value as these keys at least, which are apart
+  many : (keys : List ℕ) (slots : List (Option T)) → AreHeld slots keys → AreApart keys → length keys ≤ count_by is_some slots
+  many [] slots held apart = omega arith
+  many (key ∷ keys) slots held apart =
+      let rest = many keys (set slots key None) (same-held slots (set slots key None) key (λ other not. get_or-set_other slots key other None None not) keys apart.0 held.1) apart.1 in
+      let fewer = sum_by-set (λ (slot : Option T). cond (is_some slot) 1 0) slots key None None (some-inside slots key held.0) in
+      let one = ap {B = ℕ} (λ b. cond b 1 0) held.0 in
+      omega (arith, rest, fewer, one)
+
+  pub some-listed : (slots : List (Option T)) (keys : List ℕ) (key : ℕ) → AreKeys slots keys → IsSome (slot_at slots key) → position keys key < length keys
+  some-listed slots keys key are some = elim (cases_lt (position keys key) (length keys)) [
+    | inl inside ↦ inside
+    | inr past ↦ absurd (let more = many (key ∷ keys) slots (some, are.held) (none-of keys key past, are.apart) in let whole = are.whole in omega (arith, more, whole))
+  ]
+
   -- ---- one comes
 
   -- a key without a value is none of theirs
@@ -150,7 +185,7 @@ module _ {T : Type 0} where
   held-last slots key some (other ∷ keys) held = (held.0, held-last slots key some keys held.1)
 
   module _ (old new : Slab T) (key : ℕ) (value : T) (keys : List ℕ) (are : AreKeys old.slots keys) (vacant : get old key ≡ None) (updates : Updates old new key (Some value)) where
-    none-yet : IsNoneOf keys key
+    pub none-yet : IsNoneOf keys key
     none-yet = vacant-none old.slots key vacant keys are.held
 
     pub items-came : items_at new.slots (keys ++ key ∷ []) ≡ items_at old.slots keys ++ value ∷ []

@@ -10,4 +10,5 @@ pub mod Departed
 pub mod StepFacts
 pub mod ChosenFacts
 mod KeyedListFacts
+mod KeyPlaces
 pub mod RestFacts

@@ -1,28 +1,29 @@
--- A row of a table is changed at its place. Here is what a change asks of the row there.
-use Rattle.std.specs.Prelude.{◌≡◌, ℕ, zero, suc, ◌+◌, ◌-◌, ◌<◌, ◌≤◌, ◌^◌, true, None, IfSome, List, [], ◌∷◌, find, length, map, slice_get}
+-- A row of a table is found and changed by its channel. Here is what a change asks of the row.
+use Rattle.std.specs.Prelude.{◌≡◌, ℕ, ◌+◌, ◌-◌, ◌<◌, ◌≤◌, ◌^◌, Bool, true, Some, None, List, [], find, length, map}
 use Rattle.net_units.specs.Numbers.{level_number}
+use Rattle.net_units.specs.declared.numbers.ChanNo.{ChanNo}
 use Rattle.net_units.specs.declared.numbers.Level.{Level}
 use Rattle.traffic_contract.specs.Admission.{total, admits}
 use Rattle.traffic_contract.specs.Eligible.{newest}
 use Rattle.link_steps.specs.declared.replies.Phase.TheVariants.{Tentative, Committed}
 use Rattle.link_steps.specs.Buffer.{slots_of, kept_units}
-use Rattle.link_steps.specs.Kept.{KeptRow, is_kept_of, kept_terms, kept_arrived_row}
+use Rattle.link_steps.specs.Kept.{KeptRow, is_kept_of, is_kept_at_hop, kept_terms, kept_arrived_row}
 use Rattle.link_steps.specs.declared.asks.Packet.{Packet}
 use Rattle.link_steps.specs.Refusals.{not_in_phase}
 use Rattle.link_steps.specs.Reservation.{admitted, committed}
 use Rattle.link_server.specs.KeptTable.{KeptTable}
 use Rattle.link_server.specs.Strays.{stray}
 
--- the rows with the one at a place changed
-unfoldable pub changed_at : {X : Type 0} → (X → X) → List X → ℕ → List X
-changed_at change [] i = []
-changed_at change (x ∷ xs) zero = change x ∷ xs
-changed_at change (x ∷ xs) (suc i) = x ∷ changed_at change xs i
+-- the channel has a row, and P holds of it
+pub record HasRow (P : KeptRow → Type 0) (chan : ChanNo) (rows : List KeptRow) : Type 0 where
+  pub row : KeptRow
+  pub found : find (is_kept_of chan) rows ≡ Some row
+  pub holds : P row
 
--- P holds of the row at the place, and there is one
-pub record HasAt (P : KeptRow → Type 0) (rows : List KeptRow) (i : ℕ) : Type 0 where
-  pub inside : i < length rows
-  pub holds : IfSome (slice_get rows i) P
+-- it is this row, and it is at its first hop, or at a later one
+pub record IsRowAtHop (chan : ChanNo) (first : Bool) (rows : List KeptRow) (row : KeptRow) : Type 0 where
+  pub found : find (is_kept_of chan) rows ≡ Some row
+  pub at_hop : is_kept_at_hop chan first row ≡ true
 
 -- the row is tentative, and may be committed at the level with that bound before: it has no more slots then
 pub record MayCommit (bounds : List ℕ) (level : Level) (up_bound : ℕ) (row : KeptRow) : Type 0 where

@@ -2,7 +2,7 @@
 -- the tick of the next one, with the number of the row's channel. So a tick looks only at the rows of the entries that are due.
 -- These take their turns in the order of the rows, whatever the order of their entries. An entry that no longer belongs to a
 -- row means nothing. For each row that has no packet left and isn't closing, the calendar keeps room for one entry.
-use Rattle.std.specs.Prelude.{◌≡◌, ℕ, suc, ◌+◌, ◌<◌, ◌≤◌, Bool, true, false, not, nat_eq, ◌&&◌, if◌then◌else◌, Some, None, is_none, find, List, [], ◌∷◌, map, length, slice_index_or}
+use Rattle.std.specs.Prelude.{◌≡◌, ℕ, ◌+◌, ◌<◌, ◌≤◌, Bool, true, false, not, nat_eq, ◌&&◌, if◌then◌else◌, Some, None, is_none, find, List, map, length, slice_index_or}
 use Rattle.std.specs.List.{list_any}
 use Rattle.net_units.specs.Numbers.{channel_number}
 use Rattle.traffic_contract.specs.Admission.{total}
@@ -14,6 +14,7 @@ use Rattle.link_steps.specs.Rows.{is_for}
 use Rattle.tick_calendar.specs.Calendar.{Entry, Schedule}
 use Rattle.link_server.specs.declared.table.served_row.ServedRow.{ServedRow}
 use Rattle.link_server.specs.Index.{channel_in}
+use Rattle.link_server.specs.KeyedList.{AreRising}
 use Rattle.link_server.specs.Planned.{IsPlannedFrom, first_tick}
 use Rattle.link_server.specs.Rows.{row_in}
 
@@ -40,11 +41,6 @@ pub record ArePlanned (clock : ℕ) (plans : Schedule) (rows : List KeptRow) : T
   pub begun : plans.clock ≤ clock
   pub told : Each (IsTold plans.entries) rows
   pub room : idle_in rows ≤ plans.spare
-
--- these places rise, from `low` on, and stay below `high`
-abbrev pub AreRising : ℕ → ℕ → List ℕ → Type 0
-AreRising low high [] = low ≤ high
-AreRising low high (place ∷ places) = (low ≤ place) × AreRising (suc place) high places
 
 -- whether the place is one of them
 abbrev pub is_turn : List ℕ → ℕ → Bool

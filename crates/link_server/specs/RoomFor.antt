@@ -15,9 +15,9 @@ pub record IsWider (old new : Schedule) : Type 0 where
   pub wider : old.spare ≤ new.spare
 
 -- there is room for one row more, of this channel
-pub record HasRoomFor (chan : ChanNo) (rows : Listed ServedRow) (places : List ℕ) (holds : Schedule) (plans : Plans) (sums : Sums) : Type 0 where
-  pub row : length rows.items < rows.room
-  pub place : channel_number chan < length places
+pub record HasRoomFor (chan : ChanNo) (rows : Listed ServedRow) (index : List ℕ) (holds : Schedule) (plans : Plans) (sums : Sums) : Type 0 where
+  pub row : 0 < rows.spare
+  pub place : channel_number chan < length index
   pub hold : length rows.items + 1 ≤ holds.spare
   pub planned : length rows.items + 1 ≤ plans.calendar.spare
   pub turn : length rows.items + 1 ≤ vec_capacity plans.turns

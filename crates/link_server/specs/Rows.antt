@@ -10,6 +10,7 @@ use Rattle.rcsp_admission.specs.Sums.{Held, held_at}
 use Rattle.link_steps.specs.Kept.{KeptRow}
 use Rattle.link_steps.specs.Reservation.{Reservation, is_of, is_at_hop}
 use Rattle.link_server.specs.declared.table.served_row.ServedRow.{ServedRow}
+use Rattle.link_server.specs.KeyedList.{Listed, position}
 use Rattle.link_server.specs.Planned.{left_in}
 
 -- the reservation of a row
@@ -60,6 +61,10 @@ IsAbsent chan rows = NoRowPasses (is_served_row_of chan) rows
 -- the channel's row stands at place i
 abbrev pub IsPlaceOf : ChanNo → List ServedRow → ℕ → Type 0
 IsPlaceOf chan rows i = IsFirstPlace (is_served_row_of chan) rows i
+
+-- it stands under this key
+abbrev pub IsKeyOf : ChanNo → Listed ServedRow → ℕ → Type 0
+IsKeyOf chan list key = IsPlaceOf chan list.items (position list.keys key)
 
 -- the level and the reach of a row are among the first `levels` levels
 pub record IsWithinLevels (levels : ℕ) (row : ServedRow) : Type 0 where

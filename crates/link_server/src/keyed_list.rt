@@ -1,11 +1,11 @@
 //! A list whose values stand in a slab, each under a key.
-ghost use Rattle.std.specs.Prelude.{◌≡◌, ◌≤◌, ◌<◌, ◌++◌, ◌∷◌, [], IsOk, OnOk, length, remove, slice_index_or};
+ghost use Rattle.std.specs.Prelude.{◌≡◌, ◌≤◌, ◌<◌, ◌-◌, ◌++◌, ◌∷◌, [], ℕ, List, IfNone, IfSome, OnOk, length, remove, slice_index_or};
 ghost use Rattle.std.specs.Borrow.{sem};
+ghost use Rattle.link_server.specs.KeyedList.{AreStamps, IsNoneOf, IsUnder, position};
 
 use net_units::OutOfMemory;
 use slab::Slab;
 use std::alloc::Global;
-use std::collections::VecDeque;
 use std::marker::Model;
 use std::ops::{Index, IndexMut};
 
@@ -14,34 +14,43 @@ use std::ops::{Index, IndexMut};
 pub(crate) struct KeyedList<T> {
     slots: Slab<T>,
     // The keys of all values, in the order of the list.
-    keys: VecDeque<usize>,
-    // For how many values there is room.
-    room: usize,
+    keys: Vec<usize>,
+    // Their stamps, in that order, in which they rise: so the place of a value is found by its stamp.
+    stamps: Vec<u64>,
+    // By its key, the stamp of a value. What stands here for a key that is free means nothing.
+    stamp_under: Vec<u64>,
+    // The stamp of the next value.
+    next: u64,
+    // For how many more values there is room.
+    spare: usize,
 }
 
 impl<T> Model for KeyedList<T> {
-    ghost use Rattle.std.specs.Prelude.{◌≤◌};
-    ghost use Rattle.std.specs.VecDeque.{deque_capacity};
-    ghost use Rattle.link_server.specs.KeyedList.{AreKeys, Listed, items_at, listed_code};
+    ghost use Rattle.std.specs.Prelude.{◌+◌, ◌<◌, ◌≤◌, ◌^◌, length};
+    ghost use Rattle.std.specs.Vec.{vec_capacity};
+    ghost use Rattle.link_server.specs.KeyedList.{AreKeys, AreStamps, HasSpare, Listed, items_at, listed_code};
 
     ghost Value = { Listed T };
 
     ghost coded = { listed_code T.code };
 
-    ghost view = { λ l. record { items = items_at l.slots.slots l.keys.items; room = l.room } };
+    ghost view = { λ l. record { items = items_at l.slots.slots l.keys.items; keys = l.keys.items; spare = l.spare } };
 
-    ghost invariant = { λ l. AreKeys l.slots.slots l.keys.items × ((l.room ≤ l.slots.capacity) × (l.room ≤ deque_capacity l.keys)) };
+    ghost invariant = { λ l. AreKeys l.slots.slots l.keys.items × (AreStamps l.keys.items l.stamps.items l.stamp_under.items l.next × HasSpare l.spare (length l.keys.items) l.next l.slots.capacity (vec_capacity l.keys) (vec_capacity l.stamps) (length l.stamp_under.items)) };
 }
 
 impl<T> KeyedList<T> {
     // No value, and room for none.
     pub(crate) fn new(alloc: Global) -> KeyedList<T>
-        ensures { result ≡ record { items = []; room = 0 } }
+        ensures { result ≡ record { items = []; keys = []; spare = 0 } }
     {
         KeyedList {
             slots: Slab::new(alloc),
-            keys: VecDeque::new(alloc),
-            room: 0,
+            keys: Vec::new(alloc),
+            stamps: Vec::new(alloc),
+            stamp_under: Vec::new(alloc),
+            next: 0,
+            spare: 0,
         }
     }
 
@@ -52,64 +61,111 @@ impl<T> KeyedList<T> {
         self.keys.len()
     }
 
-    // Makes room for this many values in all. Where there is that room already it takes no memory.
-    pub(crate) fn reserve(&mut self, room: usize) -> Result<(), OutOfMemory>
-        ensures room { OnOk result (room ≤ self.new.room) }
-        ensures had_room { room ≤ self.old.room → IsOk result }
-        ensures grows { self.old.room ≤ self.new.room }
-        ensures items { self.new.items ≡ self.old.items }
+    // Makes room for this many more values. None is left either once the stamps run out, after 2^64 values.
+    pub(crate) fn reserve(&mut self, more: usize) -> Result<(), OutOfMemory>
+        ensures room { OnOk result (more ≤ self.new.spare) }
+        ensures kept { self.new ≡ record self.old { spare = self.new.spare } }
     {
-        if room <= self.room {
+        if more <= self.spare {
             return Ok(());
         }
-        let more = room.saturating_sub(self.keys.len());
+        if u64::MAX - self.next < more as u64 {
+            return Err(OutOfMemory);
+        }
+        self.spare = 0;
         self.slots.reserve(more)?;
         self.keys.reserve(more)?;
-        self.room = room;
+        self.stamps.reserve(more)?;
+        reserve_stamps(&mut self.stamp_under, self.slots.capacity())?;
+        self.spare = more;
         Ok(())
     }
 
-    // Puts a value after the others. There is room for it, so it takes no memory.
-    pub(crate) fn push(&mut self, value: T)
-        requires { length self.old.items < self.old.room }
-        ensures { self.new ≡ record self.old { items = self.old.items ++ value ∷ [] } }
+    // Puts a value after the others, and answers its key. There is room for it, so it takes no memory.
+    pub(crate) fn push(&mut self, value: T) -> usize
+        requires { 0 < self.old.spare }
+        ensures list { self.new ≡ record { items = self.old.items ++ value ∷ []; keys = self.old.keys ++ result ∷ []; spare = self.old.spare - 1 } }
+        ensures own { IsNoneOf self.old.keys result }
     {
         let key = self.slots.insert_reserved(value);
-        self.keys.push_back_reserved(key);
+        let stamp = self.next;
+        self.keys.push_reserved(key);
+        self.stamps.push_reserved(stamp);
+        self.stamp_under[key] = stamp;
+        self.next += 1;
+        self.spare -= 1;
+        key
     }
 
-    // Takes out the value at this place. Those after it move up.
-    pub(crate) fn remove(&mut self, place: usize) -> T
-        requires { place < length self.old.items }
-        ensures value { result ≡ slice_index_or self.old.items place result }
-        ensures others { self.new ≡ record self.old { items = remove self.old.items place } }
+    // The value under this key, if it is that of one.
+    pub(crate) fn get(&self, key: usize) -> Option<&T>
+        ensures none { IfNone result (length self.now.items ≤ position self.now.keys key) }
+        ensures some { IfSome result (λ value. IsUnder self.now key value.now) }
     {
-        let key = self.keys.remove(place).unwrap();
+        self.slots.get(key)
+    }
+
+    // The place of the value under this key.
+    pub(crate) fn place(&self, key: usize) -> usize
+        requires { position self.now.keys key < length self.now.items }
+        ensures { result ≡ position self.now.keys key }
+    {
+        let stamp = self.stamp_under[key];
+        self.stamps.binary_search(&stamp).unwrap()
+    }
+
+    // Takes out the value under this key. Those after it move up.
+    pub(crate) fn remove(&mut self, key: usize) -> T
+        requires { position self.old.keys key < length self.old.items }
+        ensures value { result ≡ slice_index_or self.old.items (position self.old.keys key) result }
+        ensures others { self.new ≡ record self.old { items = remove self.old.items (position self.old.keys key); keys = remove self.old.keys (position self.old.keys key) } }
+    {
+        let place = self.place(key);
+        self.keys.remove(place);
+        self.stamps.remove(place);
         self.slots.remove(key)
+    }
+
+    // The key of the value at this place.
+    pub(crate) fn key_at(&self, place: usize) -> usize
+        requires { place < length self.now.items }
+        ensures { position self.now.keys result ≡ place }
+    {
+        self.keys[place]
     }
 }
 
 impl<T> Index<usize> for KeyedList<T> {
     type Output = T;
 
-    ghost can_index = { λ list place. place < length list.items };
+    ghost can_index = { λ list key. position list.keys key < length list.items };
 
-    ghost index_gives = { λ list place value. value ≡ slice_index_or list.items place value };
+    ghost index_gives = { λ list key value. value ≡ slice_index_or list.items (position list.keys key) value };
 
-    fn index(&self, place: usize) -> &T {
-        &self.slots[self.keys[place]]
+    fn index(&self, key: usize) -> &T {
+        &self.slots[key]
     }
 }
 
 impl<T> IndexMut<usize> for KeyedList<T> {
-    ghost use Rattle.link_server.specs.KeyedLends.{lends_place};
+    ghost use Rattle.link_server.specs.KeyedLends.{lends_key};
 
-    fn index_mut(&mut self, place: usize) -> &mut T
-        requires { place < length self.old.items }
-        ensures* writes_back { sem 𝓛 (lends_place T.row self.entry place result) }
-        ensures value { result.now ≡ slice_index_or self.old.items place result.now }
+    fn index_mut(&mut self, key: usize) -> &mut T
+        requires { position self.old.keys key < length self.old.items }
+        ensures* writes_back { sem 𝓛 (lends_key T.row self.entry key result) }
+        ensures value { result.now ≡ slice_index_or self.old.items (position self.old.keys key) result.now }
     {
-        let key = self.keys[place];
         &mut self.slots[key]
     }
+}
+
+// Makes room for the stamps of the keys below this one. What is there stays, an `Err` or not.
+fn reserve_stamps(under: &mut Vec<u64>, above: usize) -> Result<(), OutOfMemory>
+    ensures room { OnOk result (above ≤ length under.new.items) }
+    ensures stamps { (keys stamps : List ℕ) (next : ℕ) → AreStamps keys stamps under.old.items next → AreStamps keys stamps under.new.items next }
+{
+    if under.len() < above {
+        under.resize(above, 0)?;
+    }
+    Ok(())
 }

@@ -95,10 +95,7 @@ impl LinkState {
     pub fn held_of(&self, chan: ChanNo) -> Option<HeldRow>
         ensures row { result ≡ seen_of self.now.shape.bounds (reservations_held self.now) chan }
     {
-        let Some(place) = self.table.place_of(chan) else {
-            return None;
-        };
-        let row = self.table.row(place);
+        let row = self.table.row_of(chan)?;
         Some(HeldRow {
             chan: row.chan,
             contract: row.contract,

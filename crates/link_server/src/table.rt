@@ -1,6 +1,6 @@
 //! The table of a link's rows: each row as the link serves it, where a channel's stands, when its next packets are planned, and what
 //! the rows keep together.
-ghost use Rattle.std.specs.Prelude.{◌≡◌, ℕ, ◌+◌, ◌-◌, ◌^◌, ◌<◌, ◌≤◌, ◌∷◌, ◌++◌, [], List, filter, find, length, map, remove, slice_get, None, Some, IfNone, IfSome, IfOk, IfErr, OnOk, OnErr, MatchResult};
+ghost use Rattle.std.specs.Prelude.{◌≡◌, ℕ, ◌+◌, ◌-◌, ◌^◌, ◌<◌, ◌≤◌, ◌∷◌, ◌++◌, [], List, filter, find, length, map, slice_get, None, Some, IfNone, IfSome, IfOk, IfErr, OnOk, OnErr, MatchResult};
 ghost use Rattle.std.specs.Option.{option_map};
 ghost use Rattle.std.specs.Vec.{vec_capacity};
 ghost use Rattle.net_units.specs.Limits.{most_bound};
@@ -9,16 +9,16 @@ ghost use Rattle.net_units.specs.Numbers.{channel_number, level_number};
 ghost use Rattle.traffic_contract.specs.Admission.{total, best_level, refused_sum};
 ghost use Rattle.link_steps.specs.Buffer.{kept_units};
 ghost use Rattle.link_steps.specs.Kept.{is_kept_of, is_kept_at_hop, kept_terms, kept_stays, kept_relaxed, kept_planned, kept_closed, kept_arrived_row, kept_arrived, kept_packets, kept_rows_after, kept_lost};
-ghost use Rattle.link_steps.specs.Lists.{Each};
+ghost use Rattle.link_steps.specs.Lists.{Each, change_first, without_first};
 ghost use Rattle.link_steps.specs.Quiet.{RowRests};
 ghost use Rattle.link_steps.specs.Reservation.{admitted};
 ghost use Rattle.link_steps.specs.Shape.{server_of};
 ghost use Rattle.link_server.specs.Index.{IsIndex};
 ghost use Rattle.link_server.specs.RoomFor.{IsWider, HasRoomFor};
 ghost use Rattle.link_steps.specs.Service.{Arrival};
-ghost use Rattle.link_server.specs.Departed.{AreCounted, departed_after};
+ghost use Rattle.link_server.specs.Departed.{AreCounted, IsCounted, departed_after};
 ghost use Rattle.link_server.specs.Packets.{arrival_in};
-ghost use Rattle.link_server.specs.Rows.{row_in, IsFirstPlace, IsWithinLevels};
+ghost use Rattle.link_server.specs.Rows.{row_in, IsWithinLevels};
 ghost use Rattle.link_server.specs.Sources.{IsReady, MayBring, queue_after};
 
 mod expiry;
@@ -37,7 +37,7 @@ use crate::table::expiry::{expire, put_hold};
 use crate::table::keeping::Keeping;
 use crate::table::plans::{Plans, put_plan};
 use crate::table::row_index::RowIndex;
-use crate::table::rows::{place_at_hop, place_of, take_out};
+use crate::table::rows::{held_key, key_of, take_out};
 use crate::table::served_row::ServedRow;
 use crate::table::sources::take_turns;
 use link_steps::{LinkShape, Packet};
@@ -79,7 +79,7 @@ impl Model for Table {
 }
 
 impl Table {
-    ghost use Rattle.link_server.specs.Changes.{changed_at, HasAt, MayCommit, MayPlan, MayClose, MayTake, MayAdd};
+    ghost use Rattle.link_server.specs.Changes.{HasRow, IsRowAtHop, MayCommit, MayPlan, MayClose, MayTake, MayAdd};
     ghost use Rattle.link_server.specs.Sound.{all_places_of};
     ghost use Rattle.link_server.specs.Strays.{stray};
 
@@ -107,30 +107,36 @@ impl Table {
         self.rows.len()
     }
 
-    // Where the channel's row stands.
-    pub(crate) fn place_of(&self, chan: ChanNo) -> Option<usize>
+    // The channel's row, if one is held.
+    pub(crate) fn row_of(&self, chan: ChanNo) -> Option<&ServedRow>
         ensures none { IfNone result (find (is_kept_of chan) self.now.rows ≡ None) }
-        ensures some { IfSome result (IsFirstPlace (is_kept_of chan) self.now.rows) }
+        ensures some { IfSome result (λ row. find (is_kept_of chan) self.now.rows ≡ Some (row_in row.now)) }
+        ensures counted { (here : List Arrival) → AreCounted here self.now.rows self.now.departed → IfSome result (λ row. IsCounted here (row_in row.now) row.now.departed) }
+        ensures within { IfSome result (λ row. IsWithinLevels (length self.now.server.bounds) row.now) }
     {
-        place_of(&self.rows, &self.index, chan)
+        let key = key_of(&self.rows, &self.index, chan)?;
+        Some(&self.rows[key])
     }
 
-    // Where the channel's row at its first hop stands, or that at a later one.
-    pub(crate) fn place_at_hop(&self, chan: ChanNo, first: bool) -> Option<usize>
+    // The channel's row, if one is held and this is its first hop, or else a later one.
+    pub(crate) fn row_at_hop(&self, chan: ChanNo, first: bool) -> Option<&ServedRow>
         ensures none { IfNone result (find (is_kept_at_hop chan first) self.now.rows ≡ None) }
-        ensures some { IfSome result (IsFirstPlace (is_kept_at_hop chan first) self.now.rows) }
+        ensures some { IfSome result (λ row. IsRowAtHop chan first self.now.rows (row_in row.now)) }
     {
-        place_at_hop(&self.rows, &self.index, chan, first)
+        let row = &self.rows[key_of(&self.rows, &self.index, chan)?];
+        if row.is_at_hop(chan, first) {
+            return Some(row);
+        }
+        None
     }
 
     // The row at this place.
     pub(crate) fn row(&self, place: usize) -> &ServedRow
         requires inside { place < length self.now.rows }
         ensures row { slice_get self.now.rows place ≡ Some (row_in result.now) }
-        ensures departed { slice_get self.now.departed place ≡ Some result.now.departed }
         ensures within { IsWithinLevels (length self.now.server.bounds) result.now }
     {
-        &self.rows[place]
+        &self.rows[self.rows.key_at(place)]
     }
 
     // The best level of a new contract, or why there is none.
@@ -176,84 +182,83 @@ impl Table {
             &mut self.sums,
             row.chan,
         )?;
-        let place = self.rows.len() as u32;
+        let chan = row.chan;
         self.keeping.hold(&row, &self.bounds);
-        self.index.put(row.chan, place);
-        self.sums.add(row.chan.get(), row.contract, row.level);
-        self.rows.push(row);
+        self.sums.add(chan.get(), row.contract, row.level);
+        let key = self.rows.push(row);
+        self.index.put(chan, key);
         Ok(())
     }
 
-    // Commits the row at this place.
-    pub(crate) fn commit(&mut self, place: usize, level: Level, up_bound: u64)
+    // Commits the channel's row.
+    pub(crate) fn commit(&mut self, chan: ChanNo, level: Level, up_bound: u64)
         requires level { level_number level ≤ length self.old.server.bounds }
         requires bound { up_bound ≤ most_bound }
-        requires may { HasAt (MayCommit self.old.server.bounds level up_bound) self.old.rows place }
-        ensures { self.new ≡ record self.old { rows = changed_at (kept_relaxed level up_bound) self.old.rows place } }
+        requires may { HasRow (MayCommit self.old.server.bounds level up_bound) chan self.old.rows }
+        ensures { self.new ≡ record self.old { rows = change_first (is_kept_of chan) (kept_relaxed level up_bound) self.old.rows } }
     {
-        let row = &mut self.rows[place];
+        let key = held_key(&self.rows, &self.index, chan);
+        let row = &mut self.rows[key];
         self.keeping.give_back(row, &self.bounds);
         self.sums.move_to(row.chan.get(), level);
         row.commit(level, up_bound, &self.bounds);
         self.keeping.hold(row, &self.bounds);
     }
 
-    // Takes the row at this place out.
-    pub(crate) fn remove(&mut self, place: usize)
-        requires { place < length self.old.rows }
-        ensures { self.new ≡ record self.old { rows = remove self.old.rows place; departed = remove self.old.departed place } }
+    // Takes the channel's row out.
+    pub(crate) fn remove(&mut self, chan: ChanNo)
+        requires held { HasRow (λ row. Unit {0}) chan self.old.rows }
+        ensures rows { self.new ≡ record self.old { rows = without_first (is_kept_of chan) self.old.rows; departed = self.new.departed } }
+        ensures counted { (here : List Arrival) → AreCounted here self.old.rows self.old.departed → AreCounted here self.new.rows self.new.departed }
     {
+        let key = held_key(&self.rows, &self.index, chan);
         take_out(
             &mut self.rows,
-            &mut self.index,
             &mut self.sums,
             &mut self.keeping,
             &self.bounds,
-            place,
+            key,
         );
     }
 
-    // Plans packets of the row at this place.
-    pub(crate) fn plan(&mut self, place: usize, planned: Planned)
+    // Plans packets of the channel's row.
+    pub(crate) fn plan(&mut self, chan: ChanNo, planned: Planned)
         requires looked { self.old.looked ≤ planned.tick }
-        requires may { HasAt MayPlan self.old.rows place }
-        ensures { self.new ≡ record self.old { rows = changed_at (kept_planned planned.tick planned.count planned.gap planned.size) self.old.rows place } }
+        requires may { HasRow MayPlan chan self.old.rows }
+        ensures { self.new ≡ record self.old { rows = change_first (is_kept_of chan) (kept_planned planned.tick planned.count planned.gap planned.size) self.old.rows } }
     {
-        let row = &mut self.rows[place];
+        let key = held_key(&self.rows, &self.index, chan);
+        let row = &mut self.rows[key];
         row.plan(planned);
         put_plan(&mut self.plans.calendar, row);
     }
 
-    // Closes the row at this place, with the count of its packets, in the tick of the clock.
-    pub(crate) fn close(&mut self, place: usize, count: u64, clock: u64)
+    // Closes the channel's row, with the count of its packets, in the tick of the clock.
+    pub(crate) fn close(&mut self, chan: ChanNo, count: u64, clock: u64)
         requires looked { self.old.looked ≤ clock }
-        requires may { HasAt MayClose self.old.rows place }
-        ensures { self.new ≡ record self.old { rows = changed_at (kept_closed count) self.old.rows place; looked = clock } }
+        requires may { HasRow MayClose chan self.old.rows }
+        ensures { self.new ≡ record self.old { rows = change_first (is_kept_of chan) (kept_closed count) self.old.rows; looked = clock } }
     {
-        let row = &mut self.rows[place];
+        let key = held_key(&self.rows, &self.index, chan);
+        let row = &mut self.rows[key];
         row.close(count);
         put_hold(&mut self.holds, row, &self.bounds, clock);
         self.looked = clock;
     }
 
-    // The row at this place takes a packet from the link before, which isn't stray, in the tick of the clock. The packet has
-    // `number`, the next arrival number of the link.
-    pub(crate) fn take(
-        &mut self,
-        place: usize,
-        packet: &Packet,
-        number: u64,
-        clock: u64,
-    ) -> HeldPacket
+    // The packet's row takes it from the link before, where it isn't stray, in the tick of the clock. The packet has `number`, the
+    // next arrival number of the link.
+    pub(crate) fn take(&mut self, packet: &Packet, number: u64, clock: u64) -> HeldPacket
         requires looked { self.old.looked ≤ clock }
         requires early { clock < 2 ^ 61 }
         requires size { 1 ≤ packet.now.size }
         requires due { packet.now.due < 2 ^ 62 }
-        requires may { HasAt (MayTake clock number packet.now) self.old.rows place }
-        ensures packet { IfSome (slice_get self.old.rows place) (λ row. arrival_in result ≡ kept_arrived clock number packet.now row) }
-        ensures table { self.new ≡ record self.old { rows = changed_at (kept_arrived_row clock number packet.now) self.old.rows place; looked = clock } }
+        requires may { HasRow (MayTake clock number packet.now) packet.now.chan self.old.rows }
+        ensures packet { IfSome (find (is_kept_of packet.now.chan) self.old.rows) (λ row. arrival_in result ≡ kept_arrived clock number packet.now row) }
+        ensures table { self.new ≡ record self.old { rows = change_first (is_kept_of packet.now.chan) (kept_arrived_row clock number packet.now) self.old.rows; looked = clock } }
     {
-        let row = &mut self.rows[place];
+        let key = held_key(&self.rows, &self.index, packet.chan);
+        let row = &mut self.rows[key];
         let taken = row.take(packet.size, packet.due, number, clock);
         put_hold(&mut self.holds, row, &self.bounds, clock);
         self.looked = clock;
@@ -271,7 +276,7 @@ impl Table {
         expire(
             &mut self.holds,
             &mut self.rows,
-            &mut self.index,
+            &self.index,
             &mut self.sums,
             &mut self.keeping,
             &self.bounds,
@@ -309,10 +314,10 @@ impl Table {
         let Some(packet) = gone else {
             return;
         };
-        let Some(place) = place_of(&self.rows, &self.index, packet.chan) else {
+        let Some(key) = key_of(&self.rows, &self.index, packet.chan) else {
             return;
         };
-        let row = &mut self.rows[place];
+        let row = &mut self.rows[key];
         row.depart(packet.lead);
     }
 
@@ -336,16 +341,16 @@ fn make_room(
     chan: ChanNo,
 ) -> Result<(), OutOfMemory>
     requires few { length rows.old.items < 2 ^ 32 }
-    ensures rows { rows.new.items ≡ rows.old.items }
-    ensures leads { (channels : List ℕ) → IsIndex index.old.places.items channels → IsIndex index.new.places.items channels }
+    ensures rows { rows.new ≡ record rows.old { spare = rows.new.spare } }
+    ensures leads { (keys channels : List ℕ) → IsIndex index.old.keys.items keys channels → IsIndex index.new.keys.items keys channels }
     ensures holds { IsWider holds.old holds.new }
     ensures plans { IsWider plans.old.calendar plans.new.calendar }
     ensures turns { vec_capacity plans.old.turns ≤ vec_capacity plans.new.turns }
     ensures sums { sums.new ≡ record sums.old { spare = sums.new.spare } }
-    ensures fits { OnOk result (HasRoomFor chan rows.new index.new.places.items holds.new plans.new sums.new) }
+    ensures fits { OnOk result (HasRoomFor chan rows.new index.new.keys.items holds.new plans.new sums.new) }
 {
     let all = rows.len() + 1;
-    rows.reserve(all)?;
+    rows.reserve(1)?;
     sums.reserve(1)?;
     index.reserve(chan)?;
     holds.reserve(all)?;

@@ -1,18 +1,19 @@
 -- The calendar of holds goes with the rows: those that come, change and go, and those whose entries are taken.
 use Rattle.std.proofs.Common.{◌≡◌, ℕ, suc, ◌+◌, ◌<◌, ◌≤◌, Bool, true, false, not, ◌&&◌, ◌||◌, ◌⊎◌, inl, inr, ⊎_elim, List, [], ◌∷◌, ◌++◌, length, map, get_or, set, refl, sym, ap, ◌∙◌, subst, All, arith}
 use Rattle.std.proofs.lemmas.Bool.{cases_Bool, cases_lt, eq-eqb, eqb-true, le-leb, leb-true, lt-leb}
-use Rattle.std.proofs.lemmas.List.{map_push, length-map, get_or-map, get_or_default}
+use Rattle.std.proofs.lemmas.List.{map_push, get_or_default}
 use Rattle.std.proofs.lemmas.List.Folds.{list_any_none}
 use Rattle.link_server.proofs.Words.{remove, if◌then◌else◌, filter, nat_eq, nat_le, channel_number, last_bound, ChanNo, newest, Closing, KeptRow, kept_stays, Each, is_phase, Entry, Schedule, TakesDue, row_in, IsAbsent, IsPlaceOf, ServedRow}
 use Rattle.traffic_contract.proofs.AdmissionFacts.{total-push}
 use Rattle.link_steps.specs.Hold.{hold_ended}
 use Rattle.link_steps.proofs.ListFacts.{Each-append, Each-if, Each-both, filter-all}
 use Rattle.link_server.specs.Holds.{is_open, open_count, open_in, tells_end, IsListed, AreListed, HasEnded, StaysIfOf}
-use Rattle.link_server.specs.Index.{channel_in, channels_in, LeadsTo, IsIndex, IsAheadFrom}
+use Rattle.link_server.specs.Index.{channel_in, channels_in, IsIndex}
+use Rattle.std.proofs.lemmas.List.Edits.{length-remove, get_or-remove_below, get_or-remove_above}
 use Rattle.link_server.proofs.Calendars.Holds.{listed-without}
 use Rattle.link_server.proofs.Calendars.Expiry.{each-without, each-set}
 use Rattle.link_server.proofs.RowFacts.Totals.{rows-few, row-part, row-set, row-gone}
-use Rattle.link_server.proofs.RowFacts.Index.{index-without, leads-once}
+use Rattle.link_server.proofs.RowFacts.Index.{one-place}
 
 -- ---- which rows an entry that is due tells of
 
@@ -28,42 +29,28 @@ absent-stays bounds clock chan key rows number absent =
     (λ k d inside same. absurd (let f : false ≡ true = sym (absent k d inside) ∙ eq-eqb (channel_number (get_or rows k d).chan) (channel_number chan) (same ∙ sym number) in cc))
 
 -- the row of the channel stays
-pub place-stays : (bounds : List ℕ) (clock : ℕ) (chan : ChanNo) (key i : ℕ) (rows : List ServedRow) (places : List ℕ) (row : ServedRow) → channel_number chan ≡ key → IsIndex places (channels_in rows) → IsPlaceOf chan rows i → row ≡ get_or rows i row → kept_stays bounds clock (row_in row) ≡ true → Each (StaysIfOf bounds clock key) (map row_in rows)
-place-stays bounds clock chan key i rows places row number index place at stays =
+pub place-stays : (bounds : List ℕ) (clock : ℕ) (chan : ChanNo) (key i : ℕ) (rows : List ServedRow) (index keys : List ℕ) (row : ServedRow) → channel_number chan ≡ key → IsIndex index keys (channels_in rows) → IsPlaceOf chan rows i → row ≡ get_or rows i row → kept_stays bounds clock (row_in row) ≡ true → Each (StaysIfOf bounds clock key) (map row_in rows)
+place-stays bounds clock chan key i rows index keys row number is place at stays =
     each-place (StaysIfOf bounds clock key) rows
     (λ k d inside same.
-    (let one = led places rows k d index inside in
-    let other = led places rows i row index place.inside in
-    let key_is = eqb-true (channel_in (get_or rows i row)) (channel_number chan) (place.here row) in
-    let here : k ≡ i = leads-once places (channel_in (get_or rows k d)) k i one (subst (λ n. LeadsTo places n i) (key_is ∙ number ∙ sym same) other) in
-    subst (λ r. kept_stays bounds clock (row_in r) ≡ true) (at ∙ ap (λ n. get_or rows n row) (sym here) ∙ get_or_default rows k row d inside) stays)) where
-      led : (places : List ℕ) (rows : List ServedRow) (k : ℕ) (d : ServedRow) → IsIndex places (channels_in rows) → k < length rows → LeadsTo places (channel_in (get_or rows k d)) k
-      led places rows k d index inside =
-          let long = length-map rows channel_in in
-          subst (λ n. LeadsTo places n k) (get_or-map channel_in rows k d 0 inside) (index k 0 (omega (arith, long, inside)))
+    (let own = eqb-true (channel_in (get_or rows i row)) (channel_number chan) (place.here row) in
+    let here = one-place index keys rows k i d row is inside place.inside (same ∙ sym number ∙ sym own) in
+    subst (λ r. kept_stays bounds clock (row_in r) ≡ true) (at ∙ ap (λ n. get_or rows n row) (sym here) ∙ get_or_default rows k row d inside) stays))
 
 -- once the row of the channel is taken out, no row is the channel's
-pub others-stay : (bounds : List ℕ) (clock key i : ℕ) (rows : List ServedRow) (places : List ℕ) (d : ServedRow) → IsIndex places (channels_in rows) → HasEnded bounds clock key rows i → Each (StaysIfOf bounds clock key) (map row_in (remove rows i))
-others-stay bounds clock key i rows places d index ended =
+pub others-stay : (bounds : List ℕ) (clock key i : ℕ) (rows : List ServedRow) (index keys : List ℕ) (d : ServedRow) → IsIndex index keys (channels_in rows) → HasEnded bounds clock key rows i → Each (StaysIfOf bounds clock key) (map row_in (remove rows i))
+others-stay bounds clock key i rows index keys d is ended =
     each-place (StaysIfOf bounds clock key) (remove rows i) (λ k e inside same. absurd (other k e inside same (cases_lt k i))) where
-      ahead : IsAheadFrom i places (channels_in (remove rows i))
-      ahead = index-without places rows i index ended.inside
+      fewer : length (remove rows i) + 1 ≡ length rows
+      fewer = (let less = length-remove rows i ended.inside in let inside = ended.inside in omega (arith, less, inside))
 
-      own : LeadsTo places key i
-      own =
-          let long = length-map rows channel_in in
-          let inside = ended.inside in
-          subst (λ n. LeadsTo places n i) (get_or-map channel_in rows i d 0 inside ∙ ended.key_is d) (index i 0 (omega (arith, long, inside)))
-
-      other : (k : ℕ) (d : ServedRow) → k < length (remove rows i) → channel_in (get_or (remove rows i) k d) ≡ key → (k < i) ⊎ (i ≤ k) → ⊥
-      other k d inside same (inl below) =
-          let long = length-map (remove rows i) channel_in in
-          let led = subst (λ n. LeadsTo places n k) (get_or-map channel_in (remove rows i) k d 0 inside ∙ same) (ahead.before k 0 below (omega (arith, long, inside))) in
-          let one = leads-once places key k i led own in omega (arith, one, below)
-      other k d inside same (inr above) =
-          let long = length-map (remove rows i) channel_in in
-          let led = subst (λ n. LeadsTo places n (suc k)) (get_or-map channel_in (remove rows i) k d 0 inside ∙ same) (ahead.from k 0 above (omega (arith, long, inside))) in
-          let one = leads-once places key (suc k) i led own in omega (arith, one, above)
+      other : (k : ℕ) (e : ServedRow) → k < length (remove rows i) → channel_in (get_or (remove rows i) k e) ≡ key → (k < i) ⊎ (i ≤ k) → ⊥
+      other k e inside same (inl below) =
+          let one = one-place index keys rows k i e d is (omega (arith, inside, fewer)) ended.inside (ap channel_in (sym (get_or-remove_below rows i e k below ended.inside)) ∙ same ∙ sym (ended.key_is d)) in
+          omega (arith, one, below)
+      other k e inside same (inr above) =
+          let one = one-place index keys rows (k + 1) i e d is (omega (arith, inside, fewer)) ended.inside (ap channel_in (sym (get_or-remove_above rows i e k above ended.inside)) ∙ same ∙ sym (ended.key_is d)) in
+          omega (arith, one, above)
 
 -- ---- an entry is taken
 

@@ -1,18 +1,19 @@
 -- The calendar of plans goes with the rows: those that have their turn, and those that come, change and go.
 use Rattle.std.proofs.Common.{◌≡◌, ℕ, ◌+◌, ◌<◌, ◌≤◌, Bool, true, false, not, ◌&&◌, ⊎_elim, List, [], ◌∷◌, ◌++◌, Some, None, length, map, get_or, set, refl, sym, ap, ◌∙◌, subst, arith}
 use Rattle.std.proofs.lemmas.Bool.{cases_Bool, eqb-true, eq-eqb, false≢true}
-use Rattle.std.proofs.lemmas.List.{nil_from_length, map_push, get_or-map, get_or_default, length-map}
+use Rattle.std.proofs.lemmas.List.{nil_from_length, map_push, get_or_default}
 use Rattle.link_server.proofs.Words.{remove, channel_number, ChanNo, Closing, KeptRow, Each, is_phase, SourcePacket, planned_from, is_for, Schedule, TakesDue, row_in, IsAbsent, IsPlaceOf, ServedRow}
 use Rattle.std.specs.Prelude.{if◌then◌else◌, find, filter, is_none, nat_eq}
 use Rattle.traffic_contract.proofs.AdmissionFacts.{total-push}
 use Rattle.link_steps.proofs.ListFacts.{Each-append, Each-filter, Each-if}
-use Rattle.link_server.specs.Index.{channel_in, channels_in, LeadsTo, IsIndex}
+use Rattle.link_server.specs.Index.{channel_in, channels_in, IsIndex}
+use Rattle.link_server.proofs.RowFacts.Index.{one-place}
 use Rattle.link_server.specs.Planned.{IsPlannedFrom, first_tick}
-use Rattle.link_server.specs.Plans.{is_entry_of, IsTold, is_idle, idle_count, idle_in, is_turn, ArePlanned, AreCalled, AreRising, IsPlaceOfKey, RestsIfOf}
+use Rattle.link_server.specs.KeyedList.{AreRising}
+use Rattle.link_server.specs.Plans.{is_entry_of, IsTold, is_idle, idle_count, idle_in, is_turn, ArePlanned, AreCalled, IsPlaceOfKey, RestsIfOf}
 use Rattle.link_server.specs.Sources.{IsReady, AreReady}
 use Rattle.link_server.proofs.Calendars.HoldRows.{each-place}
 use Rattle.link_server.proofs.Calendars.Expiry.{each-at, each-without, each-set}
-use Rattle.link_server.proofs.RowFacts.Index.{leads-once}
 use Rattle.link_server.proofs.Calendars.Plans.{told-without, other-entry, resting-entry}
 use Rattle.link_server.proofs.Calendars.Quiet.{planned-quiet}
 use Rattle.link_server.proofs.RowFacts.Totals.{rows-few, row-part, row-set, row-gone, rows-left}
@@ -25,22 +26,13 @@ absent-rests clock chan key rows number absent =
     each-place (RestsIfOf clock key) rows
     (λ k d inside same. absurd (false≢true (sym (absent k d inside) ∙ eq-eqb (channel_number (get_or rows k d).chan) (channel_number chan) (same ∙ sym number))))
 
--- two rows of one channel stand at one place
-pub one-place : (places : List ℕ) (rows : List ServedRow) (i j : ℕ) (d e : ServedRow) → IsIndex places (channels_in rows) → i < length rows → j < length rows → channel_in (get_or rows i d) ≡ channel_in (get_or rows j e) → i ≡ j
-one-place places rows i j d e index first second same =
-    leads-once places (channel_in (get_or rows j e)) i j (subst (λ n. LeadsTo places n i) same (led i d first)) (led j e second) where
-      led : (k : ℕ) (d : ServedRow) → k < length rows → LeadsTo places (channel_in (get_or rows k d)) k
-      led k d inside =
-          let long = length-map rows channel_in in
-          subst (λ n. LeadsTo places n k) (get_or-map channel_in rows k d 0 inside) (index k 0 (omega (arith, long, inside)))
-
 -- the row of the channel has none for the tick
-pub place-rests : (clock : ℕ) (chan : ChanNo) (key i : ℕ) (rows : List ServedRow) (places : List ℕ) (row : ServedRow) → channel_number chan ≡ key → IsIndex places (channels_in rows) → IsPlaceOf chan rows i → row ≡ get_or rows i row → find (is_for clock) (row_in row).left ≡ None → Each (RestsIfOf clock key) (map row_in rows)
-place-rests clock chan key i rows places row number index place at none =
+pub place-rests : (clock : ℕ) (chan : ChanNo) (key i : ℕ) (rows : List ServedRow) (index keys : List ℕ) (row : ServedRow) → channel_number chan ≡ key → IsIndex index keys (channels_in rows) → IsPlaceOf chan rows i → row ≡ get_or rows i row → find (is_for clock) (row_in row).left ≡ None → Each (RestsIfOf clock key) (map row_in rows)
+place-rests clock chan key i rows index keys row number is place at none =
     each-place (RestsIfOf clock key) rows
     (λ k d inside same.
     (let own = eqb-true (channel_in (get_or rows i row)) (channel_number chan) (place.here row) in
-    let here = one-place places rows k i d row index inside place.inside (same ∙ sym number ∙ sym own) in
+    let here = one-place index keys rows k i d row is inside place.inside (same ∙ sym number ∙ sym own) in
     subst (λ r. find (is_for clock) (row_in r).left ≡ None) (at ∙ ap (λ n. get_or rows n row) (sym here) ∙ get_or_default rows k row d inside) none))
 
 pub key-at : (chan : ChanNo) (key i : ℕ) (rows : List ServedRow) → channel_number chan ≡ key → IsPlaceOf chan rows i → IsPlaceOfKey key rows i
@@ -82,16 +74,16 @@ called-rests clock key old new turns rows called ready due spare begun rests = r
       (cases_Bool (nat_eq (channel_number row.terms.chan) key))
 
 -- and of one that has its turn from then on
-pub called-more : (clock key i : ℕ) (old new : Schedule) (turns more : List ℕ) (places : List ℕ) (rows : List ServedRow) → AreCalled clock old turns rows → IsIndex places (channels_in rows) → TakesDue old.entries new.entries clock key → new.spare ≡ old.spare + 1 → new.clock ≡ clock → IsPlaceOfKey key rows i
+pub called-more : (clock key i : ℕ) (old new : Schedule) (turns more : List ℕ) (index keys : List ℕ) (rows : List ServedRow) → AreCalled clock old turns rows → IsIndex index keys (channels_in rows) → TakesDue old.entries new.entries clock key → new.spare ≡ old.spare + 1 → new.clock ≡ clock → IsPlaceOfKey key rows i
     → AreRising 0 (length rows) more → is_turn more i ≡ true → ((other : ℕ) → is_turn more other ≡ false → is_turn turns other ≡ false) → length more ≤ length turns + 1 → AreCalled clock new more rows
-called-more clock key i old new turns more places rows called index due spare begun place rising its others one = record {
+called-more clock key i old new turns more index keys rows called is due spare begun place rising its others one = record {
   begun = omega (arith, begun);
   rising = rising;
   told = λ other d inside not.
       subst (λ entries. IsTold entries (row_in (get_or rows other d))) (sym due.left)
       (told-without due.before due.after (due.tick, key) (row_in (get_or rows other d))
       (λ tick first. other-entry due.tick key tick (channel_in (get_or rows other d))
-      (λ same. false≢true (sym not ∙ ap (is_turn more) (one-place places rows other i d d index inside place.inside (same ∙ sym (place.key_is d))) ∙ its)))
+      (λ same. false≢true (sym not ∙ ap (is_turn more) (one-place index keys rows other i d d is inside place.inside (same ∙ sym (place.key_is d))) ∙ its)))
       (subst (λ entries. IsTold entries (row_in (get_or rows other d))) due.was (called.told other d inside (others other not))));
   room = (let room = called.room in omega (arith, room, spare, one));
 }

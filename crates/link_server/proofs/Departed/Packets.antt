@@ -1,19 +1,18 @@
 -- Packets come: a row that takes one has one more of its own here, and no other row has.
-use Rattle.std.proofs.Common.{◌≡◌, ℕ, zero, suc, ◌+◌, ◌≤◌, ◌<◌, false, inl, inr, Some, List, [], ◌∷◌, ◌++◌, length, ⊎_elim, refl, sym, ap, ◌∙◌, subst, arith, append_assoc, append-nil}
+use Rattle.std.proofs.Common.{◌≡◌, ℕ, suc, ◌+◌, ◌≤◌, ◌<◌, false, inl, inr, Some, List, [], ◌∷◌, ◌++◌, length, ⊎_elim, refl, sym, ap, ◌∙◌, subst, arith, append_assoc, append-nil}
 use Rattle.std.proofs.lemmas.Bool.{cases_Bool, cases_eq, eq-eqb, eqb-false, eqb-true, ne_eqb}
 use Rattle.std.proofs.lemmas.List.{length-append}
 use Rattle.std.proofs.lemmas.List.Elements.{filter-append}
 use Rattle.std.proofs.lemmas.Option.{same_Some}
-use Rattle.link_server.proofs.Words.{filter, Each, nat_eq, channel_number, slice_get, Arrival, KeptRow, SourceStep, Rests, Brings, Drops, lead_with, taken_by, kept_packet, kept_after_step, kept_arrived, kept_arrived_row, Packet}
+use Rattle.link_server.proofs.Words.{filter, Each, nat_eq, channel_number, find, is_kept_of, Arrival, KeptRow, SourceStep, Rests, Brings, Drops, lead_with, taken_by, kept_packet, kept_after_step, kept_arrived, kept_arrived_row, Packet}
 use Rattle.link_steps.specs.Buffer.{has_lead, held_packets}
 use Rattle.link_steps.specs.Kept.{kept_packets, kept_rows_after, kept_step, past_tick}
-use Rattle.link_steps.proofs.ListFacts.{Each-append, Each-both, Each-if}
+use Rattle.link_steps.proofs.ListFacts.{Each-append, Each-both, Each-find, Each-if}
+use Rattle.link_steps.specs.Lists.{change_first}
 use Rattle.link_steps.proofs.PacketRows.{lead_with-later}
 use Rattle.link_steps.proofs.RowPackets.{IsLedUpTo}
-use Rattle.link_server.specs.Changes.{changed_at}
 use Rattle.link_server.specs.Departed.{AreCounted, IsCounted, IsOwn}
 use Rattle.link_server.specs.Sound.{IsApartFrom, HaveOwnLeads}
-use Rattle.link_server.proofs.RowFacts.Placed.{each-seen}
 use Rattle.link_server.proofs.Sound.Packets.{HasLead, held-none}
 use Rattle.link_server.proofs.Sound.Rows.{apart-lead_with, lead_with-first}
 use Rattle.link_server.proofs.Sound.Taking.{lead_with-least, lead_with-most}
@@ -117,24 +116,29 @@ held-other p own lead taken is apart most = rw (is, other-lead own lead (suc tak
 
 -- ---- a packet from the link before
 
-pub counted-arrived : (t taken : ℕ) (packet : Packet) (here : List Arrival) (rows : List KeptRow) (ns : List ℕ) (i : ℕ) (row : KeptRow) → Each (IsLedUpTo taken) here → HaveOwnLeads rows → Each (λ r. r.lead ≤ taken) rows → slice_get rows i ≡ Some row → AreCounted here rows ns
-    → AreCounted (here ++ kept_arrived t (suc taken) packet row ∷ []) (changed_at (kept_arrived_row t (suc taken) packet) rows i) ns
-unfolding changed_at
-counted-arrived t taken packet here [] [] i row led apart most at each = cc
-counted-arrived t taken packet here (r ∷ rows) (n ∷ ns) zero row led apart most at each =
-    let p = kept_arrived t (suc taken) packet r in
-    subst (λ x. AreCounted (here ++ kept_arrived t (suc taken) packet x ∷ []) (kept_arrived_row t (suc taken) packet r ∷ rows) (n ∷ ns)) (same_Some r row at) (
-      counted-one here r (kept_arrived_row t (suc taken) packet r) n taken p led refl refl refl refl refl each.0,
-      still-counted here (p ∷ []) rows ns
-          (Each-if (λ other. IsApartFrom r.lead other × (other.lead ≤ taken)) (λ other. held_packets other.lead (p ∷ []) ≡ 0) rows (λ other both. held-other p r.lead other.lead taken refl (λ same. sym same ∙ both.0 (sym same)) both.1)
-          (Each-both (IsApartFrom r.lead) (λ other. other.lead ≤ taken) rows apart.0 most.1)) each.1,
-    )
-counted-arrived t taken packet here (r ∷ rows) (n ∷ ns) (suc i) row led apart most at each = (
-  counted-more here (kept_arrived t (suc taken) packet row ∷ []) r n (held-other (kept_arrived t (suc taken) packet row) row.lead r.lead taken refl (each-seen (IsApartFrom r.lead) rows i row at apart.0) most.0) each.0,
-  counted-arrived t taken packet here rows ns i row led apart.1 most.1 at each.1,
-)
-counted-arrived t taken packet here [] (n ∷ ns) i row led apart most at each = absurd each
-counted-arrived t taken packet here (r ∷ rows) [] i row led apart most at each = absurd each
+pub counted-arrived : (t taken : ℕ) (packet : Packet) (here : List Arrival) (rows : List KeptRow) (ns : List ℕ) (row : KeptRow) → Each (IsLedUpTo taken) here → HaveOwnLeads rows → Each (λ r. r.lead ≤ taken) rows → find (is_kept_of packet.chan) rows ≡ Some row → AreCounted here rows ns
+    → AreCounted (here ++ kept_arrived t (suc taken) packet row ∷ []) (change_first (is_kept_of packet.chan) (kept_arrived_row t (suc taken) packet) rows) ns
+unfolding change_first
+counted-arrived t taken packet here [] [] row led apart most found each = cc
+counted-arrived t taken packet here (r ∷ rows) (n ∷ ns) row led apart most found each =
+    elim (cases_Bool (is_kept_of packet.chan r)) [
+      | inl own ↦
+          (let p = kept_arrived t (suc taken) packet r in
+          let its : AreCounted (here ++ p ∷ []) (kept_arrived_row t (suc taken) packet r ∷ rows) (n ∷ ns) = (
+            counted-one here r (kept_arrived_row t (suc taken) packet r) n taken p led refl refl refl refl refl each.0,
+            still-counted here (p ∷ []) rows ns
+                (Each-if (λ other. IsApartFrom r.lead other × (other.lead ≤ taken)) (λ other. held_packets other.lead (p ∷ []) ≡ 0) rows (λ other both. held-other p r.lead other.lead taken refl (λ same. sym same ∙ both.0 (sym same)) both.1)
+                (Each-both (IsApartFrom r.lead) (λ other. other.lead ≤ taken) rows apart.0 most.1)) each.1,
+          ) in
+          rw own (subst (λ x. AreCounted (here ++ kept_arrived t (suc taken) packet x ∷ []) (kept_arrived_row t (suc taken) packet r ∷ rows) (n ∷ ns)) (same_Some r row (rw own at found)) its))
+      | inr other ↦
+          (let later = rw other at found in
+          let p = kept_arrived t (suc taken) packet row in
+          let rest = counted-arrived t taken packet here rows ns row led apart.1 most.1 later each.1 in
+          rw other (counted-more here (p ∷ []) r n (held-other p row.lead r.lead taken refl (Each-find (IsApartFrom r.lead) (is_kept_of packet.chan) rows row apart.0 later) most.0) each.0, rest))
+    ]
+counted-arrived t taken packet here [] (n ∷ ns) row led apart most found each = absurd each
+counted-arrived t taken packet here (r ∷ rows) [] row led apart most found each = absurd each
 
 -- ---- the packets of the sources
 

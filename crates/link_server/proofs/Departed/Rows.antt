@@ -1,17 +1,18 @@
 -- The rows of a table are counted, with what is here of their packets, through the changes of the table and of the queue.
-use Rattle.std.proofs.Common.{◌≡◌, ℕ, zero, suc, ◌-◌, ◌<◌, true, false, ◌&&◌, Some, List, [], ◌∷◌, ◌++◌, length, map, get_or, set, refl, sym, ap, ◌∙◌, subst, arith}
-use Rattle.link_server.proofs.Words.{IfSome, nat_eq, nat_lt, if◌then◌else◌, remove, slice_get, held_packets, Arrival, KeptQueue, KeptRow, KeptTable, LinkState, ServedRow, row_in, is_served_row_of, IsAbsent}
-use Rattle.link_server.specs.Changes.{changed_at}
+use Rattle.std.proofs.Common.{◌≡◌, ℕ, zero, suc, ◌-◌, ◌<◌, Bool, true, false, ◌&&◌, Some, List, [], ◌∷◌, ◌++◌, length, map, get_or, set, refl, sym, ap, ◌∙◌, subst, arith}
+use Rattle.link_server.proofs.Words.{nat_eq, nat_lt, if◌then◌else◌, remove, ChanNo, is_kept_of, held_packets, Arrival, KeptQueue, KeptRow, KeptTable, LinkState, ServedRow, row_in, is_served_row_of, IsAbsent}
+use Rattle.link_steps.specs.Lists.{change_first}
+use Rattle.std.proofs.lemmas.Bool.{cond_both}
 use Rattle.link_server.specs.Departed.{AreCounted, IsCounted, departed_after, departed_in}
 
 module _ (here : List Arrival) where
   -- one row is changed
-  pub rows-changed : (change : KeptRow → KeptRow) → ((row : KeptRow) (n : ℕ) → IsCounted here row n → IsCounted here (change row) n) → (rows : List KeptRow) (ns : List ℕ) (i : ℕ) → AreCounted here rows ns → AreCounted here (changed_at change rows i) ns
-  unfolding changed_at
-  rows-changed change keeps [] ns i each = each
-  rows-changed change keeps (row ∷ rows) (n ∷ ns) zero each = (keeps row n each.0, each.1)
-  rows-changed change keeps (row ∷ rows) (n ∷ ns) (suc i) each = (each.0, rows-changed change keeps rows ns i each.1)
-  rows-changed change keeps (row ∷ rows) [] i each = absurd each
+  pub rows-changed : (test : KeptRow → Bool) (change : KeptRow → KeptRow) → ((row : KeptRow) (n : ℕ) → IsCounted here row n → IsCounted here (change row) n) → (rows : List KeptRow) (ns : List ℕ) → AreCounted here rows ns → AreCounted here (change_first test change rows) ns
+  unfolding change_first
+  rows-changed test change keeps [] ns each = each
+  rows-changed test change keeps (row ∷ rows) (n ∷ ns) each =
+      cond_both (test row) (change row ∷ rows) (row ∷ change_first test change rows) (λ all. AreCounted here all (n ∷ ns)) (λ _. (keeps row n each.0, each.1)) (λ _. (each.0, rows-changed test change keeps rows ns each.1))
+  rows-changed test change keeps (row ∷ rows) [] each = absurd each
 
   -- taken out
   pub counted-removed : (rows : List KeptRow) (ns : List ℕ) (i : ℕ) → AreCounted here rows ns → AreCounted here (remove rows i) (remove ns i)
@@ -29,13 +30,7 @@ module _ (here : List Arrival) where
   counted-added [] (m ∷ ns) row n each new = absurd each
   counted-added (r ∷ rows) [] row n each new = absurd each
 
-  -- so is the row that is seen, and the one that stands at a place
-  pub counted-seen : (rows : List KeptRow) (ns : List ℕ) (i : ℕ) (row : KeptRow) (n : ℕ) → slice_get rows i ≡ Some row → slice_get ns i ≡ Some n → AreCounted here rows ns → IsCounted here row n
-  counted-seen [] ns i row n at many each = cc
-  counted-seen (r ∷ rows) (m ∷ ns) zero row n at many each = subst (λ o. IfSome o (λ x. IsCounted here x n)) at (subst (λ o. IfSome o (IsCounted here r)) many each.0)
-  counted-seen (r ∷ rows) (m ∷ ns) (suc i) row n at many each = counted-seen rows ns i row n at many each.1
-  counted-seen (r ∷ rows) [] i row n at many each = absurd each
-
+  -- so is the row that stands at a place
   pub counted-at : (rows : List ServedRow) (i : ℕ) (d : ServedRow) → i < length rows → AreCounted here (map row_in rows) (map departed_in rows) → IsCounted here (row_in (get_or rows i d)) (get_or rows i d).departed
   counted-at [] i d inside each = absurd (omega arith)
   counted-at (row ∷ rows) zero d inside each = each.0
@@ -66,17 +61,15 @@ one-departs p (row ∷ rows) (suc i) new d inside own others counts =
 -- ---- a link
 
 -- a row is changed that keeps its channel, its lead and its packets
-pub counted-changed : (link : LinkState) (new : KeptTable) (looked : ℕ) (change : KeptRow → KeptRow) (place : ℕ) → ((row : KeptRow) (n : ℕ) → IsCounted link.queue.here row n → IsCounted link.queue.here (change row) n) → new ≡ record link.table { rows = changed_at change link.table.rows place; looked = looked }
+pub counted-changed : (link : LinkState) (new : KeptTable) (looked : ℕ) (chan : ChanNo) (change : KeptRow → KeptRow) → ((row : KeptRow) (n : ℕ) → IsCounted link.queue.here row n → IsCounted link.queue.here (change row) n) → new ≡ record link.table { rows = change_first (is_kept_of chan) change link.table.rows; looked = looked }
     → AreCounted link.queue.here new.rows new.departed
-counted-changed link new looked change place keeps same =
-    subst (λ (table : KeptTable). AreCounted link.queue.here table.rows table.departed) (sym same) (rows-changed link.queue.here change keeps link.table.rows link.table.departed place link.counted)
+counted-changed link new looked chan change keeps same =
+    subst (λ (table : KeptTable). AreCounted link.queue.here table.rows table.departed) (sym same) (rows-changed link.queue.here (is_kept_of chan) change keeps link.table.rows link.table.departed link.counted)
 
 -- the queue changes, and no packet comes or goes
 pub counted-still : (link : LinkState) (queue : KeptQueue) (table : KeptTable) → queue.here ≡ link.queue.here → table ≡ link.table → AreCounted queue.here table.rows table.departed
 counted-still link queue table here same = subst (λ all. AreCounted all table.rows table.departed) (sym here) (subst (λ (t : KeptTable). AreCounted link.queue.here t.rows t.departed) (sym same) link.counted)
 
 -- what a row tells of its packets here
-pub held-here : (link : LinkState) (place : ℕ) (row : ServedRow) → slice_get link.table.rows place ≡ Some (row_in row) → slice_get link.table.departed place ≡ Some row.departed → row.taken - row.departed ≡ held_packets row.lead link.queue.here
-held-here link place row at departed =
-    let counted = (counted-seen link.queue.here link.table.rows link.table.departed place (row_in row) row.departed at departed link.counted).taken in
-    omega (arith, counted)
+pub held-here : (here : List Arrival) (row : ServedRow) → IsCounted here (row_in row) row.departed → row.taken - row.departed ≡ held_packets row.lead here
+held-here here row is = (let counted = is.taken in omega (arith, counted))

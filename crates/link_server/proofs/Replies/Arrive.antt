@@ -2,7 +2,7 @@
 use Rattle.std.proofs.Common.{◌≡◌, ℕ, suc, ◌+◌, ◌<◌, ◌^◌, [], ◌∷◌, ◌++◌, List, Some, None, length, refl, sym, ap, ◌∙◌, subst, arith}
 use Rattle.std.proofs.lemmas.Bool.{eqb-true}
 use Rattle.std.proofs.lemmas.List.{length-append}
-use Rattle.link_server.proofs.Words.{nat_eq, find, slice_get, Arrive, Packet, Refusal, Reply, LinkShape, held_packets, slots_of, whole, Each, Reservation, newest, Arrival, account, IsFirstPlace, HeldPacket, KeptQueue}
+use Rattle.link_server.proofs.Words.{nat_eq, find, Arrive, Packet, Refusal, Reply, LinkShape, held_packets, slots_of, whole, Each, Reservation, newest, Arrival, account, HeldPacket, KeptQueue}
 use Rattle.link_steps.specs.declared.replies.Refusal.TheVariants.{Stray}
 use Rattle.link_steps.specs.declared.replies.Reply.TheVariants.{Taken, Refused}
 use Rattle.link_steps.specs.declared.replies.Why.TheVariants.{NoRow, WrongNumber}
@@ -15,8 +15,8 @@ use Rattle.link_steps.proofs.RefusalFacts.{unless-none}
 use Rattle.link_server.specs.Packets.{arrival_in}
 use Rattle.link_server.specs.Sound.{IsSound}
 use Rattle.link_server.specs.Strays.{first_rule, stray}
-use Rattle.link_server.specs.Changes.{changed_at}
-use Rattle.link_server.proofs.RowFacts.Placed.{changed-first, found-at, each-changed}
+use Rattle.link_steps.specs.Lists.{change_first}
+use Rattle.link_server.proofs.RowFacts.Placed.{each-changed}
 use Rattle.link_server.proofs.Sound.Numbers.{rows-upto}
 
 -- the first of some rules that applies is the refusal; where none does the rules after them are tried
@@ -91,17 +91,16 @@ next-number packet terms taken none =
     eqb-true packet.number (suc taken) (unless-none (nat_eq packet.number (suc taken)) (Stray (WrongNumber (suc taken))) kept)
 
 -- what is kept with the packet
-pub arrive-kept : (shape : LinkShape) (t e : ℕ) (old new : KeptQueue) (packet : Packet) (rows : List KeptRow) (i : ℕ) (row : KeptRow) (taken : HeldPacket) → IsFirstPlace (is_kept_of packet.chan) rows i → find (is_kept_of packet.chan) rows ≡ Some row
+pub arrive-kept : (shape : LinkShape) (t e : ℕ) (old new : KeptQueue) (packet : Packet) (rows : List KeptRow) (row : KeptRow) (taken : HeldPacket) → find (is_kept_of packet.chan) rows ≡ Some row
     → arrival_in taken ≡ kept_arrived t (suc old.taken) packet row
     → new ≡ record old { taken = old.taken + 1; here = old.here ++ arrival_in taken ∷ []; looked = new.looked }
-    → account t new (changed_at (kept_arrived_row t (suc old.taken) packet) rows i) ≡ kept_after shape (account t old rows) (Arrive packet) (Taken t e)
+    → account t new (change_first (is_kept_of packet.chan) (kept_arrived_row t (suc old.taken) packet) rows) ≡ kept_after shape (account t old rows) (Arrive packet) (Taken t e)
 unfolding kept_after kept_with_arrival
-arrive-kept shape t e old new packet rows i row taken place found arrived kept =
+arrive-kept shape t e old new packet rows row taken found arrived kept =
     let next : old.taken + 1 ≡ suc old.taken = omega arith in
-    let changed = changed-first (is_kept_of packet.chan) (kept_arrived_row t (suc old.taken) packet) rows i place in
     let here : new.here ≡ old.here ++ kept_arrived t (suc old.taken) packet row ∷ [] =
     ap (λ (queue : KeptQueue). queue.here) kept ∙ ap (λ p. old.here ++ p ∷ []) arrived in
-    same-kept (account t new (changed_at (kept_arrived_row t (suc old.taken) packet) rows i)) (kept_with_arrival packet (account t old rows) (Some row)) refl (ap (λ (queue : KeptQueue). queue.taken) kept ∙ next) changed here (ap (λ (queue : KeptQueue). queue.on) kept) (ap (λ (queue : KeptQueue). queue.best) kept)
+    same-kept (account t new (change_first (is_kept_of packet.chan) (kept_arrived_row t (suc old.taken) packet) rows)) (kept_with_arrival packet (account t old rows) (Some row)) refl (ap (λ (queue : KeptQueue). queue.taken) kept ∙ next) refl here (ap (λ (queue : KeptQueue). queue.on) kept) (ap (λ (queue : KeptQueue). queue.best) kept)
     ∙ ap (kept_with_arrival packet (account t old rows)) (sym found)
 
 -- so where the account with the packet is sound, there was a place for it
@@ -113,10 +112,9 @@ arrive-room shape room e k packet row found sound =
     omega (arith, upto, more)
 
 -- and where the newest eligible ticks of its rows are soon, so is that of the row with the packet
-pub arrive-soon : (shape : LinkShape) (e : ℕ) (k : Kept) (packet : Packet) (i : ℕ) (row : KeptRow) → IsFirstPlace (is_kept_of packet.chan) k.rows i → slice_get k.rows i ≡ Some row
+pub arrive-soon : (shape : LinkShape) (e : ℕ) (k : Kept) (packet : Packet) (row : KeptRow) → find (is_kept_of packet.chan) k.rows ≡ Some row
     → Each (λ r. newest r.recent < 2 ^ 63) (kept_after shape k (Arrive packet) (Taken k.clock e)).rows → newest (kept_arrived_row k.clock (suc k.taken) packet row).recent < 2 ^ 63
 unfolding kept_after kept_with_arrival
-arrive-soon shape e k packet i row place at soon =
-    let each = subst (λ o. Each (λ r. newest r.recent < 2 ^ 63) (kept_with_arrival packet k o).rows) (found-at (is_kept_of packet.chan) k.rows i row place at) soon in
-    each-changed (λ r. newest r.recent < 2 ^ 63) (kept_arrived_row k.clock (suc k.taken) packet) k.rows i row at
-    (subst (Each (λ r. newest r.recent < 2 ^ 63)) (sym (changed-first (is_kept_of packet.chan) (kept_arrived_row k.clock (suc k.taken) packet) k.rows i place)) each)
+arrive-soon shape e k packet row found soon =
+    each-changed (λ r. newest r.recent < 2 ^ 63) (is_kept_of packet.chan) (kept_arrived_row k.clock (suc k.taken) packet) k.rows row found
+    (subst (λ o. Each (λ r. newest r.recent < 2 ^ 63) (kept_with_arrival packet k o).rows) found soon)

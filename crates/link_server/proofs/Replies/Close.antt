@@ -1,13 +1,14 @@
 -- The answers to a release, case by case.
 use Rattle.std.proofs.Common.{◌≡◌, ℕ, Bool, true, false, not, Option, Some, None, length, refl, sym, ap}
 use Rattle.std.specs.Prelude.{is_some, find}
-use Rattle.link_server.proofs.Words.{ChanNo, Release, Committed, Refusal, LinkShape, whole, not_in_phase, names_first_hop, IsFirstPlace}
+use Rattle.link_server.proofs.Words.{ChanNo, Release, Committed, Refusal, LinkShape, whole, not_in_phase, names_first_hop}
 use Rattle.link_steps.specs.declared.replies.Refusal.TheVariants.{NoSuch}
 use Rattle.link_steps.specs.declared.replies.Reply.TheVariants.{Closing, Refused}
-use Rattle.link_steps.specs.Kept.{Kept, KeptRow, kept_reply, kept_after, with_kept_rows, kept_closed, kept_release, is_kept_at_hop}
+use Rattle.link_steps.specs.Kept.{Kept, KeptRow, kept_reply, kept_after, with_kept_rows, kept_closed, kept_release, is_kept_of, is_kept_at_hop}
 use Rattle.link_steps.specs.Replies.{release_reply, count_at_release, cancelled_at_release}
-use Rattle.link_server.specs.Changes.{changed_at}
-use Rattle.link_server.proofs.RowFacts.Placed.{changed-first}
+use Rattle.link_steps.specs.Lists.{change_first}
+use Rattle.link_server.specs.Changes.{IsRowAtHop}
+use Rattle.link_server.proofs.RowFacts.Placed.{hop-changed}
 
 -- a release that is told no count names a first hop
 pub names-is : (upstream : Option ℕ) (none : Bool) → is_some upstream ≡ not none → none ≡ names_first_hop upstream
@@ -40,7 +41,6 @@ unfolding kept_after
 release-same shape k chan upstream refusal = refl
 
 -- and a release closes the row
-pub release-kept : (shape : LinkShape) (k : Kept) (chan : ChanNo) (upstream : Option ℕ) (count cancelled i : ℕ) → IsFirstPlace (is_kept_at_hop chan (names_first_hop upstream)) k.rows i → with_kept_rows k (changed_at (kept_closed count) k.rows i) ≡ kept_after shape k (Release chan upstream) (Closing count cancelled)
+pub release-kept : (shape : LinkShape) (k : Kept) (chan : ChanNo) (upstream : Option ℕ) (count cancelled : ℕ) (row : KeptRow) → IsRowAtHop chan (names_first_hop upstream) k.rows row → with_kept_rows k (change_first (is_kept_of chan) (kept_closed count) k.rows) ≡ kept_after shape k (Release chan upstream) (Closing count cancelled)
 unfolding kept_after
-release-kept shape k chan upstream count cancelled i place =
-    ap (with_kept_rows k) (changed-first (is_kept_at_hop chan (names_first_hop upstream)) (kept_closed count) k.rows i place)
+release-kept shape k chan upstream count cancelled row is = ap (with_kept_rows k) (hop-changed chan (names_first_hop upstream) (kept_closed count) k.rows row is)

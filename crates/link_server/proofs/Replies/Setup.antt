@@ -1,10 +1,11 @@
 -- The answers to an ask, case by case.
 use Rattle.std.proofs.Common.{◌≡◌, ℕ, true, false, List, [], ◌∷◌, ◌++◌, length, map, Some, None, refl, sym, ap}
-use Rattle.link_server.proofs.Words.{find, nat_le, Reservation, IsFirstPlace, Offered, Wanted, remove, ChanNo, Level, last_bound, reach_of, best_level, refused_sum, Traffic, Relax, Deny, Submit, Tentative, Committed, Refusal, LinkShape, need_of, free_units, level_of, whole, tentative, admitted, is_of, server_of}
+use Rattle.link_server.proofs.Words.{find, nat_le, Reservation, Offered, Wanted, ChanNo, Level, last_bound, reach_of, best_level, refused_sum, Traffic, Relax, Deny, Submit, Tentative, Committed, Refusal, LinkShape, need_of, free_units, level_of, whole, tentative, admitted, is_of, server_of}
 use Rattle.link_server.specs.Wants.{ask_for, MayHold}
-use Rattle.link_server.specs.Changes.{changed_at}
+use Rattle.link_steps.specs.Lists.{change_first, without_first}
+use Rattle.link_server.specs.Changes.{IsRowAtHop}
 use Rattle.link_server.proofs.RowFacts.Places.{terms-found, terms-absent}
-use Rattle.link_server.proofs.RowFacts.Placed.{changed-first, removed-first}
+use Rattle.link_server.proofs.RowFacts.Placed.{hop-changed}
 use Rattle.link_steps.specs.declared.replies.Refusal.TheVariants.{NoSuch, TooWide, Twice, NoLevel, NoBuffer}
 use Rattle.link_steps.specs.declared.replies.Reply.TheVariants.{Offer, Relaxed, Denied, Planned, Refused}
 use Rattle.link_steps.specs.Kept.{Kept, KeptRow, kept_terms, kept_reply, kept_after, with_kept_rows, new_kept, kept_relaxed, kept_planned, kept_submit, is_kept_of, is_kept_at_hop}
@@ -33,9 +34,9 @@ unfolding kept_after
 deny-same shape k chan refusal = refl
 
 -- and a deny takes the row out
-pub deny-kept : (shape : LinkShape) (k : Kept) (chan : ChanNo) (i : ℕ) → IsFirstPlace (is_kept_of chan) k.rows i → with_kept_rows k (remove k.rows i) ≡ kept_after shape k (Deny chan) Denied
+pub deny-kept : (shape : LinkShape) (k : Kept) (chan : ChanNo) → with_kept_rows k (without_first (is_kept_of chan) k.rows) ≡ kept_after shape k (Deny chan) Denied
 unfolding kept_after
-deny-kept shape k chan i place = ap (with_kept_rows k) (removed-first (is_kept_of chan) k.rows i place)
+deny-kept shape k chan = refl
 
 -- ---- a relax
 
@@ -60,9 +61,9 @@ unfolding kept_after
 relax-same shape k chan level up_bound refusal = refl
 
 -- a relax commits the row
-pub relax-kept : (shape : LinkShape) (k : Kept) (chan : ChanNo) (level : Level) (up_bound clock i : ℕ) → IsFirstPlace (is_kept_of chan) k.rows i → with_kept_rows k (changed_at (kept_relaxed level up_bound) k.rows i) ≡ kept_after shape k (Relax chan level up_bound) (Relaxed clock)
+pub relax-kept : (shape : LinkShape) (k : Kept) (chan : ChanNo) (level : Level) (up_bound clock : ℕ) → with_kept_rows k (change_first (is_kept_of chan) (kept_relaxed level up_bound) k.rows) ≡ kept_after shape k (Relax chan level up_bound) (Relaxed clock)
 unfolding kept_after
-relax-kept shape k chan level up_bound clock i place = ap (with_kept_rows k) (changed-first (is_kept_of chan) (kept_relaxed level up_bound) k.rows i place)
+relax-kept shape k chan level up_bound clock = refl
 
 -- ---- a reserve, over the reservations that are held
 
@@ -133,6 +134,6 @@ unfolding kept_after
 submit-same shape k chan count gap size refusal = refl
 
 -- a submit plans the row's packets
-pub submit-kept : (shape : LinkShape) (k : Kept) (chan : ChanNo) (count gap size clock i : ℕ) → IsFirstPlace (is_kept_at_hop chan true) k.rows i → with_kept_rows k (changed_at (kept_planned k.clock count gap size) k.rows i) ≡ kept_after shape k (Submit chan count gap size) (Planned clock)
+pub submit-kept : (shape : LinkShape) (k : Kept) (chan : ChanNo) (count gap size clock : ℕ) (row : KeptRow) → IsRowAtHop chan true k.rows row → with_kept_rows k (change_first (is_kept_of chan) (kept_planned k.clock count gap size) k.rows) ≡ kept_after shape k (Submit chan count gap size) (Planned clock)
 unfolding kept_after
-submit-kept shape k chan count gap size clock i place = ap (with_kept_rows k) (changed-first (is_kept_at_hop chan true) (kept_planned k.clock count gap size) k.rows i place)
+submit-kept shape k chan count gap size clock row is = ap (with_kept_rows k) (hop-changed chan true (kept_planned k.clock count gap size) k.rows row is)

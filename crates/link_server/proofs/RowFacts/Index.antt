@@ -1,134 +1,81 @@
--- An index leads to the places of the rows as they come, change and go, and by it the row of a channel is found.
-use Rattle.std.proofs.Common.{◌≡◌, ◌≢◌, ℕ, zero, suc, ◌+◌, ◌<◌, ◌≤◌, Bool, true, false, ◌&&◌, List, [], ◌∷◌, ◌++◌, length, map, get_or, set, Some, None, refl, sym, ap, ◌∙◌, subst, arith}
-use Rattle.std.proofs.Common.{◌⊎◌, inl, inr, ⊎_elim}
+-- An index leads to the keys of the rows as they come, change and go, and by it the row of a channel is found.
+use Rattle.std.proofs.Common.{◌≡◌, ◌≢◌, ℕ, zero, suc, ◌+◌, ◌<◌, ◌≤◌, Bool, true, false, List, [], ◌∷◌, ◌++◌, length, map, get_or, set, Some, None, refl, sym, ap, ◌∙◌, subst, arith}
+use Rattle.std.proofs.Common.{◌⊎◌, inl, inr}
 use Rattle.std.proofs.Math.ListN.{get_or-append}
 use Rattle.std.proofs.Math.Seq.{get_or-append_seam, map-set_same}
 use Rattle.std.proofs.lemmas.Bool.{cases_Bool, cases_lt, eq-eqb, eqb-true, ne_eqb}
-use Rattle.std.proofs.lemmas.List.{length-map, length-append, length-set, get_or-map, get_or-set_same, get_or-set_other, get_or_default, map_push}
+use Rattle.std.proofs.lemmas.List.{length-set, get_or-set_same, get_or-set_other, length-map, length-append, get_or-map, get_or_default, map_push}
 use Rattle.std.proofs.lemmas.List.Edits.{length-remove, get_or-remove_below, get_or-remove_above}
 use Rattle.std.proofs.lemmas.Option.{slice_get-get_or, get_or_from_slice_get}
 use Rattle.std.specs.List.{Contains, remove}
 use Rattle.link_server.proofs.Words.{slice_get, channel_number, ChanNo, Held, Holds, IsDistinct, key_of, ServedRow}
-use Rattle.link_server.specs.Index.{channel_in, channels_in, LeadsTo, IsIndex, IsAheadFrom}
+use Rattle.link_server.specs.Index.{channel_in, channels_in, IsIndex, LeadsTo}
+use Rattle.link_server.specs.KeyedList.{position, IsNoneOf}
 use Rattle.link_server.specs.Rows.{is_served_row_of, is_served_at_hop, summed, NoRowPasses, IsAbsent, IsPlaceOf}
+use Rattle.link_server.proofs.KeyedListFacts.{apart-last, apart-left}
+use Rattle.link_server.proofs.KeyPlaces.{position-is}
+use Rattle.link_server.proofs.RowFacts.Places.{and-false}
 
--- ---- a channel is found
+-- ---- a channel has one row
 
--- it leads from a channel to one place
-pub leads-once : (places : List ℕ) (channel i j : ℕ) → LeadsTo places channel i → LeadsTo places channel j → i ≡ j
-leads-once places channel i j one other = sym one.there ∙ other.there
+-- it leads from a channel to one key
+leads-once : (index : List ℕ) (channel i j : ℕ) → LeadsTo index channel i → LeadsTo index channel j → i ≡ j
+leads-once index channel i j one other = sym one.there ∙ other.there
 
--- to each row from its channel
-pub row-led : (places : List ℕ) (chan : ChanNo) (rows : List ServedRow) (k : ℕ) (d : ServedRow) → IsIndex places (channels_in rows) → k < length rows → is_served_row_of chan (get_or rows k d) ≡ true → LeadsTo places (channel_number chan) k
-row-led places chan rows k d index inside is =
+-- the key of another channel is put
+others-led : (index : List ℕ) (channel other i to : ℕ) → other ≢ channel → LeadsTo index other to → LeadsTo (set index channel i) other to
+others-led index channel other i to apart led =
+    let before = led.inside in
+    let long = length-set index channel i in
+    record { inside = omega (arith, long, before); there = get_or-set_other index channel other i 0 apart ∙ led.there }
+
+-- and its own
+own-led : (index : List ℕ) (channel to : ℕ) → channel < length index → LeadsTo (set index channel to) channel to
+own-led index channel to inside =
+    let long = length-set index channel to in
+    record { inside = omega (arith, long, inside); there = get_or-set_same index channel to 0 inside }
+
+-- the key at a place stands there
+key-place : (index keys channels : List ℕ) (k : ℕ) → IsIndex index keys channels → k < length channels → position keys (get_or keys k 0) ≡ k
+key-place index keys channels k is inside = position-is keys k 0 is.apart (let long = is.long in omega (arith, long, inside))
+
+one-channel : (index keys channels : List ℕ) (i j : ℕ) → IsIndex index keys channels → i < length channels → j < length channels → get_or channels i 0 ≡ get_or channels j 0 → i ≡ j
+one-channel index keys channels i j is first second same =
+    let one = leads-once index (get_or channels j 0) (get_or keys i 0) (get_or keys j 0) (subst (λ n. LeadsTo index n (get_or keys i 0)) same (is.leads i 0 first)) (is.leads j 0 second) in
+    sym (key-place index keys channels i is first) ∙ ap (position keys) one ∙ key-place index keys channels j is second
+
+pub one-place : (index keys : List ℕ) (rows : List ServedRow) (i j : ℕ) (d e : ServedRow) → IsIndex index keys (channels_in rows) → i < length rows → j < length rows → channel_in (get_or rows i d) ≡ channel_in (get_or rows j e) → i ≡ j
+one-place index keys rows i j d e is first second same =
     let long = length-map rows channel_in in
-    subst (λ n. LeadsTo places n k) (get_or-map channel_in rows k d 0 inside ∙ eqb-true (channel_in (get_or rows k d)) (channel_number chan) is)
-    (index k 0 (omega (arith, long, inside)))
+    one-channel index keys (channels_in rows) i j is (omega (arith, long, first)) (omega (arith, long, second)) (get_or-map channel_in rows i d 0 first ∙ same ∙ sym (get_or-map channel_in rows j e 0 second))
 
--- where it leads to no row of the channel, there is none
-pub absent-unless : (places : List ℕ) (chan : ChanNo) (rows : List ServedRow) → IsIndex places (channels_in rows)
-    → ((k : ℕ) (d : ServedRow) → k < length rows → LeadsTo places (channel_number chan) k → is_served_row_of chan (get_or rows k d) ≡ true → ⊥) → IsAbsent chan rows
-absent-unless places chan rows index none k d inside =
-    ⊎_elim (λ (is : is_served_row_of chan (get_or rows k d) ≡ true). absurd (none k d inside (row-led places chan rows k d index inside is) is))
-    (λ (not : is_served_row_of chan (get_or rows k d) ≡ false). not)
-    (cases_Bool (is_served_row_of chan (get_or rows k d)))
+-- no row but that at its place is a channel's
+pub index-others : (index keys : List ℕ) (rows : List ServedRow) (i : ℕ) (chan : ChanNo) (d : ServedRow) → IsIndex index keys (channels_in rows) → i < length rows → is_served_row_of chan (get_or rows i d) ≡ true
+    → (k : ℕ) (e : ServedRow) → k < length rows → (k ≡ i → ⊥) → is_served_row_of chan (get_or rows k e) ≡ false
+index-others index keys rows i chan d is inside own k e within other =
+    ne_eqb (channel_in (get_or rows k e)) (channel_number chan) (λ same. other (one-place index keys rows k i e d is within inside (same ∙ sym (eqb-true (channel_in (get_or rows i d)) (channel_number chan) own))))
 
--- no place, or none of a row
-pub absent-past : (places : List ℕ) (chan : ChanNo) (rows : List ServedRow) → IsIndex places (channels_in rows) → slice_get places (channel_number chan) ≡ None → IsAbsent chan rows
-absent-past places chan rows index past =
-    absent-unless places chan rows index (λ k d inside led is. (let found : Some (get_or places (channel_number chan) 0) ≡ None = sym (slice_get-get_or places (channel_number chan) 0 led.inside) ∙ past in cc))
-
--- the place that it has is the one to which it leads
-place-is : (places : List ℕ) (channel i k : ℕ) → slice_get places channel ≡ Some i → LeadsTo places channel k → i ≡ k
-place-is places channel i k found led = sym (get_or_from_slice_get places channel i 0 found) ∙ led.there
-
-pub absent-beyond : (places : List ℕ) (chan : ChanNo) (rows : List ServedRow) (i : ℕ) → IsIndex places (channels_in rows) → slice_get places (channel_number chan) ≡ Some i → length rows ≤ i → IsAbsent chan rows
-absent-beyond places chan rows i index found past =
-    absent-unless places chan rows index (λ k d inside led is. (let same = place-is places (channel_number chan) i k found led in omega (arith, same, past, inside)))
-
--- the row at the place is another channel's
-pub absent-other : (places : List ℕ) (chan : ChanNo) (rows : List ServedRow) (i : ℕ) (row : ServedRow) → IsIndex places (channels_in rows) → slice_get places (channel_number chan) ≡ Some i → row ≡ get_or rows i row → channel_number row.chan ≢ channel_number chan → IsAbsent chan rows
-absent-other places chan rows i row index found at other =
-    absent-unless places chan rows index (λ k d inside led is.
-    (let same = place-is places (channel_number chan) i k found led in
-    let here : get_or rows k d ≡ row = get_or_default rows k d row inside ∙ ap (λ n. get_or rows n row) (sym same) ∙ sym at in
-    other (eqb-true (channel_number row.chan) (channel_number chan) (subst (λ r. is_served_row_of chan r ≡ true) here is))))
-
--- the row at the place is the channel's, and so it is the only one
-pub place-led : (places : List ℕ) (chan : ChanNo) (rows : List ServedRow) (i : ℕ) → IsIndex places (channels_in rows) → i < length rows → ((d : ServedRow) → is_served_row_of chan (get_or rows i d) ≡ true) → IsPlaceOf chan rows i
-place-led places chan rows i index inside here = record {
+-- so a row of the channel is its first
+pub place-led : (index keys : List ℕ) (chan : ChanNo) (rows : List ServedRow) (i : ℕ) → IsIndex index keys (channels_in rows) → i < length rows → ((d : ServedRow) → is_served_row_of chan (get_or rows i d) ≡ true) → IsPlaceOf chan rows i
+place-led index keys chan rows i is inside here = record {
   inside = inside;
   here = here;
-  before = λ k d below. others k d below (cases_Bool (is_served_row_of chan (get_or rows k d)));
-} where
-  others : (k : ℕ) (d : ServedRow) → k < i → (is_served_row_of chan (get_or rows k d) ≡ true) ⊎ (is_served_row_of chan (get_or rows k d) ≡ false) → is_served_row_of chan (get_or rows k d) ≡ false
-  others k d below (inl is) =
-      absurd (let same = leads-once places (channel_number chan) k i (row-led places chan rows k d index (omega (arith, below, inside)) is) (row-led places chan rows i d index inside (here d)) in omega (arith, same, below))
-  others k d below (inr not) = not
+  before = λ k d below. index-others index keys rows i chan d is inside (here d) k d (omega (arith, below, inside)) (λ same. absurd (omega (arith, below, same)));
+}
 
 -- a row of the channel's number is the channel's
 pub is-row-of : (chan : ChanNo) (rows : List ServedRow) (i : ℕ) (row : ServedRow) → i < length rows → row ≡ get_or rows i row → channel_number row.chan ≡ channel_number chan → (d : ServedRow) → is_served_row_of chan (get_or rows i d) ≡ true
 is-row-of chan rows i row inside at same d =
     subst (λ r. is_served_row_of chan r ≡ true) (at ∙ get_or_default rows i row d inside) (eq-eqb (channel_number row.chan) (channel_number chan) same)
 
--- ---- a channel at its first hop, or at a later one
-
-and-false : (a b : Bool) → a ≡ false → a && b ≡ false
-and-false true b is = absurd (let f : true ≡ false = is in cc)
-and-false false b is = refl
-
--- where the channel's row isn't at it, no row is
-pub no-other-hop : (places : List ℕ) (chan : ChanNo) (first : Bool) (rows : List ServedRow) (i : ℕ) (row : ServedRow) → IsIndex places (channels_in rows) → IsPlaceOf chan rows i → row ≡ get_or rows i row → is_served_at_hop chan first row ≡ false → NoRowPasses (is_served_at_hop chan first) rows
-no-other-hop places chan first rows i row index place at not k d inside =
-    ⊎_elim
-    (λ (is : is_served_row_of chan (get_or rows k d) ≡ true).
-    (let same = leads-once places (channel_number chan) i k (row-led places chan rows i row index place.inside (place.here row)) (row-led places chan rows k d index inside is) in
-    subst (λ r. is_served_at_hop chan first r ≡ false) (at ∙ ap (λ n. get_or rows n row) same ∙ get_or_default rows k row d inside) not))
-    (λ (other : is_served_row_of chan (get_or rows k d) ≡ false). and-false (is_served_row_of chan (get_or rows k d)) _ other)
-    (cases_Bool (is_served_row_of chan (get_or rows k d)))
-
--- ---- rows that come, change and go
-
--- the place of another channel is put
-others-led : (places : List ℕ) (channel other i k : ℕ) → other ≢ channel → LeadsTo places other k → LeadsTo (set places channel i) other k
-others-led places channel other i k apart led =
-    let before = led.inside in
-    let long = length-set places channel i in
-    record { inside = omega (arith, long, before); there = get_or-set_other places channel other i 0 apart ∙ led.there }
-
--- and its own
-own-led : (places : List ℕ) (channel i : ℕ) → channel < length places → LeadsTo (set places channel i) channel i
-own-led places channel i inside =
-    let long = length-set places channel i in
-    record { inside = omega (arith, long, inside); there = get_or-set_same places channel i 0 inside }
-
--- a new channel at the end
-pub index-pushed : (places channels : List ℕ) (channel : ℕ) → IsIndex places channels → channel < length places → ((k d : ℕ) → k < length channels → get_or channels k d ≢ channel) → IsIndex (set places channel (length channels)) (channels ++ channel ∷ [])
-index-pushed places channels channel index room new k d inside = pushed (cases_lt k (length channels)) where
-  pushed : (k < length channels) ⊎ (length channels ≤ k) → LeadsTo (set places channel (length channels)) (get_or (channels ++ channel ∷ []) k d) k
-  pushed (inl below) =
-      subst (λ n. LeadsTo (set places channel (length channels)) n k) (sym (get_or-append channels (channel ∷ []) d k below))
-      (others-led places channel (get_or channels k d) (length channels) k (new k d below) (index k d below))
-  pushed (inr past) =
-      let long = length-append channels (channel ∷ []) in
-      let last : k ≡ length channels = omega (arith, long, inside, past) in
-      rw last (subst (λ n. LeadsTo (set places channel (length channels)) n (length channels)) (sym (get_or-append_seam channels channel [] d)) (own-led places channel (length channels) room))
-
--- a row that changes keeps its channel
-pub index-changed : (places : List ℕ) (rows : List ServedRow) (i : ℕ) (new d : ServedRow) → IsIndex places (channels_in rows) → channel_in new ≡ channel_in (get_or rows i d) → IsIndex places (channels_in (set rows i new))
-index-changed places rows i new d index same = subst (IsIndex places) (sym (map-set_same channel_in rows i new d same)) index
-
+-- no two rows have the same channel, so the sums hold each once
 -- rows that the sums see as the same have the same channels
 summed-channels : (rows : List ServedRow) → map key_of (map summed rows) ≡ channels_in rows
 summed-channels [] = refl
 summed-channels (row ∷ rows) = ap (λ all. channel_in row ∷ all) (summed-channels rows)
 
-pub index-summed : (places : List ℕ) (rows new : List ServedRow) → IsIndex places (channels_in rows) → map summed new ≡ map summed rows → IsIndex places (channels_in new)
-index-summed places rows new index same = subst (IsIndex places) (sym (sym (summed-channels new) ∙ ap (map key_of) same ∙ summed-channels rows)) index
-
--- no two rows have the same channel, so the sums hold each once
-pub index-distinct : (places : List ℕ) (rows : List ServedRow) → IsIndex places (channels_in rows) → IsDistinct (map summed rows)
-index-distinct places rows index = record { apart = λ i j d before inside same. apart i j d before inside same } where
+pub index-distinct : (index keys : List ℕ) (rows : List ServedRow) → IsIndex index keys (channels_in rows) → IsDistinct (map summed rows)
+index-distinct index keys rows is = record { apart = λ i j d before inside same. apart i j d before inside same } where
   many : length (map summed rows) ≡ length (channels_in rows)
   many = length-map rows summed ∙ sym (length-map rows channel_in)
 
@@ -137,18 +84,97 @@ index-distinct places rows index = record { apart = λ i j d before inside same.
 
   apart : (i j : ℕ) (d : Held) → i < j → j < length (map summed rows) → (get_or (map summed rows) i d).key ≡ (get_or (map summed rows) j d).key → ⊥
   apart i j d before inside same =
-      let first = index i 0 (omega (arith, many, before, inside)) in
-      let other = index j 0 (omega (arith, many, inside)) in
-      let one = leads-once places (get_or (channels_in rows) j 0) i j (subst (λ n. LeadsTo places n i) (sym (key-at i d (omega (arith, before, inside))) ∙ same ∙ key-at j d inside) first) other in
+      let one = one-channel index keys (channels_in rows) i j is (omega (arith, many, before, inside)) (omega (arith, many, inside)) (sym (key-at i d (omega (arith, before, inside))) ∙ same ∙ key-at j d inside) in
       omega (arith, one, before)
 
+-- ---- a channel is found
+
+-- its row stands where the key that the index has for it does
+found-place : (index keys : List ℕ) (chan : ChanNo) (rows : List ServedRow) (key k : ℕ) (d : ServedRow) → IsIndex index keys (channels_in rows) → slice_get index (channel_number chan) ≡ Some key → k < length rows → is_served_row_of chan (get_or rows k d) ≡ true → position keys key ≡ k
+found-place index keys chan rows key k d is found inside own =
+    let within : k < length (channels_in rows) = (let long = length-map rows channel_in in omega (arith, long, inside)) in
+    let led = subst (λ n. LeadsTo index n (get_or keys k 0)) (get_or-map channel_in rows k d 0 inside ∙ eqb-true (channel_in (get_or rows k d)) (channel_number chan) own) (is.leads k 0 within) in
+    ap (position keys) (sym (get_or_from_slice_get index (channel_number chan) key 0 found) ∙ led.there) ∙ key-place index keys (channels_in rows) k is within
+
+not-true : (b : Bool) → (b ≡ true → ⊥) → b ≡ false
+not-true true not = absurd (not refl)
+not-true false not = refl
+
+-- it has no key, or one that is free, or another channel's
+pub absent-past : (index keys : List ℕ) (chan : ChanNo) (rows : List ServedRow) → IsIndex index keys (channels_in rows) → slice_get index (channel_number chan) ≡ None → IsAbsent chan rows
+absent-past index keys chan rows is past k d inside =
+    not-true (is_served_row_of chan (get_or rows k d))
+    (λ own.
+    (let long = length-map rows channel_in in
+    let led = subst (λ n. LeadsTo index n (get_or keys k 0)) (get_or-map channel_in rows k d 0 inside ∙ eqb-true (channel_in (get_or rows k d)) (channel_number chan) own) (is.leads k 0 (omega (arith, long, inside))) in
+    let found : Some (get_or index (channel_number chan) 0) ≡ None = sym (slice_get-get_or index (channel_number chan) 0 led.inside) ∙ past in cc))
+
+pub absent-beyond : (index keys : List ℕ) (chan : ChanNo) (rows : List ServedRow) (key : ℕ) → IsIndex index keys (channels_in rows) → slice_get index (channel_number chan) ≡ Some key → length rows ≤ position keys key → IsAbsent chan rows
+absent-beyond index keys chan rows key is found past k d inside =
+    not-true (is_served_row_of chan (get_or rows k d)) (λ own. (let same = found-place index keys chan rows key k d is found inside own in omega (arith, same, past, inside)))
+
+pub absent-other : (index keys : List ℕ) (chan : ChanNo) (rows : List ServedRow) (key : ℕ) (row : ServedRow) → IsIndex index keys (channels_in rows) → slice_get index (channel_number chan) ≡ Some key → row ≡ get_or rows (position keys key) row → channel_number row.chan ≢ channel_number chan → IsAbsent chan rows
+absent-other index keys chan rows key row is found at other k d inside =
+    not-true (is_served_row_of chan (get_or rows k d))
+    (λ own.
+    (let same = found-place index keys chan rows key k d is found inside own in
+    let here : get_or rows k d ≡ row = get_or_default rows k d row inside ∙ ap (λ n. get_or rows n row) (sym same) ∙ sym at in
+    other (ap channel_in (sym here) ∙ eqb-true (channel_in (get_or rows k d)) (channel_number chan) own)))
+
+-- ---- a channel at its first hop, or at a later one
+
+-- where the channel has no row, none is at it
+pub no-row-at-hop : (chan : ChanNo) (first : Bool) (rows : List ServedRow) → IsAbsent chan rows → NoRowPasses (is_served_at_hop chan first) rows
+no-row-at-hop chan first rows absent k d inside = and-false (is_served_row_of chan (get_or rows k d)) _ (absent k d inside)
+
+-- where the channel's row isn't at it, no row is
+pub no-other-hop : (index keys : List ℕ) (chan : ChanNo) (first : Bool) (rows : List ServedRow) (i : ℕ) (row : ServedRow) → IsIndex index keys (channels_in rows) → IsPlaceOf chan rows i → row ≡ get_or rows i row → is_served_at_hop chan first row ≡ false → NoRowPasses (is_served_at_hop chan first) rows
+no-other-hop index keys chan first rows i row is place at not k d inside =
+    elim (cases_Bool (is_served_row_of chan (get_or rows k d))) [
+      | inl own ↦
+          (let same = one-place index keys rows i k row d is place.inside inside (eqb-true (channel_in (get_or rows i row)) (channel_number chan) (place.here row) ∙ sym (eqb-true (channel_in (get_or rows k d)) (channel_number chan) own)) in
+          subst (λ r. is_served_at_hop chan first r ≡ false) (at ∙ ap (λ n. get_or rows n row) same ∙ get_or_default rows k row d inside) not)
+      | inr other ↦ and-false (is_served_row_of chan (get_or rows k d)) _ other
+    ]
+
+-- ---- rows that come, change and go
+
+-- a row that changes keeps its channel
+pub index-changed : (index keys : List ℕ) (rows : List ServedRow) (i : ℕ) (new d : ServedRow) → IsIndex index keys (channels_in rows) → channel_in new ≡ channel_in (get_or rows i d) → IsIndex index keys (channels_in (set rows i new))
+index-changed index keys rows i new d is same = subst (IsIndex index keys) (sym (map-set_same channel_in rows i new d same)) is
+
+-- a new channel at the end
+index-pushed : (index keys channels : List ℕ) (channel key : ℕ) → IsIndex index keys channels → channel < length index → IsNoneOf keys key → ((k d : ℕ) → k < length channels → get_or channels k d ≢ channel) → IsIndex (set index channel key) (keys ++ key ∷ []) (channels ++ channel ∷ [])
+index-pushed index keys channels channel key is room none new = record {
+  long = (let long = is.long in omega (arith, long, more, more-keys));
+  apart = apart-last key keys none is.apart;
+  leads = λ k d inside. pushed k d inside (cases_lt k (length channels));
+} where
+  more : length (channels ++ channel ∷ []) ≡ length channels + 1
+  more = length-append channels (channel ∷ [])
+
+  more-keys : length (keys ++ key ∷ []) ≡ length keys + 1
+  more-keys = length-append keys (key ∷ [])
+
+  pushed : (k d : ℕ) → k < length (channels ++ channel ∷ []) → (k < length channels) ⊎ (length channels ≤ k) → LeadsTo (set index channel key) (get_or (channels ++ channel ∷ []) k d) (get_or (keys ++ key ∷ []) k 0)
+  pushed k d inside (inl below) =
+      let long = is.long in
+      subst (λ n. LeadsTo (set index channel key) n (get_or (keys ++ key ∷ []) k 0)) (sym (get_or-append channels (channel ∷ []) d k below))
+      (subst (LeadsTo (set index channel key) (get_or channels k d)) (sym (get_or-append keys (key ∷ []) 0 k (omega (arith, long, below))))
+      (others-led index channel (get_or channels k d) key (get_or keys k 0) (new k d below) (is.leads k d below)))
+  pushed k d inside (inr past) =
+      let long = is.long in
+      let last : k ≡ length channels = omega (arith, more, inside, past) in
+      let end : k ≡ length keys = omega (arith, last, long) in
+      subst (λ n. LeadsTo (set index channel key) n (get_or (keys ++ key ∷ []) k 0)) (sym (ap (λ n. get_or (channels ++ channel ∷ []) n d) last ∙ get_or-append_seam channels channel [] d))
+      (subst (LeadsTo (set index channel key) channel) (sym (ap (λ n. get_or (keys ++ key ∷ []) n 0) end ∙ get_or-append_seam keys key [] 0)) (own-led index channel key room))
+
 -- a row of a channel that none has
-pub row-pushed : (places : List ℕ) (rows : List ServedRow) (chan : ChanNo) (row : ServedRow) → IsIndex places (channels_in rows) → channel_number chan < length places → (Holds (map summed rows) (channel_number chan) → ⊥) → channel_in row ≡ channel_number chan → IsIndex (set places (channel_number chan) (length rows)) (channels_in (rows ++ row ∷ []))
-row-pushed places rows chan row index room new same =
-    subst (λ all. IsIndex (set places (channel_number chan) (length rows)) all) (sym (map_push channel_in rows row ∙ ap (λ n. channels_in rows ++ n ∷ []) same))
-    (subst (λ n. IsIndex (set places (channel_number chan) n) (channels_in rows ++ channel_number chan ∷ [])) (length-map rows channel_in)
-    (index-pushed places (channels_in rows) (channel_number chan) index room
-    (λ k d inside same. new (subst (λ all. Contains all (channel_number chan)) (sym (summed-channels rows)) (k, inside, get_or_default (channels_in rows) k (channel_number chan) d inside ∙ same)))))
+pub row-pushed : (index keys : List ℕ) (rows : List ServedRow) (row : ServedRow) (key : ℕ) → IsIndex index keys (channels_in rows) → channel_in row < length index → IsNoneOf keys key → (Holds (map summed rows) (channel_in row) → ⊥) → IsIndex (set index (channel_in row) key) (keys ++ key ∷ []) (channels_in (rows ++ row ∷ []))
+row-pushed index keys rows row key is room none new =
+    subst (IsIndex (set index (channel_in row) key) (keys ++ key ∷ [])) (sym (map_push channel_in rows row))
+    (index-pushed index keys (channels_in rows) (channel_in row) key is room none
+    (λ k d inside same. new (subst (λ all. Contains all (channel_in row)) (sym (summed-channels rows)) (k, inside, get_or_default (channels_in rows) k (channel_in row) d inside ∙ same))))
 
 -- where a row is taken out
 channels-without : (rows : List ServedRow) (i : ℕ) → channels_in (remove rows i) ≡ remove (channels_in rows) i
@@ -157,50 +183,28 @@ channels-without [] (suc i) = refl
 channels-without (row ∷ rows) zero = refl
 channels-without (row ∷ rows) (suc i) = ap (λ all. channel_in row ∷ all) (channels-without rows i)
 
-pub index-without : (places : List ℕ) (rows : List ServedRow) (i : ℕ) → IsIndex places (channels_in rows) → i < length rows → IsAheadFrom i places (channels_in (remove rows i))
-index-without places rows i index inside =
-    let long = length-map rows channel_in in
-    let fewer = length-remove (channels_in rows) i (omega (arith, long, inside)) in
-    subst (IsAheadFrom i places) (sym (channels-without rows i)) (record {
-      before = λ k d below within. subst (λ n. LeadsTo places n k) (sym (get_or-remove_below (channels_in rows) i d k below (omega (arith, long, inside)))) (index k d (omega (arith, fewer, within)));
-      from = λ k d above within.
-          subst (λ n. LeadsTo places n (suc k)) (sym (get_or-remove_above (channels_in rows) i d k above (omega (arith, long, inside))))
-          (subst (LeadsTo places (get_or (channels_in rows) (k + 1) d)) (omega arith) (index (k + 1) d (omega (arith, fewer, within))));
-    })
+pub index-without : (index keys : List ℕ) (rows : List ServedRow) (i : ℕ) → IsIndex index keys (channels_in rows) → i < length rows → IsIndex index (remove keys i) (channels_in (remove rows i))
+index-without index keys rows i is inside = subst (IsIndex index (remove keys i)) (sym (channels-without rows i)) (record {
+  long = (let same = is.long in omega (arith, same, fewer, fewer-keys, as_long));
+  apart = apart-left keys i within is.apart;
+  leads = λ k d below. left k d below (cases_lt k i);
+}) where
+  as_long : length (channels_in rows) ≡ length rows
+  as_long = length-map rows channel_in
 
--- one row more stands at the place to which it leads
-pub ahead-less : (places channels : List ℕ) (i channel : ℕ) → IsAheadFrom i places channels → i < length channels → channel ≡ get_or channels i channel → IsAheadFrom (i + 1) (set places channel i) channels
-ahead-less places channels i channel ahead inside at = record {
-  before = λ k d below within. up-to k d (cases_lt k i) below within;
-  from = λ k d above within.
-      others-led places channel (get_or channels k d) i (suc k)
-      (λ same. (let one = leads-once places channel (suc k) (suc i) (subst (λ n. LeadsTo places n (suc k)) same (ahead.from k d (omega (arith, above)) within)) own in omega (arith, one, above)))
-      (ahead.from k d (omega (arith, above)) within);
-} where
-  own : LeadsTo places channel (suc i)
-  own = subst (λ n. LeadsTo places n (suc i)) (sym at) (ahead.from i channel (omega arith) inside)
+  within : i < length keys
+  within = (let same = is.long in omega (arith, same, as_long, inside))
 
-  up-to : (k d : ℕ) → (k < i) ⊎ (i ≤ k) → k < i + 1 → k < length channels → LeadsTo (set places channel i) (get_or channels k d) k
-  up-to k d (inl below) least within =
-      others-led places channel (get_or channels k d) i k
-      (λ same. (let one = leads-once places channel k (suc i) (subst (λ n. LeadsTo places n k) same (ahead.before k d below within)) own in omega (arith, one, below)))
-      (ahead.before k d below within)
-  up-to k d (inr above) least within =
-      let last : k ≡ i = omega (arith, above, least) in
-      rw last (subst (λ n. LeadsTo (set places channel i) n i) (at ∙ get_or_default channels i channel d inside) (own-led places channel i own.inside))
+  fewer : length (remove (channels_in rows) i) + 1 ≡ length rows
+  fewer = (let less = length-remove (channels_in rows) i (omega (arith, as_long, inside)) in omega (arith, less, as_long, inside))
 
--- once all do, it leads to each
-pub ahead-none : (places channels : List ℕ) (i : ℕ) → IsAheadFrom i places channels → length channels ≤ i → IsIndex places channels
-ahead-none places channels i ahead past k d inside = ahead.before k d (omega (arith, past, inside)) inside
+  fewer-keys : length (remove keys i) + 1 ≡ length keys
+  fewer-keys = (let less = length-remove keys i within in omega (arith, less, within))
 
--- the channel of the row at a place
-pub row-at : (rows : List ServedRow) (place : ℕ) (row : ServedRow) → row ≡ get_or rows place row → place < length rows → channel_in row ≡ get_or (channels_in rows) place (channel_in row)
-row-at rows place row at inside = ap channel_in at ∙ sym (get_or-map channel_in rows place row (channel_in row) inside)
-
--- no row but that at its place is a channel's
-pub index-others : (places : List ℕ) (rows : List ServedRow) (i : ℕ) (chan : ChanNo) (d : ServedRow) → IsIndex places (channels_in rows) → i < length rows → is_served_row_of chan (get_or rows i d) ≡ true
-    → (k : ℕ) (e : ServedRow) → k < length rows → (k ≡ i → ⊥) → is_served_row_of chan (get_or rows k e) ≡ false
-index-others places rows i chan d index inside own k e within other =
-    let leads = λ (j : ℕ) (f : ServedRow) (there : j < length rows). ap (λ n. get_or places n 0) (sym (get_or-map channel_in rows j f (channel_in f) there)) ∙ (index j (channel_in f) (let long = length-map rows channel_in in omega (arith, there, long))).there in
-    ne_eqb (channel_number (get_or rows k e).chan) (channel_number chan)
-    (λ same. other (sym (leads k e within) ∙ ap (λ n. get_or places n 0) (same ∙ sym (eqb-true (channel_number (get_or rows i d).chan) (channel_number chan) own)) ∙ leads i d inside))
+  left : (k d : ℕ) → k < length (remove (channels_in rows) i) → (k < i) ⊎ (i ≤ k) → LeadsTo index (get_or (remove (channels_in rows) i) k d) (get_or (remove keys i) k 0)
+  left k d below (inl before) =
+      subst (λ n. LeadsTo index n (get_or (remove keys i) k 0)) (sym (get_or-remove_below (channels_in rows) i d k before (omega (arith, as_long, inside))))
+      (subst (LeadsTo index (get_or (channels_in rows) k d)) (sym (get_or-remove_below keys i 0 k before within)) (is.leads k d (omega (arith, below, fewer, as_long))))
+  left k d below (inr past) =
+      subst (λ n. LeadsTo index n (get_or (remove keys i) k 0)) (sym (get_or-remove_above (channels_in rows) i d k past (omega (arith, as_long, inside))))
+      (subst (LeadsTo index (get_or (channels_in rows) (k + 1) d)) (sym (get_or-remove_above keys i 0 k past within)) (is.leads (k + 1) d (omega (arith, below, fewer, as_long))))

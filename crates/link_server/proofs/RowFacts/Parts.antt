@@ -1,9 +1,10 @@
 -- What the parts of a table tell, the account's rows say; and tables that agree in each part are the same.
-use Rattle.std.proofs.Common.{◌≡◌, ℕ, ◌-◌, ◌<◌, Bool, List, [], ◌∷◌, length, map, get_or, Option, Some, None, refl, sym, ap, ◌∙◌, subst, arith}
+use Rattle.std.proofs.Common.{◌≡◌, ℕ, ◌-◌, ◌<◌, List, [], ◌∷◌, length, map, get_or, Some, None, refl, sym, ap, ◌∙◌, subst, arith}
 use Rattle.std.proofs.lemmas.List.{get_or-map, length-map}
-use Rattle.link_server.proofs.Words.{IfNone, IfSome, find, channel_number, level_number, Sums, Held, held_at, Tentative, Reservation, whole_of, total, LinkShape, KeptRow, kept_terms, server_of, LinkState, ServedRow, KeptTable, reservation_in, row_in, summed, NoRowPasses, IsFirstPlace, IsPlaceOf, IsWithinLevels}
-use Rattle.link_server.specs.Changes.{HasAt}
-use Rattle.link_server.specs.Index.{channels_in, IsIndex}
+use Rattle.std.proofs.lemmas.Option.{same_Some}
+use Rattle.link_server.proofs.Words.{IsDistinct, find, channel_number, ChanNo, is_kept_of, is_served_row_of, IsAbsent, level_number, Sums, Held, held_at, Tentative, Reservation, whole_of, total, LinkShape, KeptRow, kept_terms, server_of, LinkState, ServedRow, KeptTable, reservation_in, row_in, summed, IsPlaceOf, IsWithinLevels}
+use Rattle.link_server.specs.Changes.{HasRow}
+use Rattle.link_server.specs.Index.{channel_in, channels_in, IsIndex}
 use Rattle.link_server.specs.Keeping.{IsKeeping}
 use Rattle.link_server.specs.RowParts.{AreParts}
 use Rattle.link_server.specs.declared.table.keeping.Keeping.{Keeping}
@@ -12,9 +13,8 @@ use Rattle.link_server.specs.declared.table.Table.TheInside.{Inside}
 use Rattle.link_server.specs.TableParts.{table_seen, IsTable}
 use Rattle.link_server.proofs.RowFacts.Places.{kept-absent}
 use Rattle.link_server.proofs.Calendars.Expiry.{place-distinct}
-use Rattle.link_server.proofs.RowFacts.Index.{index-distinct, index-summed}
 use Rattle.link_server.proofs.RowFacts.Keeping.{own-whole}
-use Rattle.link_server.proofs.RowFacts.Placed.{place-mapped, row-has, row-inside}
+use Rattle.link_server.proofs.RowFacts.Placed.{found-at}
 
 -- tables that agree in each part are the same
 pub table-same : (table other : KeptTable) → table.rows ≡ other.rows → table.departed ≡ other.departed → table.server ≡ other.server → table.buffer ≡ other.buffer → table.looked ≡ other.looked → table ≡ other
@@ -33,15 +33,6 @@ free-is link = ap (λ (table : KeptTable). table.buffer - total (kept_units tabl
 pub still-of : (link : LinkState) (new : KeptTable) → new.server ≡ link.table.server → new.buffer ≡ link.table.buffer → new ≡ record new { server = server_of link.shape; buffer = link.shape.buffer }
 still-of link new server buffer = of-shape link.shape new (server ∙ ap (λ (table : KeptTable). table.server) link.of_shape) (buffer ∙ ap (λ (table : KeptTable). table.buffer) link.of_shape)
 
--- a row that the parts don't find isn't found in the account, and one that they find stands there
-pub none-told : (test : KeptRow → Bool) (rows : List ServedRow) (seen : List KeptRow) (found : Option ℕ) → map row_in rows ≡ seen → IfNone found (NoRowPasses (λ row. test (row_in row)) rows) → IfNone found (find test seen ≡ None)
-none-told test rows seen None same none = subst (λ all. find test all ≡ None) same (kept-absent (λ row. test (row_in row)) test (λ row. refl) rows none)
-none-told test rows seen (Some i) same none = tt
-
-pub some-told : (test : KeptRow → Bool) (rows : List ServedRow) (seen : List KeptRow) (found : Option ℕ) → map row_in rows ≡ seen → IfSome found (IsFirstPlace (λ row. test (row_in row)) rows) → IfSome found (IsFirstPlace test seen)
-some-told test rows seen None same place = tt
-some-told test rows seen (Some i) same place = subst (λ all. IsFirstPlace test all i) same (place-mapped row_in test rows i place)
-
 -- as many rows are seen as there are
 pub as-many : (t : Inside) (seen : KeptTable) → table_seen t ≡ seen → length t.rows.items ≡ length seen.rows
 as-many t seen same = sym (length-map t.rows.items row_in) ∙ ap (λ (table : KeptTable). length table.rows) same
@@ -56,19 +47,30 @@ at-levels link row within = subst (λ n. IsWithinLevels n row) (ap (λ (table : 
 
 -- ---- one row
 
--- a row that is seen at a place stands there, and what is seen of it is so
+-- the channel's row stands there, and what is seen of it is so
 pub record IsRowAt (P : KeptRow → Type 0) (t : Inside) (i : ℕ) (d : ServedRow) : Type 0 where
   pub inside : i < length t.rows.items
   pub is : P (row_in (get_or t.rows.items i d))
 
-pub row-at : (P : KeptRow → Type 0) (t : Inside) (seen : KeptTable) (i : ℕ) (d : ServedRow) → table_seen t ≡ seen → HasAt P seen.rows i → IsRowAt P t i d
-row-at P t seen i d same has =
-    let own = subst (λ (table : KeptTable). HasAt P table.rows i) (sym same) has in
-    record { inside = row-inside P t.rows.items i own; is = row-has P t.rows.items i d own }
+pub row-at : (P : KeptRow → Type 0) (t : Inside) (seen : KeptTable) (chan : ChanNo) (i : ℕ) (d : ServedRow) → table_seen t ≡ seen → IsPlaceOf chan t.rows.items i → HasRow P chan seen.rows → IsRowAt P t i d
+row-at P t seen chan i d same place has =
+    let found = subst (λ (table : KeptTable). find (is_kept_of chan) table.rows ≡ Some has.row) (sym same) has.found in
+    record { inside = place.inside; is = subst P (same_Some has.row (row_in (get_or t.rows.items i d)) (sym found ∙ found-at chan t.rows.items i d place)) has.holds }
+
+-- a row that stands there is seen, and where none does none is seen
+pub row-seen : (t : Inside) (seen : KeptTable) (chan : ChanNo) (i : ℕ) (row : ServedRow) → table_seen t ≡ seen → IsPlaceOf chan t.rows.items i → row ≡ get_or t.rows.items i row → find (is_kept_of chan) seen.rows ≡ Some (row_in row)
+row-seen t seen chan i row same place at = subst (λ (table : KeptTable). find (is_kept_of chan) table.rows ≡ Some (row_in row)) same (found-at chan t.rows.items i row place ∙ ap (λ (r : ServedRow). Some (row_in r)) (sym at))
+
+pub none-seen : (t : Inside) (seen : KeptTable) (chan : ChanNo) → table_seen t ≡ seen → IsAbsent chan t.rows.items → find (is_kept_of chan) seen.rows ≡ None
+none-seen t seen chan same absent = subst (λ (table : KeptTable). find (is_kept_of chan) table.rows ≡ None) same (kept-absent (is_served_row_of chan) (is_kept_of chan) (λ row. refl) t.rows.items absent)
+
+-- a channel that has a row in the account has one in the table
+pub has-place : (P : KeptRow → Type 0) (t : Inside) (seen : KeptTable) (chan : ChanNo) → table_seen t ≡ seen → HasRow P chan seen.rows → IsAbsent chan t.rows.items → ⊥
+has-place P t seen chan same has absent = (let both : Some has.row ≡ None = sym has.found ∙ none-seen t seen chan same absent in cc)
 
 -- it is its channel's, and the only one
-pub place-only : (places : List ℕ) (rows : List ServedRow) (i : ℕ) (row : ServedRow) → IsIndex places (channels_in rows) → row ≡ get_or rows i row → i < length rows → IsPlaceOf row.chan rows i
-place-only places rows i row index at inside = subst (λ (r : ServedRow). IsPlaceOf r.chan rows i) (sym at) (place-distinct rows i row (index-distinct places rows index) inside)
+pub place-only : (rows : List ServedRow) (i : ℕ) (row : ServedRow) → IsDistinct (map summed rows) → row ≡ get_or rows i row → i < length rows → IsPlaceOf row.chan rows i
+place-only rows i row distinct at inside = subst (λ (r : ServedRow). IsPlaceOf r.chan rows i) (sym at) (place-distinct rows i row distinct inside)
 
 -- ---- what stays
 
@@ -89,14 +91,13 @@ fixed-same rows old same = sym (each-fixed rows) ∙ ap (map fixed) same ∙ eac
 pub as-long : (rows old : List ServedRow) → map fixed_in rows ≡ map fixed_in old → length rows ≡ length old
 as-long rows old same = sym (length-map rows fixed_in) ∙ ap length same ∙ length-map old fixed_in
 
-pub parts-still : (buffer : ℕ) (bounds : List ℕ) (rows old : List ServedRow) (places : List ℕ) (sums : Sums) (keeping : Keeping) → AreParts buffer bounds old places sums keeping → map fixed_in rows ≡ map fixed_in old → IsKeeping buffer bounds keeping (map reservation_in rows)
-    → AreParts buffer bounds rows places sums keeping
-parts-still buffer bounds rows old places sums keeping parts same keeps =
+pub parts-still : (buffer : ℕ) (bounds : List ℕ) (rows old : List ServedRow) (sums : Sums) (keeping : Keeping) → AreParts buffer bounds old sums keeping → map fixed_in rows ≡ map fixed_in old → IsKeeping buffer bounds keeping (map reservation_in rows)
+    → AreParts buffer bounds rows sums keeping
+parts-still buffer bounds rows old sums keeping parts same keeps =
     let summed-same = sym (held-fixed rows) ∙ ap (map held_of) same ∙ held-fixed old in
     record {
       same = parts.same ∙ sym summed-same;
       within = λ k d inside. still-within (get_or rows k d) (get_or old k d) (fixed-at k d inside) (parts.within k d (omega (arith, inside, as-long rows old same)));
-      indexed = index-summed places old rows parts.indexed summed-same;
       keeps = keeps;
     } where
       held_of : Reservation → Held
@@ -117,6 +118,16 @@ parts-still buffer bounds rows old places sums keeping parts same keeps =
           let most = within.reach in
           record { level = omega (arith, at, near); reach = omega (arith, far, most) }
 
+-- they have the same channels
+pub index-still : (index keys : List ℕ) (rows old : List ServedRow) → IsIndex index keys (channels_in old) → map fixed_in rows ≡ map fixed_in old → IsIndex index keys (channels_in rows)
+index-still index keys rows old is same = subst (IsIndex index keys) (sym (channels-fixed old) ∙ ap (map channel_of) (sym same) ∙ channels-fixed rows) is where
+  channel_of : Reservation → ℕ
+  channel_of terms = channel_number terms.chan
+
+  channels-fixed : (all : List ServedRow) → map channel_of (map fixed_in all) ≡ channels_in all
+  channels-fixed [] = refl
+  channels-fixed (row ∷ all) = ap (λ rest. channel_in row ∷ rest) (channels-fixed all)
+
 -- the numbers tell the buffer themselves
-pub own-parts : (buffer : ℕ) (bounds : List ℕ) (rows : List ServedRow) (places : List ℕ) (sums : Sums) (keeping : Keeping) → AreParts buffer bounds rows places sums keeping → AreParts (whole_of keeping.budget) bounds rows places sums keeping
-own-parts buffer bounds rows places sums keeping parts = record { same = parts.same; within = parts.within; indexed = parts.indexed; keeps = own-whole buffer bounds keeping (map reservation_in rows) parts.keeps }
+pub own-parts : (buffer : ℕ) (bounds : List ℕ) (rows : List ServedRow) (sums : Sums) (keeping : Keeping) → AreParts buffer bounds rows sums keeping → AreParts (whole_of keeping.budget) bounds rows sums keeping
+own-parts buffer bounds rows sums keeping parts = record { same = parts.same; within = parts.within; keeps = own-whole buffer bounds keeping (map reservation_in rows) parts.keeps }

@@ -4,7 +4,8 @@ use Rattle.std.proofs.lemmas.Bool.{cases_Bool, cases_lt, eqb-true, eq-eqb, leb-t
 use Rattle.std.proofs.lemmas.List.{drop_more, drop_all, get_or_past, get_or_default, get_or-set_same, get_or-set_other, length-set}
 use Rattle.link_server.proofs.Words.{nat_eq, nat_le, if◌then◌else◌, KeptRow, kept_after_step, Each, SourcePacket, left_at, Arrival, SourceStep, Rests, Brings, Drops, Entry, Schedule, row_in, ServedRow}
 use Rattle.link_server.specs.Planned.{IsPlannedFrom}
-use Rattle.link_server.specs.Plans.{IsTold, idle_count, idle_in, is_turn, ArePlanned, AreCalled, AreRising, IsQuiet}
+use Rattle.link_server.specs.KeyedList.{AreRising}
+use Rattle.link_server.specs.Plans.{IsTold, idle_count, idle_in, is_turn, ArePlanned, AreCalled, IsQuiet}
 use Rattle.link_server.proofs.Calendars.HoldRows.{each-place}
 use Rattle.link_server.proofs.Calendars.Plans.{told-quiet}
 use Rattle.link_server.proofs.Waiting.Rising.{rising-below, rising-next, none-first, none-between}

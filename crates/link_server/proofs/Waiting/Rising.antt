@@ -1,8 +1,9 @@
 -- Places that rise: how many they may be, what one more makes of them, and which places lie between two of them.
-use Rattle.std.proofs.Common.{◌≡◌, ℕ, zero, suc, ◌+◌, ◌<◌, ◌≤◌, Bool, true, false, ◌||◌, List, [], ◌∷◌, length, get_or, refl, arith}
+use Rattle.std.proofs.Common.{◌≡◌, ℕ, zero, suc, ◌+◌, ◌<◌, ◌≤◌, Bool, true, false, ◌||◌, List, [], ◌∷◌, ◌++◌, remove, length, get_or, refl, arith}
 use Rattle.std.proofs.lemmas.Bool.{eq-eqb, ne_eqb, or_right}
 use Rattle.link_server.proofs.Words.{insert, nat_eq}
-use Rattle.link_server.specs.Plans.{AreRising, is_turn}
+use Rattle.link_server.specs.KeyedList.{AreRising}
+use Rattle.link_server.specs.Plans.{is_turn}
 
 -- ---- where they stand
 
@@ -40,7 +41,30 @@ rising-on low high (place ∷ places) rising zero (suc j) d upto inside = (let a
 rising-on low high (place ∷ places) rising (suc i) zero d upto inside = absurd (omega (arith, upto))
 rising-on low high (place ∷ places) rising (suc i) (suc j) d upto inside = rising-on (suc place) high places rising.1 i j d (omega (arith, upto)) (omega (arith, inside))
 
+-- and each is less than a later one
+pub rising-apart : (low high : ℕ) (places : List ℕ) → AreRising low high places → (i j d : ℕ) → i < j → j < length places → get_or places i d < get_or places j d
+rising-apart low high [] rising i j d before inside = absurd (omega (arith, inside))
+rising-apart low high (place ∷ places) rising i zero d before inside = absurd (omega (arith, before))
+rising-apart low high (place ∷ places) rising zero (suc j) d before inside = (let above = rising-from (suc place) high places j d rising.1 (omega (arith, inside)) in omega (arith, above))
+rising-apart low high (place ∷ places) rising (suc i) (suc j) d before inside = rising-apart (suc place) high places rising.1 i j d (omega (arith, before)) (omega (arith, inside))
+
 -- ---- one more
+
+-- past all
+pub rising-last : (low high : ℕ) (places : List ℕ) → AreRising low high places → AreRising low (suc high) (places ++ high ∷ [])
+rising-last low high [] rising = (rising, omega arith)
+rising-last low high (place ∷ places) rising = (rising.0, rising-last (suc place) high places rising.1)
+
+-- or one less
+rising-lower : (low less high : ℕ) (places : List ℕ) → less ≤ low → AreRising low high places → AreRising less high places
+rising-lower low less high [] lower rising = omega (arith, lower, rising)
+rising-lower low less high (place ∷ places) lower rising = ((let own = rising.0 in omega (arith, lower, own)), rising.1)
+
+pub rising-without : (low high : ℕ) (places : List ℕ) (i : ℕ) → AreRising low high places → AreRising low high (remove places i)
+rising-without low high [] zero rising = rising
+rising-without low high [] (suc i) rising = rising
+rising-without low high (place ∷ places) zero rising = rising-lower (suc place) low high places (let own = rising.0 in omega (arith, own)) rising.1
+rising-without low high (place ∷ places) (suc i) rising = (rising.0, rising-without (suc place) high places i rising.1)
 
 -- it would stand at place i among them
 pub record IsGap (x : ℕ) (places : List ℕ) (i : ℕ) : Type 0 where

@@ -22,10 +22,9 @@ impl LinkState {
         ensures reply { result ≡ kept_reply (whole self.old.shape) (kept_in self.old) (AskSubmit chan count gap size) }
         ensures kept { kept_in self.new ≡ kept_after self.old.shape (kept_in self.old) (AskSubmit chan count gap size) result }
     {
-        let Some(place) = self.table.place_at_hop(chan, true) else {
+        let Some(row) = self.table.row_at_hop(chan, true) else {
             return Reply::Refused(Refusal::NoSuch);
         };
-        let row = self.table.row(place);
         if let Some(refusal) = row.not_committed() {
             return Reply::Refused(refusal);
         }
@@ -42,7 +41,7 @@ impl LinkState {
             size,
             count,
         };
-        self.table.plan(place, planned);
+        self.table.plan(chan, planned);
         Reply::Planned { clock: self.clock }
     }
 
@@ -54,17 +53,16 @@ impl LinkState {
         ensures reply { result ≡ kept_reply (whole self.old.shape) (kept_in self.old) (AskRelease chan upstream) }
         ensures kept { kept_in self.new ≡ kept_after self.old.shape (kept_in self.old) (AskRelease chan upstream) result }
     {
-        let Some(place) = self.table.place_at_hop(chan, upstream.is_none()) else {
+        let Some(row) = self.table.row_at_hop(chan, upstream.is_none()) else {
             return Reply::Refused(Refusal::NoSuch);
         };
-        let row = self.table.row(place);
         if let Some(refusal) = row.not_committed() {
             return Reply::Refused(refusal);
         }
         let count = row.count_at_release(upstream);
         let cancelled = row.cancelled_at_release(upstream);
         self.due = 0;
-        self.table.close(place, count, self.clock);
+        self.table.close(chan, count, self.clock);
         Reply::Closing { count, cancelled }
     }
 
@@ -77,10 +75,9 @@ impl LinkState {
         ensures reply { result ≡ kept_reply (whole self.old.shape) (kept_in self.old) (AskArrive packet.now) }
         ensures kept { kept_in self.new ≡ kept_after self.old.shape (kept_in self.old) (AskArrive packet.now) result }
     {
-        let Some(place) = self.table.place_of(packet.chan) else {
+        let Some(row) = self.table.row_of(packet.chan) else {
             return Reply::Refused(Refusal::Stray { why: Why::NoRow });
         };
-        let row = self.table.row(place);
         if let Some(refusal) = row.stray(packet) {
             return Reply::Refused(refusal);
         }
@@ -91,7 +88,7 @@ impl LinkState {
         self.due = 0;
         let clock = self.clock;
         let number = self.queue.taken() + 1;
-        let taken = self.table.take(place, packet, number, clock);
+        let taken = self.table.take(packet, number, clock);
         self.queue.push(taken, clock);
         Reply::Taken {
             clock,

@@ -102,10 +102,8 @@ impl LinkState {
                 cap: u64::from(self.shape.cap),
             });
         }
-        if let Some(place) = self.table.place_of(wanted.chan) {
-            return Err(Refusal::Twice {
-                phase: self.table.row(place).phase,
-            });
+        if let Some(row) = self.table.row_of(wanted.chan) {
+            return Err(Refusal::Twice { phase: row.phase });
         }
         match self.table.best(&wanted.contract) {
             Err(none) => Err(Refusal::NoLevel {
@@ -149,10 +147,9 @@ impl LinkState {
         ensures reply { result ≡ kept_reply (whole self.old.shape) (kept_in self.old) (AskRelax chan level up_bound) }
         ensures kept { kept_in self.new ≡ kept_after self.old.shape (kept_in self.old) (AskRelax chan level up_bound) result }
     {
-        let Some(place) = self.table.place_of(chan) else {
+        let Some(row) = self.table.row_of(chan) else {
             return Reply::Refused(Refusal::NoSuch);
         };
-        let row = self.table.row(place);
         if let Some(refusal) = row.not_tentative() {
             return Reply::Refused(refusal);
         }
@@ -160,7 +157,7 @@ impl LinkState {
             return Reply::Refused(refusal);
         }
         self.due = 0;
-        self.table.commit(place, level, up_bound);
+        self.table.commit(chan, level, up_bound);
         Reply::Relaxed { clock: self.clock }
     }
 
@@ -171,15 +168,14 @@ impl LinkState {
         ensures reply { result ≡ kept_reply (whole self.old.shape) (kept_in self.old) (AskDeny chan) }
         ensures kept { kept_in self.new ≡ kept_after self.old.shape (kept_in self.old) (AskDeny chan) result }
     {
-        let Some(place) = self.table.place_of(chan) else {
+        let Some(row) = self.table.row_of(chan) else {
             return Reply::Refused(Refusal::NoSuch);
         };
-        let row = self.table.row(place);
         if let Some(refusal) = row.not_tentative() {
             return Reply::Refused(refusal);
         }
         self.due = 0;
-        self.table.remove(place);
+        self.table.remove(chan);
         Reply::Denied
     }
 }

@@ -7,6 +7,7 @@ ghost use Rattle.link_steps.specs.Service.{Arrival};
 ghost use Rattle.link_server.specs.Departed.{AreCounted, departed_in};
 ghost use Rattle.link_server.specs.Holds.{IsListed, PlansNone, AreListed, HasEnded, StaysIfOf, open_count};
 ghost use Rattle.link_server.specs.Index.{channels_in, IsIndex};
+ghost use Rattle.link_server.specs.KeyedList.{position};
 ghost use Rattle.link_server.specs.RowParts.{AreParts};
 ghost use Rattle.link_server.specs.Rows.{row_in};
 ghost use Rattle.link_server.specs.Sources.{AreReady};
@@ -14,7 +15,7 @@ ghost use Rattle.link_server.specs.Sources.{AreReady};
 use crate::keyed_list::KeyedList;
 use crate::table::keeping::Keeping;
 use crate::table::row_index::RowIndex;
-use crate::table::rows::{place_of, take_out};
+use crate::table::rows::{key_of, take_out};
 use crate::table::served_row::ServedRow;
 use net_units::{Bounds, ChanNo};
 use rcsp_admission::LevelSums;
@@ -40,7 +41,7 @@ pub(crate) fn put_hold(holds: &mut Calendar, row: &ServedRow, bounds: &Bounds, c
 pub(crate) fn expire(
     holds: &mut Calendar,
     rows: &mut KeyedList<ServedRow>,
-    index: &mut RowIndex,
+    index: &RowIndex,
     sums: &mut LevelSums,
     keeping: &mut Keeping,
     bounds: &Bounds,
@@ -48,36 +49,38 @@ pub(crate) fn expire(
 )
     requires listed { AreListed bounds.now clock holds.old (map row_in rows.old.items) }
     requires ready { AreReady clock rows.old.items }
-    requires parts { AreParts (whole_of keeping.old.budget) bounds.now rows.old.items index.old.places.items sums.old keeping.old }
+    requires parts { AreParts (whole_of keeping.old.budget) bounds.now rows.old.items sums.old keeping.old }
+    requires indexed { IsIndex index.now.keys.items rows.old.keys (channels_in rows.old.items) }
     ensures rows { map row_in rows.new.items ≡ filter (kept_stays bounds.now clock) (map row_in rows.old.items) }
     ensures counted { (here : List Arrival) → AreCounted here (map row_in rows.old.items) (map departed_in rows.old.items) → AreCounted here (map row_in rows.new.items) (map departed_in rows.new.items) }
     ensures listed { AreListed bounds.now clock holds.new (map row_in rows.new.items) }
-    ensures parts { AreParts (whole_of keeping.old.budget) bounds.now rows.new.items index.new.places.items sums.new keeping.new }
+    ensures parts { AreParts (whole_of keeping.old.budget) bounds.now rows.new.items sums.new keeping.new }
+    ensures indexed { IsIndex index.now.keys.items rows.new.keys (channels_in rows.new.items) }
     ensures server { sums.new.server ≡ sums.old.server }
 {
-    while let Some(key) = holds.take_due(clock) {
-        if let Some(place) = ended_place(rows, index, bounds, clock, key) {
-            take_out(rows, index, sums, keeping, bounds, place);
+    while let Some(number) = holds.take_due(clock) {
+        if let Some(key) = ended_key(rows, index, bounds, clock, number) {
+            take_out(rows, sums, keeping, bounds, key);
         }
     }
 }
 
-// Where the row of the channel of this number stands, if its hold has ended by this tick.
-fn ended_place(
+// The key of the row of the channel of this number, if its hold has ended by this tick.
+fn ended_key(
     rows: &KeyedList<ServedRow>,
     index: &RowIndex,
     bounds: &Bounds,
     clock: u64,
-    key: u32,
+    number: u32,
 ) -> Option<usize>
-    requires indexed { IsIndex index.now.places.items (channels_in rows.now.items) }
+    requires indexed { IsIndex index.now.keys.items rows.now.keys (channels_in rows.now.items) }
     requires ready { AreReady clock rows.now.items }
-    ensures none { IfNone result (Each (StaysIfOf bounds.now clock key) (map row_in rows.now.items)) }
-    ensures some { IfSome result (HasEnded bounds.now clock key rows.now.items) }
+    ensures none { IfNone result (Each (StaysIfOf bounds.now clock number) (map row_in rows.now.items)) }
+    ensures some { IfSome result (λ key. HasEnded bounds.now clock number rows.now.items (position rows.now.keys key)) }
 {
-    let place = place_of(rows, index, ChanNo::new(key)?)?;
-    if rows[place].has_ended(bounds, clock) {
-        return Some(place);
+    let key = key_of(rows, index, ChanNo::new(number)?)?;
+    if rows[key].has_ended(bounds, clock) {
+        return Some(key);
     }
     None
 }

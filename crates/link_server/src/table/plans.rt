@@ -5,13 +5,14 @@ ghost use Rattle.link_steps.specs.Kept.{KeptRow};
 ghost use Rattle.link_steps.specs.Lists.{Each};
 ghost use Rattle.link_server.specs.Index.{channels_in, IsIndex};
 ghost use Rattle.link_server.specs.Planned.{IsPlannedAhead};
-ghost use Rattle.link_server.specs.Plans.{ArePlanned, AreCalled, AreRising, IsPlaceOfKey, IsTold, RestsIfOf, idle_count, is_turn};
+ghost use Rattle.link_server.specs.KeyedList.{AreRising};
+ghost use Rattle.link_server.specs.Plans.{ArePlanned, AreCalled, IsPlaceOfKey, IsTold, RestsIfOf, idle_count, is_turn};
 ghost use Rattle.link_server.specs.Rows.{row_in};
 ghost use Rattle.link_server.specs.Sources.{AreReady};
 
 use crate::keyed_list::KeyedList;
 use crate::table::row_index::RowIndex;
-use crate::table::rows::place_of;
+use crate::table::rows::key_of;
 use crate::table::served_row::ServedRow;
 use net_units::{ChanNo, OutOfMemory};
 use std::alloc::Global;
@@ -56,15 +57,15 @@ impl Plans {
     pub(crate) fn call(&mut self, rows: &KeyedList<ServedRow>, index: &RowIndex, clock: u64)
         requires planned { ArePlanned clock self.old.calendar (map row_in rows.now.items) }
         requires ready { AreReady clock rows.now.items }
-        requires indexed { IsIndex index.now.places.items (channels_in rows.now.items) }
+        requires indexed { IsIndex index.now.keys.items rows.now.keys (channels_in rows.now.items) }
         requires room { length rows.now.items ≤ vec_capacity self.old.turns }
         ensures called { AreCalled clock self.new.calendar self.new.turns.items rows.now.items }
         ensures later { All (λ entry. clock < entry.0) self.new.calendar.entries }
         ensures capacity { vec_capacity self.new.turns ≡ vec_capacity self.old.turns }
     {
         self.turns.clear();
-        while let Some(key) = self.calendar.take_due(clock) {
-            if let Some(place) = planned_place(rows, index, clock, key) {
+        while let Some(number) = self.calendar.take_due(clock) {
+            if let Some(place) = planned_place(rows, index, clock, number) {
                 add_turn(&mut self.turns, place);
             }
         }
@@ -90,16 +91,16 @@ fn planned_place(
     rows: &KeyedList<ServedRow>,
     index: &RowIndex,
     clock: u64,
-    key: u32,
+    number: u32,
 ) -> Option<usize>
-    requires indexed { IsIndex index.now.places.items (channels_in rows.now.items) }
+    requires indexed { IsIndex index.now.keys.items rows.now.keys (channels_in rows.now.items) }
     requires ready { AreReady clock rows.now.items }
-    ensures none { IfNone result (Each (RestsIfOf clock key) (map row_in rows.now.items)) }
-    ensures some { IfSome result (IsPlaceOfKey key rows.now.items) }
+    ensures none { IfNone result (Each (RestsIfOf clock number) (map row_in rows.now.items)) }
+    ensures some { IfSome result (IsPlaceOfKey number rows.now.items) }
 {
-    let place = place_of(rows, index, ChanNo::new(key)?)?;
-    if rows[place].planned.is_for(clock) {
-        return Some(place);
+    let key = key_of(rows, index, ChanNo::new(number)?)?;
+    if rows[key].planned.is_for(clock) {
+        return Some(rows.place(key));
     }
     None
 }

@@ -1,13 +1,15 @@
-//! The rows of a link together: where a channel's stands, and the need and the reach of a new one.
-ghost use Rattle.std.specs.Prelude.{◌≡◌, ◌<◌, ◌≤◌, IfNone, IfSome, length, remove};
+//! The rows of a link together: under which key a channel's stands, and the need and the reach of a new one.
+ghost use Rattle.std.specs.Prelude.{◌≡◌, ◌<◌, ◌≤◌, IfNone, IfSome, length, map, remove};
 ghost use Rattle.buffer_budget.specs.Parts.{whole_of};
 ghost use Rattle.net_units.specs.Numbers.{level_number};
 ghost use Rattle.net_units.specs.Limits.{most_bound};
 ghost use Rattle.net_units.specs.LevelBounds.{reach_of};
+ghost use Rattle.rcsp_admission.specs.Sums.{IsDistinct};
 ghost use Rattle.link_steps.specs.Buffer.{need_of};
 ghost use Rattle.link_server.specs.Index.{channels_in, IsIndex};
+ghost use Rattle.link_server.specs.KeyedList.{position};
 ghost use Rattle.link_server.specs.RowParts.{AreParts};
-ghost use Rattle.link_server.specs.Rows.{is_served_at_hop, NoRowPasses, IsFirstPlace, IsAbsent, IsPlaceOf};
+ghost use Rattle.link_server.specs.Rows.{summed, IsAbsent, IsKeyOf};
 
 use crate::keyed_list::KeyedList;
 use crate::table::keeping::Keeping;
@@ -17,57 +19,48 @@ use net_units::{Bounds, ChanNo, Level};
 use rcsp_admission::LevelSums;
 use traffic_contract::Contract;
 
-// The place of the channel's row.
-pub(crate) fn place_of(rows: &KeyedList<ServedRow>, index: &RowIndex, chan: ChanNo) -> Option<usize>
-    requires { IsIndex index.now.places.items (channels_in rows.now.items) }
+// The key of the channel's row.
+pub(crate) fn key_of(rows: &KeyedList<ServedRow>, index: &RowIndex, chan: ChanNo) -> Option<usize>
+    requires { IsIndex index.now.keys.items rows.now.keys (channels_in rows.now.items) }
     ensures none { IfNone result (IsAbsent chan rows.now.items) }
-    ensures some { IfSome result (IsPlaceOf chan rows.now.items) }
+    ensures some { IfSome result (IsKeyOf chan rows.now) }
 {
-    let place = index.place(chan)?;
-    if place < rows.len() && rows[place].chan.get() == chan.get() {
-        return Some(place);
+    let key = index.key(chan)?;
+    let row = rows.get(key)?;
+    if row.chan.get() == chan.get() {
+        return Some(key);
     }
     None
 }
 
-// The place of the channel's row at its first hop, or at a later one.
-pub(crate) fn place_at_hop(
-    rows: &KeyedList<ServedRow>,
-    index: &RowIndex,
-    chan: ChanNo,
-    first: bool,
-) -> Option<usize>
-    requires { IsIndex index.now.places.items (channels_in rows.now.items) }
-    ensures none { IfNone result (NoRowPasses (is_served_at_hop chan first) rows.now.items) }
-    ensures some { IfSome result (IsFirstPlace (is_served_at_hop chan first) rows.now.items) }
+// The key of the channel's row, which is held.
+pub(crate) fn held_key(rows: &KeyedList<ServedRow>, index: &RowIndex, chan: ChanNo) -> usize
+    requires indexed { IsIndex index.now.keys.items rows.now.keys (channels_in rows.now.items) }
+    requires held { IsAbsent chan rows.now.items → ⊥ }
+    ensures { IsKeyOf chan rows.now result }
 {
-    let place = place_of(rows, index, chan)?;
-    if rows[place].is_at_hop(chan, first) {
-        return Some(place);
-    }
-    None
+    key_of(rows, index, chan).unwrap()
 }
 
-// Takes out the row at this place, and its share of each part. Those after it move up, and are found at their new places.
+// Takes out the row under this key, and its share of each part. The index may keep its key: it means nothing once the row is gone.
 pub(crate) fn take_out(
     rows: &mut KeyedList<ServedRow>,
-    index: &mut RowIndex,
     sums: &mut LevelSums,
     keeping: &mut Keeping,
     bounds: &Bounds,
-    place: usize,
+    key: usize,
 )
-    requires inside { place < length rows.old.items }
-    requires parts { AreParts (whole_of keeping.old.budget) bounds.now rows.old.items index.old.places.items sums.old keeping.old }
-    ensures rows { rows.new.items ≡ remove rows.old.items place }
-    ensures parts { AreParts (whole_of keeping.old.budget) bounds.now rows.new.items index.new.places.items sums.new keeping.new }
+    requires inside { position rows.old.keys key < length rows.old.items }
+    requires distinct { IsDistinct (map summed rows.old.items) }
+    requires parts { AreParts (whole_of keeping.old.budget) bounds.now rows.old.items sums.old keeping.old }
+    ensures rows { rows.new ≡ record rows.old { items = remove rows.old.items (position rows.old.keys key); keys = remove rows.old.keys (position rows.old.keys key) } }
+    ensures parts { AreParts (whole_of keeping.old.budget) bounds.now rows.new.items sums.new keeping.new }
     ensures server { sums.new.server ≡ sums.old.server }
 {
-    let row = &rows[place];
+    let row = &rows[key];
     keeping.give_back(row, bounds);
     sums.remove(row.chan.get());
-    rows.remove(place);
-    index.move_up(rows, place);
+    rows.remove(key);
 }
 
 // The units that a new reservation would keep.

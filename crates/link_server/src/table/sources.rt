@@ -30,6 +30,7 @@ pub(crate) fn take_turns(
     requires may { MayBring bounds.now clock queue.old (map row_in rows.old.items) }
     requires counted { AreCounted queue.old.here (map row_in rows.old.items) (map departed_in rows.old.items) }
     ensures lost { result ≡ lost_by_rows bounds.now queue.old.here clock rows.old.items }
+    ensures keys { rows.new.keys ≡ rows.old.keys }
     ensures rows { map row_in rows.new.items ≡ served_rows_after bounds.now queue.old.here clock queue.old.taken rows.old.items }
     ensures kept { queue.new ≡ queue_after bounds.now clock (map row_in rows.old.items) queue.new.looked queue.old }
     ensures looked { queue.new.looked ≤ clock }
@@ -38,7 +39,8 @@ pub(crate) fn take_turns(
 {
     let mut lost = 0;
     for place in turns {
-        let row = &mut rows[*place];
+        let key = rows.key_at(*place);
+        let row = &mut rows[key];
         if take_source_packet(row, queue, bounds, clock) {
             lost += 1;
         }

@@ -1,27 +1,21 @@
--- The value under the key at the place.
-use Rattle.std.proofs.Common.{◌≡◌, Some, IsSome, length, get_or, ap, sym, subst, ◌∙◌, arith}
-use Rattle.link_server.specs.KeyedList.{slot_at}
-use Rattle.link_server.proofs.KeyedListFacts.{length-items, held-at, item-at}
+-- The value under the key stands at its place.
+use Rattle.std.proofs.Common.{IsSome, get_or, ap, subst, ◌∙◌}
+use Rattle.link_server.specs.KeyedList.{position, slot_at}
+use Rattle.link_server.proofs.KeyedListFacts.{held-at, item-at, key-inside}
+use Rattle.link_server.proofs.KeyPlaces.{position-there}
 use Rattle.link_server.proofs.keyed_list.KeyedListIndexUsize.index.Goals as goal
 
 pub index-requires : goal.index-requires
 index-requires g c =
-    let long = length-items c.self.inside.slots.slots c.self.inside.keys.items c.self.invariant.0.held in
-    let seen = ap (λ list. length list.items) c.self.view_is in
-    omega (arith, long, seen, c.self.inside.keys.ok.0, c.requires)
-
-pub index-requires-2 : goal.index-requires-2
-index-requires-2 g c =
+    let slots = c.self.inside.slots.slots in
     let keys = c.self.inside.keys.items in
-    let long = length-items c.self.inside.slots.slots keys c.self.invariant.0.held in
-    let seen = ap (λ list. length list.items) c.self.view_is in
-    subst (λ key. IsSome (slot_at c.self.inside.slots.slots key)) (sym c.index.ensures) (held-at c.self.inside.slots.slots keys c.args.place c.index.result.now c.self.invariant.0.held (omega (arith, long, seen, c.requires)))
+    let inside = key-inside slots keys c.self.inside.spare c.args.key c.args.self.now c.self.invariant.0 c.self.view_is c.requires in
+    subst (λ key. IsSome (slot_at slots key)) (position-there keys c.args.key 0 inside) (held-at slots keys (position keys c.args.key) 0 c.self.invariant.0.held inside)
 
 pub returns : goal.returns
 returns g c =
+    let slots = c.self.inside.slots.slots in
     let keys = c.self.inside.keys.items in
-    let long = length-items c.self.inside.slots.slots keys c.self.invariant.0.held in
-    let seen = ap (λ list. length list.items) c.self.view_is in
-    let at = subst (λ key. slot_at c.self.inside.slots.slots key ≡ Some c.index-2.result.now) c.index.ensures c.index-2.ensures in
-    item-at c.self.inside.slots.slots keys c.args.place c.index.result.now c.index-2.result.now c.index-2.result.now c.self.invariant.0.held (omega (arith, long, seen, c.requires)) at
-    ∙ ap (λ list. get_or list.items c.args.place c.index-2.result.now) c.self.view_is
+    let inside = key-inside slots keys c.self.inside.spare c.args.key c.args.self.now c.self.invariant.0 c.self.view_is c.requires in
+    item-at slots keys (position keys c.args.key) 0 c.index.result.now c.index.result.now c.self.invariant.0.held inside (ap (slot_at slots) (position-there keys c.args.key 0 inside) ∙ c.index.ensures)
+    ∙ ap (λ list. get_or list.items (position list.keys c.args.key) c.index.result.now) c.self.view_is

@@ -5,12 +5,12 @@ use Rattle.link_steps.specs.declared.replies.Reply.TheVariants.{Taken}
 use Rattle.link_steps.specs.Kept.{Kept, KeptRow, is_kept_of, kept_reply, kept_after, kept_arrived, kept_arrived_row, kept_arrived_tick, kept_with_arrival}
 use Rattle.link_steps.specs.Refusals.{full}
 use Rattle.link_steps.proofs.AccountOfRows.{eligible-from}
-use Rattle.link_server.specs.Changes.{MayTake, changed_at}
+use Rattle.link_steps.specs.Lists.{change_first}
+use Rattle.link_steps.proofs.ListFacts.{Each-find}
 use Rattle.link_server.specs.Packets.{arrival_in}
 use Rattle.link_server.specs.Sound.{IsSound}
 use Rattle.link_server.specs.Sources.{IsReady}
 use Rattle.link_server.proofs.Replies.Arrive.{arrive-absent, arrive-stray, arrive-full, arrive-taken, arrive-same, arrive-kept, arrive-room, arrive-soon}
-use Rattle.link_server.proofs.RowFacts.Placed.{each-seen, found-at, has-at}
 use Rattle.link_server.specs.Departed.{AreCounted}
 use Rattle.link_server.proofs.Departed.Packets.{counted-arrived}
 use Rattle.link_server.proofs.Departed.Rows.{held-here}
@@ -20,7 +20,7 @@ use Rattle.link_server.proofs.Sound.Taking.{sound-arrive}
 use Rattle.link_server.proofs.Sound.Stood.{all-ready, newest-stood, numbers-left, still-stood}
 use Rattle.link_server.proofs.RowFacts.Parts.{at-levels, still-of}
 use Rattle.link_server.proofs.link_state.LinkState.arrive.Goals as goal
-use Rattle.link_server.proofs.link_state.LinkState.arrive.Goals.{After-row-row, After-take-taken, After-push}
+use Rattle.link_server.proofs.link_state.LinkState.arrive.Goals.{In-Some, After-take-taken, After-push}
 
 pub returns-in_default-clause-reply : goal.returns-in_default-clause-reply
 returns-in_default-clause-reply c = arrive-absent c.args.self.now.shape (kept_in c.args.self.now) c.args.packet.now c.in_default.ensures.none
@@ -29,11 +29,8 @@ pub returns-in_default-clause-kept : goal.returns-in_default-clause-kept
 returns-in_default-clause-kept c = arrive-same c.args.self.now.shape _ c.args.packet.now _
 
 -- the row is the channel's, and it can take one more
-found : (c : After-row-row) → find (is_kept_of c.args.packet.now.chan) c.args.self.now.table.rows ≡ Some (row_in c.row-row.result.now)
-found c = found-at (is_kept_of c.args.packet.now.chan) c.args.self.now.table.rows c.in-Some.place (row_in c.row-row.result.now) c.in-Some.ensures.some c.row-row.ensures.row
-
-ready : (c : After-row-row) → c.args.self.now.clock < 2 ^ 61 → IsReady c.args.self.now.clock (row_in c.row-row.result.now)
-ready c early = each-seen (IsReady c.args.self.now.clock) c.args.self.now.table.rows c.in-Some.place (row_in c.row-row.result.now) c.row-row.ensures.row (all-ready c.args.self.now early)
+ready : (c : In-Some) → c.args.self.now.clock < 2 ^ 61 → IsReady c.args.self.now.clock (row_in c.in-Some.row.now)
+ready c early = Each-find (IsReady c.args.self.now.clock) (is_kept_of c.args.packet.now.chan) c.args.self.now.table.rows (row_in c.in-Some.row.now) (all-ready c.args.self.now early) c.in-Some.ensures.some
 
 -- the clock stays
 arrive-clock : (shape : LinkShape) (k : Kept) (packet : Packet) (e : ℕ) → k.clock < 2 ^ 61 → (kept_after shape k (Arrive packet) (Taken k.clock e)).clock < 2 ^ 61
@@ -44,22 +41,22 @@ arrive-clock shape k packet e early = same-clock (find (is_kept_of packet.chan) 
   same-clock (Some row) = early
 
 pub stray-requires : goal.stray-requires
-stray-requires c = (ready (goal.at.stray-requires c).After-row-row c.requires.early).few
+stray-requires c = (ready (goal.at.stray-requires c).In-Some c.requires.early).few
 
 pub returns-in-Some-stray-clause-reply : goal.returns-in-Some-stray-clause-reply
 returns-in-Some-stray-clause-reply c =
-    arrive-stray c.args.self.now.shape (kept_in c.args.self.now) c.args.packet.now (row_in c.row-row.result.now) _ (found (goal.at.returns-in-Some-stray-clause-reply c).After-row-row) c.in-Some-stray.ensures
+    arrive-stray c.args.self.now.shape (kept_in c.args.self.now) c.args.packet.now (row_in c.in-Some.row.now) _ c.in-Some.ensures.some c.in-Some-stray.ensures
 
 pub returns-in-Some-stray-clause-kept : goal.returns-in-Some-stray-clause-kept
 returns-in-Some-stray-clause-kept c = arrive-same c.args.self.now.shape _ c.args.packet.now _
 
 pub full-requires : goal.full-requires
-full-requires c = at-levels c.args.self.now c.row-row.result.now c.row-row.ensures.within
+full-requires c = at-levels c.args.self.now c.in-Some.row.now c.in-Some.ensures.within
 
 pub returns-in-Some-full-clause-reply : goal.returns-in-Some-full-clause-reply
 returns-in-Some-full-clause-reply c =
-    arrive-full c.args.self.now.shape (kept_in c.args.self.now) c.args.packet.now (row_in c.row-row.result.now) _ (found (goal.at.returns-in-Some-full-clause-reply c).After-row-row) c.in_default-stray.ensures
-    (c.in-Some-full.ensures ∙ ap (λ n. full n (slots_of c.args.self.now.shape.bounds (reservation_in c.row-row.result.now))) (held-here c.args.self.now c.in-Some.place c.row-row.result.now c.row-row.ensures.row c.row-row.ensures.departed))
+    arrive-full c.args.self.now.shape (kept_in c.args.self.now) c.args.packet.now (row_in c.in-Some.row.now) _ c.in-Some.ensures.some c.in_default-stray.ensures
+    (c.in-Some-full.ensures ∙ ap (λ n. full n (slots_of c.args.self.now.shape.bounds (reservation_in c.in-Some.row.now))) (held-here c.args.self.now.queue.here c.in-Some.row.now (c.in-Some.ensures.counted c.args.self.now.queue.here c.args.self.now.counted)))
 
 pub returns-in-Some-full-clause-kept : goal.returns-in-Some-full-clause-kept
 returns-in-Some-full-clause-kept c = arrive-same c.args.self.now.shape _ c.args.packet.now _
@@ -73,44 +70,48 @@ overflow_add-number c =
 pub take-taken-requires-clause-may : goal.take-taken-requires-clause-may
 take-taken-requires-clause-may c =
     let link = c.args.self.now in
-    let at = (goal.at.take-taken-requires-clause-may c).After-row-row in
-    let row = row_in c.row-row.result.now in
+    let at = (goal.at.take-taken-requires-clause-may c).In-Some in
+    let row = row_in c.in-Some.row.now in
     let packet = c.args.packet.now in
     let tick = kept_arrived_tick link.clock packet row in
     let one = ready at c.requires.early in
     let reply =
-    arrive-taken link.shape (kept_in link) packet row tick (found at) c.in_default-stray.ensures
-    (c.in_default-full.ensures ∙ ap (λ n. full n (slots_of link.shape.bounds row.terms)) (held-here c.args.self.now c.in-Some.place c.row-row.result.now c.row-row.ensures.row c.row-row.ensures.departed)) refl in
+    arrive-taken link.shape (kept_in link) packet row tick c.in-Some.ensures.some c.in_default-stray.ensures
+    (c.in_default-full.ensures ∙ ap (λ n. full n (slots_of link.shape.bounds row.terms)) (held-here c.args.self.now.queue.here c.in-Some.row.now (c.in-Some.ensures.counted c.args.self.now.queue.here c.args.self.now.counted))) refl in
     let soon = newest-stood link.shape (kept_after link.shape (kept_in link) (Arrive packet) (Taken link.clock tick)) (arrive-clock link.shape (kept_in link) packet tick c.requires.early) (still-stood link (Arrive packet) (Taken link.clock tick) _ c.requires.fits reply refl) in
     let number : suc link.queue.taken ≡ c.taken-number.result + 1 = omega (arith, c.taken-number.ensures) in
-    has-at (MayTake link.clock (c.taken-number.result + 1) packet) link.table.rows c.in-Some.place row c.in-Some.ensures.some.inside c.row-row.ensures.row (record {
-      placed = c.in_default-stray.ensures;
-      last = one.last;
-      soon = subst (λ n. newest (kept_arrived_row link.clock n packet row).recent < 2 ^ 63) number (arrive-soon link.shape tick (kept_in link) packet c.in-Some.place row c.in-Some.ensures.some c.row-row.ensures.row soon);
-      few = one.few;
-    })
+    record {
+      row = row;
+      found = c.in-Some.ensures.some;
+      holds = record {
+        placed = c.in_default-stray.ensures;
+        last = one.last;
+        soon = subst (λ n. newest (kept_arrived_row link.clock n packet row).recent < 2 ^ 63) number (arrive-soon link.shape tick (kept_in link) packet row c.in-Some.ensures.some soon);
+        few = one.few;
+      };
+    }
 
 -- the packet is the account's
-arrived : (c : After-take-taken) → arrival_in c.take-taken.result ≡ kept_arrived c.args.self.now.clock (suc c.args.self.now.queue.taken) c.args.packet.now (row_in c.row-row.result.now)
+arrived : (c : After-take-taken) → arrival_in c.take-taken.result ≡ kept_arrived c.args.self.now.clock (suc c.args.self.now.queue.taken) c.args.packet.now (row_in c.in-Some.row.now)
 arrived c =
     let number : c.taken-number.result + 1 ≡ suc c.args.self.now.queue.taken = omega (arith, c.taken-number.ensures) in
-    subst (λ o. IfSome o (λ row. arrival_in c.take-taken.result ≡ kept_arrived c.args.self.now.clock (c.taken-number.result + 1) c.args.packet.now row)) c.row-row.ensures.row c.take-taken.ensures.packet
-    ∙ ap (λ n. kept_arrived c.args.self.now.clock n c.args.packet.now (row_in c.row-row.result.now)) number
+    subst (λ o. IfSome o (λ row. arrival_in c.take-taken.result ≡ kept_arrived c.args.self.now.clock (c.taken-number.result + 1) c.args.packet.now row)) c.in-Some.ensures.some c.take-taken.ensures.packet
+    ∙ ap (λ n. kept_arrived c.args.self.now.clock n c.args.packet.now (row_in c.in-Some.row.now)) number
 
 -- the reply is the account's
-replied : (c : After-take-taken) → find (is_kept_of c.args.packet.now.chan) c.args.self.now.table.rows ≡ Some (row_in c.row-row.result.now) → Taken c.args.self.now.clock c.take-taken.result.eligible ≡ kept_reply (whole c.args.self.now.shape) (kept_in c.args.self.now) (Arrive c.args.packet.now)
+replied : (c : After-take-taken) → find (is_kept_of c.args.packet.now.chan) c.args.self.now.table.rows ≡ Some (row_in c.in-Some.row.now) → Taken c.args.self.now.clock c.take-taken.result.eligible ≡ kept_reply (whole c.args.self.now.shape) (kept_in c.args.self.now) (Arrive c.args.packet.now)
 replied c found =
-    arrive-taken c.args.self.now.shape (kept_in c.args.self.now) c.args.packet.now (row_in c.row-row.result.now) c.take-taken.result.eligible found c.in_default-stray.ensures
-    (c.in_default-full.ensures ∙ ap (λ n. full n (slots_of c.args.self.now.shape.bounds (reservation_in c.row-row.result.now))) (held-here c.args.self.now c.in-Some.place c.row-row.result.now c.row-row.ensures.row c.row-row.ensures.departed)) (ap (λ p. p.eligible) (arrived c))
+    arrive-taken c.args.self.now.shape (kept_in c.args.self.now) c.args.packet.now (row_in c.in-Some.row.now) c.take-taken.result.eligible found c.in_default-stray.ensures
+    (c.in_default-full.ensures ∙ ap (λ n. full n (slots_of c.args.self.now.shape.bounds (reservation_in c.in-Some.row.now))) (held-here c.args.self.now.queue.here c.in-Some.row.now (c.in-Some.ensures.counted c.args.self.now.queue.here c.args.self.now.counted))) (ap (λ p. p.eligible) (arrived c))
 
-sound : (c : After-take-taken) → find (is_kept_of c.args.packet.now.chan) c.args.self.now.table.rows ≡ Some (row_in c.row-row.result.now) → IsSound c.args.self.now.shape c.args.self.now.queue.room (kept_after c.args.self.now.shape (kept_in c.args.self.now) (Arrive c.args.packet.now) (Taken c.args.self.now.clock c.take-taken.result.eligible))
+sound : (c : After-take-taken) → find (is_kept_of c.args.packet.now.chan) c.args.self.now.table.rows ≡ Some (row_in c.in-Some.row.now) → IsSound c.args.self.now.shape c.args.self.now.queue.room (kept_after c.args.self.now.shape (kept_in c.args.self.now) (Arrive c.args.packet.now) (Taken c.args.self.now.clock c.take-taken.result.eligible))
 sound c found =
     sound-arrive c.args.self.now.shape c.args.self.now.queue.room (kept_in c.args.self.now) c.args.packet.now (Taken c.args.self.now.clock c.take-taken.result.eligible) c.requires.fits c.args.self.now.sound (replied c found)
 
 pub push-requires-clause-room : goal.push-requires-clause-room
 push-requires-clause-room c =
     let at = goal.at.push-requires-clause-room c in
-    arrive-room c.args.self.now.shape c.args.self.now.queue.room c.take-taken.result.eligible (kept_in c.args.self.now) c.args.packet.now (row_in c.row-row.result.now) (found at.After-row-row) (sound at.After-take-taken (found at.After-row-row))
+    arrive-room c.args.self.now.shape c.args.self.now.queue.room c.take-taken.result.eligible (kept_in c.args.self.now) c.args.packet.now (row_in c.in-Some.row.now) c.in-Some.ensures.some (sound at.After-take-taken c.in-Some.ensures.some)
 
 pub push-requires-clause-next : goal.push-requires-clause-next
 push-requires-clause-next c = (let place = ap (λ p. p.place) (arrived (goal.at.push-requires-clause-next c).After-take-taken) in omega (arith, place))
@@ -121,24 +122,24 @@ push-requires-clause-countable c = numbers-left c.args.self.now c.requires.early
 pub push-requires-clause-eligible : goal.push-requires-clause-eligible
 push-requires-clause-eligible c =
     let own = ap (λ p. p.eligible) (arrived (goal.at.push-requires-clause-eligible c).After-take-taken) in
-    let from = eligible-from (reservation_in c.row-row.result.now) (row_in c.row-row.result.now).recent c.args.self.now.clock c.args.packet.now.due in
+    let from = eligible-from (reservation_in c.in-Some.row.now) (row_in c.in-Some.row.now).recent c.args.self.now.clock c.args.packet.now.due in
     omega (arith, own, from)
 
 -- what is kept is the account's
-kept : (c : After-push) → find (is_kept_of c.args.packet.now.chan) c.args.self.now.table.rows ≡ Some (row_in c.row-row.result.now) → arrival_in c.take-taken.result ≡ kept_arrived c.args.self.now.clock (suc c.args.self.now.queue.taken) c.args.packet.now (row_in c.row-row.result.now)
+kept : (c : After-push) → find (is_kept_of c.args.packet.now.chan) c.args.self.now.table.rows ≡ Some (row_in c.in-Some.row.now) → arrival_in c.take-taken.result ≡ kept_arrived c.args.self.now.clock (suc c.args.self.now.queue.taken) c.args.packet.now (row_in c.in-Some.row.now)
     → account c.args.self.now.clock c.push.new.self c.take-taken.new.self.rows ≡ kept_after c.args.self.now.shape (kept_in c.args.self.now) (Arrive c.args.packet.now) (Taken c.args.self.now.clock c.take-taken.result.eligible)
 kept c found arrived =
     let link = c.args.self.now in
     let packet = c.args.packet.now in
     let number : c.taken-number.result + 1 ≡ suc link.queue.taken = omega (arith, c.taken-number.ensures) in
-    ap (account link.clock c.push.new.self) (ap (λ (table : KeptTable). table.rows) c.take-taken.ensures.table ∙ ap (λ n. changed_at (kept_arrived_row link.clock n packet) link.table.rows c.in-Some.place) number)
-    ∙ arrive-kept link.shape link.clock c.take-taken.result.eligible link.queue c.push.new.self packet link.table.rows c.in-Some.place (row_in c.row-row.result.now) c.take-taken.result c.in-Some.ensures.some found arrived c.push.ensures.kept
+    ap (account link.clock c.push.new.self) (ap (λ (table : KeptTable). table.rows) c.take-taken.ensures.table ∙ ap (λ n. change_first (is_kept_of packet.chan) (kept_arrived_row link.clock n packet) link.table.rows) number)
+    ∙ arrive-kept link.shape link.clock c.take-taken.result.eligible link.queue c.push.new.self packet link.table.rows (row_in c.in-Some.row.now) c.take-taken.result found arrived c.push.ensures.kept
 
 pub invariant_of-self : goal.invariant_of-self
 invariant_of-self c =
     let link = c.args.self.now in
     let at = goal.at.invariant_of-self c in
-    let here = found at.After-row-row in
+    let here = c.in-Some.ensures.some in
     let reply = replied at.After-take-taken here in
     let after = kept at.After-push here (arrived at.After-take-taken) in
     let room : c.push.new.self.room ≡ link.queue.room = ap (λ (queue : KeptQueue). queue.room) c.push.ensures.kept in
@@ -153,18 +154,18 @@ invariant_of-self c =
           (subst (IsSound link.shape link.queue.room) (sym after) (sound at.After-take-taken here));
       stood = still-stood link (Arrive c.args.packet.now) (Taken link.clock c.take-taken.result.eligible) _ c.requires.fits reply after;
       counted =
-          let row = row_in c.row-row.result.now in
+          let row = row_in c.in-Some.row.now in
           let now = link.queue.here ++ kept_arrived link.clock (suc link.queue.taken) c.args.packet.now row ∷ [] in
           subst (λ all. AreCounted all c.take-taken.new.self.rows c.take-taken.new.self.departed) (sym (ap (λ (queue : KeptQueue). queue.here) c.push.ensures.kept ∙ ap (λ p. link.queue.here ++ p ∷ []) (arrived at.After-take-taken)))
           (subst (λ (table : KeptTable). AreCounted now table.rows table.departed) (sym c.take-taken.ensures.table)
-          (subst (λ n. AreCounted now (changed_at (kept_arrived_row link.clock n c.args.packet.now) link.table.rows c.in-Some.place) link.table.departed) (omega (arith, c.taken-number.ensures))
-          (counted-arrived link.clock link.queue.taken c.args.packet.now link.queue.here link.table.rows link.table.departed c.in-Some.place row
-          (sound-led _ link.queue.taken link.queue.here link.sound.packets) link.sound.apart (rows-led _ link.clock link.queue.taken link.table.rows link.sound.rows) c.row-row.ensures.row link.counted)));
+          (subst (λ n. AreCounted now (change_first (is_kept_of c.args.packet.now.chan) (kept_arrived_row link.clock n c.args.packet.now) link.table.rows) link.table.departed) (omega (arith, c.taken-number.ensures))
+          (counted-arrived link.clock link.queue.taken c.args.packet.now link.queue.here link.table.rows link.table.departed row
+          (sound-led _ link.queue.taken link.queue.here link.sound.packets) link.sound.apart (rows-led _ link.clock link.queue.taken link.table.rows link.sound.rows) c.in-Some.ensures.some link.counted)));
       rests = due-now _ _;
     }
 
 pub returns-clause-reply : goal.returns-clause-reply
-returns-clause-reply c = (let at = goal.at.returns-clause-reply c in replied at.After-take-taken (found at.After-row-row))
+returns-clause-reply c = (let at = goal.at.returns-clause-reply c in replied at.After-take-taken c.in-Some.ensures.some)
 
 pub returns-clause-kept : goal.returns-clause-kept
-returns-clause-kept c = (let at = goal.at.returns-clause-kept c in kept at.After-push (found at.After-row-row) (arrived at.After-take-taken))
+returns-clause-kept c = (let at = goal.at.returns-clause-kept c in kept at.After-push c.in-Some.ensures.some (arrived at.After-take-taken))

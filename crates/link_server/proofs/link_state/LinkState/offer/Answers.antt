@@ -3,10 +3,9 @@ use Rattle.std.proofs.Common.{◌≡◌, ◌≤◌, length, map, sym, ap, ◌∙
 use Rattle.std.proofs.lemmas.Bool.{le-leb, lt-leb}
 use Rattle.link_server.proofs.Words.{level_number, last_bound, reach_of, best_level, refused_sum, Offer, Refused, need_of, free_units, admitted, KeptTable, level_of, reservation_in, row_in, kept_in}
 use Rattle.link_steps.specs.declared.replies.Refusal.TheVariants.{NoLevel}
-use Rattle.link_steps.specs.Kept.{is_kept_of, kept_terms, kept_reply}
+use Rattle.link_steps.specs.Kept.{kept_terms, kept_reply}
 use Rattle.link_steps.proofs.LevelFacts.{level_of-level}
 use Rattle.link_server.proofs.RowFacts.Places.{terms-found, terms-absent}
-use Rattle.link_server.proofs.RowFacts.Placed.{found-at}
 use Rattle.link_server.proofs.RowFacts.Parts.{free-is}
 use Rattle.link_server.proofs.Replies.Setup.{reserve-wide, reserve-twice, reserve-no_level, reserve-no_buffer, reserve-offer, reply-may}
 use Rattle.link_server.proofs.link_state.LinkState.offer.Goals as goal
@@ -21,9 +20,8 @@ pub returns-in-Some-clause-reply : goal.returns-in-Some-clause-reply
 unfolding kept_reply
 returns-in-Some-clause-reply c =
     let wide = le-leb c.args.wanted.now.contract.smax c.args.self.now.shape.cap (omega (arith, c.if-smax-self.false, c.smax-smax.ensures.value)) in
-    let found = terms-found c.args.wanted.now.chan c.args.self.now.table.rows (row_in c.row.result.now)
-    (found-at (is_kept_of c.args.wanted.now.chan) c.args.self.now.table.rows c.in-Some.place (row_in c.row.result.now) c.in-Some.ensures.some c.row.ensures.row) in
-    reserve-twice c.args.self.now.shape (map kept_terms c.args.self.now.table.rows) c.args.wanted.now.chan c.args.wanted.now.contract c.args.wanted.now.delay c.args.wanted.now.up_reach (reservation_in c.row.result.now) wide found
+    let found = terms-found c.args.wanted.now.chan c.args.self.now.table.rows (row_in c.in-Some.row.now) c.in-Some.ensures.some in
+    reserve-twice c.args.self.now.shape (map kept_terms c.args.self.now.table.rows) c.args.wanted.now.chan c.args.wanted.now.contract c.args.wanted.now.delay c.args.wanted.now.up_reach (reservation_in c.in-Some.row.now) wide found
 
 pub returns-in-Err-clause-reply : goal.returns-in-Err-clause-reply
 unfolding kept_reply

@@ -1,10 +1,9 @@
 -- The row of the channel is found, judged by its phase and its offer, and committed.
-use Rattle.std.proofs.Common.{◌≡◌, ◌≤◌, Some, ap, ◌∙◌, sym, subst}
-use Rattle.link_server.proofs.Words.{kept_relaxed, find, is_kept_of, kept_after, kept_reply, with_kept_rows, whole, account, KeptTable, row_in, kept_in, Relax}
+use Rattle.std.proofs.Common.{◌≡◌, ◌≤◌, ap, ◌∙◌, sym, subst}
+use Rattle.link_server.proofs.Words.{kept_relaxed, kept_after, kept_reply, with_kept_rows, whole, account, KeptTable, row_in, kept_in, Relax}
 use Rattle.traffic_contract.specs.Admission.{Server}
-use Rattle.link_server.specs.Changes.{MayCommit, HasAt}
+use Rattle.link_server.specs.Changes.{HasRow, MayCommit}
 use Rattle.link_server.specs.Sound.{IsSound}
-use Rattle.link_server.proofs.RowFacts.Placed.{found-at, has-at}
 use Rattle.link_server.proofs.Departed.Rows.{counted-changed}
 use Rattle.link_server.proofs.RestFacts.{due-now}
 use Rattle.link_server.proofs.Sound.Stood.{still-stood}
@@ -14,7 +13,7 @@ use Rattle.link_steps.proofs.RefusalFacts.{unfit-none}
 use Rattle.link_server.proofs.Replies.Setup.{relax-absent, relax-phase, relax-unfit, relax-relaxed, relax-same, relax-kept}
 use Rattle.link_server.proofs.Sound.Setup.{sound-relax, relaxed-slots}
 use Rattle.link_server.proofs.link_state.LinkState.relax.Goals as goal
-use Rattle.link_server.proofs.link_state.LinkState.relax.Goals.{After-row-row, After-commit}
+use Rattle.link_server.proofs.link_state.LinkState.relax.Goals.{After-commit}
 
 pub returns-in_default-clause-reply : goal.returns-in_default-clause-reply
 returns-in_default-clause-reply c = relax-absent c.args.self.now.shape (kept_in c.args.self.now) c.args.chan c.args.level c.args.up_bound c.in_default.ensures.none
@@ -22,21 +21,16 @@ returns-in_default-clause-reply c = relax-absent c.args.self.now.shape (kept_in 
 pub returns-in_default-clause-kept : goal.returns-in_default-clause-kept
 returns-in_default-clause-kept c = relax-same c.args.self.now.shape _ c.args.chan c.args.level c.args.up_bound _
 
--- the row is the channel's
-found : (c : After-row-row) → find (is_kept_of c.args.chan) c.args.self.now.table.rows ≡ Some (row_in c.row-row.result.now)
-found c = found-at (is_kept_of c.args.chan) c.args.self.now.table.rows c.in-Some.place (row_in c.row-row.result.now) c.in-Some.ensures.some c.row-row.ensures.row
-
 pub returns-in-Some-not_tentative-clause-reply : goal.returns-in-Some-not_tentative-clause-reply
 returns-in-Some-not_tentative-clause-reply c =
-    relax-phase c.args.self.now.shape (kept_in c.args.self.now) c.args.chan c.args.level c.args.up_bound (row_in c.row-row.result.now) _ (found (goal.at.returns-in-Some-not_tentative-clause-reply c).After-row-row) c.in-Some-not_tentative.ensures
+    relax-phase c.args.self.now.shape (kept_in c.args.self.now) c.args.chan c.args.level c.args.up_bound (row_in c.in-Some.row.now) _ c.in-Some.ensures.some c.in-Some-not_tentative.ensures
 
 pub returns-in-Some-not_tentative-clause-kept : goal.returns-in-Some-not_tentative-clause-kept
 returns-in-Some-not_tentative-clause-kept c = relax-same c.args.self.now.shape _ c.args.chan c.args.level c.args.up_bound _
 
 pub returns-in-Some-unfit-clause-reply : goal.returns-in-Some-unfit-clause-reply
 returns-in-Some-unfit-clause-reply c =
-    let at = goal.at.returns-in-Some-unfit-clause-reply c in
-    relax-unfit c.args.self.now.shape (kept_in c.args.self.now) c.args.chan c.args.level c.args.up_bound (row_in c.row-row.result.now) _ (found at.After-row-row) c.in_default-not_tentative.ensures
+    relax-unfit c.args.self.now.shape (kept_in c.args.self.now) c.args.chan c.args.level c.args.up_bound (row_in c.in-Some.row.now) _ c.in-Some.ensures.some c.in_default-not_tentative.ensures
     c.in-Some-unfit.ensures
 
 pub returns-in-Some-unfit-clause-kept : goal.returns-in-Some-unfit-clause-kept
@@ -45,29 +39,33 @@ returns-in-Some-unfit-clause-kept c = relax-same c.args.self.now.shape _ c.args.
 -- the reply is the account's, and so is what is kept
 replied : (c : After-commit) → Relaxed c.args.self.now.clock ≡ kept_reply (whole c.args.self.now.shape) (kept_in c.args.self.now) (Relax c.args.chan c.args.level c.args.up_bound)
 replied c =
-    relax-relaxed c.args.self.now.shape (kept_in c.args.self.now) c.args.chan c.args.level c.args.up_bound (row_in c.row-row.result.now)
-    (found-at (is_kept_of c.args.chan) c.args.self.now.table.rows c.in-Some.place (row_in c.row-row.result.now) c.in-Some.ensures.some c.row-row.ensures.row) c.in_default-not_tentative.ensures
+    relax-relaxed c.args.self.now.shape (kept_in c.args.self.now) c.args.chan c.args.level c.args.up_bound (row_in c.in-Some.row.now)
+    c.in-Some.ensures.some c.in_default-not_tentative.ensures
     c.in_default-unfit.ensures
 
 -- it has no more slots than before
 pub commit-requires-clause-may : goal.commit-requires-clause-may
 commit-requires-clause-may c =
     let link = c.args.self.now in
-    let at = goal.at.commit-requires-clause-may c in
-    let row = row_in c.row-row.result.now in
-    let reply = relax-relaxed link.shape (kept_in link) c.args.chan c.args.level c.args.up_bound row (found at.After-row-row) c.in_default-not_tentative.ensures c.in_default-unfit.ensures in
+    let row = row_in c.in-Some.row.now in
+    let found = c.in-Some.ensures.some in
+    let reply = relax-relaxed link.shape (kept_in link) c.args.chan c.args.level c.args.up_bound row found c.in_default-not_tentative.ensures c.in_default-unfit.ensures in
     let fits = c.in_default-unfit.ensures in
-    subst (λ (server : Server). HasAt (MayCommit server.bounds c.args.level c.args.up_bound) link.table.rows c.in-Some.place) (sym (ap (λ (table : KeptTable). table.server) link.of_shape))
-    (has-at (MayCommit link.shape.bounds c.args.level c.args.up_bound) link.table.rows c.in-Some.place row c.in-Some.ensures.some.inside c.row-row.ensures.row (record {
-      tentative = c.in_default-not_tentative.ensures;
-      upto = (unfit-none row.terms c.args.level c.args.up_bound (sym fits)).0;
-      fewer = relaxed-slots link.shape link.queue.room (kept_in link) c.args.chan c.args.level c.args.up_bound link.clock row link.sound (found at.After-row-row) reply;
-    }))
+    subst (λ (server : Server). HasRow (MayCommit server.bounds c.args.level c.args.up_bound) c.args.chan link.table.rows) (sym (ap (λ (table : KeptTable). table.server) link.of_shape))
+    (record {
+      row = row;
+      found = found;
+      holds = record {
+        tentative = c.in_default-not_tentative.ensures;
+        upto = (unfit-none row.terms c.args.level c.args.up_bound (sym fits)).0;
+        fewer = relaxed-slots link.shape link.queue.room (kept_in link) c.args.chan c.args.level c.args.up_bound link.clock row link.sound found reply;
+      };
+    })
 
 kept : (c : After-commit) → account c.args.self.now.clock c.args.self.now.queue c.commit.new.self.rows ≡ kept_after c.args.self.now.shape (kept_in c.args.self.now) (Relax c.args.chan c.args.level c.args.up_bound) (Relaxed c.args.self.now.clock)
 kept c =
     ap (λ (table : KeptTable). with_kept_rows (kept_in c.args.self.now) table.rows) c.commit.ensures
-    ∙ relax-kept c.args.self.now.shape (kept_in c.args.self.now) c.args.chan c.args.level c.args.up_bound c.args.self.now.clock c.in-Some.place c.in-Some.ensures.some
+    ∙ relax-kept c.args.self.now.shape (kept_in c.args.self.now) c.args.chan c.args.level c.args.up_bound c.args.self.now.clock
 
 pub invariant_of-self : goal.invariant_of-self
 invariant_of-self c =
@@ -80,7 +78,7 @@ invariant_of-self c =
       same_bounds = link.same_bounds;
       sound = subst (IsSound link.shape link.queue.room) (sym (kept after)) (sound-relax link.shape link.queue.room (kept_in link) c.args.chan c.args.level c.args.up_bound (Relaxed link.clock) c.requires.fits link.sound (replied after));
       stood = still-stood link (Relax c.args.chan c.args.level c.args.up_bound) (Relaxed link.clock) _ c.requires.fits (replied after) (kept after);
-      counted = counted-changed link c.commit.new.self _ (kept_relaxed c.args.level c.args.up_bound) c.in-Some.place (λ row n is. record { taken = is.taken; own = is.own }) c.commit.ensures;
+      counted = counted-changed link c.commit.new.self _ c.args.chan (kept_relaxed c.args.level c.args.up_bound) (λ row n is. record { taken = is.taken; own = is.own }) c.commit.ensures;
       rests = due-now _ _;
     }
 

@@ -1,7 +1,8 @@
--- The row at the place is closed, and the tick by which its hold ends comes on the calendar.
+-- The channel's row is closed, and the tick by which its hold ends comes on the calendar.
 use Rattle.std.proofs.Common.{inr, true, ◌≡◌, ◌^◌, ◌<◌, ◌≤◌, get_or, length, map, refl, set, sym, ap, ◌∙◌, subst, arith}
 use Rattle.std.proofs.lemmas.List.{length-set}
 use Rattle.std.proofs.Math.Seq.{map-set_same}
+use Rattle.link_server.specs.KeyedList.{position}
 use Rattle.link_server.proofs.Words.{whole_of, newest, Committed, Closing, kept_closed, is_phase, KeptTable, row_in, ServedRow}
 use Rattle.link_server.specs.Changes.{MayClose}
 use Rattle.link_server.specs.Departed.{departed_in}
@@ -14,28 +15,31 @@ use Rattle.link_server.proofs.RowFacts.Placed.{changed-mapped}
 use Rattle.link_server.proofs.Calendars.Plans.{told-none}
 use Rattle.link_server.proofs.Calendars.PlanRows.{planned-set, planned-later, closing-idle}
 use Rattle.link_server.proofs.RestFacts.{listed-later}
-use Rattle.link_server.proofs.RowFacts.Parts.{IsRowAt, fixed, fixed_in, parts-still, row-at, table-same}
+use Rattle.link_server.proofs.RowFacts.Parts.{index-still, has-place, IsRowAt, fixed, fixed_in, parts-still, row-at, table-same}
 use Rattle.link_server.proofs.table.Table.close.Goals as goal
 use Rattle.link_server.proofs.table.Table.close.Goals.{After-index_mut-row, After-close}
 
--- the row at the place, which is open
-abbrev was : After-index_mut-row → ServedRow
-was c = get_or c.self.inside.rows.items c.args.place c.index_mut-row.result.now
+pub held_key-key-requires-clause-held : goal.held_key-key-requires-clause-held
+held_key-key-requires-clause-held c = has-place MayClose c.self.inside c.args.self.now c.args.chan c.self.view_is c.requires.may
 
-may : (c : After-index_mut-row) → IsRowAt MayClose c.self.inside c.args.place c.index_mut-row.result.now
-may c = row-at MayClose c.self.inside c.args.self.now c.args.place c.index_mut-row.result.now c.self.view_is c.requires.may
+-- the channel's row, which is open
+abbrev was : After-index_mut-row → ServedRow
+was c = get_or c.self.inside.rows.items (position c.self.inside.rows.keys c.held_key-key.result) c.index_mut-row.result.now
+
+may : (c : After-index_mut-row) → IsRowAt MayClose c.self.inside (position c.self.inside.rows.keys c.held_key-key.result) c.index_mut-row.result.now
+may c = row-at MayClose c.self.inside c.args.self.now c.args.chan (position c.self.inside.rows.keys c.held_key-key.result) c.index_mut-row.result.now c.self.view_is c.held_key-key.ensures c.requires.may
 
 opened : (c : After-index_mut-row) → is_open (row_in (was c)) ≡ true
 opened c = open-in-phase Committed (row_in (was c)) (inr refl) (may c).is.phase
 
 -- as it is changed
-same : (c : After-close) → row_in c.close.new.self ≡ kept_closed c.args.count (row_in (get_or c.self.inside.rows.items c.args.place c.index_mut-row.result.now))
+same : (c : After-close) → row_in c.close.new.self ≡ kept_closed c.args.count (row_in (get_or c.self.inside.rows.items (position c.self.inside.rows.keys c.held_key-key.result) c.index_mut-row.result.now))
 same c = c.close.ensures.row ∙ ap (λ row. kept_closed c.args.count (row_in row)) c.index_mut-row.ensures.value
 
 pub put_hold-requires-clause-room : goal.put_hold-requires-clause-room
 put_hold-requires-clause-room c =
     let at = (goal.at.put_hold-requires-clause-room c).After-index_mut-row in
-    open-room c.self.inside.bounds c.self.inside.looked c.self.inside.holds c.self.inside.rows.items c.args.place c.index_mut-row.result.now c.self.invariant.listed (may at).inside (opened at)
+    open-room c.self.inside.bounds c.self.inside.looked c.self.inside.holds c.self.inside.rows.items (position c.self.inside.rows.keys c.held_key-key.result) c.index_mut-row.result.now c.self.invariant.listed (may at).inside (opened at)
 
 pub put_hold-requires-clause-last : goal.put_hold-requires-clause-last
 put_hold-requires-clause-last c =
@@ -50,7 +54,7 @@ invariant_of-self c =
     let row = may at.After-index_mut-row in
     let changed = same at.After-close in
     let items = t.rows.items in
-    let i = c.args.place in
+    let i = (position c.self.inside.rows.keys c.held_key-key.result) in
     let new = c.close.new.self in
     let d = c.index_mut-row.result.now in
     let seen = ap (λ (table : KeptTable). table.looked) c.self.view_is in
@@ -60,8 +64,9 @@ invariant_of-self c =
     record {
       same_bounds = is.same_bounds;
       parts =
-          parts-still (whole_of t.keeping.budget) t.bounds (set items i new) items t.index.places.items t.sums t.keeping is.parts (map-set_same fixed_in items i new d (ap (λ row. fixed row.terms) changed))
+          parts-still (whole_of t.keeping.budget) t.bounds (set items i new) items t.sums t.keeping is.parts (map-set_same fixed_in items i new d (ap (λ row. fixed row.terms) changed))
           (keeps-closed (whole_of t.keeping.budget) t.bounds t.keeping items i new d c.args.count is.parts.keeps row.inside (ap (λ row. row.terms) changed) row.is.phase);
+      indexed = index-still t.index.keys.items t.rows.keys (set items i new) items is.indexed (map-set_same fixed_in items i new d (ap (λ row. fixed row.terms) changed));
       listed =
           listed-put t.bounds c.args.clock t.holds c.put_hold.new.holds items i new d (listed-later t.bounds t.looked c.args.clock t.holds (map row_in items) later is.listed) row.inside (opened at.After-index_mut-row)
           c.put_hold.ensures.clock c.put_hold.ensures.others (c.put_hold.ensures.own (λ _. ap (λ row. length row.left) changed)) c.put_hold.ensures.room;
@@ -76,4 +81,4 @@ invariant_of-self c =
 pub returns : goal.returns
 returns c =
     let at = goal.at.returns c in
-    rw (← c.self.view_is) (table-same _ _ (changed-mapped (kept_closed c.args.count) c.self.inside.rows.items c.args.place c.close.new.self c.index_mut-row.result.now (may at.After-index_mut-row).inside (same at.After-close)) (map-set_same departed_in c.self.inside.rows.items c.args.place c.close.new.self c.index_mut-row.result.now (c.close.ensures.departed ∙ ap departed_in c.index_mut-row.ensures.value)) refl refl refl)
+    rw (← c.self.view_is) (table-same _ _ (changed-mapped c.args.chan (kept_closed c.args.count) c.self.inside.rows.items (position c.self.inside.rows.keys c.held_key-key.result) c.close.new.self c.index_mut-row.result.now c.held_key-key.ensures (same at.After-close)) (map-set_same departed_in c.self.inside.rows.items (position c.self.inside.rows.keys c.held_key-key.result) c.close.new.self c.index_mut-row.result.now (c.close.ensures.departed ∙ ap departed_in c.index_mut-row.ensures.value)) refl refl refl)

@@ -23,7 +23,8 @@ invariant_of-self c =
     let fewer = filter-fewer (kept_stays t.bounds c.args.clock) (map row_in t.rows.items) in
     record {
       same_bounds = ap (λ server. server.bounds) made.server ∙ is.same_bounds;
-      parts = own-parts _ t.bounds _ _ _ _ made.parts;
+      parts = own-parts _ t.bounds _ _ _ made.parts;
+      indexed = made.indexed;
       listed = made.listed;
       small = omega (arith, whole, small);
       planned = subst (ArePlanned c.args.clock t.plans.calendar) (sym made.rows)

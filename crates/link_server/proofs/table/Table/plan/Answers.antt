@@ -1,7 +1,8 @@
--- The row at the place plans its packets, and the first of them comes on the calendar.
-use Rattle.std.proofs.Common.{inr, ◌≡◌, get_or, refl, set, sym, ap, ◌∙◌, subst, arith}
+-- The channel's row plans its packets, and the first of them comes on the calendar.
+use Rattle.std.proofs.Common.{length, inr, ◌≡◌, get_or, refl, set, sym, ap, ◌∙◌, subst, arith}
 use Rattle.std.proofs.lemmas.List.{length-set}
 use Rattle.std.proofs.Math.Seq.{map-set_same}
+use Rattle.link_server.specs.KeyedList.{position}
 use Rattle.link_server.proofs.Words.{whole_of, Committed, Closing, kept_planned, Each, is_phase, KeptTable, reservation_in, row_in, ServedRow}
 use Rattle.link_server.specs.Changes.{MayPlan}
 use Rattle.link_server.specs.Departed.{departed_in}
@@ -12,23 +13,29 @@ use Rattle.link_server.proofs.Calendars.Holds.{in-phase, phase-listed, phase-ope
 use Rattle.link_server.proofs.Calendars.HoldRows.{listed-set}
 use Rattle.link_server.proofs.RowFacts.Placed.{changed-mapped}
 use Rattle.link_server.proofs.Calendars.PlanRows.{idle-one, idle-room, plan-ahead, planned-put}
-use Rattle.link_server.proofs.RowFacts.Parts.{IsRowAt, fixed, fixed_in, parts-still, row-at, table-same}
+use Rattle.link_server.proofs.RowFacts.Parts.{index-still, has-place, IsRowAt, fixed, fixed_in, parts-still, row-at, table-same}
 use Rattle.link_server.proofs.table.Table.plan.Goals as goal
 use Rattle.link_server.proofs.table.Table.plan.Goals.{After-index_mut-row, After-plan}
 
--- the row at the place, which is idle
-abbrev was : After-index_mut-row → ServedRow
-was c = get_or c.self.inside.rows.items c.args.place c.index_mut-row.result.now
+pub held_key-key-requires-clause-held : goal.held_key-key-requires-clause-held
+held_key-key-requires-clause-held c = has-place MayPlan c.self.inside c.args.self.now c.args.chan c.self.view_is c.requires.may
 
-may : (c : After-index_mut-row) → IsRowAt MayPlan c.self.inside c.args.place c.index_mut-row.result.now
-may c = row-at MayPlan c.self.inside c.args.self.now c.args.place c.index_mut-row.result.now c.self.view_is c.requires.may
+-- the channel's row, which is idle
+abbrev was : After-index_mut-row → ServedRow
+was c = get_or c.self.inside.rows.items (position c.self.inside.rows.keys c.held_key-key.result) c.index_mut-row.result.now
+
+may : (c : After-index_mut-row) → IsRowAt MayPlan c.self.inside (position c.self.inside.rows.keys c.held_key-key.result) c.index_mut-row.result.now
+may c = row-at MayPlan c.self.inside c.args.self.now c.args.chan (position c.self.inside.rows.keys c.held_key-key.result) c.index_mut-row.result.now c.self.view_is c.held_key-key.ensures c.requires.may
 
 idle : (c : After-index_mut-row) → idle_count (row_in (was c)) ≡ 1
 idle c = (let is = (may c).is in idle-one (row_in (was c)) is.none_left (ap (λ phase. is_phase phase Closing) (in-phase Committed (row_in (was c)) is.phase)))
 
 -- as it is changed
-same : (c : After-plan) → row_in c.plan.new.self ≡ kept_planned c.args.planned.tick c.args.planned.count c.args.planned.gap c.args.planned.size (row_in (get_or c.self.inside.rows.items c.args.place c.index_mut-row.result.now))
+same : (c : After-plan) → row_in c.plan.new.self ≡ kept_planned c.args.planned.tick c.args.planned.count c.args.planned.gap c.args.planned.size (row_in (get_or c.self.inside.rows.items (position c.self.inside.rows.keys c.held_key-key.result) c.index_mut-row.result.now))
 same c = c.plan.ensures.row ∙ ap (λ row. kept_planned c.args.planned.tick c.args.planned.count c.args.planned.gap c.args.planned.size (row_in row)) c.index_mut-row.ensures.value
+
+pub plan-requires : goal.plan-requires
+plan-requires c = subst (λ (row : ServedRow). length (row_in row).left ≡ 0) (sym c.index_mut-row.ensures.value) (may (goal.at.plan-requires c).After-index_mut-row).is.none_left
 
 pub put_plan-requires-clause-ahead : goal.put_plan-requires-clause-ahead
 put_plan-requires-clause-ahead c =
@@ -42,7 +49,7 @@ put_plan-requires-clause-ahead c =
 pub put_plan-requires-clause-room : goal.put_plan-requires-clause-room
 put_plan-requires-clause-room c =
     let at = (goal.at.put_plan-requires-clause-room c).After-index_mut-row in
-    idle-room c.self.inside.looked c.self.inside.plans.calendar c.self.inside.rows.items c.args.place c.index_mut-row.result.now c.self.invariant.planned (may at).inside (idle at)
+    idle-room c.self.inside.looked c.self.inside.plans.calendar c.self.inside.rows.items (position c.self.inside.rows.keys c.held_key-key.result) c.index_mut-row.result.now c.self.invariant.planned (may at).inside (idle at)
 
 pub invariant_of-self : goal.invariant_of-self
 invariant_of-self c =
@@ -52,7 +59,7 @@ invariant_of-self c =
     let row = may at.After-index_mut-row in
     let changed = same at.After-plan in
     let items = t.rows.items in
-    let i = c.args.place in
+    let i = (position c.self.inside.rows.keys c.held_key-key.result) in
     let new = c.plan.new.self in
     let d = c.index_mut-row.result.now in
     let terms = ap (λ row. row.terms) changed in
@@ -62,8 +69,9 @@ invariant_of-self c =
     record {
       same_bounds = is.same_bounds;
       parts =
-          parts-still (whole_of t.keeping.budget) t.bounds (set items i new) items t.index.places.items t.sums t.keeping is.parts (map-set_same fixed_in items i new d (ap fixed terms))
+          parts-still (whole_of t.keeping.budget) t.bounds (set items i new) items t.sums t.keeping is.parts (map-set_same fixed_in items i new d (ap fixed terms))
           (subst (IsKeeping (whole_of t.keeping.budget) t.bounds t.keeping) (sym (map-set_same reservation_in items i new d terms)) is.parts.keeps);
+      indexed = index-still t.index.keys.items t.rows.keys (set items i new) items is.indexed (map-set_same fixed_in items i new d (ap fixed terms));
       listed =
           listed-set t.bounds t.looked t.holds items i new d is.listed row.inside
           (phase-listed t.bounds t.looked t.holds.entries (row_in new) (inr (ap (λ row. row.terms.phase) changed ∙ committed)))
@@ -79,4 +87,4 @@ pub returns : goal.returns
 returns c =
     let at = goal.at.returns c in
     rw (← c.self.view_is)
-    (table-same _ _ (changed-mapped (kept_planned c.args.planned.tick c.args.planned.count c.args.planned.gap c.args.planned.size) c.self.inside.rows.items c.args.place c.plan.new.self c.index_mut-row.result.now (may at.After-index_mut-row).inside (same at.After-plan)) (map-set_same departed_in c.self.inside.rows.items c.args.place c.plan.new.self c.index_mut-row.result.now (c.plan.ensures.departed ∙ ap departed_in c.index_mut-row.ensures.value)) refl refl refl)
+    (table-same _ _ (changed-mapped c.args.chan (kept_planned c.args.planned.tick c.args.planned.count c.args.planned.gap c.args.planned.size) c.self.inside.rows.items (position c.self.inside.rows.keys c.held_key-key.result) c.plan.new.self c.index_mut-row.result.now c.held_key-key.ensures (same at.After-plan)) (map-set_same departed_in c.self.inside.rows.items (position c.self.inside.rows.keys c.held_key-key.result) c.plan.new.self c.index_mut-row.result.now (c.plan.ensures.departed ∙ ap departed_in c.index_mut-row.ensures.value)) refl refl refl)

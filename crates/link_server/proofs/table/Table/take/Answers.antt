@@ -1,10 +1,12 @@
--- The row at the place takes the packet, and where that was the last one the tick by which its hold ends comes on the calendar.
-use Rattle.std.proofs.Common.{suc, true, ◌≡◌, ◌^◌, ◌<◌, ◌≤◌, get_or, map, refl, set, sym, ap, ◌∙◌, subst, arith}
-use Rattle.std.proofs.lemmas.List.{length-set, get_or_default}
+-- The channel's row takes the packet, and where that was the last one the tick by which its hold ends comes on the calendar.
+use Rattle.std.proofs.Common.{None, ℕ, suc, true, ◌≡◌, ◌+◌, ◌^◌, ◌<◌, ◌≤◌, get_or, map, refl, set, sym, ap, ◌∙◌, subst, arith}
+use Rattle.std.proofs.lemmas.List.{length-set}
 use Rattle.std.proofs.Math.Seq.{map-set_same}
-use Rattle.link_server.proofs.Words.{IfSome, slice_get, whole_of, channel_number, newest, Closing, KeptRow, kept_arrived, kept_arrived_row, is_phase, arrival_at, KeptTable, reservation_in, row_in, ServedRow}
+use Rattle.link_server.specs.KeyedList.{position}
+use Rattle.link_server.proofs.Words.{IfSome, find, is_kept_of, Packet, Reservation, whole_of, channel_number, newest, Closing, KeptRow, kept_arrived, kept_arrived_row, is_phase, arrival_at, KeptTable, reservation_in, row_in, ServedRow}
 use Rattle.link_steps.specs.Regulator.{eligible_next}
 use Rattle.link_server.specs.Changes.{MayTake}
+use Rattle.link_server.specs.Strays.{stray}
 use Rattle.link_server.specs.Departed.{departed_in}
 use Rattle.link_server.specs.Holds.{is_open, IsListed, PlansNone}
 use Rattle.link_server.specs.Keeping.{IsKeeping}
@@ -14,32 +16,50 @@ use Rattle.link_server.proofs.Replies.Arrive.{next-number}
 use Rattle.link_server.proofs.Calendars.HoldRows.{listed-put, open-room}
 use Rattle.link_server.proofs.Calendars.HoldSteps.{stray-open}
 use Rattle.link_server.proofs.Calendars.Expiry.{each-at}
-use Rattle.link_server.proofs.RowFacts.Placed.{changed-mapped, row-seen}
+use Rattle.link_server.proofs.RowFacts.Placed.{changed-mapped, found-at}
 use Rattle.link_server.proofs.Calendars.Plans.{told-same}
 use Rattle.link_server.proofs.Calendars.PlanRows.{planned-set, planned-later, same-idle}
 use Rattle.link_server.proofs.RestFacts.{listed-later}
-use Rattle.link_server.proofs.RowFacts.Parts.{IsRowAt, fixed, fixed_in, parts-still, row-at, table-same}
+use Rattle.link_server.proofs.RowFacts.Parts.{index-still, has-place, IsRowAt, fixed, fixed_in, parts-still, row-at, table-same}
 use Rattle.link_server.proofs.table.Table.take.Goals as goal
 use Rattle.link_server.proofs.table.Table.take.Goals.{After-index_mut-row, After-take-taken}
 
--- the row at the place, which is open
-abbrev was : After-index_mut-row → ServedRow
-was c = get_or c.self.inside.rows.items c.args.place c.index_mut-row.result.now
+pub held_key-key-requires-clause-held : goal.held_key-key-requires-clause-held
+held_key-key-requires-clause-held c = has-place (MayTake c.args.clock c.args.number c.args.packet.now) c.self.inside c.args.self.now c.args.packet.now.chan c.self.view_is c.requires.may
 
-may : (c : After-index_mut-row) → IsRowAt (MayTake c.args.clock c.args.number c.args.packet.now) c.self.inside c.args.place c.index_mut-row.result.now
-may c = row-at (MayTake c.args.clock c.args.number c.args.packet.now) c.self.inside c.args.self.now c.args.place c.index_mut-row.result.now c.self.view_is c.requires.may
+-- the channel's row, which is open
+abbrev was : After-index_mut-row → ServedRow
+was c = get_or c.self.inside.rows.items (position c.self.inside.rows.keys c.held_key-key.result) c.index_mut-row.result.now
+
+may : (c : After-index_mut-row) → IsRowAt (MayTake c.args.clock c.args.number c.args.packet.now) c.self.inside (position c.self.inside.rows.keys c.held_key-key.result) c.index_mut-row.result.now
+may c = row-at (MayTake c.args.clock c.args.number c.args.packet.now) c.self.inside c.args.self.now c.args.packet.now.chan (position c.self.inside.rows.keys c.held_key-key.result) c.index_mut-row.result.now c.self.view_is c.held_key-key.ensures c.requires.may
 
 opened : (c : After-index_mut-row) → is_open (row_in (was c)) ≡ true
 opened c = stray-open c.args.packet.now (row_in (was c)) (may c).is.placed
 
+-- a row that takes the packet is at a later hop
+later-hop : (packet : Packet) (terms : Reservation) (taken : ℕ) → None ≡ stray packet terms taken → terms.first ≡ true → packet.due ≡ 0
+later-hop packet terms taken placed first = absurd (let none = rw first at placed in cc)
+
+pub take-taken-requires-clause-hop : goal.take-taken-requires-clause-hop
+take-taken-requires-clause-hop c = λ first.
+    later-hop c.args.packet.now (reservation_in (was (goal.at.take-taken-requires-clause-hop c).After-index_mut-row)) _ (may (goal.at.take-taken-requires-clause-hop c).After-index_mut-row).is.placed
+    (sym (ap (λ (row : ServedRow). row.first) c.index_mut-row.ensures.value) ∙ first)
+
+pub take-taken-requires-clause-last : goal.take-taken-requires-clause-last
+take-taken-requires-clause-last c = subst (λ (row : ServedRow). newest (row_in row).recent < 2 ^ 63) (sym c.index_mut-row.ensures.value) (may (goal.at.take-taken-requires-clause-last c).After-index_mut-row).is.last
+
+pub take-taken-requires-clause-few : goal.take-taken-requires-clause-few
+take-taken-requires-clause-few c = subst (λ (row : ServedRow). row.taken + 1 < 2 ^ 64) (sym c.index_mut-row.ensures.value) (may (goal.at.take-taken-requires-clause-few c).After-index_mut-row).is.few
+
 -- as it is changed
-same : (c : After-take-taken) → row_in c.take-taken.new.self ≡ kept_arrived_row c.args.clock c.args.number c.args.packet.now (row_in (get_or c.self.inside.rows.items c.args.place c.index_mut-row.result.now))
+same : (c : After-take-taken) → row_in c.take-taken.new.self ≡ kept_arrived_row c.args.clock c.args.number c.args.packet.now (row_in (get_or c.self.inside.rows.items (position c.self.inside.rows.keys c.held_key-key.result) c.index_mut-row.result.now))
 same c = c.take-taken.ensures.row ∙ ap (λ row. kept_arrived_row c.args.clock c.args.number c.args.packet.now (row_in row)) c.index_mut-row.ensures.value
 
 pub put_hold-requires-clause-room : goal.put_hold-requires-clause-room
 put_hold-requires-clause-room c =
     let at = (goal.at.put_hold-requires-clause-room c).After-index_mut-row in
-    open-room c.self.inside.bounds c.self.inside.looked c.self.inside.holds c.self.inside.rows.items c.args.place c.index_mut-row.result.now c.self.invariant.listed (may at).inside (opened at)
+    open-room c.self.inside.bounds c.self.inside.looked c.self.inside.holds c.self.inside.rows.items (position c.self.inside.rows.keys c.held_key-key.result) c.index_mut-row.result.now c.self.invariant.listed (may at).inside (opened at)
 
 pub put_hold-requires-clause-last : goal.put_hold-requires-clause-last
 put_hold-requires-clause-last c =
@@ -54,7 +74,7 @@ invariant_of-self c =
     let row = may at.After-index_mut-row in
     let changed = same at.After-take-taken in
     let items = t.rows.items in
-    let i = c.args.place in
+    let i = (position c.self.inside.rows.keys c.held_key-key.result) in
     let new = c.take-taken.new.self in
     let d = c.index_mut-row.result.now in
     let terms = ap (λ row. row.terms) changed in
@@ -65,8 +85,9 @@ invariant_of-self c =
     record {
       same_bounds = is.same_bounds;
       parts =
-          parts-still (whole_of t.keeping.budget) t.bounds (set items i new) items t.index.places.items t.sums t.keeping is.parts (map-set_same fixed_in items i new d (ap fixed terms))
+          parts-still (whole_of t.keeping.budget) t.bounds (set items i new) items t.sums t.keeping is.parts (map-set_same fixed_in items i new d (ap fixed terms))
           (subst (IsKeeping (whole_of t.keeping.budget) t.bounds t.keeping) (sym (map-set_same reservation_in items i new d terms)) is.parts.keeps);
+      indexed = index-still t.index.keys.items t.rows.keys (set items i new) items is.indexed (map-set_same fixed_in items i new d (ap fixed terms));
       listed =
           listed-put t.bounds c.args.clock t.holds c.put_hold.new.holds items i new d (listed-later t.bounds t.looked c.args.clock t.holds (map row_in items) later is.listed) row.inside (opened at.After-index_mut-row)
           c.put_hold.ensures.clock c.put_hold.ensures.others
@@ -83,19 +104,19 @@ invariant_of-self c =
 pub returns-clause-table : goal.returns-clause-table
 returns-clause-table c =
     let at = goal.at.returns-clause-table c in
-    rw (← c.self.view_is) (table-same _ _ (changed-mapped (kept_arrived_row c.args.clock c.args.number c.args.packet.now) c.self.inside.rows.items c.args.place c.take-taken.new.self c.index_mut-row.result.now (may at.After-index_mut-row).inside (same at.After-take-taken)) (map-set_same departed_in c.self.inside.rows.items c.args.place c.take-taken.new.self c.index_mut-row.result.now (c.take-taken.ensures.departed ∙ ap departed_in c.index_mut-row.ensures.value)) refl refl refl)
+    rw (← c.self.view_is) (table-same _ _ (changed-mapped c.args.packet.now.chan (kept_arrived_row c.args.clock c.args.number c.args.packet.now) c.self.inside.rows.items (position c.self.inside.rows.keys c.held_key-key.result) c.take-taken.new.self c.index_mut-row.result.now c.held_key-key.ensures (same at.After-take-taken)) (map-set_same departed_in c.self.inside.rows.items (position c.self.inside.rows.keys c.held_key-key.result) c.take-taken.new.self c.index_mut-row.result.now (c.take-taken.ensures.departed ∙ ap departed_in c.index_mut-row.ensures.value)) refl refl refl)
 
 -- the packet is the account's
 pub returns-clause-packet : goal.returns-clause-packet
 returns-clause-packet c =
     let row = may (goal.at.returns-clause-packet c).After-index_mut-row in
-    let was = get_or c.self.inside.rows.items c.args.place c.index_mut-row.result.now in
+    let was = get_or c.self.inside.rows.items (position c.self.inside.rows.keys c.held_key-key.result) c.index_mut-row.result.now in
     let packet = c.args.packet.now in
     let tick = λ (row : ServedRow). eligible_next (reservation_in row) (row_in row).recent c.args.clock packet.due in
     let arrived =
     c.take-taken.ensures.packet
     ∙ ap (λ (row : ServedRow). arrival_at (reservation_in row) row.lead c.args.number (suc row.taken) packet.size c.args.clock (tick row)) c.index_mut-row.ensures.value
     ∙ ap (λ n. arrival_at (reservation_in was) was.lead c.args.number n packet.size c.args.clock (tick was)) (sym (next-number packet (reservation_in was) was.taken row.is.placed)) in
-    subst (λ (table : KeptTable). IfSome (slice_get table.rows c.args.place) (λ row. arrival_in c.take-taken.result ≡ kept_arrived c.args.clock c.args.number packet row)) c.self.view_is
+    subst (λ (table : KeptTable). IfSome (find (is_kept_of packet.chan) table.rows) (λ row. arrival_in c.take-taken.result ≡ kept_arrived c.args.clock c.args.number packet row)) c.self.view_is
     (subst (λ o. IfSome o (λ (row : KeptRow). arrival_in c.take-taken.result ≡ kept_arrived c.args.clock c.args.number packet row))
-    (sym (row-seen c.self.inside.rows.items c.args.place was (get_or_default c.self.inside.rows.items c.args.place c.index_mut-row.result.now was row.inside) row.inside)) arrived)
+    (sym (found-at packet.chan c.self.inside.rows.items (position c.self.inside.rows.keys c.held_key-key.result) c.index_mut-row.result.now c.held_key-key.ensures)) arrived)

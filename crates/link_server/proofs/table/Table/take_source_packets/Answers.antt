@@ -1,12 +1,13 @@
 -- The rows that take their packets stay where they are.
 use Rattle.std.proofs.Common.{map, sym, ap, subst, arith}
+use Rattle.link_server.specs.Index.{channels_in, IsIndex}
 use Rattle.link_server.proofs.Words.{whole_of, KeptTable, row_in}
 use Rattle.link_server.specs.Holds.{AreListed}
 use Rattle.link_server.specs.Keeping.{IsKeeping}
 use Rattle.link_server.proofs.Calendars.HoldSteps.{listed-stepped}
 use Rattle.link_server.proofs.RowFacts.Keeping.{reservations-after}
 use Rattle.link_server.proofs.RestFacts.{listed-later}
-use Rattle.link_server.proofs.RowFacts.Parts.{as-long, fixed-same, parts-still}
+use Rattle.link_server.proofs.RowFacts.Parts.{index-still, as-long, fixed-same, parts-still}
 use Rattle.link_server.proofs.table.Table.take_source_packets.Goals as goal
 
 pub invariant_of-self : goal.invariant_of-self
@@ -24,8 +25,9 @@ invariant_of-self c =
     record {
       same_bounds = is.same_bounds;
       parts =
-          parts-still (whole_of t.keeping.budget) t.bounds rows t.rows.items t.index.places.items t.sums t.keeping is.parts fixed
+          parts-still (whole_of t.keeping.budget) t.bounds rows t.rows.items t.sums t.keeping is.parts fixed
           (subst (IsKeeping (whole_of t.keeping.budget) t.bounds t.keeping) (sym reservations) is.parts.keeps);
+      indexed = subst (λ keys. IsIndex t.index.keys.items keys (channels_in rows)) (sym made.keys) (index-still t.index.keys.items t.rows.keys rows t.rows.items is.indexed fixed);
       listed = subst (AreListed t.bounds c.args.clock t.holds) (sym made.rows)
           (listed-stepped t.bounds queue.here c.args.clock c.args.clock queue.taken t.holds (map row_in t.rows.items) (omega arith)
           (listed-later t.bounds t.looked c.args.clock t.holds (map row_in t.rows.items) (omega (arith, seen, c.requires.looked)) is.listed));

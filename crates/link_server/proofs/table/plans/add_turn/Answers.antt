@@ -5,7 +5,8 @@ use Rattle.std.proofs.lemmas.List.Sorted.{searched}
 use Rattle.std.proofs.lemmas.List.Edits.{length-insert}
 use Rattle.link_server.proofs.Words.{insert}
 use Rattle.std.specs.Vec.{vec_capacity}
-use Rattle.link_server.specs.Plans.{is_turn, AreRising}
+use Rattle.link_server.specs.KeyedList.{AreRising}
+use Rattle.link_server.specs.Plans.{is_turn}
 use Rattle.link_server.proofs.Waiting.Rising.{IsGap, rising-few, rising-on, rising-insert, turn-inserted, turn-before, turn-at}
 use Rattle.link_server.proofs.table.plans.add_turn.Goals as goal
 use Rattle.link_server.proofs.table.plans.add_turn.Goals.{After-insert}

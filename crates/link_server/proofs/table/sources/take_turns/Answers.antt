@@ -20,6 +20,7 @@ loop-place-init c =
     let room = c.requires.called.room in
     record {
       stepped = first-turn c.args.bounds.now c.args.queue.now.here c.args.clock c.args.queue.now.taken c.args.calendar.now c.args.turns.now c.args.rows.now.items c.requires.called c.requires.later;
+      keys = refl;
       long = refl;
       begun = c.requires.called.begun;
       told = c.requires.called.told;
@@ -31,8 +32,8 @@ loop-place-init c =
 
 -- ---- the row whose turn it is
 
-pub index_mut-row-requires : goal.index_mut-row-requires
-index_mut-row-requires c = turn-inside c.args.turns.now c.args.rows.now.items c.loop-place.rows.items c.loop-place.place-index c.requires.called.rising c.loop-place.invariant.long c.loop-place-test.true
+pub key_at-key-requires : goal.key_at-key-requires
+key_at-key-requires c = turn-inside c.args.turns.now c.args.rows.now.items c.loop-place.rows.items c.loop-place.place-index c.requires.called.rising c.loop-place.invariant.long c.loop-place-test.true
 
 abbrev place : After-index_mut-row → ℕ
 place c = get_or c.args.turns.now c.loop-place.place-index 0
@@ -47,12 +48,20 @@ step c = step_in c.args.bounds.now c.args.queue.now.here c.args.clock (row c)
 inside : (c : After-index_mut-row) → place c < length c.loop-place.rows.items
 inside c = turn-inside c.args.turns.now c.args.rows.now.items c.loop-place.rows.items c.loop-place.place-index c.requires.called.rising c.loop-place.invariant.long c.loop-place-test.true
 
+pub index_mut-row-requires : goal.index_mut-row-requires
+index_mut-row-requires c =
+    subst (λ n. n < length c.loop-place.rows.items) (sym c.key_at-key.ensures) (turn-inside c.args.turns.now c.args.rows.now.items c.loop-place.rows.items c.loop-place.place-index c.requires.called.rising c.loop-place.invariant.long c.loop-place-test.true)
+
+-- the row under the key is the one at the place
+own : (c : After-index_mut-row) → c.index_mut-row.result.now ≡ row c
+own c = c.index_mut-row.ensures.value ∙ ap (λ n. get_or c.loop-place.rows.items n c.index_mut-row.result.now) c.key_at-key.ensures
+
 -- those before it have made their steps, and it is as it was
 so : (c : After-index_mut-row) → HaveStepped c.args.bounds.now c.args.queue.now.here c.args.clock c.args.queue.now.taken c.args.rows.now.items (place c) c.loop-place.rows.items c.loop-place.queue.here c.loop-place.queue.taken c.loop-place.lost
 so c = turn-due c.args.bounds.now c.args.queue.now.here c.args.clock c.args.queue.now.taken c.args.turns.now c.args.rows.now.items c.loop-place.place-index c.loop-place.rows.items c.loop-place.queue.here c.loop-place.queue.taken c.loop-place.lost c.loop-place-test.true c.loop-place.invariant.stepped
 
 was : (c : After-index_mut-row) → c.index_mut-row.result.now ≡ get_or c.args.rows.now.items (place c) c.index_mut-row.result.now
-was c = c.index_mut-row.ensures.value ∙ same-row c.args.rows.now.items (place c) c.loop-place.rows.items c.index_mut-row.result.now (so c).after
+was c = own c ∙ same-row c.args.rows.now.items (place c) c.loop-place.rows.items c.index_mut-row.result.now (so c).after
 
 step-is : (c : After-index_mut-row) → own_step c.args.bounds.now c.args.clock c.index_mut-row.result.now ≡ step c
 step-is c =
@@ -60,12 +69,12 @@ step-is c =
     let d = c.index_mut-row.result.now in
     step-counted c.args.bounds.now here c.args.clock d
     (subst (λ (row : ServedRow). IsCounted here (row_in row) row.departed) (sym (was c)) (counted-at here c.args.rows.now.items (place c) d (subst (λ n. place c < n) c.loop-place.invariant.long (inside c)) c.requires.counted))
-    ∙ ap (step_in c.args.bounds.now here c.args.clock) c.index_mut-row.ensures.value
+    ∙ ap (step_in c.args.bounds.now here c.args.clock) (own c)
 
 pub take_source_packet-requires-clause-ready : goal.take_source_packet-requires-clause-ready
 take_source_packet-requires-clause-ready c =
     let at = (goal.at.take_source_packet-requires-clause-ready c).After-index_mut-row in
-    subst (λ row. IsReady c.args.clock (row_in row)) (sym c.index_mut-row.ensures.value)
+    subst (λ row. IsReady c.args.clock (row_in row)) (sym (own at))
     (ready-now c.args.clock c.args.rows.now.items (place at) c.loop-place.rows.items c.index_mut-row.result.now (so at).after c.requires.may.ready (inside at))
 
 pub take_source_packet-requires-clause-within : goal.take_source_packet-requires-clause-within
@@ -142,7 +151,7 @@ loop-place-preserved c =
     let here = c.take_source_packet.new.queue.here in
     let made = c.take_source_packet.ensures in
     let is = step-is at in
-    let own = c.index_mut-row.ensures.value in
+    let own = own at in
     let changed : row_in new ≡ kept_after_step (step at) c.args.clock (suc queue.taken) (row_in (row at)) =
     made.row ∙ ap (λ s. kept_after_step s c.args.clock (suc queue.taken) (row_in d)) is ∙ ap (λ r. kept_after_step (step at) c.args.clock (suc queue.taken) (row_in r)) own in
     let brought : here ≡ queue.here ++ kept_packet (step at) c.args.clock (suc queue.taken) (row_in (row at)) =
@@ -154,12 +163,13 @@ loop-place-preserved c =
       | else-take_source_packet w ↦ lost-same c.take_source_packet.result c.loop-place.lost _ _ counted w.if-take_source_packet.false w.lost-is
     ] in
     let same = length-set rows (place at) new in
-    record {
+    rw c.key_at-key.ensures (record {
       stepped =
           next-turn c.args.bounds.now c.args.queue.now.here c.args.clock c.args.queue.now.taken c.args.calendar.now c.args.turns.now c.args.rows.now.items c.loop-place.place-index (set rows (place at) new) here c.take_source_packet.new.queue.taken c.if-take_source_packet.lost
           c.requires.called c.requires.later (same ∙ was.long) c.loop-place-test.true
           (one-stepped c.args.bounds.now c.args.queue.now.here c.args.clock c.args.queue.now.taken c.args.rows.now.items (place at) rows queue.here queue.taken c.loop-place.lost d new here c.take_source_packet.new.queue.taken c.if-take_source_packet.lost
           (so at) (inside at) changed brought taken lost);
+      keys = was.keys;
       long = same ∙ was.long;
       begun = (let begun = was.begun in omega (arith, begun, c.put_plan.ensures.clock));
       told = told-after c.args.turns.now c.loop-place.place-index c.loop-place.calendar.entries c.put_plan.new.calendar.entries rows new c.loop-place-test.true (inside at) was.told c.put_plan.ensures.others c.put_plan.ensures.own;
@@ -167,7 +177,7 @@ loop-place-preserved c =
       kept = still-kept c.args.queue.now queue c.take_source_packet.new.queue _ _ was.kept made.kept;
       looked = made.looked;
       departed = map-set_same departed_in rows (place at) new d (made.departed ∙ ap departed_in own) ∙ was.departed;
-    }
+    })
 
 -- the loop has gone through all turns
 stepped : (c : After-loop-place) → StandsStepped c.args.bounds.now c.args.queue.now.here c.args.clock c.args.queue.now.taken c.args.rows.now.items c.loop-place.rows.items c.loop-place.queue.here c.loop-place.queue.taken c.loop-place.lost

@@ -11,6 +11,7 @@ use Rattle.link_server.proofs.table.sources.take_turns.Given as goal
 abbrev pub invariant-loop-place : goal.invariant-loop-place
 invariant-loop-place l = record {
   stepped : HaveStepped l.bounds l.fn.queue.here l.clock l.fn.queue.taken l.fn.rows.items (get_or l.turns l.place-index (length l.fn.rows.items)) l.rows.items l.queue.here l.queue.taken l.lost;
+  keys : l.rows.keys ≡ l.fn.rows.keys;
   long : length l.rows.items ≡ length l.fn.rows.items;
   begun : l.calendar.clock ≤ l.clock;
   told : (place : ℕ) (d : ServedRow) → place < length l.rows.items → is_turn (drop l.place-index l.turns) place ≡ false → IsTold l.calendar.entries (row_in (get_or l.rows.items place d));
