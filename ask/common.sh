@@ -1,5 +1,6 @@
-# common.sh: what the scripts of this folder share. Each sets `here`, its folder, and reads this. They end with 0, with 2 for other words,
-# with 3 where a file can't be read or written, with 5 where the program refuses the scenario, and with 70 where the program isn't built.
+# common.sh: what the scripts of this folder share. Each sets `here`, its folder, and reads this. They end with 0, with 2 for wrong arguments,
+# with 3 where a file can't be read or written, with 5 where the program refuses the scenario, and with 70 where the program isn't built. Where
+# the program ends with another status, 1, 4 or 6, they end with it, too. ask/at also ends with 4 where it finds no schedule in 2,000 plays.
 # shellcheck shell=sh disable=SC2034,SC2154
 LC_ALL=C
 export LC_ALL
@@ -23,7 +24,7 @@ words() {
       exit 0
       ;;
   esac
-  if [ $# -lt "$fewest" ] || [ $# -gt "$most" ]; then fail 2 "other words are wanted; ask/$script --help has them"; fi
+  if [ $# -lt "$fewest" ] || [ $# -gt "$most" ]; then fail 2 "wrong arguments; see ask/$script --help"; fi
 }
 
 # begin FILE: a folder for what is kept meanwhile, and the scenario in it, whatever the file is called
@@ -43,8 +44,8 @@ play() {
   status=$?
   case $status in
     0) ;;
-    5) fail 5 "$(head -n 1 "$2"), where the scenario is asked about; ./tenet play < FILE shows a line that is refused" ;;
-    *) fail "$status" "the program ends with $status" ;;
+    5) fail 5 "the program answers '$(head -n 1 "$2")'; if the scenario itself is at fault, ./tenet play < SCENARIO shows the line" ;;
+    *) fail "$status" "the program ended with status $status" ;;
   esac
 }
 
@@ -66,7 +67,7 @@ judge() {
 
 # known NAME: whether the scenario opens it
 known() {
-  awk -v name="$1" '$1 == "open" && $2 == name { found = 1 } END { exit !found }' "$work/scenario" || fail 2 "the scenario opens no $1"
+  awk -v name="$1" '$1 == "open" && $2 == name { found = 1 } END { exit !found }' "$work/scenario" || fail 2 "the scenario has no request $1"
 }
 
 # insert NAME STEPS LIKE: plays the requests of $work/probes just before the setup of NAME, or after all others where NAME is empty, to
