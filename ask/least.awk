@@ -29,13 +29,13 @@ function first_refused(delay,    d, best) {
 }
 
 END {
-  if (!sum) print "no delay will do: " refusal[1]
-  else if (speaker(sum) in refusal) print "no delay will do: " told_ticks(sum) " are on offer, and with this delay or a longer one " refusal[speaker(sum)]
+  if (!sum) print "denied with any delay: " refusal[1]
+  else if (speaker(sum) in refusal) print "denied with any delay: the links offer " told_ticks(sum) ", and with that delay or a longer one it is denied: " refusal[speaker(sum)]
   else {
     print "least delay " told_ticks(sum)
     over = first_refused(sum)
-    if (over) print "longest delay " told_ticks(over - 1) "; with a longer one " refusal[over]
+    if (over) print "longest delay " told_ticks(over - 1) "; a longer one is denied: " refusal[over]
     if (last) print "least jitter " told_ticks(last)
-    print "it wants delay " told_ticks(wanted[name]) (name in jitter ? ", jitter " told_ticks(jitter[name]) : "")
+    print "wanted delay " told_ticks(wanted[name]) (name in jitter ? ", jitter " told_ticks(jitter[name]) : "")
   }
 }
