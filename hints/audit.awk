@@ -18,13 +18,17 @@ function tell_field(place, label, text) {
   print "  field " place ", " label ": " shown(text)
 }
 
+function counted(count, noun) {
+  return count " " noun (count == 1 ? "" : "s")
+}
+
 # ---- accept NAME delay SUM levels L1 .. Lh
 
 # the levels of a line, one of its link for each hop, and their sum; whether one of these was told to be wrong
 function tell_levels(    hop, link, sum) {
   if (!($2 in hops)) return 0
   if (NF - 5 != hops[$2]) {
-    print "  it has " NF - 5 " levels, and the route of " $2 " has " hops[$2] " links"
+    print "  it has " counted(NF - 5, "level") ", but the route of " $2 " has " counted(hops[$2], "link")
     return 1
   }
   for (hop = 1; hop <= hops[$2]; hop++) {
@@ -44,13 +48,13 @@ function tell_levels(    hop, link, sum) {
 }
 
 function of_accept() {
-  if ($0 ~ /\r$/) print "  it ends with a carriage return: tr -d '\\r' takes them out"
-  else if ($0 ~ /  / || $0 ~ / $/) print "  it has a space too many: exactly one stands between two fields"
+  if ($0 ~ /\r$/) print "  it ends with a carriage return; tr -d '\\r' removes them"
+  else if ($0 ~ /  / || $0 ~ / $/) print "  it has an extra space; fields are separated by exactly one"
   else if (NF < 6 || $3 != "delay" || $5 != "levels") print "  its form is: accept NAME delay SUM levels L1 .. Lh"
   else if (!($2 in delay)) tell_field(2, "the request, which the scenario doesn't open", $2)
   else if ($2 in accepted) {
     tell_field(2, "the request", $2)
-    print "  line " accepted[$2] " has told its levels"
+    print "  line " accepted[$2] " is already its accept line"
   } else if (!is_number($4)) tell_field(4, "the sum, which has to be a number", $4)
   else if (!tell_levels()) tell_bounds()
 }
@@ -60,36 +64,38 @@ function tell_bounds() {
   if ($4 + 0 > delay[$2]) {
     tell_field(4, "the sum", $4)
     print "  the delay that " $2 " asks for is " delay[$2]
-  } else if ($2 in jitter) print "  the last link's bound is over the jitter that " $2 " asks for, " jitter[$2]
+  } else if ($2 in jitter) print "  the last link's bound is over " jitter[$2] ", the jitter that " $2 " asks for"
 }
 
 # ---- a row of the table
 
 # (the limit is a text, since not each awk prints so large a number whole)
-function number_of_row(place, label, limit) {
-  if (is_number(cell[place]) && cell[place] + 0 < limit + 0) return 0
+function number_of_row(place, label, limit,    digits) {
+  digits = limit
+  gsub(/,/, "", digits)
+  if (is_number(cell[place]) && cell[place] + 0 < digits + 0) return 0
   tell_field(place, label ", which has to be a number below " limit, cell[place])
   return 1
 }
 
 function of_row(    count) {
-  if ($0 == "") print "  it is empty; each line after the header is a row"
-  else if ($0 ~ /\r$/) print "  it ends with a carriage return: tr -d '\\r' takes them out"
-  else if ($0 ~ /"/) print "  it has a quote; no field of a table needs one"
-  else if ($0 ~ /[^!-~]/) print "  it has a space, a tab or a byte that isn't a printable one of ASCII"
-  else if ((count = split($0, cell, ",")) != 8) print "  it has " count " fields; its form is: CHANNEL,PACKET,HOP,LINK,SIZE,AT,ELIGIBLE,DEPARTED"
-  else if (!(cell[1] in delay)) tell_field(1, "the channel, which is no request of the scenario", cell[1])
+  if ($0 == "") print "  it is empty; each line after the header has to be a row"
+  else if ($0 ~ /\r$/) print "  it ends with a carriage return; tr -d '\\r' removes them"
+  else if ($0 ~ /"/) print "  it has a quote; fields are written without quotes"
+  else if ($0 ~ /[^!-~]/) print "  it has a space, a tab or a byte that isn't printable ASCII"
+  else if ((count = split($0, cell, ",")) != 8) print "  it has " counted(count, "field") "; its form is: CHANNEL,PACKET,HOP,LINK,SIZE,AT,ELIGIBLE,DEPARTED"
+  else if (!(cell[1] in delay)) tell_field(1, "the channel, which isn't a request of the scenario", cell[1])
   else if (!(cell[4] in levels)) tell_field(4, "the link, which the scenario doesn't have", cell[4])
-  else if (number_of_row(2, "the packet", "1099511627776") || number_of_row(3, "the hop", "256") || number_of_row(5, "the size", "4294967296")) return
-  else if (number_of_row(6, "at", "1099511627776") || number_of_row(7, "eligible", "1099511627776")) return
-  else number_of_row(8, "departed", "1099511627776")
+  else if (number_of_row(2, "the packet", "1,099,511,627,776") || number_of_row(3, "the hop", "256") || number_of_row(5, "the size", "4,294,967,296")) return
+  else if (number_of_row(6, "at", "1,099,511,627,776") || number_of_row(7, "eligible", "1,099,511,627,776")) return
+  else number_of_row(8, "departed", "1,099,511,627,776")
 }
 
 # ---- sentences
 
 function sentence() {
-  if (cause == "accept") return "an accept line is that of a report for this scenario: its request, the sum, and a level for each link, within what was asked for; each request has at most one"
-  return "after its header, channel,packet,hop,link,size,at,eligible,departed, a table has one row a line"
+  if (cause == "accept") return "an accept line has to be as in a report for this scenario: a request, the sum, and a level for each link, within what was asked for; each request has at most one"
+  return "each line after the table's header, channel,packet,hop,link,size,at,eligible,departed, has to be a row"
 }
 
 NR == at {
@@ -124,6 +130,6 @@ $1 == "open" {
 END {
   if (!told) {
     print "tenet: line " at " is missing"
-    print "  " cause ": the input ended before the header of its table, channel,packet,hop,link,size,at,eligible,departed"
+    print "  " cause ": the input ended before the table's header, channel,packet,hop,link,size,at,eligible,departed"
   }
 }
