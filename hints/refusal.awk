@@ -86,7 +86,7 @@ function open_form(    i, from) {
   from = place_of_contract()
   if (is_found()) {
     name(4, "the node where the route begins", "used", "node")
-    name(6, "the node where it ends", "used", "node")
+    name(6, "the node where the route ends", "used", "node")
   } else for (i = 4; i < from; i++) name(i, "a link of the route", "used", "link")
   number(from + 1, "XMIN", 1, 1048576)
   number(from + 2, "XAVE", 1, 1048576)
@@ -114,8 +114,8 @@ function form_of_line() {
   if ($1 == "pour") send_form("link", "the link")
   if ($1 == "close") name(2, "the request", "used", "own")
   if ($1 == "move") {
-    name(2, "the request that is left", "used", "own")
-    name(3, "the request that is joined", "used", "own")
+    name(2, "the request to move from", "used", "own")
+    name(3, "the request to move to", "used", "own")
   }
   if ($1 == "rounds" || $1 == "tail") number(2, "the number of rounds", 0, 524288)
   if ($1 == "do") {
@@ -147,7 +147,7 @@ function of_form(    i) {
   form_of_line()
   for (i = 1; i <= places; i++) if (has_cause(i)) {
     tell_field(at_place[i], called[i])
-    if (cause == "range") print "  " called[i] " is from " least[i] " to " most[i]
+    if (cause == "range") print "  " called[i] " has to be from " grouped(least[i]) " to " grouped(most[i])
     return
   }
 }
@@ -156,25 +156,35 @@ function tell_field(place, label) {
   print "  field " place ", " label ": " shown($place)
 }
 
+function counted(count, noun) {
+  return count " " noun (count == 1 ? "" : "s")
+}
+
+# a number with a comma before each three digits from the end
+function grouped(count,    text, rest) {
+  for (text = count ""; length(text) > 3; text = substr(text, 1, length(text) - 3)) rest = "," substr(text, length(text) - 2) rest
+  return text rest
+}
+
 # a bound that doesn't rise, or a largest packet that takes longer than the first bound
 function of_levels(    i, from) {
   from = place_of("levels")
   for (i = from + 2; i <= NF; i++) if ($i + 0 <= $(i - 1) + 0) {
     tell_field(i, "the bound of level " i - from)
-    print "  the bounds rise from level to level"
+    print "  the bounds have to rise from level to level"
     return
   }
   tell_field(from + 1, "the bound of level 1")
-  print "  the largest packet, cap, takes " int(($8 + $6 - 1) / $6) " ticks at this rate, and the bound of level 1 is at least that"
+  print "  the largest packet, cap, takes " counted(int(($8 + $6 - 1) / $6), "tick") " at this rate; the bound of level 1 has to be at least that"
 }
 
 # loads that aren't those of the link's levels, or quotas that come to more than the link has
 function of_quota(    level, blocking) {
-  if (NF - 6 != levels[$2]) return told_count(NF - 6 " loads", "link " shown($2) " has " levels[$2] " levels")
+  if (NF - 6 != levels[$2]) return told_count(counted(NF - 6, "load"), "link " shown($2) " has " counted(levels[$2], "level"))
   blocking = int((cap[$2] + rate[$2] - 1) / rate[$2])
   for (level = 1; level <= levels[$2]; level++) if (taken[$2, level] + $(6 + level) > bound[$2, level] - blocking) {
     tell_field(6 + level, "the load of level " level)
-    print "  with this line the quotas of that level come to " taken[$2, level] + $(6 + level) "; the bound of " bound[$2, level] " less the " blocking " ticks of the largest packet leaves " bound[$2, level] - blocking
+    print "  with this line the quotas of that level come to " taken[$2, level] + $(6 + level) "; the bound of " bound[$2, level] " less the " counted(blocking, "tick") " of the largest packet leaves " bound[$2, level] - blocking
     return
   }
   tell_field(5, "buffer")
@@ -183,29 +193,29 @@ function of_quota(    level, blocking) {
 
 # a move between requests that don't agree, or to one that is in use
 function of_move() {
-  if ($2 == $3) tell_field(3, "the same request")
-  else if (terms[$2] != terms[$3]) print "  the contracts are " terms[$2] " and " terms[$3]
-  else if (route_from[$2] != route_from[$3]) print "  the routes begin at " route_from[$2] " and " route_from[$3]
-  else if (route_to[$2] != route_to[$3]) print "  the routes end at " route_to[$2] " and " route_to[$3]
-  else print "  " shown($3) " was sent on, closed, moved from or moved to above"
+  if ($2 == $3) tell_field(3, "the same request as in field 2")
+  else if (terms[$2] != terms[$3]) print "  the contracts differ: " terms[$2] " and " terms[$3]
+  else if (route_from[$2] != route_from[$3]) print "  the routes begin at different nodes, " route_from[$2] " and " route_from[$3]
+  else if (route_to[$2] != route_to[$3]) print "  the routes end at different nodes, " route_to[$2] " and " route_to[$3]
+  else print "  " shown($3) " was already sent on, closed, moved from or moved to above"
 }
 
 # a number of a contract
 function of_contract(    from) {
   from = place_of_contract()
-  if ($(from + 1) + 0 > $(from + 2) + 0) tell_field(from + 1, "XMIN, which is at most XAVE")
-  else if ($(from + 2) + 0 > $(from + 3) + 0) tell_field(from + 2, "XAVE, which is at most I")
-  else tell_field(from + 3, "I, which is less than 257 times XAVE")
+  if ($(from + 1) + 0 > $(from + 2) + 0) tell_field(from + 1, "XMIN, which has to be at most XAVE")
+  else if ($(from + 2) + 0 > $(from + 3) + 0) tell_field(from + 2, "XAVE, which has to be at most I")
+  else tell_field(from + 3, "I, which has to be less than 257 times XAVE")
 }
 
 # a link of a route, or two nodes that are one
 function of_route(    i, j, from) {
-  if (is_found()) return tell_field(6, "the node where the route begins")
+  if (is_found()) return tell_field(6, "the node where the route ends, and where it begins, too")
   from = place_of("contract")
   for (i = 4; i < from; i++) {
-    for (j = 4; j < i; j++) if ($j == $i) return tell_field(i, "a link that stands twice")
+    for (j = 4; j < i; j++) if ($j == $i) return tell_field(i, "a link that is on the route already")
     if (i > 4 && begins[$i] != ends[$(i - 1)]) {
-      tell_field(i, "a link that begins at node " begins[$i] ", and the one before it ends at node " ends[$(i - 1)])
+      tell_field(i, "a link that begins at node " begins[$i] ", but the one before it ends at node " ends[$(i - 1)])
       return
     }
   }
@@ -218,17 +228,17 @@ function of_reach(    link, links) {
     for (link in begins) if (begins[link] in count && count[begins[link]] == links - 1 && !(ends[link] in count)) count[ends[link]] = links
   }
   tell_field(6, "the node where the route ends")
-  if ($6 in count) print "  from " $4 " it takes " count[$6] " links at least, and a route has at most 16"
+  if ($6 in count) print "  from " $4 " it takes at least " counted(count[$6], "link") ", and a route has at most 16"
   else print "  no links lead there from " $4
 }
 
 # a byte or a space that may not stand there
 function of_shape() {
-  if ($0 ~ /\r$/) print "  it ends with a carriage return: tr -d '\\r' takes them out"
-  else if ($0 ~ /\t/) print "  it has a tab: exactly one space stands between two fields"
-  else if ($0 ~ /^ / || $0 ~ / $/) print "  it has a space at an end"
+  if ($0 ~ /\r$/) print "  it ends with a carriage return; tr -d '\\r' removes them"
+  else if ($0 ~ /\t/) print "  it has a tab; fields are separated by exactly one space"
+  else if ($0 ~ /^ / || $0 ~ / $/) print "  it begins or ends with a space"
   else if ($0 ~ /  /) print "  it has two spaces in a row"
-  else if ($0 ~ /[^ -~]/) print "  it has a byte that isn't a printable one of ASCII"
+  else if ($0 ~ /[^ -~]/) print "  it has a byte that isn't printable ASCII"
   else of_fields()
 }
 
@@ -237,14 +247,14 @@ function of_shape() {
 # a note behind the line, more levels or links than there may be, a word of a later header, or a wrong fixed word; else how many fields it has
 function of_fields() {
   if (tell_note() || tell_count() || tell_later_word() || tell_wrong_word()) return
-  print "  it has " NF " fields" (usual[$1] == "" ? "" : "; its form is: " usual[$1])
+  print "  it has " counted(NF, "field") (usual[$1] == "" ? "" : "; its form is: " usual[$1])
 }
 
 # whether a note stands behind the line
 function tell_note(    i) {
   for (i = 2; i <= NF; i++) if ($i ~ /^#/) {
     tell_field(i, "the beginning of a note")
-    print "  a note has a line of its own"
+    print "  a note has to be on a line of its own"
     return 1
   }
   return 0
@@ -278,7 +288,7 @@ function tell_later_word() {
 # whether the field is a word of a later header, the first that has it being `tenet since`
 function is_later(place, since) {
   if (version >= since) return 0
-  tell_field(place, "a word of tenet " since)
+  tell_field(place, "a word of tenet " since " and later")
   print "  this scenario begins with tenet " version
   return 1
 }
@@ -310,8 +320,8 @@ function crossing() {
 
 # with all above, or the ticks
 function of_load() {
-  if ($1 == "tail") print "  (rounds + tail) * links is (" rounds " + " $2 ") * " link_count " = " (rounds + $2) * link_count "; at most 524288 are allowed"
-  else print "  with this line the packets times their hops come to " packets + crossing() "; at most 262144 are allowed"
+  if ($1 == "tail") print "  (rounds + tail) * links is (" grouped(rounds) " + " grouped($2) ") * " link_count " = " grouped((rounds + $2) * link_count) "; at most 524,288 is allowed"
+  else print "  with this line the packets times their hops come to " grouped(packets + crossing()) "; at most 262,144 are allowed"
 }
 
 function of_step() {
@@ -333,35 +343,35 @@ function tell_owner() {
 # ---- sentences
 
 function sentences() {
-  means["header"] = "the first line that isn't passed over is one of tenet 1 to tenet 6"
-  means["word"] = "this word may not stand here; the order is: the header, links, groups, quotas, callers each with its operations, rounds, tail, schedule, do"
-  means["shape"] = "bytes, spaces, the number of fields or a fixed word aren't those of such a line"
-  means["name"] = "a name is a letter and then letters, digits and _, at most 16 in all, and neither contract nor plane"
-  means["number"] = "a number has decimal digits alone, at most 18, with no sign, point, comma or 0 in front"
-  means["known"] = "a link, a group, a caller and a request each take a name that no other of their kind has, and a group has one quota of a link at most"
+  means["header"] = "the first line, notes and empty lines aside, has to be one of tenet 1 to tenet 6"
+  means["word"] = "a line can't begin with this word here; the order is: header, links, groups, quotas, callers, each with its operations, rounds, tail, schedule, do"
+  means["shape"] = "a byte, a space, a fixed word or the number of fields is wrong for such a line"
+  means["name"] = "a name is a letter followed by letters, digits and _, at most 16 characters in all, and isn't contract or plane"
+  means["number"] = "a number is 1 to 18 decimal digits, without a sign, point, comma or leading 0"
+  means["known"] = "a new link, group, caller or request needs a name that no other of its kind has, and a group has at most one quota of a link"
   means["unknown"] = "no link, node, group, request of this caller, or actor has this name above this line"
-  means["range"] = "the number is out of its range"
+  means["range"] = "the number is out of range"
   means["many"] = "a scenario has at most 32 links, 4 groups, 64 callers and 1,024 requests, and this is one more"
-  means["contract"] = "a contract has XMIN at most XAVE, XAVE at most I, and I / XAVE, rounded down, at most 256"
-  means["levels"] = "the bounds of a link rise, and its largest packet fits into the first"
-  means["route"] = "each link of a route is another one, and begins at the node where the one before it ends; the nodes after from and to differ"
-  means["closed"] = "the request was closed above, or moved from; after that nothing is sent on it or moved from it, and one that was closed isn't closed again"
-  means["load"] = "the COUNTs times the hops of all sends and moves come to at most 262,144, and the rounds and the tail times the links to at most 524,288"
+  means["contract"] = "in a contract XMIN is at most XAVE, XAVE is at most I, and I / XAVE, rounded down, is at most 256"
+  means["levels"] = "the bounds of a link have to rise, and its largest packet has to fit into the first"
+  means["route"] = "the links of a route are all different, and each begins at the node where the one before it ends; the nodes after from and to differ"
+  means["closed"] = "the request was closed above, or moved from; nothing more can be sent on it or moved from it, and a closed one can't be closed again"
+  means["load"] = "COUNT times hops, summed over all sends, pours and moves, is at most 262,144, and rounds + tail, times the number of links, is at most 524,288"
   means["reach"] = "no route of at most 16 links leads from the first node to the second"
-  means["best"] = "a pour wants a link with best"
-  means["quota"] = "a quota has a load for each level of its link, and the quotas of a link leave room for its largest packet within each bound and fit its buffer"
+  means["best"] = "a pour needs a link with best"
+  means["quota"] = "a quota has one load for each level of its link, and all quotas of a link have to leave room for its largest packet within each bound and fit into its buffer"
   means["move"] = "a move is from one request to another with the same contract, whose route begins and ends at the same nodes, and which nothing above has used"
-  means["end"] = "the input ended before its tail line"
+  means["end"] = "the input ended before its tail line, or an audit's input before its report line"
   means["cut"] = "the input ended inside this line: its line feed is missing"
-  means["step"] = "this do line asks for a step of an actor that has none left at that point of the schedule; operations on a denied request take no steps, and neither does a close after a move"
+  means["step"] = "this do line asks for a step that its actor doesn't have left at this point of the schedule; sends, moves and closes of a denied request take no steps, and neither does a close after a move"
 }
 
 function forms_of_lines() {
-  usual["link"] = "link NAME NODE NODE rate R cap C prop P buffer U" (version >= 3 ? ", with or without best K, and then" : "") " levels D1 .. Dn"
+  usual["link"] = "link NAME NODE NODE rate R cap C prop P buffer U" (version >= 3 ? " [best K]" : "") " levels D1 .. Dn"
   usual["group"] = "group NAME"
   usual["quota"] = "quota LINK GROUP buffer U levels Q1 .. Qn"
-  usual["caller"] = "caller NAME" (version >= 5 ? ", or caller NAME group GROUP" : "")
-  usual["open"] = "open NAME route LINK1 .. LINKh contract XMIN XAVE I SMAX delay D rate, or with jitter J for rate, or under tenet 4 with from NODE1 to NODE2 for the route"
+  usual["caller"] = "caller NAME" (version >= 5 ? " [group GROUP]" : "")
+  usual["open"] = "open NAME route LINK1 .. LINKh contract XMIN XAVE I SMAX delay D rate, or with jitter J in place of rate" (version >= 4 ? ", or with from NODE1 to NODE2 in place of the route" : "")
   usual["send"] = "send NAME COUNT GAP SIZE"
   usual["close"] = "close NAME"
   usual["move"] = "move OLD NEW"
