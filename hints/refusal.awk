@@ -312,16 +312,21 @@ function stands(place, word) {
 
 # ---- counts that are too large
 
-# the packets of a send, a pour or a move, once for each hop
-function crossing() {
-  if ($1 == "move") return load[$2] * hops[$3]
-  return $3 * ($1 == "send" ? hops[$2] : 1)
+# the packets of a send, a pour or a move, once for each hop; `uncounted` where the hops aren't known
+function crossing(    request) {
+  if ($1 == "pour") return $3
+  request = $1 == "move" ? $3 : $2
+  if (request in is_searched) uncounted = 1
+  return ($1 == "move" ? load[$2] : $3) * hops[request]
 }
 
 # with all above, or the ticks
-function of_load() {
+function of_load(    sum) {
   if ($1 == "tail") print "  (rounds + tail) * links is (" grouped(rounds) " + " grouped($2) ") * " link_count " = " grouped((rounds + $2) * link_count) "; at most 524,288 is allowed"
-  else print "  with this line the packets times their hops come to " grouped(packets + crossing()) "; at most 262,144 are allowed"
+  else {
+    sum = packets + crossing()
+    print "  with this line the packets times their hops come to " (uncounted ? "more than 262,144" : grouped(sum) "; at most 262,144 are allowed")
+  }
 }
 
 function of_step() {
@@ -431,7 +436,8 @@ function keep_numbers(    i, from) {
 # the contract and the ends of a request's route. A route that is found isn't searched for here, so its hops aren't known.
 function keep_route(    at) {
   at = place_of("contract")
-  hops[$2] = at - 4
+  if (is_found()) is_searched[$2] = 1
+  else hops[$2] = at - 4
   terms[$2] = $(at + 1) " " $(at + 2) " " $(at + 3) " " $(at + 4)
   route_from[$2] = is_found() ? $4 : begins[$4]
   route_to[$2] = is_found() ? $6 : ends[$(at - 1)]
