@@ -1,4 +1,4 @@
-# common.sh: what the scripts of this folder share. Each sets `here`, its folder, and reads this. They end with 0, with 2 for other words, with 3 where
+# common.sh: what the scripts of this folder share. Each sets `here`, its folder, and reads this. They end with 0, with 2 for wrong arguments, with 3 where
 # a file can't be read or isn't one of a run, with 4 where gnuplot fails or a picture can't be written, and with 69 where gnuplot isn't there.
 # shellcheck shell=sh disable=SC2154
 LC_ALL=C
@@ -22,10 +22,10 @@ begin() {
   esac
   case $# in
     2 | 3) ;;
-    *) fail 2 'the words are: SCENARIO TABLE [PREFIX], where TABLE is what ./tenet play --packets < SCENARIO wrote' ;;
+    *) fail 2 "usage: plot/$script SCENARIO TABLE [PREFIX], where TABLE is what ./tenet play --packets < SCENARIO wrote" ;;
   esac
   prefix=${3-${1%.tenet}}
-  command -v gnuplot >/dev/null || fail 69 'gnuplot is missing; apt-get install gnuplot-nox installs it (or dnf install gnuplot)'
+  command -v gnuplot >/dev/null || fail 69 'gnuplot is missing; install it with apt-get install gnuplot-nox (or dnf install gnuplot)'
   work=$(mktemp -d) || exit 3
   trap 'rm -rf "$work"' EXIT
   trap 'exit 129' HUP
@@ -34,8 +34,8 @@ begin() {
   keep "$1" scenario
   keep "$2" table
   awk -v work="$work" -f "$here/../ask/network.awk" -f "$here/run.awk" "$work/scenario" "$work/table" ||
-    fail 3 "$2 isn't the report, with its table, of $1"
-  [ -s "$work/channels" ] || fail 3 "no channel of $1 is accepted, so there is nothing to draw"
+    fail 3 "$2 isn't what ./tenet play --packets wrote for $1"
+  [ -s "$work/channels" ] || fail 3 "no request of $1 is accepted, so there is nothing to draw"
 }
 
 # keep FILE NAME: copies the file, whatever it is called
