@@ -44,7 +44,11 @@ play() {
   status=$?
   case $status in
     0) ;;
-    5) fail 5 "the program answers '$(head -n 1 "$2")'; if the scenario itself is at fault, ./tenet play < SCENARIO shows the line" ;;
+    5)
+      read -r _ number cause <"$2"
+      line=$(sed -n "${number}p" "$1")
+      fail 5 "the line '$line' is refused, cause $cause; if it is a line of the scenario, ./tenet play < SCENARIO says why"
+      ;;
     *) fail "$status" "the program ended with status $status" ;;
   esac
 }
