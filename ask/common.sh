@@ -4,14 +4,9 @@
 # shellcheck shell=sh disable=SC2034,SC2154
 LC_ALL=C
 export LC_ALL
-script=${0##*/}
+script=ask/${0##*/}
 program=${TENET:-$here/../crates/tenet_app/out/tenet_app}
-
-# fail STATUS WHY
-fail() {
-  printf 'ask/%s: %s\n' "$script" "$2" >&2
-  exit "$1"
-}
+. "$here/text.sh"
 
 # words FEWEST MOST WORDS..: prints the head of the script where help is asked for, and judges the number of words
 words() {
@@ -24,7 +19,7 @@ words() {
       exit 0
       ;;
   esac
-  if [ $# -lt "$fewest" ] || [ $# -gt "$most" ]; then fail 2 "wrong arguments; see ask/$script --help"; fi
+  if [ $# -lt "$fewest" ] || [ $# -gt "$most" ]; then fail 2 "wrong arguments; see $script --help"; fi
 }
 
 # begin FILE: a folder for what is kept meanwhile, and the scenario in it, whatever the file is called
@@ -35,10 +30,10 @@ begin() {
   trap 'exit 129' HUP
   trap 'exit 130' INT
   trap 'exit 143' TERM
-  if [ -d "$1" ] || ! cat <"$1" >"$work/scenario" 2>"$work/told"; then fail 3 "$1 can't be read"; fi
+  if [ -d "$1" ] || ! cat 2>"$work/told" <"$1" >"$work/scenario"; then fail 3 "$1 can't be read"; fi
 }
 
-# play FILE REPORT [WORD]: plays a scenario that was made of the one asked about
+# play FILE REPORT [WORD]: plays the scenario asked about, or one that was made of it
 play() {
   "$program" play ${3+"$3"} <"$1" >"$2"
   status=$?
@@ -46,11 +41,16 @@ play() {
     0) ;;
     5)
       read -r _ number cause <"$2"
-      line=$(sed -n "${number}p" "$1")
+      line=$(awk -v at="$number" 'NR == at { print (length($0) > 160 ? substr($0, 1, 160) " .." : $0) }' "$1")
       fail 5 "the line '$line' is refused, cause $cause; if it is a line of the scenario, ./tenet play < SCENARIO says why"
       ;;
     *) fail "$status" "the program ended with status $status" ;;
   esac
+}
+
+# accepted: ends with 5 where the program refuses the scenario asked about, and puts its report to $work/played
+accepted() {
+  play "$work/scenario" "$work/played"
 }
 
 # opens FILE: the scenario's links and requests alone: nothing is sent, moved, closed or run, so all accepted channels are held at once
@@ -69,8 +69,29 @@ judge() {
   play "$work/judged" "$work/report"
 }
 
-# known NAME: whether the scenario opens it
+# named WORD: ends with 2 where it is no name
+named() {
+  case $1 in
+    '' | [!A-Za-z]* | *[!A-Za-z0-9_]* | ?????????????????*) fail 2 "'$1' isn't a name" ;;
+  esac
+}
+
+# own_names: sets `own`, with which no name of the scenario begins, for the names of what a script adds. A name begins with at most one of those
+# that are tried, so `own` has at most 8 characters.
+own_names() {
+  own=$(awk '
+    $1 == "at" { name = $4 }
+    $1 == "open" || $1 == "caller" { name = $2 }
+    match(name, /^ask[0-9]*_/) { taken[substr(name, 1, RLENGTH)] = 1 }
+    END {
+      for (own = "ask_"; own in taken; own = "ask" (++tried) "_") { }
+      print own
+    }' "$work/scenario")
+}
+
+# known NAME: ends with 2 where the scenario doesn't open it
 known() {
+  named "$1"
   awk -v name="$1" '$1 == "open" && $2 == name { found = 1 } END { exit !found }' "$work/scenario" || fail 2 "the scenario has no request $1"
 }
 
@@ -78,7 +99,7 @@ known() {
 # $work/answers, as requests of a caller of the group that the request LIKE is of. Each makes at most STEPS steps. Those before others have
 # to be such that are denied by the destination, and so keep nothing.
 insert() {
-  awk -v before="$1" -v steps="$2" -v like="$3" -f "$here/network.awk" -f "$here/insert.awk" "$work/probes" "$work/report" "$work/judged" >"$work/probing" ||
+  awk -v before="$1" -v steps="$2" -v like="$3" -v own="$own" -f "$here/network.awk" -f "$here/insert.awk" "$work/probes" "$work/report" "$work/judged" >"$work/probing" ||
     fail 2 "the schedule ends before the setup of $1"
   play "$work/probing" "$work/answers"
 }

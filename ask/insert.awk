@@ -1,7 +1,8 @@
 # insert.awk: puts requests into a scenario, just before the setup of the request `before`, or behind all others where that is empty. Read
 # after network.awk; the files are the requests as `open` lines, the report of the scenario, and the scenario. Each of these requests makes
 # at most `steps` steps. Without a schedule they stand before that line, and what comes behind it is left out. With one they are a
-# caller's, which makes its steps where the other's setup begins; the run ends with that. They are of the group of the request `like`.
+# caller's, which makes its steps where the other's setup begins; the run ends with that. They are of the group of the request `like`. The names
+# of what is added begin with `own`.
 
 FNR == 1 { file++ }
 
@@ -26,7 +27,7 @@ END {
 
 # a caller of the group of the request `like`
 function print_caller() {
-  print "caller ask_caller" (group[like] == "" ? "" : " group " group[like])
+  print "caller " own "caller" (group[like] == "" ? "" : " group " group[like])
 }
 
 # the requests as a caller's, with as many more of the first one, by other names, that the caller has a step for each that may be asked for
@@ -40,7 +41,7 @@ function put_into_schedule(    i, pads, fields) {
       for (k = 1; k <= probes; k++) print probe[k]
       for (k = 1; k <= pads; k++) {
         fields = probe[1]
-        sub(/^open [^ ]*/, "open ask_pad_" k, fields)
+        sub(/^open [^ ]*/, "open " own "pad" k, fields)
         print fields
       }
     }
@@ -84,6 +85,6 @@ function put_turns(    i, left) {
     print
   }
   if (before != "" && i > lines) return 0
-  print "do ask_caller", steps * probes
+  print "do " own "caller", steps * probes
   return 1
 }

@@ -7,14 +7,17 @@ file == 1 { read_scenario() }
 
 file == 2 { read_report() }
 
-file == 3 && $1 == "deny" && $2 ~ /^ask_[0-9]+$/ {
-  delay = substr($2, 5) + 0
+# what a request is called behind the beginning that its like have
+file == 3 { label = index($2, own) == 1 ? substr($2, length(own) + 1) : "" }
+
+file == 3 && $1 == "deny" && label ~ /^[0-9]+$/ {
+  delay = label + 0
   answered[delay] = 1
   if ($3 == "hop") refusal[delay] = substr($0, index($0, " hop ") + 1)
   else if ($4 == "delay") sum = $5
 }
 
-file == 3 && $1 == "deny" && $2 == "ask_last" && $3 == "end" { last = $5 - prop[route[name, hops[name]]] }
+file == 3 && $1 == "deny" && label == "last" && $3 == "end" { last = $5 - prop[route[name, hops[name]]] }
 
 # the answer that speaks for a delay: that of the largest delay asked with up to it
 function speaker(delay,    d, best) {

@@ -14,7 +14,7 @@ function held(link,    k, count) {
 
 # the work at each level of a link beside its bound
 function loads(link,    m, told) {
-  for (m = 1; m <= levels[link]; m++) told = told "  " judged_load(link, m) "/" bound[link, m]
+  for (m = 1; m <= levels[link]; m++) told = told "  " whole(judged_load(link, m)) "/" bound[link, m]
   return told
 }
 
@@ -23,7 +23,7 @@ function tell_groups(link,    count, name_of, g, m, told, free) {
   count = split(split_between[link], name_of, " ")
   for (g = 1; g <= count; g++) {
     told = ""
-    for (m = 1; m <= levels[link]; m++) told = told "  " group_load(link, name_of[g], m) "/" share[link, name_of[g], m]
+    for (m = 1; m <= levels[link]; m++) told = told "  " whole(group_load(link, name_of[g], m)) "/" share[link, name_of[g], m]
     free = share_buffer[link, name_of[g]] - group_kept(link, name_of[g])
     printf "  %-14s %9s %8s %7s %10s %13s%s\n", name_of[g], group_rows(link, name_of[g]), "", "", "", free "/" share_buffer[link, name_of[g]], told
   }

@@ -10,7 +10,21 @@ function least_of(a, b) {
   return a < b ? a : b
 }
 
+# a whole number as text; an awk may print one past 2^31 as 4.29503e+09
+function whole(number) {
+  return sprintf("%.0f", number)
+}
+
 # ---- reading
+
+# the names and numbers of the language
+function is_name(field) {
+  return field ~ /^[A-Za-z][A-Za-z0-9_]*$/ && length(field) <= 16 && field != "contract" && field != "plane"
+}
+
+function is_number(field) {
+  return field ~ /^(0|[1-9][0-9]*)$/ && length(field) <= 18
+}
 
 function read_scenario() {
   if ($1 == "tenet") version = $2
@@ -95,11 +109,16 @@ function list_crossings(    i, hop, name, link) {
 
 function note_tick(    nanoseconds) {
   nanoseconds = $4 == "ns" ? 1 : $4 == "us" ? 1000 : $4 == "ms" ? 1000000 : $4 == "s" ? 1000000000 : 0
-  if ($3 + 0 > 0) tick_length = $3 * nanoseconds
+  if (is_decimal($3) && $3 > 0) tick_length = $3 * nanoseconds
 }
 
 function note_unit() {
-  unit_bits = $3 * ($4 ~ /^bits?$/ ? 1 : $4 ~ /^bytes?$/ ? 8 : 0)
+  if (is_decimal($3)) unit_bits = $3 * ($4 ~ /^bits?$/ ? 1 : $4 ~ /^bytes?$/ ? 8 : 0)
+}
+
+# (some awk takes a word like inf or 0x10 for a number, too)
+function is_decimal(text) {
+  return text ~ /^[0-9]+(\.[0-9]+)?$/
 }
 
 # ticks as a time with its unit, or nothing where no note gives the tick
@@ -121,7 +140,7 @@ function as_bytes(units) {
 # "306 ticks", and the time where it is known
 function told_ticks(ticks,    t) {
   t = as_time(ticks)
-  return ticks " ticks" (t == "" ? "" : " (" t ")")
+  return whole(ticks) " ticks" (t == "" ? "" : " (" t ")")
 }
 
 # ---- the admission test

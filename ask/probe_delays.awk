@@ -1,5 +1,5 @@
 # probe_delays.awk: the request `name` with a jitter that no link offers, and with a delay of 1 and of each bound on its route; and over its last
-# link alone. Read after network.awk; the files are the scenario and its report.
+# link alone. Read after network.awk; the files are the scenario and its report. The names of these requests begin with `own`.
 
 FNR == 1 { file++ }
 
@@ -12,7 +12,7 @@ function probe(label, from, delay,    hop, links_of) {
   if (label in asked) return
   asked[label] = 1
   for (hop = from; hop <= hops[name]; hop++) links_of = links_of " " route[name, hop]
-  print "open ask_" label " route" links_of, "contract", xmin[name], xave[name], interval[name], smax[name], "delay", delay, "jitter 1"
+  print "open " own label " route" links_of, "contract", xmin[name], xave[name], interval[name], smax[name], "delay", delay, "jitter 1"
 }
 
 END {

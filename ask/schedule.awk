@@ -1,6 +1,7 @@
 # schedule.awk: the scenario of a plan, with a schedule that gives each item its steps. The files are the plan, the steps and the scenario with
 # `at` lines. As a trial it asks for no step that may not be there: the caller has requests to spare behind its own, which the destination
-# denies, and of an operation that isn't known yet only the least is counted on. The last line is then a note on how many items it plays.
+# denies, whose names begin with `own`, and of an operation that isn't known yet only the least is counted on. The last line is then a note on how
+# many items it plays.
 
 FILENAME ~ /plan$/ {
   item[++items] = $0
@@ -22,7 +23,7 @@ function put_caller(    i, text) {
     sub(/^calls [^ ]* /, "", text)
     print text
   }
-  if (trial) for (i = opens + 1; i <= 1024; i++) print "open ask_spare_" i, "route", first_link, "contract 1 1 1 1 delay 1 rate"
+  if (trial) for (i = opens + 1; i <= 1024; i++) print "open " own "spare" i, "route", first_link, "contract 1 1 1 1 delay 1 rate"
 }
 
 # the steps of the caller that are sure to be there
@@ -70,7 +71,7 @@ function put_trial(    i, calls, ticks) {
 END {
   put_caller()
   split(item[items], last, " ")
-  print "rounds", trial ? int(524288 / links) : last[1] == "plane" ? last[3] : last[2]
+  print "rounds", (trial ? int(524288 / links) : (last[1] == "plane" ? last[3] : last[2]) + 0)
   print "tail 0\nschedule"
   if (trial) put_trial()
   else {

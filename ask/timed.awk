@@ -15,7 +15,7 @@ $1 == "link" { links++ }
 
 $1 == "at" {
   if (ended) fail("`at TICK end` has to be the last line")
-  if ($2 !~ /^[0-9]+$/ || $2 + 0 > 524288) fail("`at` needs a tick from 0 to 524,288, not " $2)
+  if ($2 !~ /^(0|[1-9][0-9]*)$/ || $2 + 0 > 524288) fail("`at` needs a tick from 0 to 524,288, not " $2)
   if ($2 + 0 < clock) fail("tick " $2 " comes after tick " clock "; the ticks may not decrease")
   if ($3 !~ /^(open|send|close|move|pour|end)$/) fail("`at TICK` has to be followed by open, send, close, move, pour or end")
   if ($3 == "open" && ++opens > 960) fail("a scenario with `at` lines has at most 960 opens")
@@ -33,5 +33,6 @@ $1 != "at" && $1 != "calls" && ended && NF && $1 !~ /^#/ { fail("`at TICK end` h
 END {
   if (failed) exit 1
   if (!ended) fail("the last line has to be `at TICK end`")
+  if (!links) fail("a scenario has at least one link")
   if (clock * links > 524288) fail(clock " rounds of " links " links come to more than 524,288 ticks")
 }

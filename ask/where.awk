@@ -10,8 +10,11 @@ file == 1 {
 
 file == 2 { read_report() }
 
-file == 3 && $1 == "deny" && $2 ~ /^ask_[0-9]+$/ {
-  hop = substr($2, 5)
+# what a request is called behind the beginning that its like have: its hop
+file == 3 { label = index($2, own) == 1 ? substr($2, length(own) + 1) : "" }
+
+file == 3 && $1 == "deny" && label ~ /^[0-9]+$/ {
+  hop = label
   if ($3 == "end") offer[hop] = $5 - prop[route[name, hop]]
   else why[hop] = substr($0, index($0, " hop 1 ") + 7)
 }
@@ -30,7 +33,7 @@ function at_level_1(link,    i, hop, other, sum) {
     for (hop = 1; hop <= hops[other]; hop++)
       if (route[other, hop] == link && (other, hop) in level && level[other, hop] == 1) sum += most_in(other, bound[link, 1]) * packet_ticks(other, link)
   }
-  return sum " of " bound[link, 1]
+  return whole(sum) " of " bound[link, 1]
 }
 
 END {
@@ -43,7 +46,7 @@ END {
       continue
     }
     sum += offer[hop] + prop[link]
-    printf "%-4d %-16s %8d %6d %8d %8d %6s  %s\n", hop, link, offer[hop], level_of(link, offer[hop]), prop[link], sum, (name, hop) in level ? level[name, hop] : "-", at_level_1(link)
+    printf "%-4d %-16s %8d %6d %8d %8d %6s  %s\n", hop, link, offer[hop], level_of(link, offer[hop]), prop[link], sum, ((name, hop) in level ? level[name, hop] : "-"), at_level_1(link)
   }
   if (!refused) {
     left = wanted[name] - sum
