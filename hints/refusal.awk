@@ -12,10 +12,12 @@ function is_number(field) {
   return field ~ /^(0|[1-9][0-9]*)$/ && length(field) <= 18
 }
 
-# the place of a word in this line, or one place after its last field
-function place_of(word,    i) {
-  for (i = 2; i <= NF && $i != word; i++) { }
-  return i
+# The words of a line have their places behind its names, which may be spelled like any of them but `contract`.
+
+# the place of the word levels in a link or quota line, or one place after its last field where it doesn't stand there
+function place_of_levels(    place) {
+  place = $1 == "quota" ? 6 : $13 == "best" ? 15 : 13
+  return $place == "levels" ? place : NF + 1
 }
 
 # whether this line asks for a route between two nodes
@@ -23,9 +25,11 @@ function is_found() {
   return $3 == "from" && $5 == "to"
 }
 
-# the place of the word contract in an open line
-function place_of_contract() {
-  return is_found() ? 7 : place_of("contract")
+# the place of the word contract in an open line, or one place after its last field
+function place_of_contract(    i) {
+  if (is_found()) return 7
+  for (i = 4; i <= NF && $i != "contract"; i++) { }
+  return i
 }
 
 # ---- the forms of lines: each place of a name or a number, from left to right
@@ -168,7 +172,7 @@ function grouped(count,    text, rest) {
 
 # a bound that doesn't rise, or a largest packet that takes longer than the first bound
 function of_levels(    i, from) {
-  from = place_of("levels")
+  from = place_of_levels()
   for (i = from + 2; i <= NF; i++) if ($i + 0 <= $(i - 1) + 0) {
     tell_field(i, "the bound of level " i - from)
     print "  the bounds have to rise from level to level"
@@ -211,7 +215,7 @@ function of_contract(    from) {
 # a link of a route, or two nodes that are one
 function of_route(    i, j, from) {
   if (is_found()) return tell_field(6, "the node where the route ends, and where it begins, too")
-  from = place_of("contract")
+  from = place_of_contract()
   for (i = 4; i < from; i++) {
     for (j = 4; j < i; j++) if ($j == $i) return tell_field(i, "a link that is on the route already")
     if (i > 4 && begins[$i] != ends[$(i - 1)]) {
@@ -262,9 +266,9 @@ function tell_note(    i) {
 
 # whether a link has too many levels, or a route too many links
 function tell_count(    count) {
-  count = NF - place_of("levels")
+  count = NF - place_of_levels()
   if (($1 == "link" || $1 == "quota") && count > 8) return told_count(count " levels", "a link has at most 8")
-  count = place_of("contract") - 4
+  count = place_of_contract() - 4
   if ($1 == "open" && $3 == "route" && count > 16 && count < NF - 3) return told_count("a route of " count " links", "a route has at most 16")
   return 0
 }
@@ -299,7 +303,7 @@ function tell_wrong_word(    from) {
   if ($1 == "quota") return stands(4, "buffer") || stands(6, "levels")
   if ($1 == "caller") return version >= 5 && stands(3, "group")
   if ($1 != "open") return 0
-  from = place_of("contract")
+  from = place_of_contract()
   if (from > NF) return 0
   return stands(3, "route") || stands(from + 5, "delay") || ($(from + 7) != "jitter" && stands(from + 7, "rate"))
 }
@@ -425,7 +429,7 @@ NR == at {
 
 # the numbers of a link
 function keep_numbers(    i, from) {
-  from = place_of("levels")
+  from = place_of_levels()
   rate[$2] = $6
   cap[$2] = $8
   buffer[$2] = $12
@@ -435,7 +439,7 @@ function keep_numbers(    i, from) {
 
 # the contract and the ends of a request's route. A route that is found isn't searched for here, so its hops aren't known.
 function keep_route(    at) {
-  at = place_of("contract")
+  at = place_of_contract()
   if (is_found()) is_searched[$2] = 1
   else hops[$2] = at - 4
   terms[$2] = $(at + 1) " " $(at + 2) " " $(at + 3) " " $(at + 4)
