@@ -1,15 +1,12 @@
 # common.sh: what the scripts of this folder share. Each sets `here`, its folder, and reads this. They end with 0, with 2 for wrong arguments, with 3 where
-# a file can't be read or isn't one of a run, with 4 where gnuplot fails or a picture can't be written, and with 69 where gnuplot isn't there.
+# a file can't be read, isn't one of a run or is refused by the program, with 4 where gnuplot fails or a picture can't be written, and with 69 where
+# gnuplot isn't there.
 # shellcheck shell=sh disable=SC2154
 LC_ALL=C
 export LC_ALL
-script=${0##*/}
-
-# fail STATUS WHY
-fail() {
-  printf 'plot/%s: %s\n' "$script" "$2" >&2
-  exit "$1"
-}
+script=plot/${0##*/}
+program=${TENET:-$here/../crates/tenet_app/out/tenet_app}
+. "$here/../ask/text.sh"
 
 # begin WORDS..: prints the head of the script where help is asked for, judges the words, and copies the scenario and the table to a folder, where
 # gnuplot works, so that it meets no names but ours
@@ -22,7 +19,7 @@ begin() {
   esac
   case $# in
     2 | 3) ;;
-    *) fail 2 "usage: plot/$script SCENARIO TABLE [PREFIX], where TABLE is what ./tenet play --packets < SCENARIO wrote" ;;
+    *) fail 2 "usage: $script SCENARIO TABLE [PREFIX], where TABLE is what ./tenet play --packets < SCENARIO wrote" ;;
   esac
   prefix=${3-${1%.tenet}}
   command -v gnuplot >/dev/null || fail 69 'gnuplot is missing; install it with apt-get install gnuplot-nox (or dnf install gnuplot)'
@@ -33,14 +30,24 @@ begin() {
   trap 'exit 143' TERM
   keep "$1" scenario
   keep "$2" table
-  awk -v work="$work" -f "$here/../ask/network.awk" -f "$here/run.awk" "$work/scenario" "$work/table" ||
+  judge "$1"
+  if ! awk -v work="$work" -f "$here/../ask/network.awk" -f "$here/run.awk" "$work/scenario" "$work/table"; then
+    [ ! -s "$work/malformed" ] || fail 3 "$1 isn't a scenario: line $(cat "$work/malformed") has a name or a number that isn't one"
     fail 3 "$2 isn't what ./tenet play --packets wrote for $1"
+  fi
   [ -s "$work/channels" ] || fail 3 "no request of $1 is accepted, so there is nothing to draw"
 }
 
-# keep FILE NAME: copies the file, whatever it is called
+# keep FILE NAME: copies the file, whatever it is called, so that no byte of it reaches a terminal or a picture raw
 keep() {
-  if [ -d "$1" ] || ! cat <"$1" >"$work/$2" 2>"$work/told"; then fail 3 "$1 can't be read"; fi
+  if [ -d "$1" ] || ! printable 2>"$work/told" <"$1" >"$work/$2"; then fail 3 "$1 can't be read"; fi
+}
+
+# judge FILE: refuses the scenario, which is this file, where the program is built and refuses it
+judge() {
+  [ -x "$program" ] || return 0
+  "$program" play <"$work/scenario" >"$work/played"
+  [ $? != 5 ] || fail 3 "$1 isn't a scenario: $(cat "$work/played")"
 }
 
 # draw PICTURE WIDTH HEIGHT: runs PICTURE.gp over what was read, to PREFIX-PICTURE.svg
@@ -52,7 +59,7 @@ draw() {
     cat "$here/$1.gp"
   } >"$work/$1.all"
   if ! (cd "$work" && gnuplot "$1.all" 2>told); then
-    cat "$work/told" >&2
+    printable <"$work/told" >&2
     fail 4 'gnuplot failed'
   fi
   if ! cat <"$work/$1.svg" 2>"$work/told" >"$prefix-$1.svg"; then fail 4 "$prefix-$1.svg can't be written"; fi

@@ -1,5 +1,6 @@
 # run.awk: reads a scenario and then the report of its run with the table of packets, and writes what gnuplot draws to the folder `work`. Read after
-# network.awk of ask/. It ends with 1 where the two aren't of one network.
+# network.awk of ask/. It ends with 1 where the two aren't of one network, and where a name or a number of a link or a request isn't one: gnuplot's
+# text has these names between quotes, so no other byte may come there.
 #   channels  place, name, least, worst, delay bound, end of the jitter bound
 #   packets   delay, place: each delay of a channel once
 #   requests  place, what it wants, the sum on offer where that denies it (or NaN), and what is said beside it; in percent of the delay wanted
@@ -7,12 +8,42 @@
 #   names, names_of_requests, names_of_links      gnuplot's settings for the tics of channels, requests and links
 #   links     name, then for each of 8 levels the load in percent of its bound, and for each the load if all channels were held at once
 #   settings  what gnuplot is told of the numbers
+#   malformed the number of the first line with a name or a number that isn't one, if there is such a line
 
 # ---- the report and its table
 
 FNR == 1 { file++ }
 
-file == 1 { read_scenario() }
+file == 1 {
+  read_scenario()
+  if (!malformed && !has_form()) malformed = FNR
+}
+
+# whether the names and numbers of a link or a request are such
+function has_form() {
+  if ($1 == "link") return is_link()
+  if ($1 == "open") return is_request()
+  return 1
+}
+
+function is_link(    levels_at, i) {
+  levels_at = $13 == "best" ? 15 : 13
+  for (i = 6; i < levels_at; i += 2) if (!is_number($i)) return 0
+  for (i = levels_at + 1; i <= NF; i++) if (!is_number($i)) return 0
+  return $levels_at == "levels" && NF > levels_at && NF <= levels_at + 8 && is_name($3) && is_name($4) && is_new("link")
+}
+
+function is_request(    at, i) {
+  for (at = 4; at <= NF && $at != "contract"; at++) if ($3 == "route" && !(("link" SUBSEP $at) in is_known)) return 0
+  for (i = at + 1; i <= at + 6; i++) if (i != at + 5 && !is_number($i)) return 0
+  return ($(at + 7) != "jitter" || is_number($(at + 8))) && is_new("request")
+}
+
+# whether a line gives a link or a request a name of its own
+function is_new(kind) {
+  if (!is_name($2) || (kind SUBSEP $2) in is_known) return 0
+  return is_known[kind, $2] = 1
+}
 
 file == 2 && $0 == "channel,packet,hop,link,size,at,eligible,departed" {
   has_table = 1
@@ -143,7 +174,8 @@ function put_time(    per, unit) {
 }
 
 END {
-  if (!is_one_network()) exit 1
+  if (malformed) print malformed >(work "/malformed")
+  if (malformed || !is_one_network()) exit 1
   list_crossings()
   for (name in is_closed) has_closed = 1
   printf "" >(work "/channels")
