@@ -79,7 +79,7 @@ function read_report(    i) {
     denial[$2] = $0
     sub(/^deny [^ ]* /, "", denial[$2])
   } else if ($1 == "route") {
-    for (i = 3; $i != "prop"; i++) route[$2, i - 2] = $i
+    for (i = 3; i <= NF && $i != "prop"; i++) route[$2, i - 2] = $i
     hops[$2] = i - 3
   } else if ($1 == "move") {
     shifted[$2] = $7

@@ -47,7 +47,10 @@ keep() {
 judge() {
   [ -x "$program" ] || return 0
   "$program" play <"$work/scenario" >"$work/played"
-  [ $? != 5 ] || fail 3 "$1 isn't a scenario: $(cat "$work/played")"
+  case $? in
+    5) fail 3 "$1 isn't a scenario: $(cat "$work/played")" ;;
+    6) fail 3 "$1 isn't a scenario: it has more than 4,194,304 bytes" ;;
+  esac
 }
 
 # draw PICTURE WIDTH HEIGHT: runs PICTURE.gp over what was read, to PREFIX-PICTURE.svg
