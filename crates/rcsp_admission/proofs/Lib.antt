@@ -5,3 +5,4 @@ pub mod KeyFacts
 pub mod IndexFacts
 pub mod PlaceFacts
 pub mod LoadsFacts
+pub mod LineFacts

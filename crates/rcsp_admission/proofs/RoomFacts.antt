@@ -1,15 +1,16 @@
 -- The last level without room says which level is the best.
-use Rattle.std.proofs.Common.{◌≡◌, ℕ, ◌+◌, ◌<◌, ◌≤◌, ⊎_elim, List, length, Some, sym, subst, arith}
+use Rattle.std.proofs.Common.{◌≡◌, ℕ, ◌+◌, ◌*◌, ◌<◌, ◌≤◌, ⊎_elim, List, [], ◌∷◌, length, Some, sym, subst, arith}
 use Rattle.std.proofs.lemmas.Bool.{cases_lt}
 use Rattle.traffic_contract.specs.Contract.{Traffic}
 use Rattle.std.specs.List.{All}
 use Rattle.net_units.specs.LevelBounds.{last_bound}
-use Rattle.traffic_contract.specs.Admission.{Server, Admitted, load, level_sum, with_row, HasRoom, WindowCounts, PassesAt, Passes, IsBest, IsRefused, best_level, refused_sum}
+use Rattle.traffic_contract.specs.Admission.{Server, Admitted, total, work_in, work_up_to, load, level_sum, with_row, HasRoom, WindowCounts, PassesAt, Passes, IsBest, IsRefused, best_level, refused_sum}
 use Rattle.traffic_contract.specs.declared.admission.Test.TheVariants.{Whole, Least}
 use Rattle.net_units.specs.LevelBounds.{bound_at}
-use Rattle.traffic_contract.proofs.AdmissionFacts.{Decides-passes_at, window-of, PassesAt-whole, Passes-with_row, room-from-Passes, best_level-found}
+use Rattle.traffic_contract.proofs.AdmissionFacts.{work_up_to-within, work_up_to-above, load-from, Decides-passes_at, window-of, PassesAt-whole, Passes-with_row, room-from-Passes, best_level-found}
 use Rattle.traffic_contract.proofs.LoadFacts.{HasContract, load-mono}
-use Rattle.rcsp_admission.specs.Room.{IsLastFull, load_with, FitsSome}
+use Rattle.rcsp_admission.specs.Lines.{one_tick, IsBelow}
+use Rattle.rcsp_admission.specs.Room.{IsLastFull, NoneBefore, load_with, FitsSome}
 
 -- the level above the last without room is the best
 pub IsBest-above_full : (server : Server) (rows : List Admitted) (contract : Traffic) (full : ℕ) → Passes server rows → IsLastFull server rows contract (length server.bounds) full → full < length server.bounds → IsBest server rows contract (full + 1)
@@ -52,6 +53,30 @@ search-goes_on server rows contract m window contracts before w fits =
 pub search-begins : (server : Server) (rows : List Admitted) (contract : Traffic) (m w : ℕ) → load_with server rows contract m w ≤ w → server.blocking ≤ w
 unfolding load
 search-begins server rows contract m w fits = omega (arith, fits)
+
+-- a level has no less work than the one before
+total-levels : (rate m w : ℕ) (rows : List Admitted) → total (work_up_to rate m w) rows ≤ total (work_up_to rate (m + 1) w) rows
+total-levels rate m w [] = omega arith
+total-levels rate m w (row ∷ rows) =
+    let rest = total-levels rate m w rows in
+    ⊎_elim (λ (above : m < row.level). (let e = work_up_to-above rate m w row above in omega (arith, e, rest)))
+    (λ (within : row.level ≤ m). (let e = work_up_to-within rate m w row within in let f = work_up_to-within rate (m + 1) w row (omega arith) in omega (arith, e, f, rest)))
+    (cases_lt m row.level)
+
+-- so the search of a level goes on where that of the level before ended
+pub search-next : (server : Server) (rows : List Admitted) (contract : Traffic) (m from : ℕ) → NoneBefore server rows contract m from → NoneBefore server rows contract (m + 1) from
+unfolding load
+search-next server rows contract m from none w fits =
+    let less = total-levels server.rate m w rows in
+    let e = load-from server rows contract m m w (omega arith) in
+    let f = load-from server rows contract (m + 1) (m + 1) w (omega arith) in
+    none w (omega (arith, less, e, f, fits))
+
+-- a window that fits is no shorter than the lines below its load are high
+pub line-fits : (server : Server) (rows : List Admitted) (contract : Traffic) (m from w rows_flat rows_slope new_flat new_slope : ℕ) → IsBelow rows_flat rows_slope (λ v. total (work_up_to server.rate m v) rows) from → IsBelow new_flat new_slope (work_in server.rate contract) from → from ≤ w → load_with server rows contract m w ≤ w → (server.blocking + rows_flat + new_flat) * one_tick + (rows_slope + new_slope) * w ≤ w * one_tick
+unfolding load
+line-fits server rows contract m from w rows_flat rows_slope new_flat new_slope held new after fits =
+    let e = load-from server rows contract m m w (omega arith) in omega (arith, e, fits, held.each w after, new.each w after)
 
 -- where every window up to the bound counts, the level has room exactly where one of them fits
 pub room-some : (server : Server) (rows : List Admitted) (contract : Traffic) (m bound : ℕ) → server.test ≡ Least → bound ≡ bound_at server.bounds m → FitsSome server rows contract m bound → HasRoom server rows contract m

@@ -12,6 +12,10 @@ load_with server rows contract m w = load server (with_row rows contract m) m w
 abbrev pub FitsSome : Server → List Admitted → Traffic → ℕ → ℕ → Type 0
 FitsSome server rows contract m bound = (w : ℕ) × (1 ≤ w) × (w ≤ bound) × (load_with server rows contract m w ≤ w)
 
+-- no window before this one fits that load
+abbrev pub NoneBefore : Server → List Admitted → Traffic → ℕ → ℕ → Type 0
+NoneBefore server rows contract m from = (w : ℕ) → load_with server rows contract m w ≤ w → from ≤ w
+
 -- of the levels 1 to n, `full` is the last that has no room, or 0 where all have
 pub record IsLastFull (server : Server) (rows : List Admitted) (contract : Traffic) (n full : ℕ) : Type 0 where
   pub upto : full ≤ n

@@ -6,10 +6,11 @@ ghost use Rattle.net_units.specs.Limits.{most_bound};
 ghost use Rattle.traffic_contract.specs.Admission.{load, Passes, HasRoom, IsBest, IsRefused, with_row, level_sum, best_level, refused_sum};
 ghost use Rattle.traffic_contract.specs.declared.admission.Test.{Test};
 ghost use Rattle.traffic_contract.specs.declared.admission.Test.TheVariants.{Whole};
-ghost use Rattle.rcsp_admission.specs.Room.{IsLastFull, load_with, FitsSome};
+ghost use Rattle.rcsp_admission.specs.Room.{IsLastFull, NoneBefore, load_with};
 ghost use Rattle.rcsp_admission.specs.Sums.{Holds, HoldsUpTo, AreAdmitted, server_with, has_key, level_held, admitted_rows, added, moved, without_key};
 
 use crate::key_index::KeyIndex;
+use crate::lines::{crossing, line_of, line_of_rows};
 use crate::loads::{add_row, level_at, take_row, work};
 use crate::rows::{KeptRow, work_of};
 use net_units::limits::MOST_LEVELS;
@@ -17,6 +18,9 @@ use net_units::{Bounds, Level, OutOfMemory};
 use std::alloc::Global;
 use std::marker::Model;
 use traffic_contract::{Contract, Test};
+
+// After so many turns the search for a window tries to leap, which costs about two.
+const TURNS: u32 = 16;
 
 /// A new contract passes at no level: with its row at the last one, the sum there is over the bound.
 #[derive(Clone, Copy, Debug, PartialEq, Eq)]
@@ -269,30 +273,79 @@ impl LevelSums {
         self.load(level, window) + work(contract, self.rate, window)
     }
 
-    // Whether some window up to the bound fits the load with a row of this contract at the level. Each window that
-    // does is at least the blocking, and at least the load in any window before it.
-    fn fits_some(&self, contract: &Contract, level: Level, bound: u64) -> bool
+    // A window that is no shorter, and before which none fits the load with a row of this contract at the level: where the
+    // line below the load crosses. Contracts with intervals up to `longest` make that line rise.
+    fn leap(&self, contract: &Contract, level: Level, from: u64, longest: u64) -> u64
         requires within { level_number level ≤ length self.now.server.bounds }
-        requires bound { bound ≤ most_bound }
-        ensures { IsTrue result ↔ FitsSome self.now.server (admitted_rows self.now.rows) contract.now (level_number level) bound }
+        requires none { NoneBefore self.now.server (admitted_rows self.now.rows) contract.now (level_number level) from }
+        ensures later { from ≤ result }
+        ensures none { NoneBefore self.now.server (admitted_rows self.now.rows) contract.now (level_number level) result }
+    {
+        let bound = u64::from(self.bounds.at(level));
+        if from > bound {
+            return from;
+        }
+        let rows = line_of_rows(&self.rows, self.rate, level, from, longest);
+        let new = line_of(contract, self.rate, from, longest);
+        let flat = u64::from(self.blocking) + rows.flat + new.flat;
+        from.max(crossing(flat, rows.slope + new.slope, bound))
+    }
+
+    // Some turns of the search from this window on: the least window that fits, or as an `Err` one before which none
+    // does. That is later, or over the bound.
+    fn climb(&self, contract: &Contract, level: Level, from: u64) -> Result<u64, u64>
+        requires within { level_number level ≤ length self.now.server.bounds }
+        requires none { NoneBefore self.now.server (admitted_rows self.now.rows) contract.now (level_number level) from }
+        ensures fits { IfOk result (λ window. load_with self.now.server (admitted_rows self.now.rows) contract.now (level_number level) window ≤ window) }
+        ensures within { IfOk result (λ window. window ≤ bound_at self.now.server.bounds (level_number level)) }
+        ensures least { IfOk result (NoneBefore self.now.server (admitted_rows self.now.rows) contract.now (level_number level)) }
+        ensures none { IfErr result (NoneBefore self.now.server (admitted_rows self.now.rows) contract.now (level_number level)) }
+        ensures later { IfErr result (λ window. from ≤ window) }
+        ensures goes_on { IfErr result (λ window. from ≤ bound_at self.now.server.bounds (level_number level) → from < window) }
     {
         // `burst` tells that this is a contract.
         let _burst = contract.burst();
-        let mut window = u64::from(self.blocking);
-        while window <= bound {
+        let bound = u64::from(self.bounds.at(level));
+        let mut window = from;
+        for _turn in 0..TURNS {
+            if window > bound {
+                break;
+            }
             let load = self.load_with(contract, level, window);
             if load <= window {
-                return true;
+                return Ok(window);
             }
             window = load;
         }
-        false
+        Err(window)
     }
 
-    // Whether the level passes with a row of this contract at it.
-    fn has_room(&self, contract: &Contract, level: Level) -> bool
+    // The least window that fits the load with a row of this contract at the level, or one over the level's bound. No
+    // window before it fits, as none does before `from`.
+    fn least_window(&self, contract: &Contract, level: Level, from: u64) -> u64
         requires within { level_number level ≤ length self.now.server.bounds }
-        ensures { IsTrue result ↔ HasRoom self.now.server (admitted_rows self.now.rows) contract.now (level_number level) }
+        requires none { NoneBefore self.now.server (admitted_rows self.now.rows) contract.now (level_number level) from }
+        ensures none { NoneBefore self.now.server (admitted_rows self.now.rows) contract.now (level_number level) result }
+        ensures fits { result ≤ bound_at self.now.server.bounds (level_number level) → load_with self.now.server (admitted_rows self.now.rows) contract.now (level_number level) result ≤ result }
+    {
+        let bound = u64::from(self.bounds.at(level));
+        let mut window = self.leap(contract, level, from, u64::MAX);
+        while window <= bound {
+            match self.climb(contract, level, window) {
+                Ok(least) => return least,
+                Err(next) => window = self.leap(contract, level, next, next),
+            }
+        }
+        window
+    }
+
+    // Whether the level passes with a row of this contract at it. No window before `from` fits its load, and none before
+    // where `from` is put.
+    fn has_room(&self, contract: &Contract, level: Level, from: &mut u64) -> bool
+        requires within { level_number level ≤ length self.now.server.bounds }
+        requires none { NoneBefore self.now.server (admitted_rows self.now.rows) contract.now (level_number level) from.old }
+        ensures room { IsTrue result ↔ HasRoom self.now.server (admitted_rows self.now.rows) contract.now (level_number level) }
+        ensures none { NoneBefore self.now.server (admitted_rows self.now.rows) contract.now (level_number level) from.new }
     {
         let bound = u64::from(self.bounds.at(level));
         if self.whole_load_with(contract, level) <= bound {
@@ -300,18 +353,23 @@ impl LevelSums {
         }
         match self.test {
             Test::Whole => false,
-            Test::Least => self.fits_some(contract, level, bound),
+            Test::Least => {
+                *from = self.least_window(contract, level, *from);
+                *from <= bound
+            }
         }
     }
 
-    // The last level that has no room for a row of this contract, or 0.
+    // The last level that has no room for a row of this contract, or 0. The search of a level begins where that of the
+    // level before ended, since no load falls from one level to the next.
     fn last_full(&self, contract: &Contract) -> u8
         ensures { IsLastFull self.now.server (admitted_rows self.now.rows) contract.now (length self.now.server.bounds) result }
     {
         let mut full = 0;
+        let mut from = u64::from(self.blocking);
         for index in 0..self.bounds.len() {
             let level = level_at(index + 1);
-            if !self.has_room(contract, level) {
+            if !self.has_room(contract, level, &mut from) {
                 full = index + 1;
             }
         }

@@ -7,6 +7,7 @@
 
 mod key_index;
 mod level_sums;
+mod lines;
 pub mod loads;
 mod rows;
 

@@ -82,3 +82,29 @@ fn finds_a_window_before_the_bound(rt: HostRuntime) -> Result<(), Fail> {
     assert_eq!(rt; sums.sum(level_at(1)), 28);
     Ok(())
 }
+
+// Three packets of a tick come into any window, and 1,024 ticks of work into each 1,025. With the four of the blocking the
+// load catches up after 7 * 1,025 ticks.
+#[test]
+#[tactic(auto, using(crate::proofs::SumsFacts::not_held))]
+fn leaps_to_a_window_far_off(rt: HostRuntime) -> Result<(), Fail> {
+    let bounds = Bounds::new(&[7_174, 7_175]).ok_or("bounds")?;
+    assert_eq!(rt; bounds.len(), 2);
+    let seldom = Contract::new(1_048_576, 1_048_576, 1_048_576, 1)?;
+    let often = Contract::new(4, 4, 1_025, 4)?;
+    let mut sums = LevelSums::new(rt.alloc(), bounds, 1, 4, Test::Least);
+    sums.reserve(3)?;
+    assert_eq!(rt; admit(&mut sums, 1, &seldom)?, 1);
+    assert_eq!(rt; admit(&mut sums, 2, &seldom)?, 1);
+    assert_eq!(rt; admit(&mut sums, 3, &seldom)?, 1);
+    assert_eq!(rt; sums.best(&often).map(|level| level.get()), Ok(2));
+    let always = Contract::new(1, 1, 1, 1)?;
+    assert_eq!(rt;
+        sums.best(&always).err(),
+        Some(NoLevel {
+            sum: 7_182,
+            bound: 7_175
+        })
+    );
+    Ok(())
+}
