@@ -1,0 +1,4 @@
+pub mod TickFacts
+pub mod StreamFacts
+pub mod ScaleFacts
+pub mod TermFacts

@@ -1,0 +1,4 @@
+pub mod Moments
+pub mod Rounding
+pub mod Scales
+pub mod Streams

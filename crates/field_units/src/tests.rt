@@ -1,0 +1,213 @@
+//! Numbers of real networks, worked by hand.
+
+use crate::quantity::{Rate, Size, Time};
+use crate::scale::{Misfit, Scale};
+use crate::stream::{BadStream, Stream};
+use crate::text::BadQuantity;
+use std::test::Fail;
+use std::vec::Vec;
+use traffic_contract::Contract;
+
+const MICROSECOND: u64 = 1_000_000;
+
+/// Ticks of ten microseconds, and units of a byte.
+fn scale() -> Option<Scale> {
+    let tick = Time {
+        picoseconds: 10 * MICROSECOND,
+    };
+    Scale::new(tick, Size { bits: 8 })
+}
+
+fn microseconds(count: u64) -> Time {
+    Time {
+        picoseconds: count.saturating_mul(MICROSECOND),
+    }
+}
+
+fn bytes(count: u64) -> Size {
+    Size {
+        bits: count.saturating_mul(8),
+    }
+}
+
+#[test]
+fn times_as_engineers_write_them(rt: HostRuntime) -> Result<(), Fail> {
+    for (text, want) in [
+        ("0.5 ms", Ok(500_000_000)),
+        ("250us", Ok(250_000_000)),
+        ("20 µs", Ok(20_000_000)),
+        ("20 μs", Ok(20_000_000)),
+        ("  1.50 s ", Ok(1_500_000_000_000)),
+        ("123.04us", Ok(123_040_000)),
+        ("1 h", Ok(3_600_000_000_000_000)),
+        ("0 ps", Ok(0)),
+        ("0.5 ps", Err(BadQuantity::Inexact)),
+        ("5", Err(BadQuantity::Unit)),
+        ("5 sec", Err(BadQuantity::Unit)),
+        ("5 MS", Err(BadQuantity::Unit)),
+        ("ms", Err(BadQuantity::Number)),
+        (".5 ms", Err(BadQuantity::Number)),
+        ("5. ms", Err(BadQuantity::Number)),
+        ("1.2.3 ms", Err(BadQuantity::Number)),
+        ("-1 ms", Err(BadQuantity::Number)),
+        ("1e3 ms", Err(BadQuantity::Unit)),
+        ("", Err(BadQuantity::Number)),
+        ("20000000 s", Err(BadQuantity::Large)),
+        (
+            "99999999999999999999999999999999999999999 s",
+            Err(BadQuantity::Large),
+        ),
+    ] {
+        assert_eq!(rt;
+            Time::parse(text).map(|time| time.picoseconds),
+            want,
+            "{text}"
+        );
+    }
+    Ok(())
+}
+
+#[test]
+fn sizes_and_rates_as_engineers_write_them(rt: HostRuntime) -> Result<(), Fail> {
+    for (text, want) in [
+        ("1538 B", Ok(12_304)),
+        ("1538 bytes", Ok(12_304)),
+        ("84 byte", Ok(672)),
+        ("64 KiB", Ok(524_288)),
+        ("12000 bit", Ok(12_000)),
+        ("1.5 kB", Ok(12_000)),
+        ("0.1 B", Err(BadQuantity::Inexact)),
+        ("1 KB", Err(BadQuantity::Unit)),
+        ("1 b", Err(BadQuantity::Unit)),
+    ] {
+        assert_eq!(rt; Size::parse(text).map(|size| size.bits), want, "{text}");
+    }
+    for (text, want) in [
+        ("100 Mbit/s", Ok(100_000_000)),
+        ("2.048 Mbit/s", Ok(2_048_000)),
+        ("1 Gbps", Ok(1_000_000_000)),
+        ("12.5 MB/s", Ok(100_000_000)),
+        ("100 Mb/s", Err(BadQuantity::Unit)),
+        ("100 Mbit", Err(BadQuantity::Unit)),
+    ] {
+        assert_eq!(rt;
+            Rate::parse(text).map(|rate| rate.bits_a_second),
+            want,
+            "{text}"
+        );
+    }
+    Ok(())
+}
+
+#[test]
+fn quantities_are_printed_in_the_largest_unit_that_is_exact(rt: HostRuntime) -> Result<(), Fail> {
+    let alloc = rt.alloc();
+    let time = |picoseconds| format!(in alloc; "{}", Time { picoseconds });
+    assert_eq!(rt; time(500_000_000)?.as_str(), "500 us");
+    assert_eq!(rt; time(1_500_000_000)?.as_str(), "1500 us");
+    assert_eq!(rt; time(0)?.as_str(), "0 ps");
+    assert_eq!(rt; format!(in alloc; "{}", bytes(1_538))?.as_str(), "1538 B");
+    assert_eq!(rt;
+        format!(in alloc;
+            "{}",
+            Rate {
+                bits_a_second: 2_048_000
+            }
+        )?
+        .as_str(),
+        "2048 kbit/s"
+    );
+    Ok(())
+}
+
+/// A link of 100 Mbit/s sends 125 bytes in ten microseconds, and one of 2.048 Mbit/s 32 bytes in a frame of 125 microseconds.
+#[test]
+fn rates_of_links(rt: HostRuntime) -> Result<(), Fail> {
+    let ten = scale().ok_or("no scale")?;
+    let frame = Scale::new(microseconds(125), bytes(1)).ok_or("no scale")?;
+    let megabits = |count: u64| Rate {
+        bits_a_second: count.saturating_mul(1_000_000),
+    };
+    assert_eq!(rt; ten.rate(megabits(100)), Ok(125));
+    assert_eq!(rt;
+        frame.rate(Rate {
+            bits_a_second: 2_048_000
+        }),
+        Ok(32)
+    );
+    // 1 kbit/s takes 8 ms for a byte
+    let slow = ten.rate(Rate {
+        bits_a_second: 1_000,
+    });
+    assert_eq!(rt; slow, Err(Misfit::LongerTick(microseconds(8_000))));
+    assert_eq!(rt; ten.rate(megabits(100_000_000)), Ok(65_536));
+    assert_eq!(rt; ten.rate(megabits(0)), Err(Misfit::Never));
+    Ok(())
+}
+
+#[test]
+fn times_and_sizes_are_rounded_to_the_safe_side(rt: HostRuntime) -> Result<(), Fail> {
+    let ten = scale().ok_or("no scale")?;
+    assert_eq!(rt; ten.bound(microseconds(505)), Ok(50));
+    assert_eq!(rt;
+        ten.bound(microseconds(9)),
+        Err(Misfit::ShorterTick(microseconds(9)))
+    );
+    assert_eq!(rt; ten.jitter(microseconds(505)), Ok(50));
+    assert_eq!(rt; ten.delay(microseconds(50_000)), Ok(4_999));
+    assert_eq!(rt;
+        ten.delay(microseconds(19)),
+        Err(Misfit::ShorterTick(Time {
+            picoseconds: 9_500_000
+        }))
+    );
+    assert_eq!(rt; ten.propagation(microseconds(501)), Ok(51));
+    assert_eq!(rt; ten.gap(microseconds(125)), Ok(13));
+    assert_eq!(rt; ten.size(Size { bits: 12_305 }), Ok(1_539));
+    assert_eq!(rt;
+        ten.size(bytes(65_537)),
+        Err(Misfit::LargerUnit(Size { bits: 9 }))
+    );
+    assert_eq!(rt; ten.room(Size { bits: 8_191 }), 1_023);
+    Ok(())
+}
+
+/// A virtual link with a bandwidth allocation gap of 2 ms and a jitter of 0.4 ms, as five packets in 10 ms; G.711 over Ethernet, 238 bytes
+/// every 20 ms; and a camera whose 30 packets of 1,538 bytes follow each other at 100 Mbit/s once in 40 ms.
+#[test]
+fn contracts_of_streams_in_the_field(rt: HostRuntime) -> Result<(), Fail> {
+    let ten = scale().ok_or("no scale")?;
+    let stream = |packets, window, apart, jitter, size| Stream {
+        packets,
+        window: microseconds(window),
+        apart: microseconds(apart),
+        jitter: microseconds(jitter),
+        size: bytes(size),
+    };
+    let contract = |xmin, xave, interval, smax| Contract::new(xmin, xave, interval, smax);
+    assert_eq!(rt;
+        ten.contract(&stream(5, 10_000, 2_000, 400, 84)).ok(),
+        contract(160, 192, 960, 84).ok()
+    );
+    assert_eq!(rt;
+        ten.contract(&stream(1, 20_000, 20_000, 0, 238)).ok(),
+        contract(2_000, 2_000, 2_000, 238).ok()
+    );
+    assert_eq!(rt;
+        ten.contract(&stream(30, 40_000, 123, 0, 1_538)).ok(),
+        contract(12, 133, 3_990, 1_538).ok()
+    );
+    // 2 packets in 3 ms, at least 2 ms apart: the gap alone says more
+    assert_eq!(rt;
+        ten.contract(&stream(2, 3_000, 2_000, 0, 84)).ok(),
+        contract(200, 200, 200, 84).ok()
+    );
+    let none = stream(0, 3_000, 2_000, 0, 84);
+    assert_eq!(rt; ten.contract(&none).err(), Some(BadStream::Packets));
+    let late = stream(1, 2_000, 2_000, 1_995, 84);
+    assert_eq!(rt;
+        ten.contract(&late).err(),
+        Some(BadStream::Gap(Misfit::ShorterTick(microseconds(5))))
+    );
+    Ok(())
+}
