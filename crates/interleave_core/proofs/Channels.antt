@@ -10,4 +10,5 @@ pub mod ChainLaw
 pub mod LevelsHold
 pub mod AcceptedOnly
 pub mod SentRows
+pub mod AskedOnce
 pub mod GuaranteeLaw

@@ -1,5 +1,5 @@
 //! Laws of every run, each as the contract of a function that does nothing.
-ghost use Rattle.interleave_core.specs.runs.Laws.{EveryPartIsLegal, EveryAskFits, ClocksFollowThePlane, HeldRowsPassOnEveryLink, EveryHopIsGuaranteed, NoFlightIsLate, EveryAskIsAnswered, EveryReplyIsExpected, VerdictsFollowTheReplies, AcceptedRequestsAreKept, AcceptedChannelsKeepTheirDelays, EveryRunIsGuaranteed, RunsFollowTheirActors, FittingPartsMakeARun};
+ghost use Rattle.interleave_core.specs.runs.Laws.{EveryPartIsLegal, EveryAskFits, ClocksFollowThePlane, HeldRowsPassOnEveryLink, EveryHopIsGuaranteed, NoFlightIsLate, EveryAskIsAnswered, EveryReplyIsExpected, VerdictsFollowTheReplies, EveryChannelIsAskedOnce, AcceptedRequestsAreKept, AcceptedChannelsKeepTheirDelays, EveryRunIsGuaranteed, RunsFollowTheirActors, FittingPartsMakeARun};
 ghost use Rattle.interleave_core.specs.schedules.Quiet.{QuietRoundsGoOn};
 ghost use Rattle.interleave_core.specs.channels.Moves.{EveryMoveKeeps, EveryMovePlansTheShifted, NonePlannedIsLost, NoneIsLostInAMove, EveryMoveTakesTheLast};
 ghost use Rattle.interleave_core.specs.schedules.Schedules.{SchedulesComeToOneEnd};
@@ -61,6 +61,14 @@ pub fn verdicts_follow_the_replies()
     ensures { VerdictsFollowTheReplies }
 {}
 
+/// Where a channel has one owner, each reserve of it in a run names its contract, its control, its place in the route and the link
+/// after it; no link offers to it twice, and only links of its route do. So in every run the laws of a channel that a link offers
+/// to at most once hold at each hop: its packets are those of one row, they leave in their order, and a source that keeps its
+/// contract is served.
+pub fn every_channel_is_asked_once()
+    ensures { EveryChannelIsAskedOnce }
+{}
+
 /// Where the caller of a request knows it accepted, the delay that it knows is the sum of the level bounds and propagations of its
 /// route, and is within what it asks for. The bound at its last hop is within the jitter that it asks for, if it asks for one.
 pub fn accepted_requests_are_kept()
@@ -82,6 +90,7 @@ pub fn accepted_channels_keep_their_delays()
 /// - No source packet was dropped on a row whose source keeps its contract, and past the first hop each packet that arrives is taken,
 ///   never refused as stray or full.
 /// - Only accepted channels have packets, and only at the hops of their routes. (Best-effort packets belong to no channel.)
+/// - The packets of an accepted channel that a hop has taken are numbered from 1, in their order.
 /// - Each packet of an accepted channel is eligible at every hop, and has left it, within the level bounds and propagations so far,
 ///   counted from its eligible tick at the first hop. Once the hop's clock has reached that bound, it has departed. The sum over the
 ///   route is within the delay that was asked for. Where the source keeps its contract, that eligible tick is the tick of its

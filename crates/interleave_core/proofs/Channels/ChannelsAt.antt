@@ -1,5 +1,5 @@
 -- In a run the packets of a channel at a link of its route are those of one row there.
-use Rattle.std.proofs.Common.{◌≡◌, ℕ, ◌≤◌, true, List, Some, subst, inl, inr, arith}
+use Rattle.std.proofs.Common.{◌≡◌, ℕ, ◌≤◌, true, List, Some, refl, sym, subst, inl, inr, arith}
 use Rattle.std.proofs.lemmas.Bool.{cases_lt}
 use Rattle.std.specs.List.{slice_get}
 use Rattle.net_units.specs.Numbers.{link_number, channel_number}
@@ -13,9 +13,10 @@ use Rattle.setup_protocol.specs.Hops.{RequestFits}
 use Rattle.setup_protocol.specs.declared.request.Request.{Request}
 use Rattle.call_script.specs.Fits.{NetworkFits}
 use Rattle.call_script.specs.Tasks.{Network}
-use Rattle.channel_laws.specs.Channels.{is_of_channel, offers_to, AllOfferTerms, HasOneRow, ChannelStands}
+use Rattle.channel_laws.specs.Channels.{is_of_channel, offers_to, AllOfferTerms, AreNumberedAfter, HasOneRow, ChannelStands}
 use Rattle.channel_laws.proofs.ChannelRows.{legal-stands, legal-free}
 use Rattle.interleave_core.specs.channels.Hops.{packets_on, terms_at, OnRoute, ChannelAsked}
+use Rattle.interleave_core.specs.channels.Paths.{HopAt, packets_at}
 use Rattle.interleave_core.specs.runs.Runs.{IsRun}
 use Rattle.run_record.specs.Runs.{part_of}
 use Rattle.run_record.specs.declared.done.Done.{Done}
@@ -28,6 +29,16 @@ pub stands-at : (network : Network) (request : Request) (run : List Done) (i : �
 stands-at network request run i hop n link fits is asked stands number linked =
     legal-stands link.shape (terms_at request i) (channel_number request.chan) (part_of n run) (part-admissible network run n link fits is linked)
     (subst (λ m. AllOfferTerms (terms_at request i) (channel_number request.chan) (part_of m run)) number (asked.names i hop stands))
+
+-- the packets of a channel at a hop of its route are numbered from 1 there
+pub packets-numbered : (network : Network) (request : Request) (run : List Done) (i : ℕ) (at : HopAt network request i) → NetworkFits network → IsRun network run → ChannelAsked request run → AreNumberedAfter 0 (packets_at network request i at run)
+packets-numbered network request run i at fits is asked =
+    let stands = stands-at network request run i at.hop (link_number at.hop.link) at.link fits is asked at.stands refl at.linked in
+    let once = asked.once (link_number at.hop.link) in
+    elim (cases_lt 0 (offers_to (channel_number request.chan) (part_of (link_number at.hop.link) run))) [
+      | inl some ↦ (stands.known (omega (arith, once, some))).tells.numbered
+      | inr none ↦ subst (AreNumberedAfter 0) (sym (stands.free (omega (arith, none))).packets) tt
+    ]
 
 -- the link of a channel's packet is of a hop, and all packets of the channel there are those of one row
 pub record RowAt (request : Request) (n : ℕ) (scan : Scan) : Type 0 where

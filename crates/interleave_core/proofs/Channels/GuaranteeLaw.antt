@@ -63,7 +63,7 @@ use Rattle.interleave_core.specs.channels.Kept.{VerdictSums}
 use Rattle.interleave_core.specs.runs.Laws.{EveryRunIsGuaranteed}
 use Rattle.interleave_core.proofs.Channels.HopsAt.{hop-at, HaveLevelsAt}
 use Rattle.interleave_core.proofs.Flights.ReadyRun.{counts-first}
-use Rattle.interleave_core.proofs.Channels.ChannelsAt.{packet-offered}
+use Rattle.interleave_core.proofs.Channels.ChannelsAt.{packets-numbered, packet-offered}
 use Rattle.link_steps.proofs.ChangeFacts.{Each-from_among}
 use Rattle.hop_reservation.specs.Offers.{delay_over}
 use Rattle.hop_reservation.proofs.OfferFacts.{AreLevels-at}
@@ -106,6 +106,7 @@ pub channel-guaranteed : (network : Network) (request : Request) (owner : ℕ) (
 channel-guaranteed network request owner tasks levels delay first run fits sound full is found accepted = record {
   sum = sums.sum;
   keeps = sums.keeps;
+  numbered = λ i at. packets-numbered network request run i at fits is (asked run is);
   has_levels = have.at;
   path = accepted-path network request owner run tasks levels delay fits sound full is found accepted;
   departs = λ i at k taken due. (let gone = path-departed network request owner levels run first i at k fits sound full is have ticks taken due in record { there = gone.0; departed = gone.1 });

@@ -1,7 +1,7 @@
 -- What a network guarantees at any moment of a run, in whatever order its actors make their steps. On every link the rows that are
 -- held pass the admission test, and each packet of a channel leaves within the bound of its level. Past the first hop each packet
 -- that arrives is taken, whatever its source does. No packet of a source that keeps its contract is dropped. Only accepted channels
--- have packets, and at each hop they have the level with which the channel was accepted there. A packet of an accepted channel is
+-- have packets, and at each hop they are numbered from 1 and have the level with which the channel was accepted there. A packet of an accepted channel is
 -- eligible at each hop within the delays of the hops before, has departed once the hop's clock has reached its bound, and reaches its
 -- destination within the delay that was asked for. Under delay-jitter control the delays of any two packets of a channel whose source
 -- keeps its contract differ by less than the bound of the last hop, which is within the jitter that was asked for.
@@ -27,7 +27,7 @@ use Rattle.setup_protocol.specs.Laws.{KeepsRequest}
 use Rattle.setup_protocol.specs.Requests.{kind_of}
 use Rattle.setup_protocol.specs.Setup.{Accepts}
 use Rattle.setup_protocol.specs.declared.request.Request.{Request}
-use Rattle.channel_laws.specs.Channels.{is_of_channel}
+use Rattle.channel_laws.specs.Channels.{is_of_channel, AreNumberedAfter}
 use Rattle.channel_laws.specs.Sources.{SourceIsKept}
 use Rattle.call_script.specs.Owners.{OwnedFully}
 use Rattle.call_script.specs.Scripts.{Standing, standing, outcome_in}
@@ -116,6 +116,8 @@ pub record ChannelGuaranteed (network : Network) (request : Request) (levels : L
   -- the delay is the sum of the bounds of its levels and of the propagations; it and the bound of the last hop are within what was asked for
   pub sum : delay ≡ delay_over request.route levels
   pub keeps : KeepsRequest request levels delay
+  -- the packets that a hop has taken are numbered from 1 in their order, so that the one with index k has the number k + 1
+  pub numbered : (i : ℕ) (at : HopAt network request i) → AreNumberedAfter 0 (packets_at network request i at run)
   -- at each hop its packets have the accepted level, so that they leave within the bound that the sum counts
   pub has_levels : (i : ℕ) (at : HopAt network request i) → Each (λ p. p.level ≡ get_or levels i 0) (packets_at network request i at run)
   -- path: at each hop its packets are eligible, and leave, within the delay so far

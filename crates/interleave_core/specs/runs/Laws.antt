@@ -19,6 +19,7 @@ use Rattle.call_script.specs.declared.tasks.Task.{Task}
 use Rattle.interleave_core.specs.replies.Answers.{IsReplyOf}
 use Rattle.interleave_core.specs.channels.Flights.{IsPunctual, FlightsStand}
 use Rattle.interleave_core.specs.channels.Guarantee.{Guaranteed}
+use Rattle.interleave_core.specs.channels.Hops.{ChannelAsked}
 use Rattle.interleave_core.specs.channels.Kept.{VerdictSums}
 use Rattle.interleave_core.specs.runs.Parts.{IsAsked, own_of, IsLinked}
 use Rattle.interleave_core.specs.channels.Paths.{PathKept}
@@ -80,6 +81,12 @@ pub record EveryReplyIsExpected : Type 0 where
 abbrev pub VerdictsFollowTheReplies : Type 0
 VerdictsFollowTheReplies = (network : Network) (request : Request) (owner : ℕ) (tasks : List Task) (run : List Done) → RequestFits network.links request → OwnedFully network request owner → IsRun network run → slice_get network.scripts owner ≡ Some tasks
     → outcome_in request.chan (standing tasks (replies_to owner run)).outcomes ≡ verdict_of request (setup_replies (channel_number request.chan) run)
+
+-- ---- channels
+
+-- where a channel has one owner, its reserves name the terms of their hops, and each link of its route offers to it at most once
+abbrev pub EveryChannelIsAskedOnce : Type 0
+EveryChannelIsAskedOnce = (network : Network) (request : Request) (owner : ℕ) (run : List Done) → NetworkFits network → RequestFits network.links request → OwnedFully network request owner → IsRun network run → ChannelAsked request run
 
 -- ---- accepted channels
 
