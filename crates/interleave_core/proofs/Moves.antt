@@ -5,3 +5,5 @@ pub mod TotalLaw
 pub mod Emptied
 pub mod MoveTotal
 pub mod LastPackets
+pub mod MoveSteps
+pub mod Given

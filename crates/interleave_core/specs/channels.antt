@@ -6,3 +6,4 @@ pub mod Kept
 pub mod Sent
 pub mod Guarantee
 pub mod Moves
+pub mod Shifting

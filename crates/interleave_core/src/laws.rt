@@ -1,7 +1,8 @@
 //! Laws of every run, each as the contract of a function that does nothing.
 ghost use Rattle.interleave_core.specs.runs.Laws.{EveryPartIsLegal, EveryAskFits, ClocksFollowThePlane, HeldRowsPassOnEveryLink, EveryHopIsGuaranteed, NoFlightIsLate, EveryAskIsAnswered, EveryReplyIsExpected, VerdictsFollowTheReplies, EveryChannelIsAskedOnce, AcceptedRequestsAreKept, AcceptedChannelsKeepTheirDelays, EveryRunIsGuaranteed, RunsFollowTheirActors, FittingPartsMakeARun};
 ghost use Rattle.interleave_core.specs.schedules.Quiet.{QuietRoundsGoOn};
-ghost use Rattle.interleave_core.specs.channels.Moves.{EveryMoveKeeps, EveryMovePlansTheShifted, NonePlannedIsLost, NoneIsLostInAMove, EveryMoveTakesTheLast};
+ghost use Rattle.interleave_core.specs.channels.Moves.{EveryMoveKeeps, NonePlannedIsLost, NoneIsLostInAMove, EveryMoveTakesTheLast};
+ghost use Rattle.interleave_core.specs.channels.Shifting.{EveryMovePlansTheShifted, EveryMoveGivesTheShifted, EveryPlannedPacketIsTold};
 ghost use Rattle.interleave_core.specs.schedules.Schedules.{SchedulesComeToOneEnd};
 ghost use Rattle.interleave_core.specs.runs.Turns.{StepsComeToAnEnd};
 ghost use Rattle.interleave_core.specs.channels.Sent.{TicksTellWhatHasLeft};
@@ -143,8 +144,8 @@ pub fn schedules_come_to_one_end()
     ensures { SchedulesComeToOneEnd }
 {}
 
-/// Once a move has left a channel, the channel's first hop has taken as many packets as the move has told were kept, numbered from 1
-/// on, and takes no more.
+/// Once a move has left a channel, the packets that the channel's first hop has taken are those with the numbers from 1 up to the
+/// count that the move has told was kept, and it takes no more.
 pub fn every_move_keeps_what_was_taken()
     ensures { EveryMoveKeeps }
 {}
@@ -154,10 +155,25 @@ pub fn no_planned_packet_is_lost()
     ensures { NonePlannedIsLost }
 {}
 
-/// Where each channel has one owner, the submit of a move is planned, and then exactly its packets are planned on the channel that it
-/// joins.
+/// Each step of a move is one of three. First the first hop of the channel that is left is released. Where that has cancelled some
+/// packets, one submit asks the first hop of the other channel for as many, with the gap and the size of the last that were planned
+/// on the channel that is left; it is planned, and then the plan there has exactly these packets. Then the further hops of the
+/// channel that is left are released, each with the count of packets that its first hop has taken.
 pub fn every_move_plans_what_was_shifted()
     ensures { EveryMovePlansTheShifted }
+{}
+
+/// Once a move has left a channel, the packets that the move has told were shifted are as many as the first hop has cancelled, and
+/// as many as steps of a move from the channel have had planned on another one. So a submit was made exactly where there are some.
+pub fn every_move_gives_what_was_shifted()
+    ensures { EveryMoveGivesTheShifted }
+{}
+
+/// While no move from a channel is under way, the packets that its submits have planned at its first hop are those that its source
+/// has offered there, dropped ones included, those that are left, those that were cancelled without a move, and those that a move
+/// has given to another channel.
+pub fn every_planned_packet_is_told()
+    ensures { EveryPlannedPacketIsTold }
 {}
 
 /// Once a move has left a channel, the packets that its source has offered at its first hop, dropped ones included, and those that

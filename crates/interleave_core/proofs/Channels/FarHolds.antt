@@ -216,7 +216,7 @@ told-kept (Is.Taken clock eligible) = refl
 told-kept (Is.Ticked clock full sent best_sent best_lost) = refl
 told-kept (Is.Refused refusal) = refl
 
-stage-told : (replies : List Reply) (told : Shifted) (made : ℕ) → stage_after replies ≡ Releasing told made → first_count replies ≡ Some told.kept
+pub stage-told : (replies : List Reply) (told : Shifted) (made : ℕ) → stage_after replies ≡ Releasing told made → first_count replies ≡ Some told.kept
 stage-told [] told made stage = cc
 stage-told (first ∷ replies) told made stage =
     ap Some (told-kept first) ∙ ap (λ (t : Shifted). Some t.kept) (elim (cases_Bool (nat_eq (shifted_in first) 0)) [

@@ -122,7 +122,7 @@ last-begun request n outcomes tasks known = record {
 
 -- ---- what a task tells at its end is what it has learnt
 
-some-left : (move : Request) (new : Request) (gap size : ℕ) (reply : Reply) → 1 ≤ length new.route → task_ask (Moves move new gap size) (reply ∷ []) ≡ None → nat_eq (shifted_in reply) 0 ≡ true
+pub some-left : (move : Request) (new : Request) (gap size : ℕ) (reply : Reply) → 1 ≤ length new.route → task_ask (Moves move new gap size) (reply ∷ []) ≡ None → nat_eq (shifted_in reply) 0 ≡ true
 some-left old new gap size reply least over =
     elim (cases_Bool (nat_eq (shifted_in reply) 0)) [
       | inl none ↦ none

@@ -32,6 +32,7 @@ use Rattle.interleave_core.specs.channels.Paths.{HopAt}
 use Rattle.interleave_core.specs.runs.Runs.{plane_no, plane_at, IsNext, IsRun}
 use Rattle.interleave_core.proofs.Tasks.CallerFacts.{standing-more}
 use Rattle.interleave_core.proofs.Channels.ChainLaw.{leaves-frozen}
+use Rattle.interleave_core.proofs.Channels.ChannelsAt.{packets-numbered}
 use Rattle.interleave_core.proofs.Channels.FarHolds.{Frozen, frozen-later, IsLeaving, told-kept}
 use Rattle.interleave_core.proofs.Replies.ClosingStands.{ClosesAt, Early, Denied, Fresh, Open, Closing, MovingFrom, MovingOnto, Over, FirstOff}
 use Rattle.interleave_core.proofs.Replies.ClosingSteps.{head-same}
@@ -307,4 +308,7 @@ run-moved network request owner first [] fits sound full is = record { at = λ t
 run-moved network request owner first (done ∷ past) fits sound full is = moved-next network request owner first past done fits sound full is.0 is.1 (run-moved network request owner first past fits sound full is.0)
 
 pub moves-keep : EveryMoveKeeps
-moves-keep network request owner first run tasks told fits sound full is found moved = ((run-moved network request owner first run fits sound full is).at tasks found told moved).upto
+moves-keep network request owner first run tasks told fits sound full is found moved = record {
+  numbered = packets-numbered network request run 0 first fits is (owned-asked network request owner fits sound (owned-once network request owner full) run is);
+  count = ((run-moved network request owner first run fits sound full is).at tasks found told moved).upto;
+}

@@ -64,7 +64,7 @@ no-release c m (Release chan upstream) (Is.Closing count cancelled) none = absur
 no-release c m _ _ none = refl
 
 -- the release of the channel
-own-release : (chan : ChanNo) (m : ℕ) (upstream : Option ℕ) (reply : Reply) → cancelled_with (channel_number chan) m (Release chan upstream) reply ≡ m + shifted_in reply
+pub own-release : (chan : ChanNo) (m : ℕ) (upstream : Option ℕ) (reply : Reply) → cancelled_with (channel_number chan) m (Release chan upstream) reply ≡ m + shifted_in reply
 own-release chan m upstream (Is.Closing count cancelled) = rw (eq-eqb (channel_number chan) (channel_number chan) refl) refl
 own-release chan m upstream _ = omega arith
 
@@ -84,10 +84,10 @@ later-cancelled shape h chan kept _ c m may = refl
 -- ---- at the first hop
 
 -- how many packets of the request the first hop's releases have cancelled
-abbrev cancelled_at : (network : Network) → (request : Request) → HopAt network request 0 → List Done → ℕ
+abbrev pub cancelled_at : (network : Network) → (request : Request) → HopAt network request 0 → List Done → ℕ
 cancelled_at network request first run = cancelled_in (channel_number request.chan) (part_of (link_number first.hop.link) run)
 
-entry-cancels : (network : Network) (request : Request) (first : HopAt network request 0) (done : Done) (past : List Done) → link_number done.link ≡ link_number first.hop.link
+pub entry-cancels : (network : Network) (request : Request) (first : HopAt network request 0) (done : Done) (past : List Done) → link_number done.link ≡ link_number first.hop.link
     → cancelled_at network request first (done ∷ past) ≡ cancelled_with (channel_number request.chan) (cancelled_at network request first past) done.ask done.reply
 unfolding cancelled_in
 entry-cancels network request first done past on = ap (cancelled_in (channel_number request.chan)) (part-on (link_number first.hop.link) done past on)
@@ -106,12 +106,12 @@ same-place network request k first here zeroth = ap link_of (same_Some first.hop
 
 -- ---- one reply to the owner
 
-record ShiftedAt (request : Request) (n : ℕ) (at : Standing) : Type 0 where
-  told : (told : Shifted) → moved_off request.chan at.outcomes ≡ Some told → n ≡ told.shifted
-  way : (task : Task) (rest : List Task) (reply : Reply) (replies : List Reply) → at.tasks ≡ task ∷ rest → IsLeaving request task → at.replies ≡ reply ∷ replies → n ≡ shifted_in reply
+pub record ShiftedAt (request : Request) (n : ℕ) (at : Standing) : Type 0 where
+  pub told : (told : Shifted) → moved_off request.chan at.outcomes ≡ Some told → n ≡ told.shifted
+  pub way : (task : Task) (rest : List Task) (reply : Reply) (replies : List Reply) → at.tasks ≡ task ∷ rest → IsLeaving request task → at.replies ≡ reply ∷ replies → n ≡ shifted_in reply
 
 -- the first release of a task that leaves the channel
-first-cancels : (network : Network) (request : Request) (first : HopAt network request 0) (done : Done) (past : List Done) (task : Task) (replies : List Reply) → NetworkFits network → ChannelAsked request past → IsRun network past → IsNext network past done → IsLeaving request task → replies ≡ [] → OwnKind network request done past task replies
+pub first-cancels : (network : Network) (request : Request) (first : HopAt network request 0) (done : Done) (past : List Done) (task : Task) (replies : List Reply) → NetworkFits network → ChannelAsked request past → IsRun network past → IsNext network past done → IsLeaving request task → replies ≡ [] → OwnKind network request done past task replies
     → cancelled_at network request first (done ∷ past) ≡ shifted_in done.reply
 first-cancels network request first done past task replies fits asked run next leaving none (OwnOff own off) = absurd (own leaving)
 first-cancels network request first done past task replies fits asked run next leaving none (OwnAside reply one off) = absurd (let clash : [] ≡ reply ∷ [] = sym none ∙ one in cc)
@@ -160,7 +160,7 @@ abbrev held_on : ChanNo → LinkShape → ℕ → List Done → Option Reservati
 held_on chan shape n run = held_by chan (scan_of shape (part_of n run)).rows
 
 -- a task that leaves the channel doesn't begin once another has left it
-begins-not : (network : Network) (request : Request) (first : HopAt network request 0) (done : Done) (past : List Done) (task : Task) (replies : List Reply) (kept : ℕ) → Frozen network request first past kept → IsLeaving request task → replies ≡ [] → OwnKind network request done past task replies → ⊥
+pub begins-not : (network : Network) (request : Request) (first : HopAt network request 0) (done : Done) (past : List Done) (task : Task) (replies : List Reply) (kept : ℕ) → Frozen network request first past kept → IsLeaving request task → replies ≡ [] → OwnKind network request done past task replies → ⊥
 begins-not network request first done past task replies kept frozen leaving none (OwnOff own off) = own leaving
 begins-not network request first done past task replies kept frozen leaving none (OwnAside reply one off) = (let clash : [] ≡ reply ∷ [] = sym none ∙ one in cc)
 begins-not network request first done past task replies kept frozen (inl closes) none (OwnSetup later made own rows setup) = (let clash = sym closes ∙ own in cc)
@@ -180,12 +180,12 @@ told-same network request first done past task replies kept fits run next frozen
     later-cancels network request first done past task replies fits run next (λ leaving none. begins-not network request first done past task replies kept frozen leaving none kind) kind
 
 -- the first reply of a move tells what it has come to
-first-told-by : (replies : List Reply) (told : Shifted) → first_told replies ≡ Some told → (reply : Reply) × (more : List Reply) × (replies ≡ reply ∷ more) × (told_by reply ≡ told)
+pub first-told-by : (replies : List Reply) (told : Shifted) → first_told replies ≡ Some told → (reply : Reply) × (more : List Reply) × (replies ≡ reply ∷ more) × (told_by reply ≡ told)
 first-told-by [] told is = cc
 first-told-by (reply ∷ replies) told is = (reply, replies, refl, same_Some (told_by reply) told is)
 
 module _ (network : Network) (request : Request) (owner : ℕ) (first : HopAt network request 0) (fits : NetworkFits network) (sound : RequestFits network.links request) (full : OwnedFully network request owner) where
-  abbrev RunShifted : List Done → Type 0
+  abbrev pub RunShifted : List Done → Type 0
   RunShifted run = (tasks : List Task) → slice_get network.scripts owner ≡ Some tasks → ShiftedAt request (cancelled_at network request first run) (standing tasks (replies_to owner run))
 
   -- what the notes tell, with one reply more
@@ -257,7 +257,7 @@ module _ (network : Network) (request : Request) (owner : ℕ) (first : HopAt ne
     way = λ task rest reply replies same leaving made. (let clash : [] ≡ reply ∷ replies = made in cc);
   }
 
-  run-shifted : (run : List Done) → IsRun network run → RunShifted run
+  pub run-shifted : (run : List Done) → IsRun network run → RunShifted run
   unfolding IsRun replies_to part_of cancelled_in
   run-shifted [] is = λ tasks found. none-shifted tasks
   run-shifted (done ∷ past) is = shifted-next past done is.0 is.1 (run-shifted past is.0)

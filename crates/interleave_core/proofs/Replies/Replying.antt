@@ -16,7 +16,7 @@ use Rattle.link_steps.specs.Rows.{Row, left_at, planned_from}
 use Rattle.link_steps.specs.Scan.{Scan, plan_row, after, is_row_at_hop}
 use Rattle.setup_protocol.specs.Hops.{RequestFits}
 use Rattle.setup_protocol.proofs.HopHolds.{IsComm}
-use Rattle.interleave_core.specs.channels.Moves.{plan_in, plan_at, EveryMovePlansTheShifted}
+use Rattle.interleave_core.specs.channels.Moves.{plan_in, plan_at}
 use Rattle.interleave_core.proofs.Channels.HopsAt.{hop-at}
 use Rattle.channel_laws.specs.Unsent.{IsPlanned}
 use Rattle.channel_laws.proofs.UnsentPlans.{unsent-left}
@@ -387,7 +387,10 @@ joined-plans network past done new request gap size count fits sound run next jo
           ∙ plan-planned next.link.shape (clock_of (part_of (link_number done.link) past)) count gap size (clock_of (part_of (link_number done.link) past)) request.chan (scan_of next.link.shape (part_of (link_number done.link) past)) found.0 found.1 empty,
     )
 
-pub moves-plan : EveryMovePlansTheShifted
+-- the submit of a move is planned, and then its channel's plan has exactly its packets
+pub moves-plan : (network : Network) (past : List Done) (done : Done) (tasks rest : List Task) (old new : Request) (gap size count : ℕ) → NetworkFits network → AllOwned network → IsRun network past → (next : IsNext network past done) → actor_number done.actor ≢ plane_no network → slice_get network.scripts (actor_number done.actor) ≡ Some tasks
+    → (standing tasks (replies_to (actor_number done.actor) past)).tasks ≡ Moves old new gap size ∷ rest → done.ask ≡ Submit new.chan count gap size
+    → (done.reply ≡ Is.Planned (clock_of (part_of (link_number done.link) past))) × (plan_at new.chan next.link.shape (part_of (link_number done.link) (done ∷ past)) ≡ planned_from (clock_of (part_of (link_number done.link) past)) gap size count)
 moves-plan network past done tasks rest old new gap size count fits all run next other found first asked =
     let step : CallerStep network past done tasks = record { fits = fits; all = all; run = run; next = next; found = found } in
     let own = named-own network past done tasks rest (Moves old new gap size) (channel_number new.chan) step first (λ off. off.1 refl) in

@@ -1,10 +1,10 @@
 -- What was planned on a channel at its first hop, how much of it was cancelled, and what its source has offered there. And what comes
 -- of a move, as its caller has learnt it: how many packets stay with the channel that was left.
-use Rattle.std.specs.Prelude.{◌≡◌, ◌≢◌, ℕ, ◌+◌, nat_eq, true, find, Option, Some, None, List, [], ◌∷◌, length, if◌then◌else◌}
+use Rattle.std.specs.Prelude.{◌≡◌, ℕ, ◌+◌, nat_eq, true, find, Option, Some, None, List, [], ◌∷◌, length, if◌then◌else◌}
 use Rattle.net_units.specs.Numbers.{link_number, actor_number, channel_number}
 use Rattle.traffic_contract.specs.Admission.{total}
 use Rattle.link_steps.specs.Admissible.{IsAdmissible}
-use Rattle.link_steps.specs.Rows.{Row, SourcePacket, left_at, offered_by, planned_from}
+use Rattle.link_steps.specs.Rows.{Row, SourcePacket, left_at, offered_by}
 use Rattle.link_steps.specs.Scan.{clock_of, scan_of, is_row_at_hop}
 use Rattle.link_steps.specs.declared.asks.Ask.{Ask}
 use Rattle.link_steps.specs.declared.asks.Ask.TheVariants.{Submit, Release}
@@ -12,7 +12,8 @@ use Rattle.link_steps.specs.declared.replies.Entry.{Entry}
 use Rattle.link_steps.specs.declared.replies.Reply.{Reply}
 use Rattle.link_steps.specs.declared.replies.Reply.TheVariants.{Planned, Closing}
 use Rattle.link_steps.specs.declared.shape.LinkShape.{LinkShape}
-use Rattle.channel_laws.specs.Channels.{channel_of}
+use Rattle.channel_laws.specs.Channels.{channel_of, AreNumberedAfter}
+use Rattle.link_steps.specs.Service.{Arrival}
 use Rattle.std.specs.List.{slice_get}
 use Rattle.net_units.specs.declared.numbers.ChanNo.{ChanNo}
 use Rattle.channel_move.specs.declared.shifted.Shifted.{Shifted}
@@ -29,8 +30,8 @@ use Rattle.call_script.specs.Tasks.{Network}
 use Rattle.call_script.specs.declared.tasks.Task.{Task}
 use Rattle.run_record.specs.Runs.{part_of, replies_to}
 use Rattle.run_record.specs.declared.done.Done.{Done}
-use Rattle.interleave_core.specs.channels.Paths.{HopAt, count_at}
-use Rattle.interleave_core.specs.runs.Runs.{plane_no, IsNext, IsRun}
+use Rattle.interleave_core.specs.channels.Paths.{HopAt, packets_at}
+use Rattle.interleave_core.specs.runs.Runs.{IsRun}
 
 -- ---- one link
 
@@ -75,10 +76,15 @@ NonePlannedIsLost = (shape : LinkShape) (c : ℕ) (h : List Entry) → IsAdmissi
 abbrev pub moved_in : PlanParts → List Done → RequestEntry → Option Shifted
 moved_in parts run entry = moved_off entry.request.chan (standing_in parts (actor_number entry.caller) (replies_to (actor_number entry.caller) run)).outcomes
 
--- the first hop of a channel that was left has taken as many packets as were kept, and takes no more
+-- these are the packets with the numbers from 1 up to this one, in order
+pub record AreUpTo (last : ℕ) (packets : List Arrival) : Type 0 where
+  pub numbered : AreNumberedAfter 0 packets
+  pub count : length packets ≡ last
+
+-- the packets that the first hop of a channel has taken, once a move has left it, are those with the numbers up to what was kept
 abbrev pub EveryMoveKeeps : Type 0
 EveryMoveKeeps = (network : Network) (request : Request) (owner : ℕ) (first : HopAt network request 0) (run : List Done) (tasks : List Task) (told : Shifted) → NetworkFits network → RequestFits network.links request → OwnedFully network request owner → IsRun network run → slice_get network.scripts owner ≡ Some tasks
-    → moved_off request.chan (standing tasks (replies_to owner run)).outcomes ≡ Some told → count_at network request 0 first run ≡ told.kept
+    → moved_off request.chan (standing tasks (replies_to owner run)).outcomes ≡ Some told → AreUpTo told.kept (packets_at network request 0 first run)
 
 -- the packets that its source has offered there and those that were shifted are all that its submits planned
 abbrev pub NoneIsLostInAMove : Type 0
@@ -107,9 +113,3 @@ last_planned c (e ∷ past) = last_with c (last_planned c past) e.ask e.reply
 abbrev pub EveryMoveTakesTheLast : Type 0
 EveryMoveTakesTheLast = (network : Network) (request new : Request) (owner gap size : ℕ) (first : HopAt network request 0) (run : List Done) (tasks rest : List Task) → NetworkFits network → AllOwned network → RequestFits network.links request → OwnedFully network request owner → IsRun network run → slice_get network.scripts owner ≡ Some tasks
     → (standing tasks (replies_to owner run)).tasks ≡ Moves request new gap size ∷ rest → last_planned (channel_number request.chan) (part_of (link_number first.hop.link) run) ≡ record { gap = gap; size = size }
-
--- the submit of a move is planned, and then its channel's plan has exactly its packets
-abbrev pub EveryMovePlansTheShifted : Type 0
-EveryMovePlansTheShifted = (network : Network) (past : List Done) (done : Done) (tasks rest : List Task) (old new : Request) (gap size count : ℕ) → NetworkFits network → AllOwned network → IsRun network past → (next : IsNext network past done) → actor_number done.actor ≢ plane_no network → slice_get network.scripts (actor_number done.actor) ≡ Some tasks
-    → (standing tasks (replies_to (actor_number done.actor) past)).tasks ≡ Moves old new gap size ∷ rest → done.ask ≡ Submit new.chan count gap size
-    → (done.reply ≡ Planned (clock_of (part_of (link_number done.link) past))) × (plan_at new.chan next.link.shape (part_of (link_number done.link) (done ∷ past)) ≡ planned_from (clock_of (part_of (link_number done.link) past)) gap size count)

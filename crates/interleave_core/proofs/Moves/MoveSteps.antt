@@ -1,0 +1,138 @@
+-- Each step of a move releases a hop of the channel that is left, or plans on the other channel what the first release has cancelled.
+use Rattle.std.proofs.Common.{◌≡◌, ◌≢◌, ℕ, zero, suc, ◌+◌, ◌≤◌, false, List, [], ◌∷◌, ◌++◌, Some, None, refl, sym, ap, ◌∙◌, subst, inr, arith}
+use Rattle.std.proofs.lemmas.Bool.{eqb-false}
+use Rattle.std.proofs.lemmas.Option.{same_Some, slice_get_within}
+use Rattle.std.specs.List.{slice_get}
+use Rattle.std.specs.Prelude.{nat_eq}
+use Rattle.net_units.specs.Numbers.{link_number, actor_number, channel_number}
+use Rattle.hop_reservation.specs.Routes.{link_of}
+use Rattle.channel_move.specs.Moving.{shifted_in}
+use Rattle.channel_move.specs.Stages.{stage_after}
+use Rattle.channel_move.specs.declared.mover.Stage.TheVariants.{Releasing}
+use Rattle.channel_move.proofs.MoveFacts.{HopAsked, MoveAsks, AsksFirst, AsksSubmit, AsksRest, move-asks, rest-length}
+use Rattle.link_steps.specs.declared.asks.Ask.TheVariants.{Release}
+use Rattle.link_steps.specs.declared.replies.Reply.{Reply}
+use Rattle.link_steps.specs.Lists.{Each}
+use Rattle.setup_protocol.specs.Hops.{RequestFits}
+use Rattle.setup_protocol.specs.Teardown.{first_count}
+use Rattle.setup_protocol.specs.declared.request.Request.{Request}
+use Rattle.call_script.specs.Fits.{NetworkFits, TaskFits, MoveFits}
+use Rattle.call_script.specs.Owners.{OwnedFully, AllOwned}
+use Rattle.call_script.specs.Scripts.{Learnt, Standing, move_between, standing, first_ask, ask_at}
+use Rattle.call_script.specs.Tasks.{Network}
+use Rattle.call_script.specs.declared.tasks.Task.{Task}
+use Rattle.call_script.specs.declared.tasks.Task.TheVariants.{Moves}
+use Rattle.run_record.specs.Runs.{replies_to}
+use Rattle.run_record.specs.declared.done.Done.{Done}
+use Rattle.interleave_core.specs.channels.Moves.{cancelled_with}
+use Rattle.interleave_core.specs.channels.Paths.{HopAt}
+use Rattle.interleave_core.specs.channels.Shifting.{MoveStep, Leaves, Joins, Frees, EveryMovePlansTheShifted}
+use Rattle.interleave_core.specs.runs.Runs.{plane_no, IsNext, IsRun}
+use Rattle.interleave_core.proofs.Channels.ChainLaw.{leaves-frozen}
+use Rattle.interleave_core.proofs.Channels.FarHolds.{IsLeaving, OwnKind, own-kind, stage-told}
+use Rattle.interleave_core.proofs.Channels.HopsAt.{hop-at}
+use Rattle.interleave_core.proofs.Moves.LastPackets.{moves-take-last}
+use Rattle.interleave_core.proofs.Moves.MoveTotal.{cancelled_at, own-release, entry-cancels, first-cancels, run-shifted}
+use Rattle.interleave_core.proofs.Replies.ClosingStands.{ClosesAt}
+use Rattle.interleave_core.proofs.Replies.Replying.{moves-plan}
+use Rattle.interleave_core.proofs.Replies.RunCloses.{owned-once, run-closes}
+use Rattle.interleave_core.proofs.Replies.RunGoes.{GoesAt, run-goes, owned-asked}
+use Rattle.interleave_core.proofs.Runs.RunLegal.{caller-next, run-stands}
+use Rattle.interleave_core.proofs.Tasks.CallerFacts.{StandingFits}
+
+-- a caller is not the plane
+pub not-plane : (network : Network) (actor owner : ℕ) (tasks : List Task) → actor ≡ owner → slice_get network.scripts owner ≡ Some tasks → actor ≢ plane_no network
+not-plane network actor owner tasks by found same = (let inside = slice_get_within network.scripts owner tasks found in absurd (omega (arith, inside, by, same)))
+
+-- what a caller asks, by where it stands
+pub owner-asks : (network : Network) (past : List Done) (done : Done) (owner : ℕ) (tasks : List Task) → IsNext network past done → actor_number done.actor ≡ owner → slice_get network.scripts owner ≡ Some tasks → ask_at (standing tasks (replies_to owner past)) ≡ Some (done.link, done.ask)
+owner-asks network past done owner tasks next by found =
+    let asks = caller-next network past done next (not-plane network (actor_number done.actor) owner tasks by found) in
+    let own : asks.tasks ≡ tasks = same_Some asks.tasks tasks (sym asks.found ∙ ap (slice_get network.scripts) by ∙ found) in
+    subst (λ ts. ask_at (standing ts (replies_to owner past)) ≡ Some (done.link, done.ask)) own (subst (λ a. ask_at (standing asks.tasks (replies_to a past)) ≡ Some (done.link, done.ask)) by asks.asks)
+
+-- two hops at one place
+hop-link : (network : Network) (request : Request) (k : ℕ) (at : HopAt network request k) (to : _) → HopAsked request.route k to → link_number to ≡ link_number at.hop.link
+hop-link network request k at to own = ap link_number own.at ∙ ap link_of (same_Some own.hop at.hop (sym own.stands ∙ at.stands))
+
+-- where the caller stands with its move under way
+under-way : (at : Standing) (old new : Request) (gap size : ℕ) (rest : List Task) → at.tasks ≡ Moves old new gap size ∷ rest → at ≡ record { tasks = Moves old new gap size ∷ rest; replies = at.replies; outcomes = at.outcomes }
+under-way at old new gap size rest same = ap (λ ts. record { tasks = ts; replies = at.replies; outcomes = at.outcomes }) same
+
+-- the move's task fits, and leaves its channel
+pub move-fits : (network : Network) (run : List Done) (owner gap size : ℕ) (tasks rest : List Task) (old new : Request) → NetworkFits network → IsRun network run → slice_get network.scripts owner ≡ Some tasks → (standing tasks (replies_to owner run)).tasks ≡ Moves old new gap size ∷ rest → MoveFits network.links old new gap size
+move-fits network run owner gap size tasks rest old new fits is found first = head (subst (Each (TaskFits network.links)) first ((run-stands network run fits is).callers owner tasks found).tasks) where
+  head : Each (TaskFits network.links) (Moves old new gap size ∷ rest) → MoveFits network.links old new gap size
+  head each = each.0
+
+pub is-leaving : (links : List _) (old new : Request) (gap size : ℕ) → MoveFits links old new gap size → IsLeaving old (Moves old new gap size)
+is-leaving links old new gap size fit = inr (record { new = new; gap = gap; size = size; is = refl; other = λ same. fit.apart (sym same) })
+
+-- what the step is to the channel that is left
+pub leaving-kind : (network : Network) (past : List Done) (done : Done) (owner gap size : ℕ) (tasks rest : List Task) (old new : Request) (replies : List Reply) (outcomes : List Learnt) → NetworkFits network → RequestFits network.links old → OwnedFully network old owner → IsRun network past → (next : IsNext network past done) → slice_get network.scripts owner ≡ Some tasks
+    → standing tasks (replies_to owner past) ≡ record { tasks = Moves old new gap size ∷ rest; replies = replies; outcomes = outcomes } → first_ask (Moves old new gap size ∷ rest) replies ≡ Some (done.link, done.ask) → OwnKind network old done past (Moves old new gap size) replies
+leaving-kind network past done owner gap size tasks rest old new replies outcomes fits sound full run next found is asks =
+    let stands = subst (StandingFits network.links) is ((run-stands network past fits run).callers owner tasks found) in
+    let goes : GoesAt network old past (Moves old new gap size ∷ rest) replies outcomes = subst (λ (s : Standing). GoesAt network old past s.tasks s.replies s.outcomes) is ((run-goes network old owner past fits sound (owned-once network old owner full) run).at tasks found) in
+    let closes = subst (ClosesAt network old past) is ((run-closes network old owner past fits sound full run).at tasks found) in
+    own-kind network old done past outcomes (Moves old new gap size) rest replies fits sound run next stands goes asks closes
+
+-- the first reply, with more of them
+stays-told : (replies : List Reply) (more : List Reply) (kept : ℕ) → first_count replies ≡ Some kept → first_count (replies ++ more) ≡ Some kept
+stays-told [] more kept is = cc
+stays-told (first ∷ replies) more kept is = is
+
+-- ---- the three kinds
+
+some-more : (n : ℕ) → nat_eq n 0 ≡ false → 1 ≤ n
+some-more n is = (let other = eqb-false n 0 is in omega (arith, other))
+
+-- before the first release nothing was cancelled
+none-before : (network : Network) (request : Request) (first : HopAt network request 0) (done : Done) (past : List Done) → link_number done.link ≡ link_number first.hop.link → done.ask ≡ Release request.chan None → cancelled_at network request first (done ∷ past) ≡ shifted_in done.reply → cancelled_at network request first past ≡ 0
+none-before network request first done past on is now =
+    let more : cancelled_at network request first (done ∷ past) ≡ cancelled_at network request first past + shifted_in done.reply =
+    entry-cancels network request first done past on ∙ ap (λ a. cancelled_with (channel_number request.chan) (cancelled_at network request first past) a done.reply) is ∙ own-release request.chan (cancelled_at network request first past) None done.reply in
+    omega (arith, now, more)
+
+step-of : (network : Network) (past : List Done) (done : Done) (owner gap size : ℕ) (tasks rest : List Task) (old new : Request) (first : HopAt network old 0) (replies : List Reply) (outcomes : List Learnt) → NetworkFits network → AllOwned network → RequestFits network.links old → OwnedFully network old owner → IsRun network past → (next : IsNext network past done)
+    → actor_number done.actor ≡ owner → slice_get network.scripts owner ≡ Some tasks → standing tasks (replies_to owner past) ≡ record { tasks = Moves old new gap size ∷ rest; replies = replies; outcomes = outcomes } → first_ask (Moves old new gap size ∷ rest) replies ≡ Some (done.link, done.ask)
+    → MoveAsks (move_between old new gap size) replies done.link done.ask → MoveStep network past done next old new first
+step-of network past done owner gap size tasks rest old new first replies outcomes fits all sound full run next by found is asks (AsksFirst none own release) =
+    let on = hop-link network old 0 first done.link own in
+    let fit = move-fits network past owner gap size tasks rest old new fits run found (ap (λ (s : Standing). s.tasks) is) in
+    let kind = leaving-kind network past done owner gap size tasks rest old new replies outcomes fits sound full run next found is asks in
+    let now = first-cancels network old first done past (Moves old new gap size) replies fits (owned-asked network old owner fits sound (owned-once network old owner full) past run) run next (is-leaving network.links old new gap size fit) none kind in
+    Leaves on release (none-before network old first done past on release now)
+step-of network past done owner gap size tasks rest old new first replies outcomes fits all sound full run next by found is asks (AsksSubmit reply one some own submit) =
+    let at_tasks : (standing tasks (replies_to owner past)).tasks ≡ Moves old new gap size ∷ rest = ap (λ (s : Standing). s.tasks) is in
+    let fit = move-fits network past owner gap size tasks rest old new fits run found at_tasks in
+    let to = hop-at network new 0 fit.of_new (slice_get_within new.route 0 own.hop own.stands) in
+    let other = not-plane network (actor_number done.actor) owner tasks by found in
+    let plans = moves-plan network past done tasks rest old new gap size (shifted_in reply) fits all run next other (ap (slice_get network.scripts) by ∙ found) (ap (λ a. (standing tasks (replies_to a past)).tasks) by ∙ at_tasks) submit in
+    Joins (shifted_in reply) gap size (record {
+      to = to;
+      on = hop-link network new 0 to done.link own;
+      asked = submit;
+      shifted = sym ((run-shifted network old owner first fits sound full past run tasks found).way (Moves old new gap size) rest reply [] at_tasks (is-leaving network.links old new gap size fit) (ap (λ (s : Standing). s.replies) is ∙ one));
+      some = some-more (shifted_in reply) some;
+      like = moves-take-last network old new owner gap size first past tasks rest fits all sound full run found at_tasks;
+      planned = plans.0;
+      plan = plans.1;
+    })
+step-of network past done owner gap size tasks rest old new first replies outcomes fits all sound full run next by found is asks (AsksRest told made stage own release) = later made stage own where
+  fit : MoveFits network.links old new gap size
+  fit = move-fits network past owner gap size tasks rest old new fits run found (ap (λ (s : Standing). s.tasks) is)
+
+  later : (made : ℕ) → stage_after replies ≡ Releasing told made → HopAsked old.route made done.link → MoveStep network past done next old new first
+  later zero at hop = absurd (let least = (rest-length replies told zero at).1 in omega (arith, least))
+  later (suc i) at hop =
+      let here = hop-at network old (suc i) sound (slice_get_within old.route (suc i) hop.hop hop.stands) in
+      let frozen = leaves-frozen network old owner first done past tasks outcomes (Moves old new gap size) rest replies told.kept fits sound full run next found is asks (is-leaving network.links old new gap size fit) (stays-told replies (done.reply ∷ []) told.kept (stage-told replies told (suc i) at)) in
+      Frees i told.kept here (hop-link network old (suc i) here done.link hop) release frozen.upto
+
+pub moves-step : EveryMovePlansTheShifted
+moves-step network past done owner gap size tasks rest old new first fits all sound full run next by found task =
+    let is = under-way (standing tasks (replies_to owner past)) old new gap size rest task in
+    let asks = subst (λ (s : Standing). ask_at s ≡ Some (done.link, done.ask)) is (owner-asks network past done owner tasks next by found) in
+    step-of network past done owner gap size tasks rest old new first (standing tasks (replies_to owner past)).replies (standing tasks (replies_to owner past)).outcomes fits all sound full run next by found is asks
+    (move-asks (move_between old new gap size) (standing tasks (replies_to owner past)).replies done.link done.ask asks)
