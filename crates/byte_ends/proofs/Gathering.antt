@@ -1,12 +1,13 @@
 -- Texts that are gathered one after another are one text.
-use Rattle.std.proofs.Common.{◌≡◌, ℕ, ◌+◌, ◌≤◌, List, [], ◌++◌, length, take, drop, refl, sym, ap, ◌∙◌, subst, append_assoc, arith}
-use Rattle.std.proofs.lemmas.List.{append-nil, take-append-drop}
+use Rattle.std.proofs.Common.{◌≡◌, ℕ, ◌+◌, ◌-◌, ◌<◌, ◌≤◌, List, [], ◌++◌, length, take, drop, refl, sym, ap, ◌∙◌, subst, append_assoc, arith}
+use Rattle.std.proofs.lemmas.List.{append-nil, length-append, length-drop, length-take, take-append-drop}
 use Rattle.std.proofs.Math.Seq.{take-add}
 use Rattle.std.specs.Prelude.{Option}
 use Rattle.std.specs.Io.KnownBytes.{Appends}
 use Rattle.std.proofs.KnownBytes.{Appends-nil, Appends-trans}
 use Rattle.byte_ends.specs.Faults.{FaultsRise}
-use Rattle.byte_ends.specs.Gathering.{Gathers, WritesPart}
+use Rattle.byte_ends.specs.Gathering.{Gathers, WritesBlocks, WritesPart}
+use Rattle.byte_ends.specs.declared.block.TheConstants.{BLOCK}
 use Rattle.byte_ends.specs.Writing.{WritesFront}
 
 -- nothing is gathered at first
@@ -78,7 +79,32 @@ part-of-longer a b text more part = record { front = part.front; rest = part.res
 pub front-is-part : (a b : Option (List ℕ)) (piece : List ℕ) → WritesFront a b piece → WritesPart a b piece
 front-is-part a b piece front = record { front = take front.count piece; rest = drop front.count piece; appends = front.appends; joined = take-append-drop front.count piece }
 
-pub ruleset parts = (front-is-part, gathers-nothing, gathers-put)
+-- ---- blocks
+
+pub no-block : (w : Option (List ℕ)) → WritesBlocks w w
+no-block w = record { put = []; appends = Appends-nil w; count = 0; whole = refl }
+
+pub one-block : (w w' : Option (List ℕ)) (gathered : List ℕ) → length gathered ≡ BLOCK → Appends w w' gathered → WritesBlocks w w'
+one-block w w' gathered full appends = record { put = gathered; appends = appends; count = 1; whole = full }
+
+pub more-blocks : (a b c : Option (List ℕ)) → WritesBlocks a b → WritesBlocks b c → WritesBlocks a c
+more-blocks a b c first second = record {
+  put = first.put ++ second.put;
+  appends = Appends-trans a b c first.put second.put first.appends second.appends;
+  count = first.count + second.count;
+  whole = length-append first.put second.put ∙ omega (arith, first.whole, second.whole);
+}
+
+-- there is room for the next byte of a piece that fits whole
+pub room-left : (gathered piece done now : ℕ) → done < piece → gathered + piece ≤ BLOCK → now ≡ gathered + done → now < BLOCK
+room-left gathered piece done now less fits is = omega (arith, less, fits, is)
+
+-- and as many bytes are gathered then as were before, and as the piece had so far
+pub added-length : (gathered done count : ℕ) (held now after piece : List ℕ) → done + count ≤ length piece → now ≡ held → now ++ take ((done + count) - done) (drop done piece) ≡ after → length held ≡ gathered + done → length after ≡ gathered + (done + count)
+added-length gathered done count held now after piece within kept is so_far =
+    omega (arith, within, ap length kept, ap length is, length-append now (take ((done + count) - done) (drop done piece)), length-take ((done + count) - done) (drop done piece), length-drop done piece, so_far)
+
+pub ruleset parts = (front-is-part, gathers-nothing, gathers-put, no-block)
 
 -- a count that rose in a later call rose in all of them
 pub rises-later : (a b c : ℕ) → a ≤ b → FaultsRise b c → FaultsRise a c

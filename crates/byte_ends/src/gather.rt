@@ -1,8 +1,8 @@
 //! Pieces that are gathered before they are written.
-ghost use Rattle.std.specs.Prelude.{◌≡◌, ◌≤◌, ◌<◌, ◌++◌, [], length, IfOk, OnOk, OnErr};
+ghost use Rattle.std.specs.Prelude.{◌≡◌, ◌+◌, ◌≤◌, ◌<◌, ◌++◌, [], length, IfOk, IsOk, OnOk, OnErr};
 ghost use Rattle.std.specs.Io.KnownBytes.{Appends};
 ghost use Rattle.byte_ends.specs.Faults.{FaultsRise};
-ghost use Rattle.byte_ends.specs.Gathering.{Gathers, WritesPart};
+ghost use Rattle.byte_ends.specs.Gathering.{Gathers, WritesBlocks, WritesPart};
 
 use crate::block::BLOCK;
 use crate::reserved::add_reserved;
@@ -40,14 +40,19 @@ impl Gather {
         })
     }
 
-    /// Adds the piece to those gathered before it. What is gathered is written whenever there is no more room. A fault
-    /// comes only where the sink's count of faults rose in this call, and then a prefix of what was gathered and of the
-    /// piece was written.
+    /// Adds the piece to those gathered before it. Nothing is written while all of it fits into 65,536 bytes, and afterwards blocks
+    /// of so many bytes are. A fault comes only where the sink's count of faults rose in this call, and then a prefix of what was
+    /// gathered and of the piece was written.
     pub fn push<K: Sink>(&mut self, sink: &mut K, piece: &[u8]) -> Result<(), WriteFault>
         ensures ok { OnOk result (Gathers (K.written sink.old) (K.written sink.new) self.old self.new piece.now) }
         ensures fault { OnErr result (FaultsRise (K.faults sink.old) (K.faults sink.new)) }
         ensures front { OnErr result (WritesPart (K.written sink.old) (K.written sink.new) (self.old ++ piece.now)) }
         ensures counts { K.faults sink.old ≤ K.faults sink.new }
+
+        // What fits isn't written, and what is written are whole blocks.
+        ensures sure { length self.old + length piece.now ≤ BLOCK → IsOk result }
+        ensures unwritten { length self.old + length piece.now ≤ BLOCK → sink.new ≡ sink.old }
+        ensures blocks { OnOk result (WritesBlocks (K.written sink.old) (K.written sink.new)) }
     {
         let mut done = 0;
         while done < piece.len() {
@@ -76,6 +81,10 @@ impl Gather {
     fn make_room<K: Sink>(&mut self, sink: &mut K) -> Result<(), WriteFault>
         ensures ok { OnOk result (Gathers (K.written sink.old) (K.written sink.new) self.old self.new []) }
         ensures room { OnOk result (length self.new < BLOCK) }
+        ensures sure { length self.old < BLOCK → IsOk result }
+        ensures unwritten { length self.old < BLOCK → sink.new ≡ sink.old }
+        ensures kept { length self.old < BLOCK → self.new ≡ self.old }
+        ensures blocks { OnOk result (WritesBlocks (K.written sink.old) (K.written sink.new)) }
         ensures fault { OnErr result (FaultsRise (K.faults sink.old) (K.faults sink.new)) }
         ensures front { OnErr result (WritesPart (K.written sink.old) (K.written sink.new) self.old) }
         ensures counts { K.faults sink.old ≤ K.faults sink.new }
