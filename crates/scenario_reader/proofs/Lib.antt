@@ -38,3 +38,5 @@ pub mod AuditKeeps
 mod Worked
 pub mod kind
 pub mod BeforeFacts
+pub mod ReadNames
+pub mod ReadRoutes

@@ -22,3 +22,4 @@ pub mod AuditKept
 pub mod AuditSteps
 pub mod line
 pub mod ByLine
+pub mod ReadPlans

@@ -1,0 +1,383 @@
+-- Whatever is read keeps names, quotas and found routes as a plan's text has them: each line that passes adds such parts alone.
+use Rattle.std.proofs.Common.{◌≡◌, ℕ, suc, ◌≤◌, Bool, true, false, not, if◌then◌else◌, List, [], ◌∷◌, ◌++◌, length, map, drop, Option, Some, None, Result, Ok, Err, option_map, is_some, refl, sym, ◌∙◌, ap, subst, arith}
+use Rattle.std.proofs.lemmas.List.{length-append, length-drop, length-map}
+use Rattle.std.proofs.lemmas.Option.{same_Some}
+use Rattle.std.specs.Prelude.{nat_lt, unwrap_or, zero}
+use Rattle.net_units.specs.Numbers.{link_number}
+use Rattle.net_units.specs.Limits.{most_links, most_callers, most_requests, most_delay}
+use Rattle.net_units.specs.Text.{is_name}
+use Rattle.hop_reservation.specs.declared.route.Hop.{Hop}
+use Rattle.link_steps.specs.Lists.{Each}
+use Rattle.link_steps.specs.declared.quota.Quota.{Quota}
+use Rattle.link_steps.proofs.ListFacts.{Each-append}
+use Rattle.call_script.specs.Groups.{most_groups}
+use Rattle.call_script.specs.Growing.{add_quota, add_op, with_its_quota, new_caller}
+use Rattle.call_script.specs.Parts.{PlanParts}
+use Rattle.call_script.specs.Rules.{is_named, link_names, request_names, caller_names}
+use Rattle.call_script.specs.declared.entries.CallerEntry.{CallerEntry}
+use Rattle.call_script.specs.declared.entries.LinkEntry.{LinkEntry}
+use Rattle.call_script.specs.declared.entries.RequestEntry.{RequestEntry}
+use Rattle.call_script.specs.declared.operations.Op.{Op}
+use Rattle.call_script.specs.declared.operations.Op.TheVariants.{Open}
+use Rattle.call_script.specs.declared.schedule.Schedule.{Schedule}
+use Rattle.call_script.specs.declared.version.Version.{Version}
+use Rattle.byte_ends.specs.WholeLines.{Ending, all_given, cut_short, too_long, outlook}
+use Rattle.scenario_reader.specs.BothWays.{AreNamed, AreNodesNamed, HasEightLoads, HasNames, HaveFoundRoutes, IsFoundRoute}
+use Rattle.scenario_reader.specs.Causes.{unless}
+use Rattle.scenario_reader.specs.Decimal.{value_of}
+use Rattle.scenario_reader.specs.Drafts.{Said, link_named, group_named, nothing_said, with_item, is_complete, parts_said, schedule_said}
+use Rattle.scenario_reader.specs.Entries.{has_bounds}
+use Rattle.scenario_reader.specs.Fields.{fields_of, are_fields, field_at}
+use Rattle.scenario_reader.specs.Forms.{has_form, name_rule, new_name_rule, number_rule}
+use Rattle.scenario_reader.specs.Grammar.{judge_word, judge_after, is_passed_over, judge}
+use Rattle.scenario_reader.specs.Kept.{IsDraft}
+use Rattle.scenario_reader.specs.Nodes.{is_node, route_between}
+use Rattle.scenario_reader.specs.ReadPlans.{IsReadable, WhatIsReadIsReadable}
+use Rattle.scenario_reader.specs.Reading.{PlanRead, BadLine, at_end, on_judged, reading_of, reading}
+use Rattle.scenario_reader.specs.declared.cause.Cause.{Cause}
+use Rattle.scenario_reader.specs.declared.cause.Cause.TheVariants as cause
+use Rattle.scenario_reader.specs.declared.form.Keyword.{Keyword}
+use Rattle.scenario_reader.specs.declared.form.Keyword.TheVariants as word
+use Rattle.scenario_reader.specs.declared.item.Item.{Item}
+use Rattle.scenario_reader.specs.declared.item.Item.TheVariants as item
+use Rattle.scenario_reader.specs.line.Caller.{is_caller_line, member_rule, group_in, caller_rule}
+use Rattle.scenario_reader.specs.line.Close.{close_rule, close_said}
+use Rattle.scenario_reader.specs.line.Group.{group_form, group_rule}
+use Rattle.scenario_reader.specs.line.Header.{header_version, header_said}
+use Rattle.scenario_reader.specs.line.Link.{is_link_line, link_numbers, link_fields_rule, link_numbers_rule, best_rule, bound_numbers_rule, bound_fields, link_rule, link_with, link_said}
+use Rattle.scenario_reader.specs.line.Move.{move_rule, move_said}
+use Rattle.scenario_reader.specs.line.Pour.{pour_rule, pour_said}
+use Rattle.scenario_reader.specs.line.Quota.{quota_form, load_fields, in_eight, quota_of, quota_in, quota_rule, quota_on, quota_said}
+use Rattle.scenario_reader.specs.line.Request.{is_open_line, is_found, hops_in, node_rule, nodes_rule, way_fields_rule, between_rule, way_rule, after_route, contract_told, contract_of, terms_rule, jitter_rule, open_fields_rule, open_limits_rule, open_rule, request_said}
+use Rattle.scenario_reader.specs.line.Rounds.{rounds_rule, tail_rule}
+use Rattle.scenario_reader.specs.line.Schedule.{schedule_rule, do_rule, do_said}
+use Rattle.scenario_reader.specs.line.Send.{send_rule, send_said}
+use Rattle.scenario_reader.specs.line.Table.{may_stand, line_word, judge_as, MayAdd}
+use Rattle.scenario_reader.proofs.DraftFacts.{draft_begins, draft_more, complete_draft}
+use Rattle.scenario_reader.proofs.PassFacts.{all_pass, both_pass, judged_ok, made_some, name_passes, new_name_passes, stated_ok, unless_passes, used_name_passes}
+use Rattle.scenario_reader.proofs.SayFacts.{may_add}
+use Rattle.scenario_reader.proofs.kind.QuotaForm.{quota_few}
+
+-- ---- what a line names
+
+-- a request goes by names, and its route, where it is to be found, is the one that is found over these links
+record NamesRequest (said : Said) (entry : RequestEntry) : Type 0 where
+  name : is_name entry.name ≡ true
+  nodes : AreNodesNamed entry.found
+  found : IsFoundRoute said.links entry.request.route entry.found
+
+abbrev NamesItem : Said → Item → Type 0
+NamesItem said (item.Link entry) = HasNames entry
+NamesItem said (item.Group name) = is_name name ≡ true
+NamesItem said (item.Quota link quota) = HasEightLoads quota
+NamesItem said (item.Caller name group) = is_name name ≡ true
+NamesItem said (item.Open entry) = NamesRequest said entry
+NamesItem said _ = Unit {0}
+
+link_named_so : (version : Version) (said : Said) (fields : List (List ℕ)) (entry : LinkEntry) → link_rule version said fields ≡ None → link_said version said fields ≡ Some entry → HasNames entry
+link_named_so version said fields entry rule says =
+    let p = all_pass (unless (is_link_line version fields) cause.Shape ∷ link_fields_rule said fields ∷ unless (nat_lt (length said.links) most_links) cause.Many ∷ unless (has_bounds (link_numbers fields)) cause.Levels ∷ []) rule in
+    let q = all_pass (new_name_rule (link_names said.links) (field_at fields 1) ∷ name_rule (field_at fields 2) ∷ name_rule (field_at fields 3) ∷ link_numbers_rule fields ∷ best_rule fields ∷ bound_numbers_rule (bound_fields fields) ∷ []) p.1.0 in
+    let made = made_some (link_with fields) _ entry says in
+    subst HasNames made.2 (record {
+      name = (new_name_passes (link_names said.links) (field_at fields 1) q.0).0;
+      from = name_passes (field_at fields 2) q.1.0;
+      to = name_passes (field_at fields 3) q.1.1.0;
+    })
+
+group_named_so : (said : Said) (fields : List (List ℕ)) → group_rule said fields ≡ None → is_name (field_at fields 1) ≡ true
+group_named_so said fields rule =
+    let p = all_pass (unless (has_form group_form fields) cause.Shape ∷ new_name_rule said.groups (field_at fields 1) ∷ unless (nat_lt (length said.groups) most_groups) cause.Many ∷ []) rule in
+    (new_name_passes said.groups (field_at fields 1) p.1.0).0
+
+caller_named_so : (version : Version) (said : Said) (fields : List (List ℕ)) → caller_rule version said fields ≡ None → is_name (field_at fields 1) ≡ true
+caller_named_so version said fields rule =
+    let p = all_pass (unless (is_caller_line version fields) cause.Shape ∷ new_name_rule (caller_names said.callers) (field_at fields 1) ∷ member_rule said fields ∷ unless (nat_lt (length said.callers) most_callers) cause.Many ∷ []) rule in
+    (new_name_passes (caller_names said.callers) (field_at fields 1) p.1.0).0
+
+abbrev eight-zeros : List ℕ
+eight-zeros = 0 ∷ 0 ∷ 0 ∷ 0 ∷ 0 ∷ 0 ∷ 0 ∷ 0 ∷ []
+
+eight-loads : (numbers : List ℕ) → length numbers ≤ 8 → length (in_eight numbers) ≡ 8
+eight-loads numbers few =
+    omega (arith, few, length-append numbers (drop (length numbers) eight-zeros), length-drop (length numbers) eight-zeros)
+
+quota_has_loads : (said : Said) (fields : List (List ℕ)) (what : Item) → quota_rule said fields ≡ None → quota_said said fields ≡ Some what → NamesItem said what
+quota_has_loads said fields what rule says = by (link_named said.links (field_at fields 1)) (quota_in said fields) refl says (both_pass (unless (has_form quota_form fields) cause.Shape) _ rule).0 where
+  by : (link : Option LinkEntry) (told : Option Quota) → quota_in said fields ≡ told → quota_on link told ≡ Some what → unless (has_form quota_form fields) cause.Shape ≡ None → NamesItem said what
+  by None told q e form = cc
+  by (Some link) None q e form = cc
+  by (Some link) (Some quota) q e form =
+      let made = made_some (quota_of fields) (group_named said.groups (field_at fields 2)) quota q in
+      let few = quota_few fields (unless_passes (has_form quota_form fields) cause.Shape form) in
+      subst (NamesItem said) (same_Some (item.Quota link.shape.link quota) what e)
+      (subst HasEightLoads made.2 (eight-loads (map value_of (load_fields fields)) (omega (arith, few, length-map (load_fields fields) value_of))))
+
+-- ---- requests
+
+there-is : (o : Option (List Hop)) → is_some o ≡ true → o ≡ Some (unwrap_or o [])
+there-is None e = cc
+there-is (Some hops) e = refl
+
+is-found_so : (links : List LinkEntry) (found : Bool) (from to : List ℕ) (written : List Hop) → (found ≡ true → is_some (route_between links from to) ≡ true)
+    → IsFoundRoute links (if found then unwrap_or (route_between links from to) [] else written) (if found then Some (from, to) else None)
+is-found_so links true from to written some = there-is (route_between links from to) (some refl)
+is-found_so links false from to written some = tt
+
+nodes-named_so : (found : Bool) (from to : List ℕ) → (found ≡ true → (is_name from ≡ true) × (is_name to ≡ true)) → AreNodesNamed (if found then Some (from, to) else None)
+nodes-named_so true from to named = named refl
+nodes-named_so false from to named = tt
+
+open_named_so : (version : Version) (said : Said) (fields : List (List ℕ)) → open_rule version said fields ≡ None → NamesRequest said (request_said said fields)
+open_named_so version said fields rule =
+    let p = all_pass (unless (is_open_line version fields) cause.Shape ∷ open_fields_rule said fields ∷ open_limits_rule said fields ∷ []) rule in
+    let q = all_pass (new_name_rule (request_names said.requests) (field_at fields 1) ∷ way_fields_rule said fields ∷ terms_rule fields ∷ number_rule 1 most_delay (after_route fields 6) ∷ jitter_rule fields ∷ []) p.1.0 in
+    let l = all_pass (unless (nat_lt (length said.requests) most_requests) cause.Many ∷ unless (is_some (contract_of (contract_told fields))) cause.Contract ∷ way_rule said fields ∷ []) p.1.1.0 in
+    record {
+      name = (new_name_passes (request_names said.requests) (field_at fields 1) q.0).0;
+      nodes = nodes-named_so (is_found fields) (field_at fields 3) (field_at fields 5) (λ is.
+          let nodes : nodes_rule said fields ≡ None = rw is at q.1.0 in
+          let both = both_pass (node_rule said (field_at fields 3)) (node_rule said (field_at fields 5)) nodes in (
+            (used_name_passes (is_node said.links (field_at fields 3)) (field_at fields 3) both.0).0,
+            (used_name_passes (is_node said.links (field_at fields 5)) (field_at fields 5) both.1).0,
+          ));
+      found = is-found_so said.links (is_found fields) (field_at fields 3) (field_at fields 5) (hops_in said fields) (λ is.
+          let between : between_rule said (field_at fields 3) (field_at fields 5) ≡ None = rw is at l.1.1.0 in
+          let limits = both_pass (unless (not (is_named (field_at fields 5) (field_at fields 3))) cause.Route) (unless (is_some (route_between said.links (field_at fields 3) (field_at fields 5))) cause.Reach) between in
+          unless_passes (is_some (route_between said.links (field_at fields 3) (field_at fields 5))) cause.Reach limits.1);
+    }
+
+-- ---- a line that passes
+
+-- an operation names nothing
+op_names : (said : Said) (rule : Option Cause) (op : Option Op) (what : Item) → ◌≡◌ {A = Option Item} (option_map item.Op op) (Some what) → NamesItem said what
+op_names said rule op what e = (let made = made_some item.Op op what e in subst (NamesItem said) made.2 tt)
+
+names_as : (keyword : Keyword) (version : Version) (said : Said) (number : ℕ) (fields : List (List ℕ)) (what : Item) → judge_as keyword version said number fields ≡ Ok what → NamesItem said what
+names_as word.Link version said number fields what e =
+    let p = stated_ok (link_rule version said fields) (option_map item.Link (link_said version said fields)) what e in
+    let made = made_some item.Link (link_said version said fields) what p.1 in
+    subst (NamesItem said) made.2 (link_named_so version said fields made.0 p.0 made.1)
+names_as word.Group version said number fields what e =
+    let p = judged_ok (group_rule said fields) (item.Group (field_at fields 1)) what e in
+    subst (NamesItem said) p.1 (group_named_so said fields p.0)
+names_as word.Quota version said number fields what e =
+    let p = stated_ok (quota_rule said fields) (quota_said said fields) what e in
+    quota_has_loads said fields what p.0 p.1
+names_as word.Caller version said number fields what e =
+    let p = judged_ok (caller_rule version said fields) (item.Caller (field_at fields 1) (group_in said fields)) what e in
+    subst (NamesItem said) p.1 (caller_named_so version said fields p.0)
+names_as word.Open version said number fields what e =
+    let p = judged_ok (open_rule version said fields) (item.Open (request_said said fields)) what e in
+    subst (NamesItem said) p.1 (open_named_so version said fields p.0)
+names_as word.Send version said number fields what e = op_names said (send_rule said fields) (send_said said fields) what (stated_ok (send_rule said fields) (option_map item.Op (send_said said fields)) what e).1
+names_as word.Close version said number fields what e = op_names said (close_rule said fields) (close_said said fields) what (stated_ok (close_rule said fields) (option_map item.Op (close_said said fields)) what e).1
+names_as word.Move version said number fields what e = op_names said (move_rule said fields) (move_said said fields) what (stated_ok (move_rule said fields) (option_map item.Op (move_said said fields)) what e).1
+names_as word.Pour version said number fields what e = op_names said (pour_rule said fields) (pour_said said fields) what (stated_ok (pour_rule said fields) (option_map item.Op (pour_said said fields)) what e).1
+names_as word.Rounds version said number fields what e = subst (NamesItem said) (judged_ok (rounds_rule fields) (item.Rounds (value_of (field_at fields 1))) what e).1 tt
+names_as word.Tail version said number fields what e = subst (NamesItem said) (judged_ok (tail_rule said fields) (item.Tail (value_of (field_at fields 1))) what e).1 tt
+names_as word.Schedule version said number fields what e = subst (NamesItem said) (judged_ok (schedule_rule fields) item.Schedule what e).1 tt
+names_as word.Do version said number fields what e =
+    let p = stated_ok (do_rule said fields) (option_map item.Do (do_said said number fields)) what e in
+    let made = made_some item.Do (do_said said number fields) what p.1 in
+    subst (NamesItem said) made.2 tt
+names_as other version said number fields what e = absurd (not_ok cause.Word what e)
+  where
+    not_ok : (c : Cause) (what : Item) → ◌≡◌ {A = Result Item Cause} (Err c) (Ok what) → ⊥
+    not_ok c what e = cc
+
+names_word : (keyword : Option Keyword) (version : Version) (said : Said) (number : ℕ) (fields : List (List ℕ)) (what : Item) → judge_word keyword version said number fields ≡ Ok what → NamesItem said what
+names_word None version said number fields what e = cc
+names_word (Some keyword) version said number fields what e = by (may_stand version said keyword) e where
+  by : (stands : Bool) → (if stands then judge_as keyword version said number fields else Err cause.Word) ≡ Ok what → NamesItem said what
+  by true e = names_as keyword version said number fields what e
+  by false e = cc
+
+header_names : (found : Option Version) (said : Said) (what : Item) → header_said found ≡ Ok what → NamesItem said what
+header_names None said what e = cc
+header_names (Some version) said what e = (let same : item.Header version ≡ what = cc in subst (NamesItem said) same tt)
+
+names_after : (headed : Option Version) (said : Said) (number : ℕ) (fields : List (List ℕ)) (what : Item) → judge_after headed said number fields ≡ Ok what → NamesItem said what
+names_after None said number fields what e = header_names (header_version fields) said what e
+names_after (Some version) said number fields what e = names_word (line_word (field_at fields 0)) version said number fields what e
+
+line_names : (said : Said) (number : ℕ) (line : List ℕ) (what : Item) → judge said number line ≡ Ok what → NamesItem said what
+unfolding judge
+line_names said number line what e = by (is_passed_over line) (not (are_fields (fields_of line))) e where
+  by : (over bad : Bool) → (if over then Ok item.Nothing else (if bad then Err cause.Shape else judge_after said.version said number (fields_of line))) ≡ Ok what → NamesItem said what
+  by true bad e = (let same : item.Nothing ≡ what = cc in subst (NamesItem said) same tt)
+  by false true e = cc
+  by false false e = names_after said.version said number (fields_of line) what e
+
+-- ---- what was read so far
+
+-- a draft whose parts go by names; there is no request before the first caller
+record IsNamed (said : Said) : Type 0 where
+  draft : IsDraft said
+  named : AreNamed (parts_said said)
+  found : HaveFoundRoutes (parts_said said)
+  alone : said.callers ≡ [] → said.requests ≡ []
+
+nothing-named : IsNamed nothing_said
+nothing-named = record {
+  draft = draft_begins;
+  named = record { links = tt; groups = tt; quotas = tt; nodes = tt; requests = tt; callers = tt };
+  found = tt;
+  alone = λ none. refl;
+}
+
+-- a line that adds no part of these leaves them
+named-still : (said after : Said) → said.links ≡ after.links → said.groups ≡ after.groups → said.requests ≡ after.requests → said.callers ≡ after.callers → IsNamed said → IsDraft after → IsNamed after
+named-still said after links groups requests callers n draft = record {
+  draft = draft;
+  named = record {
+    links = subst (Each HasNames) links n.named.links;
+    groups = subst (Each (λ (name : List ℕ). is_name name ≡ true)) groups n.named.groups;
+    quotas = subst (Each (λ (entry : LinkEntry). Each HasEightLoads entry.quotas)) links n.named.quotas;
+    nodes = subst (Each (λ (entry : RequestEntry). AreNodesNamed entry.found)) requests n.named.nodes;
+    requests = subst (Each (λ (entry : RequestEntry). is_name entry.name ≡ true)) requests n.named.requests;
+    callers = subst (Each (λ (caller : CallerEntry). is_name caller.name ≡ true)) callers n.named.callers;
+  };
+  found = subst (λ ls. Each (λ (entry : RequestEntry). IsFoundRoute ls entry.request.route entry.found) after.requests) links (subst (Each (λ (entry : RequestEntry). IsFoundRoute said.links entry.request.route entry.found)) requests n.found);
+  alone = λ none. sym requests ∙ n.alone (callers ∙ none);
+}
+
+-- no route is found before there are callers
+none-found : (links : List LinkEntry) (requests : List RequestEntry) → requests ≡ [] → Each (λ (entry : RequestEntry). IsFoundRoute links entry.request.route entry.found) requests
+none-found links requests none = subst (Each (λ (entry : RequestEntry). IsFoundRoute links entry.request.route entry.found)) (sym none) tt
+
+-- a quota more leaves what each link has
+quota-kept : (P : LinkEntry → Type 0) (quota : Quota) → ((entry : LinkEntry) → P entry → P (with_its_quota quota entry)) → (place : ℕ) (links : List LinkEntry) → Each P links → Each P (add_quota place quota links)
+quota-kept P quota keeps place [] each = tt
+quota-kept P quota keeps zero (entry ∷ links) each = (keeps entry each.0, each.1)
+quota-kept P quota keeps (suc place) (entry ∷ links) each = (each.0, quota-kept P quota keeps place links each.1)
+
+-- and an operation more the name of each caller
+op-kept : (op : Op) (callers : List CallerEntry) → Each (λ (caller : CallerEntry). is_name caller.name ≡ true) callers → Each (λ (caller : CallerEntry). is_name caller.name ≡ true) (add_op op callers)
+op-kept op [] each = tt
+op-kept op (caller ∷ []) each = (each.0, tt)
+op-kept op (caller ∷ next ∷ callers) each = (each.0, op-kept op (next ∷ callers) each.1)
+
+none-with_op : (op : Op) (callers : List CallerEntry) → add_op op callers ≡ [] → callers ≡ []
+none-with_op op [] none = refl
+none-with_op op (caller ∷ []) none = cc
+none-with_op op (caller ∷ next ∷ callers) none = cc
+
+none-with_caller : (callers : List CallerEntry) (caller : CallerEntry) → callers ++ caller ∷ [] ≡ [] → ⊥
+none-with_caller [] caller none = cc
+none-with_caller (first ∷ callers) caller none = cc
+
+named-more : (said : Said) (what : Item) → IsNamed said → MayAdd said what → NamesItem said what → IsNamed (with_item what said)
+named-more said item.Nothing n may names = n
+named-more said (item.Link entry) n may names = record {
+  draft = draft_more said (item.Link entry) n.draft may;
+  named = record {
+    links = Each-append HasNames said.links (entry ∷ []) n.named.links (names, tt);
+    groups = n.named.groups;
+    quotas = Each-append (λ (e : LinkEntry). Each HasEightLoads e.quotas) said.links (entry ∷ []) n.named.quotas (subst (Each HasEightLoads) (sym may.link.unsplit) tt, tt);
+    nodes = n.named.nodes;
+    requests = n.named.requests;
+    callers = n.named.callers;
+  };
+  found = none-found (said.links ++ entry ∷ []) said.requests (n.alone may.link.first);
+  alone = n.alone;
+}
+named-more said (item.Group name) n may names = record {
+  draft = draft_more said (item.Group name) n.draft may;
+  named = record {
+    links = n.named.links;
+    groups = Each-append (λ (g : List ℕ). is_name g ≡ true) said.groups (name ∷ []) n.named.groups (names, tt);
+    quotas = n.named.quotas;
+    nodes = n.named.nodes;
+    requests = n.named.requests;
+    callers = n.named.callers;
+  };
+  found = n.found;
+  alone = n.alone;
+}
+named-more said (item.Quota link quota) n may names = record {
+  draft = draft_more said (item.Quota link quota) n.draft may;
+  named = record {
+    links = quota-kept HasNames quota (λ entry has. record { name = has.name; from = has.from; to = has.to }) (link_number link) said.links n.named.links;
+    groups = n.named.groups;
+    quotas = quota-kept (λ (e : LinkEntry). Each HasEightLoads e.quotas) quota (λ entry each. Each-append HasEightLoads entry.quotas (quota ∷ []) each (names, tt)) (link_number link) said.links n.named.quotas;
+    nodes = n.named.nodes;
+    requests = n.named.requests;
+    callers = n.named.callers;
+  };
+  found = none-found (add_quota (link_number link) quota said.links) said.requests (n.alone may.share.first);
+  alone = n.alone;
+}
+named-more said (item.Caller name group) n may names = record {
+  draft = draft_more said (item.Caller name group) n.draft may;
+  named = record {
+    links = n.named.links;
+    groups = n.named.groups;
+    quotas = n.named.quotas;
+    nodes = n.named.nodes;
+    requests = n.named.requests;
+    callers = Each-append (λ (caller : CallerEntry). is_name caller.name ≡ true) said.callers (new_caller name group ∷ []) n.named.callers (names, tt);
+  };
+  found = n.found;
+  alone = λ none. absurd (none-with_caller said.callers (new_caller name group) none);
+}
+named-more said (item.Open entry) n may names = record {
+  draft = draft_more said (item.Open entry) n.draft may;
+  named = record {
+    links = n.named.links;
+    groups = n.named.groups;
+    quotas = n.named.quotas;
+    nodes = Each-append (λ (r : RequestEntry). AreNodesNamed r.found) said.requests (entry ∷ []) n.named.nodes (names.nodes, tt);
+    requests = Each-append (λ (r : RequestEntry). is_name r.name ≡ true) said.requests (entry ∷ []) n.named.requests (names.name, tt);
+    callers = op-kept (Open entry.request.chan) said.callers n.named.callers;
+  };
+  found = Each-append (λ (r : RequestEntry). IsFoundRoute said.links r.request.route r.found) said.requests (entry ∷ []) n.found (names.found, tt);
+  alone = λ none. (let nobody = ap length (none-with_op (Open entry.request.chan) said.callers none) in absurd (omega (arith, nobody, may.request.caller)));
+}
+named-more said (item.Op what) n may names = record {
+  draft = draft_more said (item.Op what) n.draft may;
+  named = record {
+    links = n.named.links;
+    groups = n.named.groups;
+    quotas = n.named.quotas;
+    nodes = n.named.nodes;
+    requests = n.named.requests;
+    callers = op-kept what said.callers n.named.callers;
+  };
+  found = n.found;
+  alone = λ none. n.alone (none-with_op what said.callers none);
+}
+named-more said (item.Header version) n may names = named-still said (with_item (item.Header version) said) refl refl refl refl n (draft_more said (item.Header version) n.draft may)
+named-more said (item.Rounds count) n may names = named-still said (with_item (item.Rounds count) said) refl refl refl refl n (draft_more said (item.Rounds count) n.draft may)
+named-more said (item.Tail count) n may names = named-still said (with_item (item.Tail count) said) refl refl refl refl n (draft_more said (item.Tail count) n.draft may)
+named-more said item.Schedule n may names = named-still said (with_item item.Schedule said) refl refl refl refl n (draft_more said item.Schedule n.draft may)
+named-more said (item.Do what) n may names = named-still said (with_item (item.Do what) said) refl refl refl refl n (draft_more said (item.Do what) n.draft may)
+
+-- ---- a whole text
+
+complete-read : (said : Said) (parts : PlanParts) (schedule : Schedule) → IsNamed said → is_complete said ≡ true → parts_said said ≡ parts → schedule_said said ≡ schedule → IsReadable parts schedule
+complete-read said parts schedule n complete same its =
+    subst (λ p. IsReadable p schedule) same (subst (IsReadable (parts_said said)) its (record { plan = complete_draft said n.draft complete; named = n.named; found = n.found; scheduled = n.draft.schedule }))
+
+end-read : (ending : Ending) (count : ℕ) (said : Said) (parts : PlanParts) (schedule : Schedule) → IsNamed said → at_end ending count said ≡ PlanRead parts schedule → IsReadable parts schedule
+end-read all_given count said parts schedule n e = by (is_complete said) refl e where
+  by : (complete : Bool) → is_complete said ≡ complete → (if complete then PlanRead (parts_said said) (schedule_said said) else BadLine (suc count) cause.End) ≡ PlanRead parts schedule → IsReadable parts schedule
+  by true is e =
+      let same : parts_said said ≡ parts = cc in
+      let its : schedule_said said ≡ schedule = cc in
+      complete-read said parts schedule n is same its
+  by false is e = cc
+end-read cut_short count said parts schedule n e = cc
+end-read too_long count said parts schedule n e = cc
+
+lines-read : (lines : List (List ℕ)) (ending : Ending) (count : ℕ) (said : Said) (parts : PlanParts) (schedule : Schedule) → IsNamed said → reading_of count lines ending said ≡ PlanRead parts schedule → IsReadable parts schedule
+lines-read [] ending count said parts schedule n e = end-read ending count said parts schedule n e
+lines-read (line ∷ lines) ending count said parts schedule n e = by (judge said (suc count) line) refl e (λ after named. lines-read lines ending (suc count) after parts schedule named) where
+  by : (r : Result Item Cause) → judge said (suc count) line ≡ r → on_judged r (suc count) said (λ after. reading_of (suc count) lines ending after) ≡ PlanRead parts schedule
+      → ((after : Said) → IsNamed after → reading_of (suc count) lines ending after ≡ PlanRead parts schedule → IsReadable parts schedule) → IsReadable parts schedule
+  by (Ok what) is e rest = rest (with_item what said) (named-more said what n (may_add said (suc count) line what n.draft is) (line_names said (suc count) line what is)) e
+  by (Err why) is e rest = cc
+
+pub what-is-readable : WhatIsReadIsReadable
+unfolding reading
+what-is-readable most bytes parts schedule e = lines-read (outlook most bytes).lines (outlook most bytes).ending 0 nothing_said parts schedule nothing-named e

@@ -1,0 +1,46 @@
+-- A request that is read between two nodes gets the least route from the one to the other.
+use Rattle.std.proofs.Common.{ℕ, ◌≤◌, Option, Some, None, List, [], ◌∷◌, length, sym, ◌∙◌, subst, arith}
+use Rattle.std.proofs.lemmas.Bool.{true≢false}
+use Rattle.std.proofs.lemmas.List.{length-map}
+use Rattle.hop_reservation.specs.declared.route.Hop.{Hop}
+use Rattle.link_steps.specs.Lists.{Each}
+use Rattle.call_script.specs.Parts.{PlanParts}
+use Rattle.call_script.specs.Plans.{HasTerms, IsPlan}
+use Rattle.call_script.specs.Splits.{entry_link, groups_in}
+use Rattle.call_script.specs.Tasks.{network_of}
+use Rattle.call_script.specs.declared.entries.LinkEntry.{LinkEntry}
+use Rattle.call_script.specs.declared.entries.RequestEntry.{RequestEntry}
+use Rattle.call_script.proofs.FitFacts.{plan-fits}
+use Rattle.scenario_reader.specs.BothWays.{IsFoundRoute}
+use Rattle.scenario_reader.specs.FoundRoutes.{IsLeastRoute}
+use Rattle.scenario_reader.specs.Nodes.{AreNumbered}
+use Rattle.scenario_reader.specs.ReadPlans.{GoesByLeastWalk, RequestsGetTheLeastRoutes}
+use Rattle.scenario_reader.proofs.FoundNodes.{found-nodes}
+use Rattle.scenario_reader.proofs.LeastRoutes.{finds_least_routes}
+use Rattle.scenario_reader.proofs.NodeFacts.{named-equal}
+use Rattle.scenario_reader.proofs.ReadNames.{what-is-readable}
+
+few-links : (parts : PlanParts) → IsPlan parts → length parts.links ≤ 32
+unfolding network_of
+few-links parts plan = (let few = (plan-fits parts plan).few in omega (arith, few, length-map parts.links (entry_link (groups_in parts))))
+
+least-route : (links : List LinkEntry) (route : List Hop) (found : Option (List ℕ × List ℕ)) → AreNumbered links → length links ≤ 32 → 1 ≤ length route → IsFoundRoute links route found → GoesByLeastWalk links route found
+least-route links route None numbered few some is = tt
+least-route links route (Some (from, to)) numbered few some is =
+    let ends = found-nodes links from to route numbered few some is in
+    subst (IsLeastRoute links from to) is (finds_least_routes links from to numbered few (record {
+      from_node = ends.first;
+      to_node = ends.second;
+      apart = λ same. true≢false (sym (named-equal to from same) ∙ ends.apart);
+    }))
+
+least-routes : (links : List LinkEntry) (requests : List RequestEntry) → AreNumbered links → length links ≤ 32 → Each HasTerms requests → Each (λ (entry : RequestEntry). IsFoundRoute links entry.request.route entry.found) requests
+    → Each (λ (entry : RequestEntry). GoesByLeastWalk links entry.request.route entry.found) requests
+least-routes links [] numbered few terms found = tt
+least-routes links (entry ∷ requests) numbered few terms found =
+    (least-route links entry.request.route entry.found numbered few terms.0.route.least found.0, least-routes links requests numbered few terms.1 found.1)
+
+pub requests-get_least_routes : RequestsGetTheLeastRoutes
+requests-get_least_routes most bytes parts schedule e =
+    let is = what-is-readable most bytes parts schedule e in
+    least-routes parts.links parts.requests (record { number = is.plan.planned.links }) (few-links parts is.plan) is.plan.terms is.found

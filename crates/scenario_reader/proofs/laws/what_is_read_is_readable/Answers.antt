@@ -1,0 +1,5 @@
+use Rattle.scenario_reader.proofs.ReadNames.{what-is-readable}
+use Rattle.scenario_reader.proofs.laws.what_is_read_is_readable.Goals as goal
+
+pub returns : goal.returns
+returns c = what-is-readable
