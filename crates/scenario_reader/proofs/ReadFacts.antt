@@ -6,17 +6,18 @@ use Rattle.std.proofs.lemmas.List.Elements.{All-take}
 use Rattle.std.proofs.lemmas.Option.{same_Some}
 use Rattle.std.proofs.lemmas.Result.{err_from_is_err_and}
 use Rattle.std.specs.Prelude.{IsErrAnd, Result}
-use Rattle.byte_ends.specs.Answers.{AnswersLine, AnswersReadFault, Foretells as BeforeLine, outlook_before}
+use Rattle.byte_ends.specs.Answers.{AnswersLine, AnswersReadFault, AnswersTooLong, Foretells as BeforeLine, outlook_before}
 use Rattle.byte_ends.specs.Cutting.{Cutting, IsCutting, IsOf, allowance, ahead as bytes_ahead}
 use Rattle.byte_ends.specs.WholeLines.{Outlook, feed, all_given, outlook, whole_lines}
 use Rattle.byte_ends.specs.declared.lines.Cut.TheVariants.{Line}
+use Rattle.byte_ends.specs.declared.lines.LineRefusal.TheVariants.{TooLong as LineTooLong}
 use Rattle.byte_ends.proofs.Outlooks.{whole_lines-line, whole_lines-none, allowance-line}
 use Rattle.call_script.specs.Parts.{PlanParts}
 use Rattle.call_script.specs.declared.schedule.Schedule.{Schedule}
 use Rattle.scenario_reader.specs.Causes.{unless}
 use Rattle.scenario_reader.specs.Drafts.{Said, is_complete, parts_said, schedule_said}
 use Rattle.scenario_reader.specs.Reading.{PlanRead, at_end, passes_and, are_let_pass, PassesFrom}
-use Rattle.scenario_reader.specs.ReadSteps.{AddsLine, end_rule, IsByLine, Language, ahead, judged_on, whole, Foretells, PassesOn, StopsPassing, ComesToEnd, ReadsOn, ReadsLine, Refuses, TellsLines}
+use Rattle.scenario_reader.specs.ReadSteps.{AddsLine, end_rule, IsByLine, Language, ahead, judged_on, whole, Foretells, PassesOn, StopsPassing, TakesOneTooMany, TakesTooMany, ComesToEnd, ReadsOn, ReadsLine, Refuses, TellsLines}
 use Rattle.scenario_reader.specs.declared.cause.Cause.{Cause}
 use Rattle.scenario_reader.specs.declared.cause.Cause.TheVariants as cause
 use Rattle.scenario_reader.specs.declared.reader.ReadRefusal.{ReadRefusal}
@@ -100,6 +101,23 @@ refused_reads k s t said after left left' faults faults' refusal.Memory by numbe
 refused_reads k s t said after left left' faults faults' refusal.ReadFault by number foretold adds = absurd adds
 refused_reads k s t said after left left' faults faults' (refusal.TooLong taken) by number foretold adds = absurd adds
 
+-- where one byte too many was taken, the bytes come to that
+over_ahead : {W R : Type 0} (k : Language W R) (s t : Cutting) (taken : ℕ) (said : W) (left left' : Option (List ℕ)) → IsByLine k → BeforeLine (Err (LineTooLong taken)) s t (bytes_ahead s left) (bytes_ahead t left') → IfSome (ahead k s said left) (λ r. r ≡ k.over)
+over_ahead k s t taken said None left' by foretold = tt
+over_ahead k s t taken said (Some bytes) None by foretold = absurd foretold
+over_ahead k s t taken said (Some bytes) (Some rest) by foretold = ap (λ (o : Outlook). k.on s.number o said) foretold ∙ by.over s.number said
+
+pub over_reads : {W R : Type 0} (k : Language W R) (s t : Cutting) (taken : ℕ) (said : W) (left left' : Option (List ℕ)) → IsByLine k → AnswersTooLong taken s t left left' → BeforeLine (Err (LineTooLong taken)) s t (bytes_ahead s left) (bytes_ahead t left') → TakesOneTooMany k taken s said left left'
+over_reads k s t taken said left left' by a foretold =
+    let m = a.stays.moves in
+    record {
+      over = over_ahead k s t taken said left left' by foretold;
+      one_more = omega (arith, a.count, a.over.too_many, m.same_most);
+      bytes = m.bytes;
+      from_source = m.from_source;
+      counted = omega (arith, a.count, m.counted);
+    }
+
 -- where the source failed, no whole line is ahead, and no byte too many was taken
 pub passes_fault : {W R : Type 0} (k : Language W R) (s t : Cutting) (said : W) (left left' : Option (List ℕ)) (faults faults' : ℕ) → AnswersReadFault s t left left' faults faults' → StopsPassing k s said left left'
 passes_fault k s t said left left' faults faults' a =
@@ -138,6 +156,18 @@ reads_to_fault k e s t said after left left' left'' faults faults' is most p rea
       passing = p.same q.bytes ∙ q.passing;
     }
 
+-- and what was taken where it is one byte too many is as many bytes as the refusal tells
+pub reads_too_many : {W R : Type 0} (k : Language W R) (e : ReadRefusal) (s t : Cutting) (taken : ℕ) (said after : W) (left left' left'' : Option (List ℕ)) (faults faults' : ℕ) → e ≡ refusal.TooLong taken → s.most ≡ MOST_BYTES
+    → PassesOn k at_start s k.first said left left' → ReadsLine k (Err e) s t said after left' left'' faults faults' → TakesTooMany taken MOST_BYTES left left''
+reads_too_many k e s t taken said after left left' left'' faults faults' is most p reads =
+    let q = rw is at reads in
+    record {
+      bytes = p.bytes ++ q.bytes;
+      from_source = Consumes-trans left left' left'' p.bytes q.bytes p.from_source q.from_source;
+      counted = omega (arith, p.counted, q.counted, length-append p.bytes q.bytes);
+      one_more = omega (arith, q.one_more, most);
+    }
+
 -- ---- the answer
 
 -- what is ahead comes to something, where it was foretold
@@ -152,7 +182,7 @@ tells_refused k e s t said after None left left' faults faults' most f reads = t
 tells_refused k refusal.Memory s t said after (Some bytes) left left' faults faults' most f reads = tt
 tells_refused k refusal.ReadFault s t said after (Some bytes) left left' faults faults' most f reads = tt
 tells_refused k (refusal.TooLong taken) s t said after (Some bytes) left left' faults faults' most f reads =
-    (foretold (ahead k s said left) (whole k bytes) (λ r. r ≡ k.over) f reads.0, reads.1 ∙ ap (λ n. n + 1) most)
+    (foretold (ahead k s said left) (whole k bytes) (λ r. r ≡ k.over) f reads.over, reads.one_more ∙ ap (λ n. n + 1) most)
 tells_refused k (refusal.Refused line cause) s t said after (Some bytes) left left' faults faults' most f reads =
     foretold (ahead k s said left) (whole k bytes) (λ r. r ≡ k.refused line cause) f reads
 

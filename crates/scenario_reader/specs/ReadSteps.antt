@@ -87,6 +87,21 @@ pub record FailsWhileReading {W R : Type 0} (k : Language W R) (s : Cutting) (sa
   pub rises : FaultsRise faults faults'
   pub stops : StopsPassing k s said left left'
 
+-- one byte too many was taken, `taken` in all, and no whole line is left among the others
+pub record TakesOneTooMany {W R : Type 0} (k : Language W R) (taken : ℕ) (s : Cutting) (said : W) (left left' : Option (List ℕ)) : Type 0 where
+  pub over : IfSome (ahead k s said left) (λ r. r ≡ k.over)
+  pub one_more : taken ≡ s.most + 1
+  pub bytes : List ℕ
+  pub from_source : Consumes left left' bytes
+  pub counted : taken ≡ s.taken + length bytes
+
+-- `taken` bytes were taken from a source in all, one more than may be read
+pub record TakesTooMany (taken most : ℕ) (left left' : Option (List ℕ)) : Type 0 where
+  pub bytes : List ℕ
+  pub from_source : Consumes left left' bytes
+  pub counted : length bytes ≡ taken
+  pub one_more : taken ≡ most + 1
+
 -- one more line was read and added
 pub record ReadsOn {W R : Type 0} (k : Language W R) (s t : Cutting) (said after : W) (left left' : Option (List ℕ)) : Type 0 where
   pub number : t.number ≡ s.number + 1
@@ -109,7 +124,7 @@ ReadsLine k (Ok true) s t said after left left' faults faults' = ReadsOn k s t s
 ReadsLine k (Ok false) s t said after left left' faults faults' = ComesToEnd k s t said after left left'
 ReadsLine k (Err refusal.Memory) s t said after left left' faults faults' = ⊤
 ReadsLine k (Err refusal.ReadFault) s t said after left left' faults faults' = FailsWhileReading k s said left left' faults faults'
-ReadsLine k (Err (refusal.TooLong taken)) s t said after left left' faults faults' = IfSome (ahead k s said left) (λ r. r ≡ k.over) × (taken ≡ s.most + 1)
+ReadsLine k (Err (refusal.TooLong taken)) s t said after left left' faults faults' = TakesOneTooMany k taken s said left left'
 ReadsLine k (Err (refusal.Refused line cause)) s t said after left left' faults faults' = IfSome (ahead k s said left) (λ r. r ≡ k.refused line cause)
 
 -- what all bytes come to

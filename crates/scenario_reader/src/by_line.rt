@@ -1,10 +1,10 @@
 //! Reading a text line by line.
-ghost use Rattle.std.specs.Prelude.{◌≡◌, ◌≤◌, Err, None, OnOk};
+ghost use Rattle.std.specs.Prelude.{◌≡◌, ◌≤◌, ℕ, Err, None, OnOk};
 ghost use Rattle.std.specs.Io.KnownBytes.{IsAtEnd};
 ghost use Rattle.byte_ends.specs.Cutting.{IsCutting, IsOf};
 ghost use Rattle.byte_ends.specs.Faults.{FaultsRise};
 ghost use Rattle.scenario_reader.specs.Causes.{Judges};
-ghost use Rattle.scenario_reader.specs.ReadSteps.{Adds, AddsLine, IsByLine, Language, ReadsLine, TellsLines};
+ghost use Rattle.scenario_reader.specs.ReadSteps.{Adds, AddsLine, IsByLine, Language, ReadsLine, TakesTooMany, TellsLines};
 ghost use Rattle.scenario_reader.specs.Reading.{PassesFrom};
 
 use crate::cause::{Cause, LineFault};
@@ -42,6 +42,7 @@ pub(crate) fn read_lines<S: Source, D: TakesLines>(
     ensures ended { OnOk result (IsAtEnd (S.left source.new)) }
     ensures fault { result ≡ Err ReadRefusal.ReadFault → FaultsRise (S.faults source.old) (S.faults source.new) }
     ensures passing { result ≡ Err ReadRefusal.ReadFault → PassesFrom D.language.says D.language.first MOST_BYTES (S.left source.old) (S.left source.new) }
+    ensures over { (taken : ℕ) → result ≡ Err (ReadRefusal.TooLong taken) → TakesTooMany taken MOST_BYTES (S.left source.old) (S.left source.new) }
     ensures counts { S.faults source.old ≤ S.faults source.new }
 {
     let mut lines = Lines::new(alloc, MOST_BYTES)?;

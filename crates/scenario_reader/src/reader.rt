@@ -1,9 +1,9 @@
 //! Reading a scenario, line by line.
-ghost use Rattle.std.specs.Prelude.{◌≡◌, ◌≤◌, Err, Some, IfOk, OnOk};
+ghost use Rattle.std.specs.Prelude.{◌≡◌, ◌≤◌, ℕ, Err, Some, IfOk, OnOk};
 ghost use Rattle.std.specs.Io.KnownBytes.{IsAtEnd};
 ghost use Rattle.byte_ends.specs.Faults.{FaultsRise};
 ghost use Rattle.scenario_reader.specs.Kept.{IsScheduleOf};
-ghost use Rattle.scenario_reader.specs.ReadSteps.{TellsReading};
+ghost use Rattle.scenario_reader.specs.ReadSteps.{TakesTooMany, TellsReading};
 ghost use Rattle.scenario_reader.specs.Reading.{LetsPass};
 ghost use Rattle.scenario_reader.specs.Words.{refusal_text};
 
@@ -29,7 +29,7 @@ pub enum ReadRefusal {
     ReadFault,
     /// There are more than 4,194,304 bytes, and no whole line within the first 4,194,304 is refused.
     TooLong {
-        /// How many bytes were taken: 4,194,305.
+        /// How many bytes were taken from the source in this call: 4,194,305.
         taken: u64,
     },
     /// A line is refused.
@@ -73,6 +73,7 @@ pub fn read_plan<S: Source>(alloc: Global, source: &mut S) -> Result<(Plan, Sche
     ensures ended { OnOk result (IsAtEnd (S.left source.new)) }
     ensures fault { result ≡ Err ReadRefusal.ReadFault → FaultsRise (S.faults source.old) (S.faults source.new) }
     ensures passing { result ≡ Err ReadRefusal.ReadFault → LetsPass MOST_BYTES (S.left source.old) (S.left source.new) }
+    ensures over { (taken : ℕ) → result ≡ Err (ReadRefusal.TooLong taken) → TakesTooMany taken MOST_BYTES (S.left source.old) (S.left source.new) }
     ensures counts { S.faults source.old ≤ S.faults source.new }
 {
     let mut draft = Draft::new(alloc)?;

@@ -1,5 +1,5 @@
 //! Reading an audit's input, line by line.
-ghost use Rattle.std.specs.Prelude.{◌≡◌, ◌≤◌, Err, IfErr, IfOk, OnOk};
+ghost use Rattle.std.specs.Prelude.{◌≡◌, ◌≤◌, ℕ, Err, IfErr, IfOk, OnOk};
 ghost use Rattle.std.specs.Io.KnownBytes.{IsAtEnd};
 ghost use Rattle.byte_ends.specs.Faults.{FaultsRise};
 ghost use Rattle.call_script.specs.Accepted.{AreAccepted};
@@ -7,6 +7,7 @@ ghost use Rattle.run_record.specs.SmallRows.{AreSmall};
 ghost use Rattle.scenario_reader.specs.AuditKept.{levels_given};
 ghost use Rattle.scenario_reader.specs.AuditReading.{AuditRead, LetsAuditPass};
 ghost use Rattle.scenario_reader.specs.AuditSteps.{AuditBytes, RefusesReading};
+ghost use Rattle.scenario_reader.specs.ReadSteps.{TakesTooMany};
 
 use crate::audit::draft::AuditDraft;
 use crate::by_line::read_lines;
@@ -34,6 +35,7 @@ pub fn read_audit<S: Source>(
     ensures ended { OnOk result (IsAtEnd (S.left source.new)) }
     ensures fault { result ≡ Err ReadRefusal.ReadFault → FaultsRise (S.faults source.old) (S.faults source.new) }
     ensures passing { result ≡ Err ReadRefusal.ReadFault → LetsAuditPass MOST_BYTES (S.left source.old) (S.left source.new) }
+    ensures over { (taken : ℕ) → result ≡ Err (ReadRefusal.TooLong taken) → TakesTooMany taken MOST_BYTES (S.left source.old) (S.left source.new) }
     ensures counts { S.faults source.old ≤ S.faults source.new }
 {
     let mut draft = AuditDraft::new(alloc)?;

@@ -1,5 +1,5 @@
 use Rattle.scenario_reader.specs.ReadSteps.{ReadsLine}
-use Rattle.scenario_reader.proofs.ReadFacts.{line_reads, passes_fault, refused_reads, tells_handed}
+use Rattle.scenario_reader.proofs.ReadFacts.{line_reads, over_reads, passes_fault, refused_reads, tells_handed}
 use Rattle.scenario_reader.proofs.by_line.read_line.Goals as goal
 
 pub returns-in_err-take_line-in-Ok-Line-clause-reads : goal.returns-in_err-take_line-in-Ok-Line-clause-reads
@@ -29,3 +29,9 @@ returns-in-Err-ReadFault-clause-reads g c =
       rises = a.rises;
       stops = passes_fault g.D.TakesLines.language c.args.lines.now c.read_line.new.self c.args.draft.now (g.S.Source.left c.args.source.now) (g.S.Source.left c.read_line.new.source) _ _ a;
     }
+
+pub returns-in-Err-TooLong-clause-reads : goal.returns-in-Err-TooLong-clause-reads
+returns-in-Err-TooLong-clause-reads g c =
+    let a = rw c.in-Err-TooLong.field-0-is at c.in-Err-TooLong.ensures.answers in
+    let told = rw c.in-Err-TooLong.field-0-is at c.in-Err-TooLong.ensures.told in
+    rw c.in-Err-TooLong.field-0-is (over_reads g.D.TakesLines.language c.args.lines.now c.read_line.new.self c.in-Err-TooLong.taken c.args.draft.now (g.S.Source.left c.args.source.now) (g.S.Source.left c.read_line.new.source) g.met.D.TakesLines.by_line a (told c.requires.source))

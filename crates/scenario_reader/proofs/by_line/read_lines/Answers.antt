@@ -2,7 +2,7 @@ use Rattle.std.proofs.Common.{rules, ◌+◌, ◌∙◌, ap, arith}
 use Rattle.std.proofs.lemmas.Bool.{both_ways}
 use Rattle.byte_ends.specs.Cutting.{Cutting}
 use Rattle.scenario_reader.specs.ReadSteps.{TellsLines}
-use Rattle.scenario_reader.proofs.ReadFacts.{at_start, ended, ended_early, foretells_at_start, foretells_next, passes_at_start, passes_next, reads_to_fault, tells_handed, tells_refused}
+use Rattle.scenario_reader.proofs.ReadFacts.{at_start, ended, ended_early, foretells_at_start, foretells_next, passes_at_start, passes_next, reads_to_fault, reads_too_many, tells_handed, tells_refused}
 use Rattle.scenario_reader.proofs.by_line.read_lines.Goals as goal
 
 pub loop-lines-init : goal.loop-lines-init
@@ -58,3 +58,10 @@ returns-clause-told g c =
     let reads = rw c.if-branch.false at c.in_ok-read_line.ensures.reads in
     ended_early g.D.TakesLines.language (left c.args.source.now) c.loop-lines.lines c.read_line.new.lines c.loop-lines.draft c.read_line.new.draft (left c.loop-lines.source) (left c.read_line.new.source) _ c.in-Err.cause g.met.D.TakesLines.by_line
     c.loop-lines.invariant.same reads (ap (λ n. n + 1) c.number.ensures) c.in-Err.ensures
+
+pub returns-in_err-read_line-clause-over : goal.returns-in_err-read_line-clause-over
+returns-in_err-read_line-clause-over g c =
+    λ taken is.
+    let left = g.S.Source.left in
+    reads_too_many g.D.TakesLines.language c.in_err-read_line.field-0.0 c.loop-lines.lines c.read_line.new.lines taken c.loop-lines.draft c.read_line.new.draft
+    (left c.args.source.now) (left c.loop-lines.source) (left c.read_line.new.source) _ _ (search rules) c.loop-lines.invariant.most c.loop-lines.invariant.passed c.in_err-read_line.ensures.reads
