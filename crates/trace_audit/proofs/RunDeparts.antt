@@ -64,7 +64,7 @@ link-hop plan run levels x r one other same link =
     let b = other.hop in
     omega (arith, a, b, index)
 
-rows-over : (plan : PlanParts) (run : List Done) (levels : List (Option Levels)) (x : HopRow) → IsPlan plan → IsRun (network_of plan) run → AreLevelsOf plan run levels → (one : RowIs plan run levels x) → rows_at (channel_number x.chan) x.hop (departures_of run) ≡ filter (is_over (channel_number x.chan) (link_number x.link)) (departures_of run)
+pub rows-over : (plan : PlanParts) (run : List Done) (levels : List (Option Levels)) (x : HopRow) → IsPlan plan → IsRun (network_of plan) run → AreLevelsOf plan run levels → (one : RowIs plan run levels x) → rows_at (channel_number x.chan) x.hop (departures_of run) ≡ filter (is_over (channel_number x.chan) (link_number x.link)) (departures_of run)
 rows-over plan run levels x is run_is are one =
     filter-same (is_at (channel_number x.chan) x.hop) (is_over (channel_number x.chan) (link_number x.link)) (departures_of run) (Each-from_among _ (departures_of run) (λ r among. same-test r among)) where
       same-test : (r : HopRow) → Among r (departures_of run) → is_at (channel_number x.chan) x.hop r ≡ is_over (channel_number x.chan) (link_number x.link) r

@@ -277,10 +277,10 @@ pub record SentAt (shape : LinkShape) (h : List Entry) (clock : ℕ) (sent : Sen
   pub size : 1 ≤ start.packet.size
   pub numbered : 1 ≤ start.packet.number
 
-ticked-clock : (a b x y : ℕ) (s t : Option Sent) (d e f g : Bool) → Is.Ticked a x s d e ≡ Is.Ticked b y t f g → a ≡ b
+pub ticked-clock : (a b x y : ℕ) (s t : Option Sent) (d e f g : Bool) → Is.Ticked a x s d e ≡ Is.Ticked b y t f g → a ≡ b
 ticked-clock a b x y s t d e f g same = cc
 
-asks-tick : (ask : Ask) (clock full : ℕ) (sent : Option Sent) (best_sent best_lost : Bool) → IsReplyOf ask (Is.Ticked clock full sent best_sent best_lost) → ask ≡ Tick
+pub asks-tick : (ask : Ask) (clock full : ℕ) (sent : Option Sent) (best_sent best_lost : Bool) → IsReplyOf ask (Is.Ticked clock full sent best_sent best_lost) → ask ≡ Tick
 asks-tick (Deny chan) clock full sent best_sent best_lost answers = cc
 asks-tick Tick clock full sent best_sent best_lost answers = refl
 asks-tick _ clock full sent best_sent best_lost answers = absurd answers
@@ -324,7 +324,7 @@ unfolding departures_in
 departures-append whole [] ys = refl
 departures-append whole (done ∷ xs) ys = ap (λ rs. rows_by whole done.link done.reply ++ rs) (departures-append whole xs ys) ∙ sym (append_assoc (rows_by whole done.link done.reply) (departures_in whole xs) (departures_in whole ys))
 
-departures-more : (whole past : List Done) (done : Done) → departures_in whole (reverse (done ∷ past)) ≡ departures_in whole (reverse past) ++ rows_by whole done.link done.reply
+pub departures-more : (whole past : List Done) (done : Done) → departures_in whole (reverse (done ∷ past)) ≡ departures_in whole (reverse past) ++ rows_by whole done.link done.reply
 unfolding departures_in
 departures-more whole past done = ap (departures_in whole) (reverse-append (done ∷ []) past) ∙ departures-append whole (reverse past) (done ∷ []) ∙ ap (λ rs. departures_in whole (reverse past) ++ rs) (append-nil (rows_by whole done.link done.reply))
 
@@ -357,7 +357,7 @@ leaves-one shape c n whole past done row one number more was =
     }
 
 -- a row over another link
-off-link : (c n : ℕ) (whole : List Done) (done : Done) (reply : Reply) → link_number done.link ≢ n → filter (is_over c n) (rows_by whole done.link reply) ≡ []
+pub off-link : (c n : ℕ) (whole : List Done) (done : Done) (reply : Reply) → link_number done.link ≢ n → filter (is_over c n) (rows_by whole done.link reply) ≡ []
 off-link c n whole done (Is.Ticked clock full (Some sent) best_sent best_lost) other =
     let link = ne_eqb (link_number done.link) n other in
     let off = and_right (nat_eq (channel_number sent.packet.chan) c) (nat_eq (link_number done.link) n) link in
@@ -386,7 +386,7 @@ off-channel c n whole done (Is.Taken clock eligible) other = refl
 off-channel c n whole done (Is.Refused refusal) other = refl
 
 -- an ask that is no tick is answered by none
-no-tick : (c n : ℕ) (whole : List Done) (done : Done) → done.ask ≢ Tick → IsReplyOf done.ask done.reply → filter (is_over c n) (rows_by whole done.link done.reply) ≡ []
+pub no-tick : (c n : ℕ) (whole : List Done) (done : Done) → done.ask ≢ Tick → IsReplyOf done.ask done.reply → filter (is_over c n) (rows_by whole done.link done.reply) ≡ []
 no-tick c n whole done other answers = off-channel c n whole done done.reply (λ sent clock full best_sent best_lost is. absurd (other (asks-tick done.ask clock full (Some sent) best_sent best_lost (subst (IsReplyOf done.ask) is answers))))
 
 leaves-tick : (shape : LinkShape) (c n : ℕ) (whole past : List Done) (done : Done) → link_number done.link ≡ n → part_of n (done ∷ past) ≡ ticked shape (part_of n past) → TickSends shape c (part_of n past) done.reply → Leaving shape c n whole past → Leaving shape c n whole (done ∷ past)

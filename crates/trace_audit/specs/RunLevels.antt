@@ -13,9 +13,12 @@ use Rattle.run_record.specs.declared.done.Done.{Done}
 use Rattle.call_script.specs.Plans.{IsPlan}
 use Rattle.call_script.specs.Tasks.{network_of}
 use Rattle.interleave_core.specs.runs.Runs.{IsRun}
-use Rattle.run_record.specs.Rows.{rows_of}
+use Rattle.link_steps.specs.Lists.{Each}
+use Rattle.run_record.specs.Rows.{IsEarly, rows_of}
+use Rattle.run_record.specs.SmallRows.{AreSmall}
 use Rattle.call_script.specs.Accepted.{AreAccepted}
-use Rattle.trace_audit.specs.Checks.{IsSound}
+use Rattle.trace_audit.specs.Checks.{IsSound, finding_of}
+use Rattle.trace_audit.specs.declared.finding.Finding.TheVariants.{Sound}
 use Rattle.trace_audit.specs.Terms.{levels_given}
 
 abbrev pub AreLevelsFor : Option Outcome → Option Levels → Type 0
@@ -33,6 +36,18 @@ pub record AreLevelsOf (plan : PlanParts) (run : List Done) (levels : List (Opti
 abbrev pub TablesOfRunsAreSound : Type 0
 TablesOfRunsAreSound = (plan : PlanParts) (run : List Done) (levels : List (Option Levels)) → IsPlan plan → IsRun (network_of plan) run → AreLevelsOf plan run levels → IsSound plan levels (rows_of (reverse run))
 
--- and they keep what the requests ask for
+-- so an audit finds nothing in it
+abbrev pub AuditsOfRunsFindNothing : Type 0
+AuditsOfRunsFindNothing = (plan : PlanParts) (run : List Done) (levels : List (Option Levels)) → IsPlan plan → IsRun (network_of plan) run → AreLevelsOf plan run levels → finding_of plan levels (rows_of (reverse run)) ≡ Sound (length (rows_of (reverse run)))
+
+-- its rows are small enough to be audited
+abbrev pub RowsOfRunsAreSmall : Type 0
+RowsOfRunsAreSmall = (plan : PlanParts) (run : List Done) (levels : List (Option Levels)) → IsPlan plan → IsRun (network_of plan) run → AreLevelsOf plan run levels → AreSmall (rows_of (reverse run))
+
+-- and each tick of the run is told early enough that the rows of its entries, in the order of time, can be made
+abbrev pub EveryTickIsEarly : Type 0
+EveryTickIsEarly = (plan : PlanParts) (run : List Done) → IsPlan plan → IsRun (network_of plan) run → Each (λ (done : Done). IsEarly done.reply) (reverse run)
+
+-- and the levels keep what the requests ask for
 abbrev pub LevelsOfRunsAreAccepted : Type 0
 LevelsOfRunsAreAccepted = (plan : PlanParts) (run : List Done) (levels : List (Option Levels)) → IsPlan plan → IsRun (network_of plan) run → AreLevelsOf plan run levels → length levels ≡ length plan.requests → AreAccepted plan levels

@@ -1,5 +1,5 @@
 //! An audit of a table.
-ghost use Rattle.std.specs.Prelude.{◌≡◌, ℕ, IfOk};
+ghost use Rattle.std.specs.Prelude.{◌≡◌, ℕ, length, IfOk};
 ghost use Rattle.call_script.specs.Plans.{IsPlan};
 ghost use Rattle.call_script.specs.Accepted.{AreAccepted};
 ghost use Rattle.run_record.specs.SmallRows.{AreSmall};
@@ -14,8 +14,8 @@ use run_record::HopRow;
 use std::alloc::Global;
 
 /// Audits a table of rows against a plan and the levels of its accepted requests: one entry a request. It tells the first row that
-/// fails, numbered from 1, and the first check that it fails, or that none does. Where it answers `Sound`, the packets of the table
-/// keep the bounds of their hops and of their requests.
+/// fails, numbered from 1, and the first check that it fails, or that none does. It answers `Sound` exactly where the table is sound, and
+/// then the packets of the table keep the bounds of their hops and of their requests.
 ///
 /// An `Err` comes only for want of memory. The audit keeps only what the rows of one channel leave, so the time that a table takes
 /// grows as its length.
@@ -29,6 +29,7 @@ pub fn audit(
     requires small { AreSmall table.now }
     ensures value { IfOk result (λ finding. finding ≡ finding_of plan.now levels.now table.now) }
     ensures sound { IfOk result (λ finding. (rows : ℕ) → finding ≡ Finding.Sound rows → IsSound plan.now levels.now table.now) }
+    ensures complete { IfOk result (λ finding. IsSound plan.now levels.now table.now → finding ≡ Finding.Sound (length table.now)) }
     ensures kept { IfOk result (λ finding. (rows : ℕ) → finding ≡ Finding.Sound rows → TableKept plan.now levels.now table.now) }
 {
     let _valid = plan.requests();

@@ -4,6 +4,7 @@ use Rattle.run_record.specs.SmallRows.{AreSmall}
 use Rattle.trace_audit.specs.Checks.{finding_below, fault_of}
 use Rattle.trace_audit.specs.Standing.{Stands}
 use Rattle.trace_audit.specs.declared.finding.Finding.TheVariants.{Fault}
+use Rattle.trace_audit.proofs.SoundFound.{sound-found}
 use Rattle.trace_audit.proofs.StandFacts.{stands-none, table-sound, at-row, finding-step, finding-fault, finding-end}
 use Rattle.trace_audit.proofs.TableFacts.{table-kept}
 use Rattle.trace_audit.proofs.auditing.audit.Goals as goal
@@ -42,3 +43,6 @@ returns-clause-value c = sym (finding-end c.args.plan.now c.args.levels.now c.ar
 pub returns-clause-kept : goal.returns-clause-kept
 returns-clause-kept c = λ rows is. table-kept c.args.plan.now c.args.levels.now c.args.table.now c.requests-valid.ensures.valid c.requires.accepted
     (table-sound c.args.plan.now c.args.levels.now c.args.table.now rows (sym (sym (finding-end c.args.plan.now c.args.levels.now c.args.table.now c.loop-index.index c.loop-index-test.false) ∙ c.loop-index.invariant.rest) ∙ is))
+
+pub returns-in-Some-clause-complete : goal.returns-in-Some-clause-complete
+returns-in-Some-clause-complete c = λ sound. returns-in-Some-clause-value c ∙ sound-found c.args.plan.now c.args.levels.now c.args.table.now sound
