@@ -1,23 +1,28 @@
 -- The packets on their way to one link, in the order of their rounds: a stable sort of them is that order, and they are found by
 -- going once from front to end.
 use Rattle.std.proofs.Common.{◌≡◌, ◌≢◌, ℕ, zero, suc, ◌+◌, ◌-◌, ◌<◌, ◌≤◌, Bool, true, false, not, cond, ◌&&◌, List, [], ◌∷◌, ◌++◌, map, filter, length, drop, get_or, refl, sym, ap, ◌∙◌, subst, inl, inr, arith}
-use Rattle.std.proofs.lemmas.Bool.{cases_Bool, cases_lt, eqb-true, eq-eqb, ne_eqb, lt-ltb, le-leb, le-ltb, ltb-false}
+use Rattle.std.proofs.lemmas.Bool.{cases_Bool, cases_lt, eqb-false, eqb-true, eq-eqb, ne_eqb, lt-ltb, ltb-false}
 use Rattle.std.proofs.lemmas.Bool.Decides.{nat_tests}
 use Rattle.std.proofs.lemmas.Cmp.{nat_cmp_total}
 use Rattle.std.proofs.lemmas.List.{append_assoc, append-nil, drop_more}
 use Rattle.std.proofs.lemmas.List.Sorted.{ranks_by, sorted_far}
-use Rattle.std.specs.Prelude.{nat_eq, nat_le, nat_lt, None, Result, Ok, Err, OnOk}
+use Rattle.std.proofs.lemmas.List.Elements.{filter-append}
+use Rattle.std.proofs.lemmas.Option.{slice_get_cases, slice_get_within}
+use Rattle.std.specs.List.{slice_get}
+use Rattle.std.specs.Prelude.{nat_eq, nat_lt, None, Some, Option, Result, Ok, Err, IfOk, OnOk}
 use Rattle.std.specs.Ordering.{is_lt, nat_cmp}
 use Rattle.std.specs.declared.cmp.Ordering.TheVariants.{Less, Equal, Greater}
 use Rattle.std.specs.List.Sorted.{IsSortedByKey, IsStableByKey}
 use Rattle.net_units.specs.Numbers.{link_number}
 use Rattle.link_steps.specs.Lists.{Each}
-use Rattle.link_steps.proofs.ListFacts.{Each-from, Each-if, filter-filter, filter-none}
+use Rattle.link_steps.proofs.ListFacts.{Each-filter, Each-from, Each-if, filter-filter, filter-map, filter-none}
+use Rattle.link_steps.proofs.ListParts.{Each-at}
 use Rattle.link_steps.specs.declared.asks.Ask.{Ask}
 use Rattle.link_steps.specs.declared.asks.Ask.TheVariants.{Arrive, Tick}
+use Rattle.tick_calendar.specs.Calendar.{Entry}
 use Rattle.tick_plane.specs.declared.flight.Flight.{Flight}
-use Rattle.tick_plane.specs.Carried.{flight_told, in_round}
-use Rattle.tick_plane.specs.Coming.{IsDueFrom, Rise, is_coming, AreComing, arrivals_in, rounds_in, AreLeft}
+use Rattle.tick_plane.specs.Carried.{flight_at, flight_told, flights_at, in_round}
+use Rattle.tick_plane.specs.Coming.{IsDueFrom, Rise, is_before, is_to, AreByLink, AreComing, AreListed, arrivals_in, rounds_in, AreLeft}
 use Rattle.tick_plane.specs.Planes.{Plane, is_due}
 use Rattle.tick_plane.specs.Windows.{arrive_of, is_bound, arrivals_at, rounds_at, tick_left, window_at}
 
@@ -76,58 +81,93 @@ each-from from (f ∷ fs) none = (
         | inr off ↦ rw off at is
       ]
 
-none : (b : Bool) → (b && false) ≡ false
-none true = refl
-none false = refl
+-- a stable sort of those that are due from a round on leaves all of them
+pub left-sorted : (from : ℕ) (flights sorted : List Flight) → Each (IsDueFrom from) flights → IsSortedByKey round_of nat_cmp sorted → IsStableByKey round_of nat_cmp flights sorted → AreLeft from flights sorted
+left-sorted from flights sorted ahead up stable = record {
+  rise = rise-sorted sorted up;
+  ahead = each-from from sorted (λ round early. due-stable round flights sorted stable ∙ none-early round early);
+  all = λ round past. due-stable round flights sorted stable;
+} where
+  none-early : (round : ℕ) → round < from → filter (is_due round) flights ≡ []
+  none-early round early = filter-none (is_due round) flights (Each-if (IsDueFrom from) (λ f. is_due round f ≡ false) flights (λ f due. ne_eqb f.round round (λ same. omega (arith, due, same, early))) ahead)
 
-module _ (n from until : ℕ) (flights : List Flight) where
-  abbrev own : List Flight
-  own = filter (is_coming n from until) flights
+-- ---- before a round
 
-  within : (round : ℕ) → from ≤ round → round < until → (f : Flight) → (is_coming n from until f && is_due round f) ≡ is_bound n round f
-  within round low high f =
+pub flights-before : (slots : List (Option Flight)) (until : ℕ) (entries kept : List Entry) → kept ≡ filter (λ entry. nat_lt entry.0 until) entries → flights_at slots kept ≡ filter (is_before until) (flights_at slots entries)
+flights-before slots until entries kept is =
+    ap (flights_at slots) is ∙ sym (filter-map (flight_at slots) (λ entry. nat_lt entry.0 until) (is_before until) entries (Each-from (λ entry. is_before until (flight_at slots entry) ≡ nat_lt entry.0 until) entries (λ entry. refl)))
+
+-- ---- link by link
+
+-- those that are due in a round, of those of a link that are due before a later one
+module _ (n round until : ℕ) (early : round < until) where
+  bound-so : (f : Flight) → (is_before until f && (is_to n f && is_due round f)) ≡ is_bound n round f
+  bound-so f =
       elim (cases_Bool (is_due round f)) [
-        | inl due ↦
-            (let at = eqb-true f.round round due in
-            rw (due, le-leb from f.round (omega (arith, at, low)), lt-ltb f.round until (omega (arith, at, high))) (both (nat_eq (link_number f.to) n)))
-        | inr off ↦ rw off (none (is_coming n from until f))
+        | inl due ↦ (let at = eqb-true f.round round due in rw (due, lt-ltb f.round until (omega (arith, at, early))) (both (is_to n f)))
+        | inr off ↦ rw off (neither (is_before until f) (is_to n f))
       ] where
-        both : (b : Bool) → ((b && true) && true) ≡ b
+        both : (b : Bool) → (b && true) ≡ b
         both true = refl
         both false = refl
 
-  own-bound : (round : ℕ) → from ≤ round → round < until → filter (is_due round) own ≡ filter (is_bound n round) flights
-  own-bound round low high =
-      filter-filter (is_due round) (is_coming n from until) flights
-      ∙ ap (λ (test : Flight → Bool). filter test flights) (λ i f. within round low high f i)
+        neither : (a b : Bool) → (a && (b && false)) ≡ false
+        neither true true = refl
+        neither true false = refl
+        neither false b = refl
 
-  own-early : (round : ℕ) → round < from → filter (is_due round) own ≡ []
-  own-early round early =
-      filter-filter (is_due round) (is_coming n from until) flights
-      ∙ filter-none (λ f. is_coming n from until f && is_due round f) flights (Each-from (λ f. (is_coming n from until f && is_due round f) ≡ false) flights (off round early)) where
-        le-false : (a b : ℕ) → b < a → nat_le a b ≡ false
-        le-false a b less = grind (arith, nat_tests)
+  pub bound-listed : (flights : List Flight) → filter (is_due round) (filter (is_to n) (filter (is_before until) flights)) ≡ filter (is_bound n round) flights
+  bound-listed flights =
+      filter-filter (is_due round) (is_to n) (filter (is_before until) flights)
+      ∙ filter-filter (λ f. is_to n f && is_due round f) (is_before until) flights
+      ∙ ap (λ (test : Flight → Bool). filter test flights) (λ i f. bound-so f i)
 
-        never : (b : Bool) → ((b && false) && true) ≡ false
-        never true = refl
-        never false = refl
+-- the link's own of a window, sorted, are those that reach it in it
+pub coming-listed : {X : Type 0} (items : X → List Flight) (n until : ℕ) (at : Plane) (lists : List X) (own : X) (sorted : List Flight) → AreListed items until at lists → slice_get lists n ≡ Some own → AreLeft at.round (items own) sorted → AreComing n at.round until at.flights sorted
+coming-listed items n until at lists own sorted are found left = record {
+  rise = left.rise;
+  ahead = left.ahead;
+  all = λ round past early. left.all round past ∙ ap (filter (is_due round)) (are.by_link.own n own found) ∙ bound-listed n round until early at.flights;
+}
 
-        off : (round : ℕ) → round < from → (f : Flight) → (is_coming n from until f && is_due round f) ≡ false
-        off round early f =
-            elim (cases_Bool (is_due round f)) [
-              | inl due ↦
-                  (let at = eqb-true f.round round due in
-                  rw (due, le-false from f.round (omega (arith, at, early))) (never (nat_eq (link_number f.to) n)))
-              | inr other ↦ rw other (none (is_coming n from until f))
-            ]
+pub own-ahead : {X : Type 0} (items : X → List Flight) (n until : ℕ) (at : Plane) (lists : List X) (own : X) → AreListed items until at lists → slice_get lists n ≡ Some own → Each (IsDueFrom at.round) (items own)
+own-ahead items n until at lists own are found =
+    subst (Each (IsDueFrom at.round)) (sym (are.by_link.own n own found)) (Each-filter (IsDueFrom at.round) (is_to n) (filter (is_before until) at.flights) are.ahead)
 
-  -- those of the link, sorted by a stable sort, are in the order of their rounds
-  pub coming-sorted : (coming : List Flight) → IsSortedByKey round_of nat_cmp coming → IsStableByKey round_of nat_cmp own coming → AreComing n from until flights coming
-  coming-sorted coming sorted stable = record {
-    rise = rise-sorted coming sorted;
-    ahead = each-from from coming (λ round early. due-stable round own coming stable ∙ own-early round early);
-    all = λ round low high. due-stable round own coming stable ∙ own-bound round low high;
-  }
+-- no flight is listed yet
+pub none-listed : {X : Type 0} (items : X → List Flight) (lists : List X) → length lists ≡ 32 → Each (λ own. items own ≡ []) lists → AreByLink items [] lists
+none-listed items lists long empty = record { long = long; own = λ n x found. Each-at (λ own. items own ≡ []) lists n x empty found }
+
+had : {X : Type 0} (xs : List X) (n : ℕ) → n < length xs → (x : X) × (slice_get xs n ≡ Some x)
+had xs n within =
+    elim (slice_get_cases xs n).1 [
+      | inl at ↦ (at.0, at.2)
+      | inr past ↦ absurd (omega (arith, past.0, within))
+    ]
+
+-- one more is
+pub one-listed : {X : Type 0} (items : X → List Flight) (flights : List Flight) (f : Flight) (old new : List X) → AreByLink items flights old → length new ≡ length old
+    → ((n : ℕ) → n ≢ link_number f.to → slice_get new n ≡ slice_get old n) → ((x y : X) → slice_get old (link_number f.to) ≡ Some x → slice_get new (link_number f.to) ≡ Some y → items y ≡ items x ++ f ∷ []) → AreByLink items (flights ++ f ∷ []) new
+one-listed items flights f old new were long others own = record {
+  long = long ∙ were.long;
+  own = λ n y found.
+      elim (cases_Bool (nat_eq (link_number f.to) n)) [
+        | inl at ↦
+            (let same = eqb-true (link_number f.to) n at in
+            let within = slice_get_within new n y found in
+            let x = had old n (omega (arith, within, long)) in
+            own x.0 y (ap (slice_get old) same ∙ x.1) (ap (slice_get new) same ∙ found) ∙ ap (λ fs. fs ++ f ∷ []) (were.own n x.0 x.1)
+            ∙ sym (filter-append (is_to n) flights (f ∷ []) ∙ ap (λ fs. filter (is_to n) flights ++ fs) (kept n at)))
+        | inr off ↦
+            were.own n y (sym (others n (λ same. eqb-false (link_number f.to) n off (sym same))) ∙ found)
+            ∙ sym (filter-append (is_to n) flights (f ∷ []) ∙ ap (λ fs. filter (is_to n) flights ++ fs) (gone n off) ∙ append-nil (filter (is_to n) flights))
+      ];
+} where
+  kept : (n : ℕ) → is_to n f ≡ true → filter (is_to n) (f ∷ []) ≡ f ∷ []
+  kept n at = rw at refl
+
+  gone : (n : ℕ) → is_to n f ≡ false → filter (is_to n) (f ∷ []) ≡ []
+  gone n off = rw off refl
 
 -- ---- round by round
 
@@ -225,6 +265,10 @@ later-drop coming place round f within is rise ahead other =
 
 pub none-more : (round : ℕ) (old asks coming : List Ask) (left : List Flight) → Each (IsDueFrom (suc round)) left → asks ++ arrivals_in round left ≡ old ++ coming → asks ≡ old ++ coming
 none-more round old asks coming left later is = sym (append-nil asks) ∙ ap (λ more. asks ++ more) (sym (none-arrives round left later)) ∙ is
+
+pub if-ok : {T E : Type 0} {P Q : T → Type 0} (answer : Result T E) → ((x : T) → P x → Q x) → IfOk answer P → IfOk answer Q
+if-ok (Ok x) then-so is = then-so x is
+if-ok (Err e) then-so is = tt
 
 pub on-ok : {T E : Type 0} {P Q : Type 0} (answer : Result T E) → (P → Q) → OnOk answer P → OnOk answer Q
 on-ok (Ok x) then-so is = then-so is

@@ -1,8 +1,8 @@
 //! The packets on their way, in the order of their departures, found by the round in which they are due.
-ghost use Rattle.std.specs.Prelude.{◌≡◌, ◌+◌, ◌-◌, ◌^◌, ◌≤◌, ◌<◌, ◌++◌, ◌∷◌, [], suc, None, IsOk, IsSome, OnOk, OnErr, IfOk, length, find};
+ghost use Rattle.std.specs.Prelude.{◌≡◌, ◌+◌, ◌-◌, ◌^◌, ◌≤◌, ◌<◌, ◌++◌, ◌∷◌, [], suc, None, IsOk, IsSome, OnOk, OnErr, IfOk, length, find, filter};
 ghost use Rattle.tick_plane.specs.Planes.{is_due};
 ghost use Rattle.tick_plane.specs.Carried.{IsCarried, flights_at};
-ghost use Rattle.tick_plane.specs.Coming.{IsDueFrom};
+ghost use Rattle.tick_plane.specs.Coming.{IsDueFrom, is_before};
 ghost use Rattle.link_steps.specs.Lists.{Each, without_first};
 
 use crate::flight::Flight;
@@ -142,6 +142,16 @@ impl Flights {
         ensures { IfOk result (λ all. all.items ≡ self.now.list) }
     {
         let entries = self.rounds.entries(alloc)?;
+        listed(alloc, &self.carried, &entries)
+    }
+
+    // Those that are due before a round, in their order. None of them is due before the round at hand.
+    pub(crate) fn due_before(&self, alloc: Global, until: u64) -> Result<Vec<Flight>, OutOfMemory>
+        ensures due { IfOk result (λ due. due.items ≡ filter (is_before until) self.now.list) }
+        ensures ahead { IfOk result (λ due. Each (IsDueFrom self.now.round) due.items) }
+    {
+        let mut entries = self.rounds.entries(alloc)?;
+        entries.retain(|entry| entry.0 < until);
         listed(alloc, &self.carried, &entries)
     }
 

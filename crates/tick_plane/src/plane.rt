@@ -178,16 +178,11 @@ impl Plane {
     }
 
     /// The window from here until round `until` begins. An `Err` comes only for want of memory.
-    pub fn window(&self, alloc: Global, until: u64) -> Result<Window, OutOfMemory>
+    pub fn window(&self, alloc: Global, until: u64) -> Result<Window<'_>, OutOfMemory>
         ensures { IfOk result (λ made. made ≡ record { at = self.now.at; until = until }) }
     {
-        let flights = self.flights.list(alloc)?;
-        Ok(Window {
-            round: self.round,
-            ticked: self.ticked,
-            until,
-            flights,
-        })
+        let due = self.flights.due_before(alloc, until)?;
+        Window::new(alloc, self, until, &due)
     }
 
     /// The number of the round, which is how many are made.
@@ -195,6 +190,13 @@ impl Plane {
         ensures { result ≡ self.now.at.round }
     {
         self.round
+    }
+
+    // How many links have made the tick of the round.
+    pub(crate) fn ticked(&self) -> u32
+        ensures { result ≡ self.now.at.ticked }
+    {
+        self.ticked
     }
 
     /// How many packets are on their way.

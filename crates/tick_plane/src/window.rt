@@ -1,13 +1,16 @@
 //! A window of rounds, and what each link is asked in it.
-ghost use Rattle.std.specs.Prelude.{◌≡◌, ◌+◌, ◌-◌, ◌<◌, ◌≤◌, ◌++◌, ◌∷◌, [], suc, nat_lt, if◌then◌else◌, OnOk, IfOk, drop, filter, length};
+ghost use Rattle.std.specs.Prelude.{◌≡◌, ◌≢◌, ℕ, ◌+◌, ◌-◌, ◌<◌, ◌≤◌, ◌++◌, ◌∷◌, [], suc, nat_lt, if◌then◌else◌, Some, OnOk, IfOk, drop, filter, length};
+ghost use Rattle.std.specs.List.{slice_get};
 ghost use Rattle.link_steps.specs.Lists.{Each};
 ghost use Rattle.link_steps.specs.declared.asks.Ask.TheVariants.{Tick};
 ghost use Rattle.net_units.specs.Numbers.{link_number};
-ghost use Rattle.tick_plane.specs.Coming.{AreComing, AreLeft, IsDueFrom, Rise, arrivals_in, is_coming, rounds_in};
+ghost use Rattle.tick_plane.specs.Coming.{AreByLink, AreLeft, IsDueFrom, Rise, arrivals_in, is_before, rounds_in};
 ghost use Rattle.tick_plane.specs.Windows.{window_at};
 
 use crate::flight::Flight;
+use crate::plane::Plane;
 use link_steps::Ask;
+use net_units::limits::MOST_LINKS;
 use net_units::{LinkNo, OutOfMemory};
 use std::alloc::Global;
 use std::marker::Model;
@@ -16,71 +19,105 @@ use std::marker::Model;
 ///
 /// A contract sees where the plane stands, as `at`, and the round that begins when the window is over, as `until`.
 #[derive(Drop)]
-pub struct Window {
-    pub(crate) round: u64,
-    pub(crate) ticked: u32,
-    pub(crate) until: u64,
-    // The packets on their way, in the order of their departures.
-    pub(crate) flights: Vec<Flight>,
+pub struct Window<'a> {
+    plane: &'a Plane,
+    until: u64,
+    // The packets that reach each link before the window is over, in the order of their departures.
+    coming: Vec<Vec<Flight>>,
 }
 
-impl Model for Window {
+impl<'a> Model for Window<'a> {
     ghost use Rattle.tick_plane.specs.Windows.{WindowAt};
+    ghost use Rattle.tick_plane.specs.Coming.{AreListed};
 
     ghost Value = { WindowAt };
 
-    ghost view = { λ w. record { at = record { round = w.round; ticked = w.ticked; flights = w.flights.items }; until = w.until } };
+    ghost view = { λ w. record { at = w.plane.now.at; until = w.until } };
+
+    ghost invariant = { λ w. AreListed (λ own. own.items) w.until w.plane.now.at w.coming.items };
 }
 
-impl Window {
+impl<'a> Window<'a> {
+    // The window from where the plane stands. These are the packets on their way that are due before it is over.
+    pub(crate) fn new(
+        alloc: Global,
+        plane: &'a Plane,
+        until: u64,
+        due: &[Flight],
+    ) -> Result<Window<'a>, OutOfMemory>
+        requires due { due.now ≡ filter (is_before until) plane.now.at.flights }
+        requires ahead { Each (IsDueFrom plane.now.at.round) due.now }
+        ensures { IfOk result (λ made. made ≡ record { at = plane.now.at; until = until }) }
+    {
+        let coming = by_link(alloc, due)?;
+        Ok(Window {
+            plane,
+            until,
+            coming,
+        })
+    }
+
     /// Adds what a link is asked in these rounds, in order: in each, the packets that reach it then arrive, and it makes its
     /// tick. That is what the plane asks of it where no packet that leaves a link in these rounds reaches another in them. An
     /// `Err`, which comes for want of memory alone, may leave some asks added.
     pub fn asks(&self, alloc: Global, link: LinkNo, asks: &mut Vec<Ask>) -> Result<(), OutOfMemory>
         ensures { OnOk result (asks.new.items ≡ asks.old.items ++ window_at (link_number link) self.now.until self.now.at) }
     {
-        if self.round >= self.until {
+        let round = self.plane.round();
+        if round >= self.until {
             return Ok(());
         }
-        let coming = coming_to(alloc, &self.flights, link, self.round, self.until)?;
-        let next = add_arrivals(&coming, 0, self.round, asks)?;
-        add_tick(link, self.ticked, asks)?;
-        add_rounds(&coming, next, self.round + 1, self.until, asks)
+        let own = &self.coming[usize::from(link.get())];
+        let coming = sorted(alloc, own, round)?;
+        let next = add_arrivals(&coming, 0, round, asks)?;
+        add_tick(link, self.plane.ticked(), asks)?;
+        add_rounds(&coming, next, round + 1, self.until, asks)
     }
 }
 
-// The flights to a link that are due in the rounds of a window, in the order of these rounds.
-fn coming_to(
-    alloc: Global,
-    flights: &[Flight],
-    link: LinkNo,
-    from: u64,
-    until: u64,
-) -> Result<Vec<Flight>, OutOfMemory>
-    ensures { IfOk result (λ coming. AreComing (link_number link) from until flights.now coming.items) }
+// These flights by the links that they go to.
+fn by_link(alloc: Global, flights: &[Flight]) -> Result<Vec<Vec<Flight>>, OutOfMemory>
+    ensures { IfOk result (λ lists. AreByLink (λ own. own.items) flights.now lists.items) }
 {
-    let mut coming = own_flights(alloc, flights, link, from, until)?;
-    coming.sort_by_key(|flight| flight.round)?;
-    Ok(coming)
-}
-
-// Those flights in the order of their departures.
-fn own_flights(
-    alloc: Global,
-    flights: &[Flight],
-    link: LinkNo,
-    from: u64,
-    until: u64,
-) -> Result<Vec<Flight>, OutOfMemory>
-    ensures { IfOk result (λ own. own.items ≡ filter (is_coming (link_number link) from until) flights.now) }
-{
-    let mut own = Vec::new(alloc);
+    let mut lists = no_flights(alloc)?;
     for flight in flights {
-        if flight.to.get() == link.get() && from <= flight.round && flight.round < until {
-            own.push(*flight)?;
-        }
+        list_flight(&mut lists, flight)?;
     }
-    Ok(own)
+    Ok(lists)
+}
+
+// An empty list for each link that there may be.
+fn no_flights(alloc: Global) -> Result<Vec<Vec<Flight>>, OutOfMemory>
+    ensures long { IfOk result (λ lists. length lists.items ≡ 32) }
+    ensures empty { IfOk result (λ lists. Each (λ own. own.items ≡ []) lists.items) }
+{
+    let mut lists = Vec::new(alloc);
+    for _ in 0..MOST_LINKS {
+        lists.push(Vec::new(alloc))?;
+    }
+    Ok(lists)
+}
+
+// Adds a flight to the list of its link.
+fn list_flight(lists: &mut [Vec<Flight>], flight: &Flight) -> Result<(), OutOfMemory>
+    requires inside { link_number flight.now.to < length lists.old }
+    ensures long { OnOk result (length lists.new ≡ length lists.old) }
+    ensures others { OnOk result ((n : ℕ) → n ≢ link_number flight.now.to → slice_get lists.new n ≡ slice_get lists.old n) }
+    ensures own { OnOk result ((old new : _) → slice_get lists.old (link_number flight.now.to) ≡ Some old → slice_get lists.new (link_number flight.now.to) ≡ Some new → new.items ≡ old.items ++ flight.now ∷ []) }
+{
+    lists[usize::from(flight.to.get())].push(*flight)?;
+    Ok(())
+}
+
+// These flights, none of which is due before a round, in the order of the rounds in which they are due.
+fn sorted(alloc: Global, flights: &[Flight], from: u64) -> Result<Vec<Flight>, OutOfMemory>
+    requires { Each (IsDueFrom from) flights.now }
+    ensures { IfOk result (λ sorted. AreLeft from flights.now sorted.items) }
+{
+    let mut sorted = Vec::with_capacity(alloc, flights.len())?;
+    sorted.extend_from_slice(flights)?;
+    sorted.sort_by_key(|flight| flight.round)?;
+    Ok(sorted)
 }
 
 // Adds what is asked in whole rounds, from one until another begins. The flights from the place `first` on haven't arrived.
