@@ -13,4 +13,6 @@ pub mod EndFacts
 pub mod KeptFacts
 pub mod StepTallies
 pub mod RestTallies
+pub mod PlainFields
+pub mod PagesTold
 mod Worked

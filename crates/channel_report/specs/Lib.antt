@@ -7,6 +7,7 @@ pub mod Schedule
 pub mod Tallies
 pub mod Findings
 pub mod Table
+pub mod Csv
 pub mod Sources
 pub mod ChannelTallies
 pub mod Delays
