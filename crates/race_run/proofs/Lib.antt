@@ -22,4 +22,5 @@ mod PieceFacts
 mod GivenUp
 mod OpenFacts
 mod RaceFacts
+mod EarlyFacts
 mod TailFacts

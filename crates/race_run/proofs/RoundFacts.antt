@@ -27,8 +27,9 @@ use Rattle.call_script.specs.Tasks.{Network}
 use Rattle.interleave_core.specs.runs.Parts.{IsAsked, next_after}
 use Rattle.interleave_core.specs.runs.Runs.{plane_no}
 use Rattle.interleave_core.specs.runs.Turns.{plane_most}
-use Rattle.race_run.specs.Rounds.{PlaneIsOn, PlaneIsAt, IsStepped}
+use Rattle.race_run.specs.Rounds.{AddsOne, AreAskedBefore, PlaneIsOn, PlaneIsAt, IsStepped}
 use Rattle.race_run.specs.Whole.{HasMadeAll, own_done}
+use Rattle.race_run.proofs.EarlyFacts.{asked-one, none-asked}
 use Rattle.race_run.proofs.PlaneSteps.{asks-early, steps-few, ticked-within}
 use Rattle.interleave_core.proofs.Tasks.TurnFacts.{with-fewer}
 use Rattle.race_run.proofs.TaskFacts.{asked-more}
@@ -47,6 +48,7 @@ plane-begins network plane pass links rounds start none is = record {
     is = is;
   };
   between = ap (λ (p : Plane). p.ticked) start;
+  early = none-asked (length network.links) plane.at.round pass.own none;
 }
 
 -- ---- with room for the flights
@@ -109,6 +111,21 @@ step-made network plane plane' pass pass' reply fits on made =
       round = subst (λ (p : Plane). (p.round ≡ plane.at.round) ⊎ ((p.round ≡ plane.at.round + 1) × (p.ticked ≡ 0))) (sym made.taken) after;
       fewer = subst (λ (x : ℕ × ℕ × Plane). plane_most x.0 x.1 x.2 < plane_most plane.links plane.rounds plane.at) (λ i. (sym made.links_are i, sym made.rounds_are i, sym made.taken i)) fewer;
     }
+
+-- it adds one entry
+one-added : (entries : List OwnEntry) (one : Asked) (pass pass' : Token) → map asked_in entries ≡ one ∷ [] → pass'.own ≡ pass.own ++ entries → AddsOne pass pass'
+one-added [] one pass pass' are own = absurd (let clash : [] ≡ one ∷ [] = are in cc)
+one-added (e ∷ []) one pass pass' are own = record { entry = e; own = own }
+one-added (e ∷ f ∷ entries) one pass pass' are own = absurd (let clash : asked_in e ∷ asked_in f ∷ map asked_in entries ≡ one ∷ [] = are in cc)
+
+pub adds-one : (plane plane' : KeptPlane) (pass pass' : Token) (reply : Reply) → MakesRound plane plane' pass pass' reply → AddsOne pass pass'
+adds-one plane plane' pass pass' reply made = one-added made.adds.entries _ pass pass' made.adds.are made.adds.own
+
+-- and it is asked in the round in which the plane stands
+pub early-next : (network : Network) (plane : KeptPlane) (pass pass' : Token) (round : ℕ) → PlaneIsOn network plane pass → AddsOne pass pass' → plane.at.round < round → AreAskedBefore (length network.links) round pass.own → AreAskedBefore (length network.links) round pass'.own
+early-next network plane pass pass' round on adds now early =
+    let stands : plane.at ≡ plane_of (length network.links) (reverse (map reply_in pass.own)) = on.planes.stands ∙ ap (λ own. plane_of (length network.links) (reverse (map reply_in own))) on.only in
+    asked-one (length network.links) round pass.own pass'.own adds.entry early (subst (λ (p : Plane). p.round < round) stands now) adds.own
 
 -- the pass has drawn few stamps, as the rounds of a plan are few
 pub few-drawn : (table : TableId) (owners : List ActorNo) (links : List Link) (network : Network) (plane : KeptPlane) (pass : Token) → NetworkFits network → PlaneIsOn network plane pass → MayStep table owners links pass → stamps_drawn pass < 2 ^ 40 - 64

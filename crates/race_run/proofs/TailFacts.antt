@@ -9,16 +9,16 @@ use Rattle.link_ledger.specs.Tokens.{Token, last_seen}
 use Rattle.link_ledger.specs.declared.entries.OwnEntry.{OwnEntry}
 use Rattle.net_units.specs.Numbers.{actor_number}
 use Rattle.shared_network.specs.Added.{AddsAbove}
-use Rattle.shared_network.specs.Calls.{reply_in}
 use Rattle.shared_network.specs.Closing.{KeptPass, kept_pass, HaveGivenUp}
 use Rattle.shared_network.specs.Planes.{IsPlanes, rounds_in}
 use Rattle.tick_plane.specs.Kept.{KeptPlane}
-use Rattle.tick_plane.specs.Planes.{Plane, plane_of}
 use Rattle.call_script.specs.Parts.{PlanParts}
 use Rattle.call_script.specs.Splits.{entry_link, groups_in}
 use Rattle.call_script.specs.Tasks.{network_of}
 use Rattle.race_run.specs.Pieces.{IsAtRound}
-use Rattle.race_run.specs.Tail.{own_in, AreUpTo, AreAbove, GoesLast, TailIsLast}
+use Rattle.race_run.specs.Rounds.{AreAskedBefore, round_after}
+use Rattle.race_run.specs.Tail.{own_in, AreUpTo, IsAboveAll, GoesLast, TailIsLast}
+use Rattle.race_run.proofs.EarlyFacts.{Cut, In, Past, cut-at, each-middle}
 
 -- ---- stamps above what was seen
 
@@ -52,9 +52,9 @@ all-more most top passes i pass inside is so_far le here =
 
 -- ---- what comes last
 
-above-all : (callers : List (List OwnEntry)) (least : ℕ) (last : List OwnEntry) → Each (AreUpTo least) callers → Each (λ (e : OwnEntry). least < e.stamp) last → AreAbove callers last
+above-all : (callers : List (List OwnEntry)) (least : ℕ) (last : List OwnEntry) → Each (AreUpTo least) callers → Each (λ (e : OwnEntry). least < e.stamp) last → Each (IsAboveAll callers) last
 above-all callers least last upto above =
-    Each-if (λ (e : OwnEntry). least < e.stamp) (λ (e : OwnEntry). Each (Each (λ (o : OwnEntry). o.stamp < e.stamp)) callers) last
+    Each-if (λ (e : OwnEntry). least < e.stamp) (IsAboveAll callers) last
     (λ e lt. Each-if (AreUpTo least) (Each (λ (o : OwnEntry). o.stamp < e.stamp)) callers
     (λ own each. Each-if (λ (o : OwnEntry). o.stamp ≤ least) (λ (o : OwnEntry). o.stamp < e.stamp) own (λ o le. omega (arith, le, lt)) each)
     upto)
@@ -81,6 +81,7 @@ at-same parts round plane pass pass' actor own at =
           is = ap actor_number actor ∙ on.is;
         };
         between = at.at.between;
+        early = subst (AreAskedBefore (length (network_of parts).links) plane.at.round) (sym own) at.at.early;
       };
       round_is = at.round_is;
     }
@@ -89,19 +90,20 @@ links-same : (parts : PlanParts) → length (network_of parts).links ≡ length 
 unfolding network_of
 links-same parts = length-map parts.links (entry_link (groups_in parts))
 
+-- an entry of the plane is one of its rounds beside the callers, or comes after them
+late-above : (links rounds : ℕ) (callers : List (List OwnEntry)) (first last before after : List OwnEntry) (e : OwnEntry) → AreAskedBefore links rounds first → Each (IsAboveAll callers) last → Cut OwnEntry first last before after e → rounds ≤ round_after links before → IsAboveAll callers e
+late-above links rounds callers first last before after e early above (In rest is) late = (let soon = early before rest e is in absurd (omega (arith, soon, late)))
+late-above links rounds callers first last before after e early above (Past front is all) late = each-middle (IsAboveAll callers) front after e (subst (Each (IsAboveAll callers)) is above)
+
 -- the callers, and the plane with the rounds that it has made after them
 pub tail-last : (parts : PlanParts) (callers all : List Token) (plane : KeptPlane) (pass pass' : Token) → IsAtRound parts parts.rounds plane pass → GoesLast (map own_in callers) pass pass' → all ≡ callers ++ pass' ∷ [] → TailIsLast parts (map own_in all)
 tail-last parts callers all plane pass pass' at goes are =
-    let on = at.at.on in
-    let stands : plane.at ≡ plane_of (length parts.links) (reverse (map reply_in pass.own)) =
-    on.planes.stands ∙ (λ i. plane_of (links-same parts i) (reverse (map reply_in (on.only i)))) in
+    let early : AreAskedBefore (length parts.links) parts.rounds pass.own = subst (λ (x : ℕ × ℕ). AreAskedBefore x.0 x.1 pass.own) (λ i. (links-same parts i, at.round_is i)) at.at.early in
     record {
       callers = map own_in callers;
-      first = pass.own;
-      last = goes.last;
-      are = ap (map own_in) are ∙ map-append own_in callers (pass' ∷ []) ∙ ap (λ own. map own_in callers ++ own ∷ []) goes.own;
-      rounds = sym (ap (λ (p : Plane). p.round) stands) ∙ at.round_is;
-      above = goes.above;
+      plane = pass'.own;
+      are = ap (map own_in) are ∙ map-append own_in callers (pass' ∷ []);
+      above = λ before after e is late. late-above (length parts.links) parts.rounds (map own_in callers) pass.own goes.last before after e early goes.above (cut-at pass.own goes.last before after e (sym goes.own ∙ is)) late;
     }
 
 -- it stays so where passes give their seats up

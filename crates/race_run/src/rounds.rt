@@ -2,7 +2,7 @@
 ghost use Rattle.std.specs.Prelude.{◌≡◌, ◌+◌, ◌<◌, ◌≤◌, OnOk};
 ghost use Rattle.call_script.specs.Tasks.{network_of};
 ghost use Rattle.race_run.specs.Callers.{IsNetworkOf};
-ghost use Rattle.race_run.specs.Rounds.{PlaneIsAt, PlaneIsOn, IsStepped};
+ghost use Rattle.race_run.specs.Rounds.{AddsOne, PlaneIsAt, PlaneIsOn, IsStepped};
 ghost use Rattle.link_ledger.specs.Tokens.{last_seen};
 ghost use Rattle.shared_network.specs.Added.{AddsAbove};
 ghost use Rattle.shared_network.specs.Ready.{MayStep, PassGoesOn};
@@ -73,8 +73,8 @@ fn make_round<L: LinkStep + Send, H: Home, W: Wait, G: Gate>(
     Ok(())
 }
 
-// Makes one step: a packet arrives, or a link ticks.
-fn make_step<L: LinkStep + Send, H: Home, W: Wait, G: Gate>(
+/// Makes one step: a packet arrives, or a link ticks.
+pub(crate) fn make_step<L: LinkStep + Send, H: Home, W: Wait, G: Gate>(
     rt: &W,
     network: &Network<L, H>,
     plan: &Plan,
@@ -88,6 +88,7 @@ fn make_step<L: LinkStep + Send, H: Home, W: Wait, G: Gate>(
     requires left { plane.old.at.round < plane.old.rounds }
     ensures on { OnOk result (PlaneIsOn (network_of plan.now) plane.new pass.new) }
     ensures stepped { OnOk result (IsStepped plane.old plane.new) }
+    ensures one { OnOk result (AddsOne pass.old pass.new) }
     ensures ready { OnOk result (PassGoesOn H.table H.owners H.links pass.old pass.new) }
     ensures actor { OnOk result (pass.new.actor ≡ pass.old.actor) }
     ensures later { OnOk result (AddsAbove (last_seen pass.old) pass.old pass.new) }
