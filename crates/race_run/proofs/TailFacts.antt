@@ -1,7 +1,7 @@
 -- The plane's last rounds: a pass's stamps rise above what it has seen, it has seen those of all callers, and so the stamps of
 -- what it asks then are above all of these.
-use Rattle.std.proofs.Common.{◌≡◌, ℕ, ◌+◌, ◌<◌, ◌≤◌, List, [], ◌∷◌, ◌++◌, length, map, take, get_or, reverse, refl, sym, ap, ◌∙◌, subst, add-one, arith}
-use Rattle.std.proofs.lemmas.List.{append_assoc, length-map, map-append}
+use Rattle.std.proofs.Common.{◌≡◌, ℕ, ◌+◌, ◌<◌, ◌≤◌, List, [], ◌∷◌, ◌++◌, length, map, take, get_or, refl, sym, ap, ◌∙◌, subst, add-one, arith}
+use Rattle.std.proofs.lemmas.List.{length-map, map-append}
 use Rattle.std.proofs.Math.Seq.{take-suc}
 use Rattle.link_steps.specs.Lists.{Each}
 use Rattle.link_steps.proofs.ListFacts.{Each-if, Each-append}
@@ -19,20 +19,6 @@ use Rattle.race_run.specs.Pieces.{IsAtRound}
 use Rattle.race_run.specs.Rounds.{AreAskedBefore, round_after}
 use Rattle.race_run.specs.Tail.{own_in, AreUpTo, IsAboveAll, GoesLast, TailIsLast}
 use Rattle.race_run.proofs.EarlyFacts.{Cut, In, Past, cut-at, each-middle}
-
--- ---- stamps above what was seen
-
-pub adds-more : (least : ℕ) (pass between pass' : Token) → AddsAbove least pass between → AddsAbove (last_seen between) between pass' → AddsAbove least pass pass'
-adds-more least pass between pass' one other =
-    let seen = one.seen in
-    let more = other.seen in
-    record {
-      entries = one.entries ++ other.entries;
-      own = other.own ∙ ap (λ own. own ++ other.entries) one.own ∙ append_assoc pass.own one.entries other.entries;
-      above = Each-append (λ (e : OwnEntry). least < e.stamp) one.entries other.entries one.above
-          (Each-if (λ (e : OwnEntry). last_seen between < e.stamp) (λ (e : OwnEntry). least < e.stamp) other.entries (λ e lt. omega (arith, lt, seen)) other.above);
-      seen = omega (arith, seen, more);
-    }
 
 -- ---- the largest stamp
 

@@ -32,11 +32,12 @@ use Rattle.setup_protocol.specs.declared.verdict.Deny.TheVariants.{End}
 use Rattle.net_units.specs.Allotted.{levels_of}
 use Rattle.link_ledger.specs.Own.{own_at}
 use Rattle.link_ledger.specs.Owners.{IsOwner}
-use Rattle.link_ledger.specs.Tokens.{Token, IsLink, Steps}
+use Rattle.link_ledger.specs.Tokens.{Token, IsLink, Steps, last_seen}
 use Rattle.link_ledger.specs.declared.entries.OwnEntry.{OwnEntry}
-use Rattle.shared_network.specs.Added.{IsSamePass}
+use Rattle.shared_network.specs.Added.{AddsAbove, IsSamePass}
 use Rattle.shared_network.specs.Calls.{Follows, reply_in}
 use Rattle.shared_network.specs.Ready.{MayStep, PassGoesOn}
+use Rattle.shared_network.proofs.PassFacts.{goes-none, goes-both, above-none, above-both, above-step}
 use Rattle.shared_network.proofs.StepFacts.{drawn-own}
 use Rattle.shared_network.proofs.SetupGoes.{SetupRows, SetupGoes}
 use Rattle.std.specs.Option.{option_map}
@@ -141,6 +142,7 @@ pub record SettingUp (table : TableId) (owners : List ActorNo) (links : List Lin
   pub stands : SetupStands setup (map reply_in entries)
   pub rows : SetupRows request pass'.own (map reply_in entries)
   pub goes : PassGoesOn table owners links pass pass'
+  pub later : AddsAbove (last_seen pass) pass pass'
   pub same : IsSamePass pass pass'
   pub few : length entries + setup_left setup ≤ 32
 
@@ -175,7 +177,8 @@ setting-first table owners links request pass setup contract route hops may none
       request_is = request_is;
       stands = stands;
       rows = rows-first request pass.own route.least none;
-      goes = record { may_step = may; among = refl };
+      goes = goes-none table owners links pass may;
+      later = above-none pass;
       same = record { actor = refl; table = refl; has_seat = may.has_seat };
       few = omega (arith, left, most);
     }
@@ -258,7 +261,8 @@ module _ (table : TableId) (owners : List ActorNo) (links : List Link) (request 
             request_is = request_is ∙ so.request_is;
             stands = stands ∙ ap (progress_of setup'.request) (sym told);
             rows = subst (λ (x : List OwnEntry × List Reply). SetupRows request x.0 x.1) (λ i. (sym steps.own i, (ap (λ r. map reply_in so.entries ++ r ∷ []) steps.reply_is ∙ sym told) i)) goes-one.rows;
-            goes = record { may_step = goes.may_step; among = goes.among ∙ so.goes.among };
+            goes = goes-both table owners links pass0 pass pass' so.goes goes;
+            later = above-both (last_seen pass0) pass0 pass pass' so.later (above-step links (link_number to) ask pass pass' reply steps);
             same = record { actor = same.actor ∙ so.same.actor; table = same.table ∙ so.same.table; has_seat = same.has_seat };
             few = omega (arith, few, more, less);
           }

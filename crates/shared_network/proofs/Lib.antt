@@ -1,6 +1,7 @@
 pub mod CountFacts
 mod OpeningFacts
 pub mod LinkNumbers
+pub mod PassFacts
 mod StepFacts
 mod GatherFacts
 mod ClosingFacts

@@ -38,14 +38,15 @@ use Rattle.channel_move.specs.declared.shifted.Shifted.{Shifted}
 use Rattle.channel_move.proofs.MoveFacts.{HopAsked, stage-asks, move-ask-is}
 use Rattle.link_ledger.specs.Own.{own_at}
 use Rattle.link_ledger.specs.Owners.{OwnsAsk, IsOwner, NextBelow}
-use Rattle.link_ledger.specs.Tokens.{Token, IsLink, Steps}
+use Rattle.link_ledger.specs.Tokens.{Token, IsLink, Steps, last_seen}
 use Rattle.link_ledger.specs.declared.entries.OwnEntry.{OwnEntry}
 use Rattle.hop_reservation.proofs.RouteFacts.{index-apart}
 use Rattle.net_units.proofs.NumberFacts.{same-link}
-use Rattle.shared_network.specs.Added.{IsSamePass}
+use Rattle.shared_network.specs.Added.{AddsAbove, IsSamePass}
 use Rattle.shared_network.specs.Calls.{Follows, IsCommitted, HoldsRoute, reply_in, hold_at}
 use Rattle.shared_network.specs.Holds.{hold_of, IsHeld}
 use Rattle.shared_network.specs.Ready.{MayStep, PassGoesOn}
+use Rattle.shared_network.proofs.PassFacts.{goes-none, goes-both, above-none, above-both, above-step}
 use Rattle.shared_network.specs.Shifts.{NoneSubmitted, Shifts, IsOpenOver, TakesSize}
 use Rattle.shared_network.specs.Sight.{FitsAt}
 use Rattle.shared_network.proofs.CallFacts.{follows-more}
@@ -76,6 +77,7 @@ pub record Shifting (table : TableId) (owners : List ActorNo) (links : List Link
   pub unsent : MaySubmit (stage_after (map reply_in entries)) → NoneSubmitted move.joining pass'.own
   pub few : (first : Reply) (rest : List Reply) → map reply_in entries ≡ first ∷ rest → shifted_in first ≤ most_packets
   pub goes : PassGoesOn table owners links pass pass'
+  pub later : AddsAbove (last_seen pass) pass pass'
   pub same : IsSamePass pass pass'
 
 pub shifting-first : (table : TableId) (owners : List ActorNo) (links : List Link) (move : Move) (pass : Token) (mover : Mover) → move_of mover ≡ move → Moves mover [] → SubmitFits 1 move.gap move.size → channel_number move.joining ≢ channel_number move.leaving → Each (IsHopOf links) move.leaving_route → Each (IsHopOf links) move.joining_route
@@ -94,7 +96,8 @@ shifting-first table owners links move pass mover terms stands packets apart hop
   joins = joining.holds;
   unsent = λ still. unsent;
   few = λ first rest is. absurd (let clash : [] ≡ first ∷ rest = is in cc);
-  goes = record { may_step = may; among = refl };
+  goes = goes-none table owners links pass may;
+  later = above-none pass;
   same = record { actor = refl; table = refl; has_seat = may.has_seat };
 }
 
@@ -276,7 +279,8 @@ module _ (table : TableId) (owners : List ActorNo) (links : List Link) (move : M
         joins = joins-next;
         unsent = λ may. unsent-next (subst (λ rs. MaySubmit (stage_after rs)) told may);
         few = λ first rest is. few-next first rest (sym told ∙ is);
-        goes = record { may_step = goes.may_step; among = goes.among ∙ so.goes.among };
+        goes = goes-both table owners links pass0 pass pass' so.goes goes;
+        later = above-both (last_seen pass0) pass0 pass pass' so.later (above-step links (link_number to) ask pass pass' reply steps);
         same = record { actor = same.actor ∙ so.same.actor; table = same.table ∙ so.same.table; has_seat = same.has_seat };
       }
 

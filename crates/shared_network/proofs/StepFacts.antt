@@ -4,6 +4,7 @@ use Rattle.std.proofs.Common.{◌≡◌, ℕ, ◌+◌, ◌<◌, ◌≤◌, List,
 use Rattle.std.proofs.lemmas.Bool.{cases_eq}
 use Rattle.std.proofs.lemmas.List.{map-append, length-append, length-map}
 use Rattle.std.proofs.lemmas.Option.{same_Some, slice_get_within}
+use mathlib.Core.List.{IsPrefix}
 use Rattle.atomic_table.specs.Seated.{TableId}
 use Rattle.net_units.specs.Numbers.{actor_number, channel_number, link_number}
 use Rattle.net_units.specs.declared.numbers.ActorNo.{ActorNo}
@@ -18,8 +19,9 @@ use Rattle.step_stamp.specs.Lists.{Has}
 use Rattle.step_stamp.specs.Marks.{StampsRise}
 use Rattle.step_stamp.specs.Views.{known_of, saw}
 use Rattle.step_stamp.specs.declared.marks.Mark.{Mark}
+use Rattle.step_stamp.proofs.ListFacts.{begins_itself, begins_longer}
 use Rattle.step_stamp.proofs.MarkFacts.{rises-append}
-use Rattle.link_ledger.specs.Journals.{history_in, journal_of, entries_of}
+use Rattle.link_ledger.specs.Journals.{history_in, journal_of, entries_of, marks_in}
 use Rattle.link_ledger.specs.Order.{AreInOrder}
 use Rattle.link_ledger.specs.Own.{IsExact, IsAtPlace, own_mark, own_entry, own_at}
 use Rattle.link_ledger.specs.Tokens.{Token, IsLink, Steps}
@@ -110,8 +112,15 @@ module _ (table : TableId) (owners : List ActorNo) (links : List Link) (l : ℕ)
         (cases_eq k l);
   }
 
+  knew : (k : ℕ) → IsPrefix (known_of k pass.view) (known_of k pass'.view)
+  knew k = ⊎_elim
+      (λ (same : k ≡ l). subst (λ j. IsPrefix (known_of j pass.view) (known_of j pass'.view)) (sym same)
+      (subst (IsPrefix (known_of l pass.view)) (sym steps.acted.knows) (begins_longer (known_of l pass.view) (marks_in steps.entries) (own_mark a e ∷ []) steps.acted.begins)))
+      (λ other. subst (IsPrefix (known_of k pass.view)) (sym (steps.acted.others k other)) (begins_itself (known_of k pass.view)))
+      (cases_eq k l)
+
   pub goes-on : PassGoesOn table owners links pass pass'
-  goes-on = record { may_step = may-after; among = steps.acted.among }
+  goes-on = record { may_step = may-after; among = steps.acted.among; knew = knew }
 
 -- as many stamps are drawn as there are entries
 pub drawn-own : (table : TableId) (owners : List ActorNo) (links : List Link) (pass : Token) → MayStep table owners links pass → length pass.view.drawn ≡ length pass.own
@@ -134,6 +143,7 @@ seen-goes table owners links top pass pass' least is may =
         knows = λ l link is. (let knew = may.knows l link is in record { legal = knew.legal; order = knew.order; owns = knew.owns; holds = knew.holds });
       };
       among = refl;
+      knew = λ l. begins_itself (known_of l pass.view);
     })
 
 -- a step adds its ask

@@ -26,13 +26,14 @@ use Rattle.link_steps.proofs.ListParts.{Each-at}
 use Rattle.channel_laws.proofs.SendReplies.{release-committed, of-released}
 use Rattle.link_ledger.specs.Own.{own_at}
 use Rattle.link_ledger.specs.Owners.{OwnsAsk, IsOwner, NextBelow}
-use Rattle.link_ledger.specs.Tokens.{Token, IsLink, Steps}
+use Rattle.link_ledger.specs.Tokens.{Token, IsLink, Steps, last_seen}
 use Rattle.link_ledger.specs.declared.entries.OwnEntry.{OwnEntry}
-use Rattle.shared_network.specs.Added.{IsSamePass}
+use Rattle.shared_network.specs.Added.{AddsAbove, IsSamePass}
 use Rattle.shared_network.specs.Calls.{Follows, IsCommitted, IsEstablished, TearsDown, reply_in, hold_at}
 use Rattle.setup_protocol.specs.Hops.{IsHopOf}
 use Rattle.shared_network.specs.Holds.{hold_of, IsHeld}
 use Rattle.shared_network.specs.Ready.{MayStep, PassGoesOn}
+use Rattle.shared_network.proofs.PassFacts.{goes-none, goes-both, above-none, above-both, above-step}
 use Rattle.shared_network.specs.Sight.{FitsAt}
 use Rattle.shared_network.proofs.CallFacts.{follows-more}
 use Rattle.shared_network.proofs.HoldSteps.{AnswersOf, answers}
@@ -54,6 +55,7 @@ pub record TearingDown (table : TableId) (owners : List ActorNo) (links : List L
   pub releases : Releases teardown (map reply_in entries)
   pub holds : (i : ℕ) (hop : Hop) → slice_get request.route i ≡ Some hop → length entries ≤ i → IsCommitted request.contract (nat_eq i 0) (hold_at request.chan hop pass'.own)
   pub goes : PassGoesOn table owners links pass pass'
+  pub later : AddsAbove (last_seen pass) pass pass'
   pub same : IsSamePass pass pass'
   pub count_is : count ≡ first_count (map reply_in entries)
   pub few : length entries ≤ length request.route
@@ -70,7 +72,8 @@ tearing-first table owners links request pass teardown route hops may establishe
   route_is = route_is;
   releases = releases;
   holds = λ i hop found from. established i hop found;
-  goes = record { may_step = may; among = refl };
+  goes = goes-none table owners links pass may;
+  later = above-none pass;
   same = record { actor = refl; table = refl; has_seat = may.has_seat };
   count_is = refl;
   few = omega arith;
@@ -163,7 +166,8 @@ module _ (table : TableId) (owners : List ActorNo) (links : List Link) (request 
             holds = λ i hop found from.
                 (let other : link_number e.link ≢ link_of hop = λ is. (let index = index-apart request.route i (length replies) hop hop-asked.hop so.route found hop-asked.stands (sym is ∙ on) in let same = many in omega (arith, index, same, from, more)) in
                 subst (IsCommitted request.contract (nat_eq i 0)) (sym (ap (hold_at request.chan hop) steps.own ∙ hold-elsewhere request.chan hop pass.own e other)) (so.holds i hop found (omega (arith, from, more))));
-            goes = record { may_step = goes.may_step; among = goes.among ∙ so.goes.among };
+            goes = goes-both table owners links pass0 pass pass' so.goes goes;
+            later = above-both (last_seen pass0) pass0 pass pass' so.later (above-step links (link_number to) ask pass pass' reply steps);
             same = record { actor = same.actor ∙ so.same.actor; table = same.table ∙ so.same.table; has_seat = same.has_seat };
             count_is = count_is ∙ ap (λ c. Some (unwrap_or c (told_count reply))) so.count_is ∙ first-more replies reply ∙ ap first_count (sym told);
             few = omega (arith, more, inside);

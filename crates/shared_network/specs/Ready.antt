@@ -2,6 +2,7 @@
 -- Then its own entries are exact, and their stamps rise. What it knows of each link tells a legal journal, in which each channel was
 -- asked for by its owner and the entries of its actor are its own. So its own entries tell what the link holds of its channels.
 use Rattle.std.specs.Prelude.{◌≡◌, ℕ, ◌<◌, ◌≤◌, true, false, List, [], ◌∷◌, length, map}
+use mathlib.Core.List.{IsPrefix}
 use Rattle.atomic_table.specs.Seated.{TableId}
 use Rattle.net_units.specs.Numbers.{actor_number, channel_number, link_number}
 use Rattle.net_units.specs.declared.numbers.ActorNo.{ActorNo}
@@ -38,10 +39,11 @@ pub record MayStep (table : TableId) (owners : List ActorNo) (links : List Link)
   pub most : Each (λ (e : OwnEntry). e.stamp ≤ pass.view.seen) pass.own
   pub knows : (l : ℕ) (link : Link) → IsLink links l link → KnowsLink owners (length links) link l pass
 
--- it may go on after a call, and belongs to an opening of as many actors
+-- it may go on after a call, and belongs to an opening of as many actors. What it knows of each link begins with what it knew of it
 pub record PassGoesOn (table : TableId) (owners : List ActorNo) (links : List Link) (pass pass' : Token) : Type 0 where
   pub may_step : MayStep table owners links pass'
   pub among : pass'.view.among ≡ pass.view.among
+  pub knew : (l : ℕ) → IsPrefix (known_of l pass.view) (known_of l pass'.view)
 
 -- a pass of an opening of `actors` actors that has made no step
 pub record IsNew (table : TableId) (owners : List ActorNo) (links : List Link) (actors : ℕ) (pass : Token) : Type 0 where

@@ -8,8 +8,8 @@ ghost use Rattle.setup_protocol.specs.State.{outcome_of};
 ghost use Rattle.setup_protocol.specs.Setup.{next_ask};
 ghost use Rattle.setup_protocol.specs.Teardown.{next_release, told_count};
 ghost use Rattle.link_ledger.specs.Owners.{IsOwner};
-ghost use Rattle.link_ledger.specs.Tokens.{stamps_drawn};
-ghost use Rattle.shared_network.specs.Added.{IsSamePass, IsLost};
+ghost use Rattle.link_ledger.specs.Tokens.{last_seen, stamps_drawn};
+ghost use Rattle.shared_network.specs.Added.{AddsAbove, IsSamePass, IsLost};
 ghost use Rattle.shared_network.specs.Calls.{HasNone, IsEstablished, OthersStay, SetsUp, StepsStand, TearsDown};
 ghost use Rattle.shared_network.specs.Ready.{MayStep, PassGoesOn};
 
@@ -24,7 +24,8 @@ impl<L: LinkStep + Send, H: Home> Network<L, H> {
     /// Sets a channel up over its route, from its first reserve to its verdict, which is that of the replies that the pass then
     /// holds. Each hop of the route is over a link of the network, with its bounds and its propagation (`hops`), the pass's actor
     /// owns the channel, and the pass has no entry of it (`new`). An accepted channel is then established, and each other channel of
-    /// the pass is as it was. The call may wait for each link.
+    /// the pass is as it was. The stamps of its entries are above all that the pass had seen (`later`). The call may wait for each
+    /// link.
     ///
     /// The pass has its seat, isn't spent (`pass`) and has drawn fewer than 2^40 - 64 stamps. After want of memory it is
     /// spent, the steps made so far stand in the journals and among its own entries (`stand`), and nothing further is claimed of
@@ -45,6 +46,7 @@ impl<L: LinkStep + Send, H: Home> Network<L, H> {
         ensures established { IfOk result (λ verdict. is_accepted (outcome_of verdict) ≡ true → IsEstablished request.now pass.new.own) }
         ensures others { OnOk result (OthersStay request.now.chan pass.old.own pass.new.own) }
         ensures drew { OnOk result (stamps_drawn pass.new ≤ stamps_drawn pass.old + 32) }
+        ensures later { OnOk result (AddsAbove (last_seen pass.old) pass.old pass.new) }
         ensures ready { OnOk result (PassGoesOn H.table H.owners H.links pass.old pass.new) }
         ensures lost { OnErr result (IsLost pass.new) }
         ensures stand { OnErr result (StepsStand (next_ask request.now) pass.old pass.new) }
@@ -67,8 +69,8 @@ impl<L: LinkStep + Send, H: Home> Network<L, H> {
 
     /// Releases an established channel at all hops of its route, in their order, and answers the count of packets that the first hop
     /// has taken or still takes. The pass's actor owns the channel, this pass's setup of the request was accepted, and it has neither
-    /// torn it down nor moved its packets off it (`established`). Each other channel of the pass stays as it was. The call may wait
-    /// for each link.
+    /// torn it down nor moved its packets off it (`established`). Each other channel of the pass stays as it was. The stamps of the
+    /// entries are above all that the pass had seen (`later`). The call may wait for each link.
     ///
     /// The pass has its seat, isn't spent (`pass`) and has drawn fewer than 2^40 - 64 stamps. After want of memory it is
     /// spent, the steps made so far stand in the journals and among its own entries (`stand`), and nothing further is claimed of
@@ -88,6 +90,7 @@ impl<L: LinkStep + Send, H: Home> Network<L, H> {
         ensures torn { IfOk result (λ count. TearsDown request.now pass.old pass.new count) }
         ensures others { OnOk result (OthersStay request.now.chan pass.old.own pass.new.own) }
         ensures drew { OnOk result (stamps_drawn pass.new ≤ stamps_drawn pass.old + 16) }
+        ensures later { OnOk result (AddsAbove (last_seen pass.old) pass.old pass.new) }
         ensures ready { OnOk result (PassGoesOn H.table H.owners H.links pass.old pass.new) }
         ensures lost { OnErr result (IsLost pass.new) }
         ensures stand { OnErr result (StepsStand (next_release request.now.chan request.now.route) pass.old pass.new) }

@@ -13,7 +13,7 @@ ghost use Rattle.channel_laws.specs.Asks.{IsOff};
 ghost use Rattle.shared_network.specs.Calls.{HasNone, IsEstablished};
 ghost use Rattle.link_ledger.specs.Owners.{OwnsAsk, NextBelow};
 ghost use Rattle.link_ledger.specs.Tokens.{Steps, last_seen, stamps_drawn};
-ghost use Rattle.shared_network.specs.Added.{Adds, IsSamePass, IsLost};
+ghost use Rattle.shared_network.specs.Added.{Adds, AddsAbove, IsSamePass, IsLost};
 ghost use Rattle.shared_network.specs.Ready.{MayStep, PassGoesOn, IsNew};
 ghost use Rattle.shared_network.specs.Shifts.{KeepsContract};
 ghost use Rattle.shared_network.specs.Sight.{FitsAt, IsSend, IsUnusedLink};
@@ -102,7 +102,7 @@ impl<L: LinkStep + Send, H: Home> Network<L, H> {
     }
 
     /// Sends packets at a link of the network: those of a channel that the pass's actor owns, by a submit, or best-effort ones. It is
-    /// one ask, whose reply is the answer. An established channel stays established, and a channel that no entry names stays so if
+    /// one ask, whose reply is the answer, with a stamp above all that the pass had seen (`later`). An established channel stays established, and a channel that no entry names stays so if
     /// the ask doesn't name it (`unopened`). Packets are planned at the first hop of such a channel only where its contract allows
     /// their size (`small`). The call may wait for the link. After want of memory the pass is spent, and the link's journal may have
     /// the entry.
@@ -128,6 +128,7 @@ impl<L: LinkStep + Send, H: Home> Network<L, H> {
         ensures established { OnOk result ((request : Request) → IsEstablished request pass.old.own → IsEstablished request pass.new.own) }
         ensures unopened { OnOk result ((chan : ChanNo) → IsOff (channel_number chan) ask.now → HasNone chan pass.old.own → HasNone chan pass.new.own) }
         ensures drew { OnOk result (stamps_drawn pass.new ≡ stamps_drawn pass.old + 1) }
+        ensures later { OnOk result (AddsAbove (last_seen pass.old) pass.old pass.new) }
         ensures ready { OnOk result (PassGoesOn H.table H.owners H.links pass.old pass.new) }
         ensures lost { OnErr result (IsLost pass.new) }
         ensures kept { OnErr result (pass.new.own ≡ pass.old.own) }

@@ -7,8 +7,8 @@ ghost use Rattle.setup_protocol.specs.Hops.{IsHopOf};
 ghost use Rattle.channel_move.specs.Moving.{next_of_move};
 ghost use Rattle.channel_move.specs.Standing.{Moves, move_of};
 ghost use Rattle.link_ledger.specs.Owners.{IsOwner};
-ghost use Rattle.link_ledger.specs.Tokens.{stamps_drawn};
-ghost use Rattle.shared_network.specs.Added.{IsSamePass, IsLost};
+ghost use Rattle.link_ledger.specs.Tokens.{last_seen, stamps_drawn};
+ghost use Rattle.shared_network.specs.Added.{AddsAbove, IsSamePass, IsLost};
 ghost use Rattle.shared_network.specs.Calls.{OthersStay, StepsStand};
 ghost use Rattle.shared_network.specs.Shifts.{IsOpenOver, TakesSize, NoneSubmitted, WerePlanned, Shifts};
 ghost use Rattle.shared_network.specs.Ready.{MayStep, PassGoesOn};
@@ -24,7 +24,7 @@ impl<L: LinkStep + Send, H: Home> Network<L, H> {
     /// Moves the packets that are planned on one channel, and not taken by its first hop yet, to another channel: makes all asks of
     /// the mover, and answers how many packets stay and how many go. The channel that is left is released at all hops of its route,
     /// and can be neither torn down nor left again; each other channel of the pass stays as it was, and so does the one that is
-    /// joined. The call may wait for each link.
+    /// joined. The stamps of the entries are above all that the pass had seen (`later`). The call may wait for each link.
     ///
     /// The mover has taken no reply (`start`). The two channels differ (`apart`), and the pass's actor owns both. This pass's
     /// setups of both were accepted over the mover's routes, and it has neither torn them down nor moved packets off them
@@ -58,6 +58,7 @@ impl<L: LinkStep + Send, H: Home> Network<L, H> {
         ensures moved { IfOk result (λ told. Shifts (move_of mover.old) mover.new pass.old pass.new told) }
         ensures others { OnOk result (OthersStay (move_of mover.old).leaving pass.old.own pass.new.own) }
         ensures drew { OnOk result (stamps_drawn pass.new ≤ stamps_drawn pass.old + 17) }
+        ensures later { OnOk result (AddsAbove (last_seen pass.old) pass.old pass.new) }
         ensures ready { OnOk result (PassGoesOn H.table H.owners H.links pass.old pass.new) }
         ensures lost { OnErr result (IsLost pass.new) }
         ensures stand { OnErr result (StepsStand (next_of_move (move_of mover.old)) pass.old pass.new) }

@@ -1,6 +1,7 @@
 use Rattle.net_units.specs.Numbers.{channel_number}
 use Rattle.call_script.specs.declared.operations.Op.TheVariants.{Close}
 use Rattle.call_script.specs.declared.tasks.Task.TheVariants.{Closes}
+use Rattle.shared_network.proofs.PassFacts.{goes-none}
 use Rattle.race_run.proofs.Lists.{there, missing}
 use Rattle.race_run.proofs.CloseOver.{close-owner, close-established, close-passed, close-over}
 use Rattle.race_run.proofs.OpFacts.{hops-of, looked-off, looked-on, none-passed, request-none}
@@ -36,3 +37,9 @@ returns-in-Ok-clause-at g c =
     let found = there c.requests.result.now c.args.plan.now.requests c.get.result (channel_number c.args.chan) c.in-Some.entry.now c.in-Some.ensures.lookup.0 c.in-Some.ensures.lookup.1 c.requests.ensures.value c.get.ensures.value in
     close-over c.args.plan.now c.args.at.0 c.args.at.1 c.args.chan c.in-Some.entry.now c.in-Ok.field-0 c.args.pass.now c.teardown.new.pass c.args.channels.now.by_number.items c.requests.ensures.valid c.requires.at c.requires.op found (looked-on c.args.channels.now.by_number.items c.in-Some.entry.now.request.chan c.of.result c.of.ensures c.if-not-of.false)
     c.teardown.ensures.same.actor c.in-Ok.ensures.torn c.in-Ok.ensures.others
+
+pub returns-in_default-clause-ready : goal.returns-in_default-clause-ready
+returns-in_default-clause-ready g c = goes-none _ _ _ _ c.requires.pass
+
+pub returns-then-not-of-clause-ready : goal.returns-then-not-of-clause-ready
+returns-then-not-of-clause-ready g c = goes-none _ _ _ _ c.requires.pass

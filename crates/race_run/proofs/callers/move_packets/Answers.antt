@@ -7,6 +7,7 @@ use Rattle.call_script.specs.declared.operations.Op.TheVariants.{Move}
 use Rattle.shared_network.specs.Calls.{OthersStay}
 use Rattle.call_script.specs.Channels.{AreTold}
 use Rattle.call_script.specs.declared.channels.Channel.{Channel}
+use Rattle.shared_network.proofs.PassFacts.{goes-none}
 use Rattle.race_run.proofs.Lists.{there, missing}
 use Rattle.race_run.proofs.MoveOver.{move-none, move-none-new, move-passed, may-shift, move-over}
 use Rattle.race_run.proofs.OpFacts.{kept-inside, looked-off, looked-on, none-passed}
@@ -133,3 +134,15 @@ returns-clause-at g c =
     move-over c.args.plan.now g.H.Home.links g.H.Home.owners c.args.at.0 c.args.at.1 c.args.chans.0 c.args.chans.1 c.in-Some.leaving.now c.in-Some-get.joining.now c.args.pass.now c.args.channels.now.by_number.items c.requests.ensures.valid c.requires.network c.requires.at c.requires.op found found_new
     (looked-on c.args.channels.now.by_number.items c.in-Some.leaving.now.request.chan c.of-last.result c.of-last.ensures c.if-not-last.false) (looked-on c.args.channels.now.by_number.items c.in-Some-get.joining.now.request.chan c.of.result c.of.ensures c.if-not-of.false) c.shift.new.pass c.leave.new.self.by_number.items c.shift.new.mover c.in-Ok.told c.shift.ensures.same.actor
     (subst (λ (m : Moving). OthersStay m.leaving c.args.pass.now.own c.shift.new.pass.own) is c.in-Ok.ensures.others) c.leave.ensures.count learns (move_of c.new-mover.result) is c.in-Ok.ensures.moved
+
+pub returns-in_default-clause-ready : goal.returns-in_default-clause-ready
+returns-in_default-clause-ready g c = goes-none _ _ _ _ c.requires.pass
+
+pub returns-in_default-get-clause-ready : goal.returns-in_default-get-clause-ready
+returns-in_default-get-clause-ready g c = goes-none _ _ _ _ c.requires.pass
+
+pub returns-then-not-last-clause-ready : goal.returns-then-not-last-clause-ready
+returns-then-not-last-clause-ready g c = goes-none _ _ _ _ c.requires.pass
+
+pub returns-then-not-of-clause-ready : goal.returns-then-not-of-clause-ready
+returns-then-not-of-clause-ready g c = goes-none _ _ _ _ c.requires.pass

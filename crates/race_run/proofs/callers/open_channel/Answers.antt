@@ -2,6 +2,7 @@ use Rattle.net_units.specs.Numbers.{channel_number}
 use Rattle.setup_protocol.specs.State.{outcome_of}
 use Rattle.call_script.specs.declared.operations.Op.TheVariants.{Open}
 use Rattle.call_script.specs.declared.tasks.Task.TheVariants.{Opens}
+use Rattle.shared_network.proofs.PassFacts.{goes-none}
 use Rattle.race_run.proofs.Lists.{there, missing}
 use Rattle.race_run.proofs.OpFacts.{hops-of, kept-inside, none-passed, request-none}
 use Rattle.race_run.proofs.OpenOver.{open-owner, open-new, open-over}
@@ -37,3 +38,6 @@ returns-clause-at g c =
     let found = there c.requests.result.now c.args.plan.now.requests c.get.result (channel_number c.args.chan) c.in-Some.entry.now c.in-Some.ensures.lookup.0 c.in-Some.ensures.lookup.1 c.requests.ensures.value c.get.ensures.value in
     open-over c.args.plan.now c.args.at.0 c.args.at.1 c.args.chan c.in-Some.entry.now c.args.pass.now c.setup.new.pass c.args.channels.now.by_number.items c.settle.new.self.by_number.items (outcome_of c.in-Ok.verdict) c.requests.ensures.valid c.requires.at c.requires.op found
     (record { by = c.setup.ensures.same.actor; made = c.in-Ok.ensures.made; established = c.in-Ok.ensures.established; others = c.in-Ok.ensures.others }) c.settle.ensures.count c.settle.ensures.told
+
+pub returns-in_default-clause-ready : goal.returns-in_default-clause-ready
+returns-in_default-clause-ready g c = goes-none _ _ _ _ c.requires.pass

@@ -1,5 +1,6 @@
 use Rattle.net_units.specs.Numbers.{channel_number}
 use Rattle.call_script.specs.declared.operations.Op.TheVariants.{Send}
+use Rattle.shared_network.proofs.PassFacts.{goes-none}
 use Rattle.race_run.proofs.Lists.{there, missing}
 use Rattle.race_run.proofs.OpFacts.{kept-inside, looked-off, looked-on, none-passed, send-none}
 use Rattle.race_run.proofs.SendOver.{send-owner, send-there, send-fits, send-passed, send-over}
@@ -40,3 +41,9 @@ returns-clause-at g c =
     let found = there c.requests.result.now c.args.plan.now.requests c.get.result (channel_number c.args.packets.0) c.in-Some.entry.now c.in-Some.ensures.lookup.0 c.in-Some.ensures.lookup.1 c.requests.ensures.value c.get.ensures.value in
     send-over c.args.plan.now c.args.at.0 c.args.at.1 c.args.packets.0 c.args.packets.1 c.args.packets.2 c.args.packets.3 c.in-Some.entry.now c.hop.result c.in-Ok.reply c.args.pass.now c.submit.new.pass c.args.channels.now.by_number.items c.answer.new.self.by_number.items c.requests.ensures.valid c.requires.at c.requires.op found
     (looked-on c.args.channels.now.by_number.items c.in-Some.entry.now.request.chan c.of.result c.of.ensures c.if-not-of.false) c.hop.ensures.value c.submit.ensures.same.actor c.in-Ok.ensures.made c.in-Ok.ensures.established c.in-Ok.ensures.unopened c.in-Ok.ensures.small c.answer.ensures.count c.answer.ensures.told
+
+pub returns-in_default-clause-ready : goal.returns-in_default-clause-ready
+returns-in_default-clause-ready g c = goes-none _ _ _ _ c.requires.pass
+
+pub returns-then-not-of-clause-ready : goal.returns-then-not-of-clause-ready
+returns-then-not-of-clause-ready g c = goes-none _ _ _ _ c.requires.pass

@@ -2,7 +2,7 @@ use Rattle.std.proofs.Common.{◌≡◌, ◌+◌, ◌⊎◌, ◌∙◌, subst, a
 use Rattle.tick_plane.specs.Kept.{KeptPlane}
 use Rattle.call_script.specs.Tasks.{network_of}
 use Rattle.race_run.proofs.RoundFacts.{early-next}
-use Rattle.race_run.proofs.TailFacts.{adds-more}
+use Rattle.shared_network.proofs.PassFacts.{goes-both, above-both}
 use Rattle.race_run.proofs.rounds.make_round.Goals as goal
 
 pub loop-plane-preserved : goal.loop-plane-preserved
@@ -15,7 +15,7 @@ loop-plane-preserved g c =
       on = made.on;
       round = subst (λ n. (plane.at.round ≡ n) ⊎ ((plane.at.round ≡ n + 1) × (plane.at.ticked ≡ 0))) here made.stepped.round;
       early = early-next (network_of c.args.plan.now) c.loop-plane.plane c.loop-plane.pass c.make_step.new.pass (c.round-round.result + 1) so.on made.one (omega (arith, here)) so.early;
-      ready = record { may_step = made.ready.may_step; among = made.ready.among ∙ so.ready.among };
+      ready = goes-both _ _ _ _ _ _ so.ready made.ready;
       actor = made.actor ∙ so.actor;
-      later = adds-more _ c.args.pass.now c.loop-plane.pass c.make_step.new.pass so.later made.later;
+      later = above-both _ c.args.pass.now c.loop-plane.pass c.make_step.new.pass so.later made.later;
     }

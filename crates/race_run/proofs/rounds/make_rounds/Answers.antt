@@ -1,5 +1,5 @@
 use Rattle.std.proofs.Common.{◌∙◌, arith}
-use Rattle.race_run.proofs.TailFacts.{adds-more}
+use Rattle.shared_network.proofs.PassFacts.{goes-both, above-both}
 use Rattle.race_run.proofs.rounds.make_rounds.Goals as goal
 
 pub loop-plane-preserved : goal.loop-plane-preserved
@@ -11,7 +11,7 @@ loop-plane-preserved g c =
     record {
       stands = made.stands;
       round = omega (arith, round, left, c.round.ensures);
-      ready = record { may_step = made.ready.may_step; among = made.ready.among ∙ so.ready.among };
+      ready = goes-both _ _ _ _ _ _ so.ready made.ready;
       actor = made.actor ∙ so.actor;
-      later = adds-more _ c.args.pass.now c.loop-plane.pass c.make_round.new.pass so.later made.later;
+      later = above-both _ c.args.pass.now c.loop-plane.pass c.make_round.new.pass so.later made.later;
     }

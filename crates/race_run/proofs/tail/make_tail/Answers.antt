@@ -1,6 +1,7 @@
 use Rattle.std.proofs.Common.{map, arith}
 use Rattle.interleave_core.proofs.Keeping.StepFacts.{has-few}
 use Rattle.race_run.specs.Tail.{own_in}
+use Rattle.shared_network.proofs.PassFacts.{goes-both}
 use Rattle.race_run.proofs.RaceFacts.{tail-left, tail-made}
 use Rattle.race_run.proofs.TailFacts.{at-same, goes-last}
 use Rattle.race_run.proofs.tail.make_tail.Goals as goal
@@ -20,3 +21,6 @@ returns-clause-made g c = tail-made c.args.plan.now c.make_rounds.new.plane c.ma
 pub returns-clause-last : goal.returns-clause-last
 returns-clause-last g c =
     goes-last (map own_in c.args.callers.now) c.latest_of_all.result c.args.pass c.see_up_to.new.pass c.make_rounds.new.pass c.latest_of_all.ensures c.see_up_to.ensures.seen c.see_up_to.ensures.same.1 c.in_ok-make_rounds.ensures.later
+
+pub returns-clause-ready : goal.returns-clause-ready
+returns-clause-ready g c = goes-both _ _ _ _ _ _ c.see_up_to.ensures.ready c.in_ok-make_rounds.ensures.ready

@@ -1,8 +1,9 @@
-use Rattle.std.proofs.Common.{[], ◌∷◌, sym, subst, arith}
+use Rattle.std.proofs.Common.{[], ◌∷◌, sym, subst}
 use Rattle.net_units.specs.Numbers.{channel_number}
 use Rattle.channel_laws.specs.Asks.{IsOff}
 use Rattle.shared_network.proofs.CallFacts.{ok-no-err, on-ok}
 use Rattle.shared_network.proofs.OtherChannels.{established-stays}
+use Rattle.shared_network.proofs.PassFacts.{above-step}
 use Rattle.shared_network.proofs.RoundSteps.{may-ask, expected, later, planes-next, makes-round}
 use Rattle.shared_network.proofs.network.Network.plane_step.Goals as goal
 
@@ -42,8 +43,4 @@ returns-clause-established g c =
     λ request was. established-stays request c.args.pass.now.own c.step_at.new.pass.own (steps.entry ∷ []) steps.own (subst (IsOff (channel_number request.chan)) (sym steps.acted.ask_is) (may.off (channel_number request.chan)), tt) was
 
 pub returns-clause-later : goal.returns-clause-later
-returns-clause-later g c =
-    let steps = c.in_ok-reply.ensures.made in
-    let above = steps.acted.above in
-    let saw = steps.acted.saw in
-    record { entries = steps.entry ∷ []; own = steps.own; above = (above, tt); seen = omega (arith, above, saw) }
+returns-clause-later g c = above-step g.H.Home.links _ _ _ _ _ c.in_ok-reply.ensures.made

@@ -5,6 +5,7 @@ use Rattle.channel_laws.specs.Asks.{IsOff}
 use Rattle.shared_network.proofs.ContractKept.{keeps-contract, ok-where}
 use Rattle.shared_network.proofs.LinkNumbers.{ok-then}
 use Rattle.shared_network.proofs.OtherChannels.{sent-established, unopened-stays}
+use Rattle.shared_network.proofs.PassFacts.{above-step}
 use Rattle.shared_network.proofs.StepFacts.{adds-one}
 use Rattle.shared_network.proofs.network.Network.submit.Goals as goal
 
@@ -21,3 +22,6 @@ pub returns-clause-small : goal.returns-clause-small
 returns-clause-small g c =
     ok-where _ _ _ c.step_at.result
     (λ reply steps goes. keeps-contract g.H.Home.table g.H.Home.owners g.H.Home.links c.args.link c.args.pass.now c.step_at.new.pass c.step_at.ensures.splits c.requires.pass goes c.args.ask.now reply c.requires.owned steps) c.step_at.ensures.made c.step_at.ensures.ready
+
+pub returns-clause-later : goal.returns-clause-later
+returns-clause-later g c = ok-then _ _ c.step_at.result (λ reply steps. above-step g.H.Home.links _ _ _ _ reply steps) c.step_at.ensures.made
