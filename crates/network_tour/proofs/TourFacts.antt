@@ -14,6 +14,7 @@ use Rattle.link_ledger.specs.Owners.{IsOwner}
 use Rattle.link_ledger.specs.Tokens.{Token}
 use Rattle.setup_protocol.specs.Hops.{IsHopOf}
 use Rattle.shared_network.specs.Gathering.{AreAll}
+use Rattle.shared_network.proofs.ActorOrder.{actors-in_order}
 use Rattle.shared_network.specs.Ready.{IsNew}
 use Rattle.shared_network.specs.Worked.{IsWorkedLink}
 use Rattle.shared_network.proofs.LinkNumbers.{numbered-length}
@@ -52,7 +53,7 @@ pub two-all : (table : TableId) (owners : List ActorNo) (links : List Link) (fir
 unfolding up_to
 two-all table owners links first second one other = record {
   some = omega arith;
-  actors = λ i. one.actor_is i ∷ other.actor_is i ∷ [];
+  actors = actors-in_order 2 (actor_number first.actor ∷ actor_number second.actor ∷ []) (λ i. one.actor_is i ∷ other.actor_is i ∷ []);
   among = (one.among, (other.among, tt));
   may_step = (one.may_step, (other.may_step, tt));
 }

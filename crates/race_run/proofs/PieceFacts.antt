@@ -16,6 +16,7 @@ use Rattle.link_ledger.specs.Tokens.{Token, actors_opened}
 use Rattle.link_ledger.proofs.OwnFacts.{get-left, get-last}
 use Rattle.shared_network.specs.Gathering.{AreAll, token_actor}
 use Rattle.shared_network.specs.Ready.{IsNew, MayStep, PassGoesOn}
+use Rattle.shared_network.proofs.ActorOrder.{actors-in_order}
 use Rattle.shared_network.proofs.LinkNumbers.{numbered-at, numbered-length}
 use Rattle.tick_plane.specs.Kept.{KeptPlane}
 use Rattle.call_script.specs.Parts.{PlanParts}
@@ -166,7 +167,7 @@ module _ (table : TableId) (owners : List ActorNo) (links : List Link) (parts : 
         let news = Each-parts (IsNew table owners links n) callers (last ∷ []) all.new in
         record {
           some = omega (arith, long);
-          actors = same-actors ∙ all.actors ∙ ap up_to (sym long);
+          actors = actors-in_order (length (callers' ++ final ∷ [])) (map token_actor (callers' ++ final ∷ [])) (same-actors ∙ all.actors ∙ ap up_to (sym long));
           among = subst (λ k. Each (λ (p : Token). actors_opened p ≡ k) (callers' ++ final ∷ [])) (sym long)
               (Each-append (λ (p : Token). actors_opened p ≡ n) callers' (final ∷ [])
               (each-along ScriptEnds (IsNew table owners links n) (λ (p : Token). actors_opened p ≡ n) (λ p q ended new. ended.goes.among ∙ new.among) callers callers' made.scripts news.0)

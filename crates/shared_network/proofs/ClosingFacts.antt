@@ -32,6 +32,7 @@ use Rattle.link_ledger.proofs.JournalFacts.{journal-told, told-append, past_afte
 use Rattle.link_ledger.proofs.OwnFacts.{get-left}
 use Rattle.shared_network.specs.Closing.{number_of, StandsIn, IsOfOne, IsClosed}
 use Rattle.shared_network.specs.Gathering.{token_actor, all_drawn, IsPartOf, AreAll, AreGathered, IsSettled, AreSettled}
+use Rattle.shared_network.proofs.ActorOrder.{actors-differ, one-place}
 use Rattle.shared_network.specs.Ready.{MayStep}
 use Rattle.shared_network.proofs.GatherFacts.{prefix-then}
 use Rattle.shared_network.proofs.LinkNumbers.{numbered-at, numbered-length}
@@ -173,9 +174,7 @@ module _ (table : TableId) (owners : List ActorNo) (links : List Link) (passes :
             (let other_stands = in_place j other o found has on in
             let there_too : o.place - 1 ≡ k = omega (arith, at) in
             let same_entry : own_entry other.actor o ≡ own_entry it.pass.actor e = same_Some (own_entry other.actor o) (own_entry it.pass.actor e) (sym other_stands.1 ∙ ap (slice_get entries) (there_too ∙ sym place) ∙ stands.1) in
-            sym (numbered-at token_actor passes (length passes) j other all.actors (slice_get_within passes j other found) found)
-            ∙ ap (λ (y : Entry). actor_number y.actor) same_entry
-            ∙ numbered-at token_actor passes (length passes) it.index it.pass all.actors (slice_get_within passes it.index it.pass it.found) it.found);
+            one-place token_actor passes j it.index other it.pass (actors-differ (length passes) (map token_actor passes) all.actors) found it.found (ap (λ (y : Entry). actor_number y.actor) same_entry));
       }
 
   -- no stamp stands in two journals

@@ -4,6 +4,7 @@ pub mod LinkNumbers
 pub mod PassFacts
 mod StepFacts
 mod GatherFacts
+pub mod ActorOrder
 mod ClosingFacts
 pub mod PermutedFacts
 mod NumberOrder

@@ -4,6 +4,8 @@ use Rattle.std.proofs.Common.{◌≡◌, ◌≤◌, ℕ, ◌<◌, Option, Some, 
 use Rattle.std.proofs.lemmas.Option.{same_Some, slice_get-map}
 use Rattle.std.specs.List.{slice_get}
 use Rattle.std.specs.Option.{option_map}
+use Rattle.std.specs.List.Sorted.{IsPermutation}
+use Rattle.std.proofs.lemmas.List.Sorted.{IsPermutation-reverse}
 use Rattle.atomic_table.specs.Seated.{TableId}
 use Rattle.net_units.specs.Numbers.{actor_number, channel_number}
 use Rattle.net_units.specs.declared.numbers.ActorNo.{ActorNo}
@@ -33,6 +35,7 @@ use Rattle.shared_network.specs.Shifts.{NoneSubmitted, WerePlanned}
 use Rattle.shared_network.proofs.SubmittedFacts.{unsent-stays, none-planned, setup-unsent, one-unsent, one-planned}
 use Rattle.setup_protocol.specs.Hops.{IsHopOf}
 use Rattle.shared_network.specs.Gathering.{AreAll}
+use Rattle.shared_network.proofs.ActorOrder.{actors-in_order}
 use Rattle.shared_network.specs.Planes.{IsPlanes}
 use Rattle.shared_network.specs.Ready.{MayStep, IsNew}
 use Rattle.shared_network.specs.Worked.{IsWorkedLink, IsOverLink, IsJob, MayPlan, MayMove}
@@ -54,7 +57,17 @@ owner-is owners k n actor chan numbered at is =
 
 pub one-all : (table : TableId) (owners : List ActorNo) (links : List Link) (pass : Token) → MayStep table owners links pass → pass.view.among ≡ 1 → actor_number pass.actor ≡ 0 → AreAll table owners links (pass ∷ [])
 unfolding up_to
-one-all table owners links pass may among actor = record { some = omega arith; actors = ap (λ n. n ∷ []) actor; among = (among, tt); may_step = (may, tt) }
+one-all table owners links pass may among actor = record { some = omega arith; actors = actors-in_order 1 (actor_number pass.actor ∷ []) (ap (λ n. n ∷ []) actor); among = (among, tt); may_step = (may, tt) }
+
+-- two new passes, the second one first
+pub two-backwards : (table : TableId) (owners : List ActorNo) (links : List Link) (first second : Token) → IsNew table owners links 2 first → IsNew table owners links 2 second → actor_number first.actor ≡ 0 → actor_number second.actor ≡ 1 → AreAll table owners links (second ∷ first ∷ [])
+unfolding up_to
+two-backwards table owners links first second one other zeroth next = record {
+  some = omega arith;
+  actors = subst (IsPermutation (up_to 2)) (λ i. sym next i ∷ sym zeroth i ∷ []) (IsPermutation-reverse (up_to 2));
+  among = (other.among, (one.among, tt));
+  may_step = (other.may_step, (one.may_step, tt));
+}
 
 -- a plane that stands at the start of its first round has asked nothing
 pub planes-first : (links : ℕ) (plane : KeptPlane) (own : List OwnEntry) → own ≡ [] → plane.at ≡ plane_start → IsPlanes links plane own

@@ -2,6 +2,7 @@
 -- knows of each link what any pass knew. Then each link's seat is joined into that one, which tells that each mark of the
 -- link's list was drawn, and that no two seats are of one link.
 use Rattle.std.specs.Prelude.{◌≡◌, ℕ, ◌<◌, ◌≤◌, List, [], ◌∷◌, ◌++◌, length, map}
+use Rattle.std.specs.List.Sorted.{IsPermutation}
 use mathlib.Core.List.{IsPrefix}
 use Rattle.atomic_table.specs.Seated.{TableId}
 use Rattle.net_units.specs.Numbers.{actor_number}
@@ -24,10 +25,10 @@ use Rattle.shared_network.specs.Ready.{MayStep}
 abbrev pub token_actor : Token → ℕ
 token_actor pass = actor_number pass.actor
 
--- all passes of an opening, in the order of their actors, each of which may step
+-- all passes of an opening, in any order of their actors, each of which may step
 pub record AreAll (table : TableId) (owners : List ActorNo) (links : List Link) (passes : List Token) : Type 0 where
   pub some : 1 ≤ length passes
-  pub actors : map token_actor passes ≡ up_to (length passes)
+  pub actors : IsPermutation (up_to (length passes)) (map token_actor passes)
   pub among : Each (λ (pass : Token). pass.view.among ≡ length passes) passes
   pub may_step : Each (MayStep table owners links) passes
 

@@ -121,8 +121,8 @@ struct Room {
 }
 
 impl<L: LinkStep + Send, H: Home> Network<L, H> {
-    /// Closes the network, once no thread shares it. The passes are all those of its opening (`all`); each has its seat, and
-    /// none is spent. They give their seats up and keep their own entries (`passes`). Each journal is legal and its stamps
+    /// Closes the network, once no thread shares it. The passes are all those of its opening, in any order (`all`); each has its
+    /// seat, and none is spent. They give their seats up and keep their own entries (`passes`). Each journal is legal and its stamps
     /// rise; no stamp stands twice in all journals; each own entry stands in its journal at its place; each entry of a journal
     /// is the own entry of exactly one pass; and a pass's own entries are in order of stamp (`closed`).
     ///

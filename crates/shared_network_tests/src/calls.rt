@@ -400,6 +400,58 @@ fn the_plane_of_one_link_ticks(rt: HostRuntime) -> Result<(), Fail> {
     Ok(())
 }
 
+// ---- the end
+
+// What is left of a network of two actors that have made no step, where the second one's pass is given back first.
+fn closed_backwards<L: LinkStep + Send, H: Home>(
+    alloc: Global,
+    opened: (Stamps, Vec<LinkSeat>, Vec<PassSeat>),
+    link: L,
+) -> Result<Closed, Fail>
+    requires table { stamps_table opened.0 ≡ H.table }
+    requires seats { AreLinks H.table 2 1 opened.1.items }
+    requires passes { ArePasses H.table 2 2 opened.2.items }
+    requires links { H.links ≡ L.link_of link ∷ [] }
+    requires stands { L.stands_for link [] }
+    requires owners { H.owners ≡ [] }
+{
+    let (links, owners) = (one(alloc, link)?, Vec::new(alloc));
+    let (network, first, second) = open_for_two::<L, H>(alloc, opened, links, owners)?;
+    let passes = two(alloc, second, first)?;
+    Ok(
+        network
+            .close(alloc, passes)
+            .ok()
+            .ok_or("no memory to close")?,
+    )
+}
+
+// Chooses the home.
+fn closed_backwards_at_home<L: LinkStep + Send>(
+    alloc: Global,
+    opened: (Stamps, Vec<LinkSeat>, Vec<PassSeat>),
+    link: L,
+) -> Result<Closed, Fail>
+    requires seats { AreLinks (stamps_table opened.0) 2 1 opened.1.items }
+    requires passes { ArePasses (stamps_table opened.0) 2 2 opened.2.items }
+    requires stands { L.stands_for link [] }
+{
+    closed_backwards::<L, Brand>(alloc, opened, link)
+}
+
+#[test]
+fn passes_are_given_back_in_any_order(rt: HostRuntime) -> Result<(), Fail> {
+    let alloc = rt.alloc();
+    let opened = Stamps::open(alloc, 1, 2)?;
+    let closed = closed_backwards_at_home(alloc, opened, link(alloc, 0)?)?;
+    let [second, first] = closed.passes.as_slice() else {
+        return Err(Fail::from("two passes"));
+    };
+    assert!(rt; (first.actor().get(), second.actor().get()) == (0, 1));
+    assert!(rt; closed.journals.as_slice().len() == 1);
+    Ok(())
+}
+
 // ---- two threads
 
 // Each step of link 0 waits, for a while, until two steps of link 1 are made.

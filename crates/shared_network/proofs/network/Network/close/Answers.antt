@@ -1,17 +1,18 @@
-use Rattle.std.proofs.Common.{length, sym, ◌∙◌, subst, arith}
+use Rattle.std.proofs.Common.{length, map, sym, subst, arith}
 use Rattle.net_units.specs.Numbers.{link_number}
 use Rattle.step_stamp.specs.Lists.{Has}
 use Rattle.step_stamp.specs.Seats.{pass_view}
 use Rattle.shared_network.specs.Closing.{IsClosed}
 use Rattle.shared_network.proofs.ClosingFacts.{closed-told}
-use Rattle.shared_network.proofs.GatherFacts.{up_to-has}
+use Rattle.shared_network.specs.Gathering.{token_actor}
+use Rattle.shared_network.proofs.ActorOrder.{actors-there}
 use Rattle.shared_network.proofs.LinkNumbers.{numbered-length}
 use Rattle.shared_network.proofs.network.Network.close.Goals as goal
 
 pub settle-journals-requires-clause-acts : goal.settle-journals-requires-clause-acts
 settle-journals-requires-clause-acts g c κs within = λ a below.
     (let so = c.gather-seat.ensures.gathered in
-    subst (Has a) (sym (so.actors_are ∙ c.requires.all.actors)) (up_to-has (length c.args.passes.items) a (let among = so.among in omega (arith, below, among))))
+    subst (Has a) (sym so.actors_are) (actors-there (length c.args.passes.items) a (map token_actor c.args.passes.items) c.requires.all.actors (let among = so.among in omega (arith, below, among))))
 
 pub settle-journals-requires-clause-all : goal.settle-journals-requires-clause-all
 settle-journals-requires-clause-all g c κs within = numbered-length (λ l. link_number l.link) c.self.inside.links.items (length g.H.Home.links) c.self.invariant.numbers_are
