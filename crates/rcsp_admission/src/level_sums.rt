@@ -20,7 +20,7 @@ use std::marker::Model;
 use traffic_contract::{Contract, Test};
 
 // After so many turns the search for a window tries to leap, which costs about two.
-const TURNS: u32 = 16;
+const TURNS: u32 = 8;
 
 /// A new contract passes at no level: with its row at the last one, the sum there is over the bound.
 #[derive(Clone, Copy, Debug, PartialEq, Eq)]
@@ -329,12 +329,14 @@ impl LevelSums {
         ensures fits { result ≤ bound_at self.now.server.bounds (level_number level) → load_with self.now.server (admitted_rows self.now.rows) contract.now (level_number level) result ≤ result }
     {
         let bound = u64::from(self.bounds.at(level));
-        let mut window = self.leap(contract, level, from, u64::MAX);
+        let mut window = from;
+        let mut longest = u64::MAX;
         while window <= bound {
             match self.climb(contract, level, window) {
                 Ok(least) => return least,
-                Err(next) => window = self.leap(contract, level, next, next),
+                Err(next) => window = self.leap(contract, level, next, longest),
             }
+            longest = window;
         }
         window
     }
