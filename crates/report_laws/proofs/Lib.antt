@@ -3,4 +3,11 @@ pub mod KeptSource
 pub mod ToldDelays
 pub mod RowPacket
 pub mod HopPacket
+pub mod DelayRows
 pub mod ReportBounds
+pub mod GivenLevels
+pub mod PairedRows
+pub mod RowCount
+pub mod EveryDelay
+pub mod LinkCounts
+pub mod CountFacts

@@ -73,6 +73,7 @@ told-is-of plan run c entry done clock full sent best_sent best_lost is run_is r
       at = hop;
       hop = ap (hop_among (link_number done.link)) links ∙ ap (λ k. hop_among k (map link_of (take (length (offers_in (setup_replies (channel_number entry.request.chan) run))) entry.request.route))) (sym on)
           ∙ hop-number entry.request.route (length (offers_in (setup_replies (channel_number entry.request.chan) run))) row.route.index hop.hop sound.route hop.stands (omega (arith, inside, offered));
+      link = sym on;
       start = at.start;
       among = subst (λ (l : Link). Among at.start (starts_of l.shape (part_of (link_number hop.hop.link) run))) (sym link) (subst (λ m. Among at.start (starts_of split.next.link.shape (part_of m run))) (sym on) at.among);
       own = mine;

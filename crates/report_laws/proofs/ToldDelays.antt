@@ -25,7 +25,7 @@ pub record DelayOf (request : Request) (rows : List HopRow) (delay : ℕ) : Type
   pub is : delay ≡ row.departed + last_prop request.route - first.at
 
 -- the nearest row of a first hop
-first-is : (rows : List HopRow) (first : HopRow) → first_in rows ≡ Some first → Among first rows × (first.hop ≡ 1)
+pub first-is : (rows : List HopRow) (first : HopRow) → first_in rows ≡ Some first → Among first rows × (first.hop ≡ 1)
 unfolding first_in
 first-is [] first is = cc
 first-is (row ∷ before) first is =
@@ -71,7 +71,7 @@ delay-by request row before (Some first) is =
       | inr other ↦ rw other tt
     ]
 
-later : (request : Request) (row : HopRow) (before : List HopRow) (delay : ℕ) → DelayOf request before delay → DelayOf request (row ∷ before) delay
+unfoldable pub later : (request : Request) (row : HopRow) (before : List HopRow) (delay : ℕ) → DelayOf request before delay → DelayOf request (row ∷ before) delay
 later request row before delay of = record {
   row = of.row;
   among = inr of.among;

@@ -1,3 +1,5 @@
 pub mod Offered
 pub mod Rows
 pub mod Bounds
+pub mod Delivered
+pub mod Counts

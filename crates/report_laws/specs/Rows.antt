@@ -1,8 +1,8 @@
--- What a row of a run tells of a packet: that it has left a hop of its channel's route, the hop's place in the route, when the packet
+-- What a row of a run tells of a packet: that it has left a hop of its channel's route, the hop's place in the route and its link, when the packet
 -- arrived there, when it was eligible, and when it departed. These are the packets and the ticks that the whole guarantee speaks of.
 use Rattle.std.specs.Prelude.{◌≡◌, ℕ, suc, ◌≤◌, true, Some, List, reverse}
 use Rattle.std.specs.List.{slice_get}
-use Rattle.net_units.specs.Numbers.{channel_number}
+use Rattle.net_units.specs.Numbers.{link_number, channel_number}
 use Rattle.link_steps.specs.Service.{Start}
 use Rattle.link_steps.specs.Lists.{Among}
 use Rattle.setup_protocol.specs.Setup.{Accepts}
@@ -24,6 +24,7 @@ pub record TellsDeparture (network : Network) (run : List Done) (request : Reque
   pub index : ℕ
   pub at : HopAt network request index
   pub hop : row.hop ≡ suc index
+  pub link : link_number row.link ≡ link_number at.hop.link
   pub start : Start
   pub among : Among start (starts_at at run)
   pub own : is_of_channel (channel_number request.chan) start.packet ≡ true

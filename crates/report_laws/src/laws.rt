@@ -2,6 +2,8 @@
 ghost use Rattle.report_laws.specs.Offered.{ReportsTellWhatSourcesOffer};
 ghost use Rattle.report_laws.specs.Rows.{RowsTellDepartures};
 ghost use Rattle.report_laws.specs.Bounds.{ReportsKeepTheirBounds};
+ghost use Rattle.report_laws.specs.Delivered.{EveryDepartureHasOneRow, ReportsTellEveryDelay};
+ghost use Rattle.report_laws.specs.Counts.{ReportsTellWhatLinksDid, ReportsTellRefusedSends, ReportsTellTheSteps};
 
 /// Where a link offers to a channel at most once, the ticks that the report takes for those at which the channel's source has offered
 /// a packet are those that the link keeps of the channel's row, whether it is held or gone. So the report's *offered* and *keeps* are
@@ -11,9 +13,37 @@ pub fn reports_tell_what_sources_offer()
 {}
 
 /// Each row of an accepted channel is of a packet of the channel that has left a hop of its route: the row tells the hop's place in the
-/// route, the packet's number and size, and the ticks at which it arrived there, was eligible and departed.
+/// route and its link, the packet's number and size, and the ticks at which it arrived there, was eligible and departed.
 pub fn rows_tell_departures()
     ensures { RowsTellDepartures }
+{}
+
+/// Each packet of an accepted channel that has left a hop of its route has one row there, and no more.
+pub fn every_departure_has_one_row()
+    ensures { EveryDepartureHasOneRow }
+{}
+
+/// The delays of an accepted channel that the report counts are those of the packets that have departed from its last hop. There are
+/// as many delays as such packets, the delay of each is among them, and each is the delay of one. Its least and its worst are the
+/// least and the greatest of them.
+pub fn reports_tell_every_delay()
+    ensures { ReportsTellEveryDelay }
+{}
+
+/// A link's *sent* is the number of packets of channels that have left it, *best* that of best-effort packets that have, and *refused*
+/// that of pours that were answered with a refusal.
+pub fn reports_tell_what_links_did()
+    ensures { ReportsTellWhatLinksDid }
+{}
+
+/// A channel's *refused* is the number of submits on it at the first link of its route that were answered with a refusal.
+pub fn reports_tell_refused_sends()
+    ensures { ReportsTellRefusedSends }
+{}
+
+/// The line after those of the links tells the number of the run's entries.
+pub fn reports_tell_the_steps()
+    ensures { ReportsTellTheSteps }
 {}
 
 /// In the report of a run, where the line of an accepted channel says that its source keeps its contract, its worst delay is at most the

@@ -4,4 +4,8 @@
 
 pub mod laws;
 
-pub use laws::{reports_keep_their_bounds, reports_tell_what_sources_offer, rows_tell_departures};
+pub use laws::{
+    every_departure_has_one_row, reports_keep_their_bounds, reports_tell_every_delay,
+    reports_tell_refused_sends, reports_tell_the_steps, reports_tell_what_links_did,
+    reports_tell_what_sources_offer, rows_tell_departures,
+};

@@ -1,0 +1,5 @@
+use Rattle.report_laws.proofs.CountFacts.{steps-told}
+use Rattle.report_laws.proofs.laws.reports_tell_the_steps.Goals as goal
+
+pub returns : goal.returns
+returns c = steps-told

@@ -1,0 +1,5 @@
+use Rattle.report_laws.proofs.CountFacts.{links-told}
+use Rattle.report_laws.proofs.laws.reports_tell_what_links_did.Goals as goal
+
+pub returns : goal.returns
+returns c = links-told
