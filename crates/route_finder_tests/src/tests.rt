@@ -140,6 +140,21 @@ fn propagation_comes_before_links(rt: HostRuntime) -> Result<(), Fail> {
     Ok(())
 }
 
+// Links 3 and 4 are fewer than 0, 1 and 2, and take a tick longer.
+#[test]
+fn three_links_may_come_before_two(rt: HostRuntime) -> Result<(), Fail> {
+    let lines = [
+        line_of(0, 1, 1),
+        line_of(1, 2, 1),
+        line_of(2, 3, 1),
+        line_of(0, 4, 2),
+        line_of(4, 3, 2),
+    ];
+    let found = way_of(rt.alloc(), &lines, 0, 3)?.ok_or("a way")?;
+    assert_eq!(rt; (found.links.as_slice(), found.prop), (&[0, 1, 2][..], 3));
+    Ok(())
+}
+
 // Along a chain of 32 links.
 #[test]
 fn a_walk_has_sixteen_links_at_most(rt: HostRuntime) -> Result<(), Fail> {
