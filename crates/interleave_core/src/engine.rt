@@ -1,5 +1,5 @@
 //! The links and the actors of a plan on their way through a run, which they don't record.
-ghost use Rattle.std.specs.Prelude.{◌≡◌, ◌≤◌, ◌∷◌, [], List, IfOk, OnErr};
+ghost use Rattle.std.specs.Prelude.{◌≡◌, ◌≤◌, ◌∷◌, [], List, IfOk, OnErr, length};
 ghost use Rattle.net_units.specs.Numbers.{actor_number};
 ghost use Rattle.call_script.specs.Parts.{PlanParts};
 ghost use Rattle.call_script.specs.Tasks.{network_of};
@@ -77,6 +77,13 @@ impl Engine {
         self.actors.plane.round()
     }
 
+    /// How many packets are on their way.
+    pub fn flights(&self) -> usize
+        ensures { result ≡ length self.now.actors.plane.at.flights }
+    {
+        self.actors.plane.flights()
+    }
+
     /// For how many rounds it rests: in them no packet reaches a link, and nothing falls due in a link. It is 0 in the middle of a
     /// round, and where the engine can't tell.
     pub fn rounds_at_rest(&self) -> u64
@@ -109,6 +116,18 @@ impl Engine {
         let Engine { links, actors } = self;
         let Actors { callers, plane } = actors;
         (links, plane, callers)
+    }
+
+    /// The engine of these links, this plane and these callers: what [`Engine::into_parts`] takes apart, put together again.
+    pub fn from_parts(links: Vec<AnyLink>, plane: Plane, callers: Callers) -> Engine
+        ensures links { result.links ≡ links }
+        ensures plane { result.actors.plane ≡ plane }
+        ensures callers { result.actors.callers ≡ callers }
+    {
+        Engine {
+            links,
+            actors: Actors { callers, plane },
+        }
     }
 
     /// The callers after the steps that it has made. The links and the plane are given up.
