@@ -6,4 +6,5 @@ pub mod WindowAsks
 pub mod MakeFacts
 pub mod GapLaw
 pub mod RoundFacts
+pub mod MoreFacts
 pub mod BatchFacts

@@ -1,6 +1,6 @@
 -- An engine's links at desks; and where the plane has made all its rounds.
-use Rattle.std.proofs.Common.{◌≡◌, ℕ, ◌≤◌, List, [], ◌∷◌, length, map, None, option_map, refl, sym, ap, ◌∙◌, subst, arith}
-use Rattle.std.proofs.lemmas.Bool.{le-ltb}
+use Rattle.std.proofs.Common.{◌≡◌, ◌≢◌, ℕ, ◌+◌, ◌<◌, ◌≤◌, List, [], ◌∷◌, length, map, None, Some, option_map, refl, sym, ap, ◌∙◌, subst, arith}
+use Rattle.std.proofs.lemmas.Bool.{le-ltb, lt-ltb}
 use Rattle.std.proofs.lemmas.List.{length-map}
 use Rattle.std.proofs.lemmas.Option.{slice_get-map, slice_get_within}
 use Rattle.std.specs.List.{slice_get}
@@ -13,9 +13,7 @@ use Rattle.link_steps.specs.Split.{Link}
 use Rattle.link_steps.specs.declared.replies.Entry.{Entry}
 use Rattle.link_steps.proofs.ListParts.{Each-at, comes-from}
 use Rattle.setup_protocol.specs.declared.request.Request.{Request}
-use Rattle.call_script.proofs.FitFacts.{plan-fits}
 use Rattle.call_script.proofs.OperationFacts.{tasks-hold}
-use Rattle.call_script.proofs.OwnerFacts.{all-owned}
 use Rattle.call_script.specs.Parts.{PlanParts}
 use Rattle.call_script.specs.Plans.{IsPlan}
 use Rattle.call_script.specs.Standing.{CallerStands}
@@ -25,20 +23,21 @@ use Rattle.call_script.specs.declared.entries.CallerEntry.{CallerEntry}
 use Rattle.call_script.specs.declared.entries.RequestEntry.{RequestEntry}
 use Rattle.call_script.specs.declared.operations.Op.{Op}
 use Rattle.tick_plane.specs.Kept.{KeptPlane}
-use Rattle.tick_plane.specs.Planes.{Plane}
+use Rattle.tick_plane.specs.Planes.{Plane, ask_due, next_due, plane_ask}
+use Rattle.run_record.specs.Runs.{part_of}
 use Rattle.run_record.specs.declared.done.Done.{Done}
-use Rattle.interleave_core.specs.runs.Runs.{plane_no, plane_at, next_for, IsRun}
-use Rattle.interleave_core.specs.schedules.Schedules.{FollowsTurns, repeated}
-use Rattle.interleave_core.specs.schedules.Standing.{AreCallers, CallersStand, LinksStand, PlaneStands, IsGuaranteedRun}
+use Rattle.interleave_core.specs.runs.Runs.{plane_no, plane_at, next_for}
+use Rattle.interleave_core.specs.schedules.Quiet.{the_plane}
+use Rattle.interleave_core.specs.schedules.Standing.{AreCallers, CallersStand, LinksStand, PlaneStands}
 use Rattle.interleave_core.specs.schedules.Watching.{WatchStands}
 use Rattle.interleave_core.specs.declared.callers.Callers.{Callers}
 use Rattle.interleave_core.specs.declared.engine.Engine.{Engine}
 use Rattle.interleave_core.proofs.Keeping.ActorFacts.{plane-number}
 use Rattle.interleave_core.proofs.Keeping.StepFacts.{callers-few}
-use Rattle.interleave_core.proofs.Channels.GuaranteeLaw.{guaranteed-throughout}
+use Rattle.interleave_core.proofs.Watched.QuietRounds.{plane-is}
 use Rattle.interleave_core.proofs.Runs.RunLegal.{asked-plane}
 use Rattle.plane_workers.specs.Gaps.{IsSpaced, TaskSpaced, AreSpaced}
-use Rattle.plane_workers.specs.Seen.{GoesTo, HasPlayedOut, SeenBetween}
+use Rattle.plane_workers.specs.Seen.{GoesTo, PlaysMore, SeenBetween}
 use Rattle.plane_workers.specs.Windows.{GoesOnBy, LinksKept, KeepsGap}
 
 -- ---- links at desks
@@ -51,9 +50,6 @@ module _ {D X : Type 0} (link : D → X) (rules : X → Link) (stands : X → Li
     parts = λ n d found. kept.parts n (link d) (ap (λ ls. slice_get ls n) (sym are) ∙ slice_get-map link desks n ∙ ap (option_map link) found);
   }
 
-pub made-guaranteed : (parts : PlanParts) (run : List Done) → IsPlan parts → IsRun (network_of parts) run → IsGuaranteedRun parts run
-made-guaranteed parts run plan is = record { run_is = is; guaranteed = guaranteed-throughout (network_of parts) run (plan-fits parts plan) (all-owned parts plan) is }
-
 -- ---- the plane
 
 pub plane-over : (network : Network) (plane : KeptPlane) (run : List Done) → PlaneStands network plane run → network.rounds ≤ plane.at.round → next_for network (plane_no network) run ≡ None
@@ -61,10 +57,49 @@ plane-over network plane run stands over =
     let round = ap (λ (p : Plane). p.round) stands.at in
     asked-plane network (plane_no network) run refl ∙ rw (le-ltb (plane_at network run).round network.rounds (omega (arith, over, round))) refl
 
+-- ---- the plane's number, and the rounds of a plan
+
+pub plane-actor : (parts : PlanParts) (actor : ActorNo) → IsPlan parts → actor ≡ the_plane (network_of parts) → actor_number actor ≡ length parts.callers
+plane-actor parts actor plan is =
+    let place = plane-number parts in
+    let few = callers-few parts plan in
+    ap actor_number is ∙ plane-is (network_of parts) (omega (arith, place, few)) ∙ place
+
+pub plane-of-callers : (parts : PlanParts) (count : ℕ) → count ≡ length parts.callers → actor_at count ≡ the_plane (network_of parts)
+plane-of-callers parts count is = ap actor_at (is ∙ sym (plane-number parts))
+
+pub rounds-of : (parts : PlanParts) → (network_of parts).rounds ≡ parts.rounds + parts.tail
+unfolding network_of
+rounds-of parts = refl
+
+pub plane-end : (parts : PlanParts) (plane : KeptPlane) (run : List Done) (actor : ActorNo) → IsPlan parts → PlaneStands (network_of parts) plane run → actor ≡ the_plane (network_of parts) → (network_of parts).rounds ≤ plane.at.round → next_for (network_of parts) (actor_number actor) run ≡ None
+plane-end parts plane run actor plan stands is over = ap (λ n. next_for (network_of parts) n run) (plane-actor parts actor plan is ∙ sym (plane-number parts)) ∙ plane-over (network_of parts) plane run stands over
+
+never-some : {X : Type 0} (x : X) → None ≡ Some x → ⊥
+never-some x same = absurd (let clash : None ≡ Some x = same in cc)
+
+-- before its last round there is a step left
+pub plane-left : (parts : PlanParts) (plane : KeptPlane) (run : List Done) (actor : ActorNo) → IsPlan parts → PlaneStands (network_of parts) plane run → actor ≡ the_plane (network_of parts) → plane.at.round < (network_of parts).rounds → next_for (network_of parts) (actor_number actor) run ≢ None
+plane-left parts plane run actor plan stands is left none =
+    let network = network_of parts in
+    let round = ap (λ (p : Plane). p.round) stands.at in
+    let by : actor_number actor ≡ plane_no network = plane-actor parts actor plan is ∙ sym (plane-number parts) in
+    let at = plane_at network run in
+    let asks : plane_ask network.rounds at ≡ Some (ask_due at.ticked (next_due at)) = rw (lt-ltb at.round network.rounds (omega (arith, left, round))) refl in
+    never-some (ask_due at.ticked (next_due at)) (sym none ∙ asked-plane network (actor_number actor) run by ∙ asks)
+
 -- ---- the links of an engine
 
 pub kept-of : (network : List Link) (links : List AnyLink) (run : List Done) → LinksStand network links run → LinksKept any_rules AnyStands network links run
 kept-of network links run stand = record { same = stand.same; linked = stand.linked; parts = stand.parts }
+
+-- the links of desks
+off-desks : {D : Type 0} (link : D → AnyLink) (network : List Link) (desks : List D) (run : List Done) → LinksKept (λ d. any_rules (link d)) (λ d. AnyStands (link d)) network desks run → LinksStand network (map link desks) run
+off-desks link network desks run kept = record {
+  same = length-map desks link ∙ kept.same;
+  linked = λ n l found. (let at = comes-from link desks n l found in kept.linked n at.from at.found ∙ ap (λ k. Some (any_rules k)) at.is);
+  parts = λ n l found. (let at = comes-from link desks n l found in subst (λ k. AnyStands k (part_of n run)) at.is (kept.parts n at.from at.found));
+}
 
 module _ {D W : Type 0} (link : D → AnyLink) (saw : W → PlanParts → List Done → Type 0) (parts : PlanParts) (engine : Engine) (gap : ℕ) where
   abbrev network : Network
@@ -95,25 +130,31 @@ module _ {D W : Type 0} (link : D → AnyLink) (saw : W → PlanParts → List D
         subst (CallerStands parts caller) (sym (goes.others n (λ is. omega (arith, is, within, same, high)))) (are.stand n caller found));
   }
 
-  -- after the plane's last round all is made
-  pub rounds-out : (callers : Callers) (desks : List D) (plane : KeptPlane) (first watch : W) (past : List Done) (actor : ActorNo) → WatchStands saw parts engine first past → actor ≡ actor_at (length parts.callers) → callers ≡ engine.actors.callers
-      → GoesTo network actor past (SeenBetween (λ d. any_rules (link d)) (λ d. AnyStands (link d)) saw parts gap desks plane watch) → network.rounds ≤ plane.at.round → HasPlayedOut saw parts callers watch past (actor_at (length parts.callers))
-  rounds-out callers desks plane first watch past actor stand is same goes over =
+  -- the engine of these links, the plane and the callers stands for the run with the window
+  pub engine-again : (callers : Callers) (desks : List D) (plane : KeptPlane) (made : Engine) (first watch : W) (past : List Done) (actor : ActorNo) → WatchStands saw parts engine first past → length parts.callers ≤ actor_number actor → callers ≡ engine.actors.callers
+      → made.links.items ≡ map link desks → made.actors.plane ≡ plane → made.actors.callers ≡ callers → GoesTo network actor past (SeenBetween (λ d. any_rules (link d)) (λ d. AnyStands (link d)) saw parts gap desks plane watch) → PlaysMore saw parts made watch past actor 0
+  engine-again callers desks plane made first watch past actor stand high same links flown called goes =
       let run = goes.run in
       let between = goes.comes.between in
-      let few = callers-few parts stand.stands.plan in
-      let number : plane_no network ≡ actor_number (actor_at (length parts.callers)) = plane-number parts ∙ omega (arith, few) in
-      let own = ap actor_number is in
-      let high : length parts.callers ≤ actor_number actor = omega (arith, own, few) in
       record {
-        run = run;
-        out = record {
-          count = goes.goes.count;
-          steps = subst (λ (a : ActorNo). FollowsTurns network past (repeated goes.goes.count a) run) is goes.goes.follows;
-          over = ap (λ n. next_for network n run) (sym number) ∙ plane-over network plane run between.plane_is over;
+        count = goes.goes.count;
+        many = omega arith;
+        plays = record {
+          run = run;
+          follows = goes.goes.follows;
+          stand = record {
+            stands = record {
+              plan = between.plan;
+              run = between.run_is;
+              links = subst (λ ls. LinksStand network.links ls run) (sym links) (off-desks link network.links desks run between.kept);
+              actors = record {
+                callers = subst (λ (cs : Callers). CallersStand parts cs run) (sym (called ∙ same)) (callers-stay engine.actors.callers.by_number.items past run actor high goes.goes stand.stands.actors.callers);
+                plane = subst (λ (p : KeptPlane). PlaneStands network p run) (sym flown) between.plane_is;
+              };
+            };
+            seen = goes.comes.seen;
+          };
         };
-        guaranteed = made-guaranteed parts run between.plan between.run_is;
-        seen = record { stand = subst (λ (cs : Callers). CallersStand parts cs run) (sym same) (callers-stay engine.actors.callers.by_number.items past run actor high goes.goes stand.stands.actors.callers); seen = goes.comes.seen };
       }
 
 -- ---- the routes of a plan

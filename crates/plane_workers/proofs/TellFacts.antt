@@ -74,7 +74,7 @@ goes-one network past done next = record {
   others = λ n off. replies-off n done past (λ is. off (sym is));
 }
 
-repeated-both : {X : Type 0} (n m : ℕ) (x : X) → repeated n x ++ repeated m x ≡ repeated (n + m) x
+pub repeated-both : {X : Type 0} (n m : ℕ) (x : X) → repeated n x ++ repeated m x ≡ repeated (n + m) x
 unfolding repeated
 repeated-both zero m x = ap (λ k. repeated k x) (let same : m ≡ 0 + m = omega arith in same)
 repeated-both (suc n) m x = ap (λ xs. x ∷ xs) (repeated-both n m x) ∙ ap (λ k. repeated k x) (let same : suc (n + m) ≡ suc n + m = omega arith in same)

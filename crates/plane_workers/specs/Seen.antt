@@ -1,18 +1,17 @@
 -- A watcher of a run sees the steps of a window as they are put in order. Between two windows, and within one, links, plane and
 -- watcher stand for one run. `saw` tells which runs of a plan the watcher has seen.
-use Rattle.std.specs.Prelude.{ℕ, List}
+use Rattle.std.specs.Prelude.{ℕ, ◌≤◌, List}
 use Rattle.net_units.specs.declared.numbers.ActorNo.{ActorNo}
 use Rattle.link_steps.specs.Split.{Link}
 use Rattle.link_steps.specs.declared.replies.Entry.{Entry}
 use Rattle.link_steps.specs.declared.replies.Reply.{Reply}
 use Rattle.call_script.specs.Parts.{PlanParts}
-use Rattle.call_script.specs.Tasks.{Network, network_of}
+use Rattle.call_script.specs.Tasks.{Network}
 use Rattle.tick_plane.specs.Kept.{KeptPlane}
 use Rattle.run_record.specs.declared.done.Done.{Done}
-use Rattle.interleave_core.specs.schedules.Schedules.{StepsOut}
-use Rattle.interleave_core.specs.schedules.Standing.{IsGuaranteedRun}
-use Rattle.interleave_core.specs.schedules.Watching.{IsSeen}
-use Rattle.interleave_core.specs.declared.callers.Callers.{Callers}
+use Rattle.interleave_core.specs.schedules.Schedules.{repeated}
+use Rattle.interleave_core.specs.schedules.Watching.{PlaysOn}
+use Rattle.interleave_core.specs.declared.engine.Engine.{Engine}
 use Rattle.plane_workers.specs.Windows.{GoesOnBy, IsBetween, IsWithin}
 
 -- the run goes on by steps of one actor to one of which this holds
@@ -31,11 +30,10 @@ pub record SeenBetween {X W : Type 0} (rules : X → Link) (stands : X → List 
   pub between : IsBetween rules stands parts gap links plane run
   pub seen : saw watch parts run
 
--- ---- all steps of an actor
+-- ---- steps of one actor
 
--- it has made those that it had left: the callers stand for the run with them, which has the whole guarantee and was seen
-pub record HasPlayedOut {W : Type 0} (saw : W → PlanParts → List Done → Type 0) (parts : PlanParts) (callers : Callers) (watch : W) (past : List Done) (actor : ActorNo) : Type 0 where
-  pub run : List Done
-  pub out : StepsOut (network_of parts) past actor run
-  pub guaranteed : IsGuaranteedRun parts run
-  pub seen : IsSeen saw parts callers watch run
+-- it has made some steps more, at least so many, and the engine and the watcher stand for the run with them
+pub record PlaysMore {W : Type 0} (saw : W → PlanParts → List Done → Type 0) (parts : PlanParts) (engine : Engine) (watch : W) (past : List Done) (actor : ActorNo) (least : ℕ) : Type 0 where
+  pub count : ℕ
+  pub many : least ≤ count
+  pub plays : PlaysOn saw parts engine watch past (repeated count actor)

@@ -100,7 +100,7 @@ impl<L: LinkStep> Desk<L> {
 }
 
 // The link of this number.
-fn link_of(number: usize) -> LinkNo
+pub(crate) fn link_of(number: usize) -> LinkNo
     requires { number < 32 }
     ensures { result.number ≡ number }
 {

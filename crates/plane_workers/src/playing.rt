@@ -5,13 +5,9 @@ ghost use Rattle.interleave_core.specs.schedules.Schedules.{IsActorOf, IsFaultOf
 ghost use Rattle.interleave_core.specs.schedules.Standing.{IsGuaranteedRun};
 ghost use Rattle.interleave_core.specs.schedules.Watching.{HavePlayedOut, IsPlayedSeen, PlaysOut, WatchStands};
 ghost use Rattle.link_steps.specs.Lists.{Each};
-ghost use Rattle.net_units.specs.Numbers.{actor_at};
-ghost use Rattle.plane_workers.specs.Seen.{HasPlayedOut};
 ghost use Rattle.run_record.specs.declared.done.Done.{Done as Step};
 
-use crate::desk::desks_of;
-use crate::gap::least_gap;
-use crate::window::make_rounds;
+use crate::rounds::make_rounds;
 use call_script::{Plan, Schedule};
 use interleave_core::{Callers, Engine, PlayFault, Watch, actor_of, make_watched, play_watched};
 use net_units::{ActorNo, Gate, OutOfMemory};
@@ -20,11 +16,11 @@ use std::alloc::Global;
 use std::thread::Threads;
 
 /// Plays a schedule of a plan, and answers the record of its run: that of [`play`](interleave_core::play), whatever the number of
-/// workers, with the same fault. Where no schedule is written the plane's rounds are made by 1 to 16 workers. A written one is played
-/// step by step, and so is any with one worker.
+/// workers, with the same fault. Where no schedule is written the plane's rounds are made by 1 to 16 workers: by several where that
+/// pays, and otherwise by the thread of the call, as `play` makes them. A written one is played step by step.
 ///
-/// Each of several workers calls the gate's `within` before each ask of a round and `after` after it, with the ask's link and the
-/// plane.
+/// Where no schedule is written, whoever makes an ask of the plane calls the gate's `within` before it and `after` after it, once each,
+/// with the ask's link and the plane. The ticks of rounds at rest are made at once, after the calls for all of them.
 pub fn played<R: Threads + Sync, G: Gate + Sync>(
     rt: &R,
     alloc: Global,
@@ -63,14 +59,13 @@ pub fn played_watched<R: Threads + Sync, W: Watch, G: Gate + Sync>(
     ensures table { OnOk result (W.has_table watch.new ≡ W.has_table watch.old) }
     ensures fault { IfErr result (IsFaultOf (network_of plan.now) schedule.now) }
 {
-    // One worker makes the rounds as they come, so it needs no windows.
-    if schedule.written || workers == 1 {
+    if schedule.written {
         return play_watched(alloc, plan, schedule, watch);
     }
     let mut engine = Engine::new(alloc, plan)?;
     play_callers(&mut engine, plan, watch)?;
-    let callers = make_all_rounds(rt, alloc, plan, engine, workers as usize, gate, watch)?;
-    Ok(callers)
+    let engine = make_rounds(rt, alloc, plan, engine, workers as usize, gate, watch)?;
+    Ok(engine.into_callers())
 }
 
 // Lets the callers in their order each make their steps.
@@ -108,30 +103,4 @@ fn play_caller<W: Watch>(
         }
     }
     unreachable!()
-}
-
-// Lets the plane make its rounds, and answers the callers.
-fn make_all_rounds<R: Threads + Sync, W: Watch, G: Gate + Sync>(
-    rt: &R,
-    alloc: Global,
-    plan: &Plan,
-    engine: Engine,
-    workers: usize,
-    gate: &G,
-    watch: &mut W,
-) -> Result<Callers, OutOfMemory>
-    requires workers { 0 < workers }
-    requires stand { (run : List Step) × WatchStands W.saw plan.now engine watch.old run }
-    ensures out { IfOk result (λ callers. (past : List Step) → WatchStands W.saw plan.now engine watch.old past → HasPlayedOut W.saw plan.now callers watch.new past (actor_at (length plan.now.callers))) }
-    ensures table { OnOk result (W.has_table watch.new ≡ W.has_table watch.old) }
-{
-    let gap = least_gap(plan);
-    let rounds = plan.rounds() + plan.tail();
-    let actor = actor_of(plan.callers().len());
-    let (links, mut plane, callers) = engine.into_parts();
-    let mut desks = desks_of(alloc, links)?;
-    make_rounds(
-        rt, alloc, plan, &mut plane, &mut desks, watch, actor, gap, rounds, workers, gate,
-    )?;
-    Ok(callers)
 }

@@ -9,6 +9,7 @@ ghost use Rattle.plane_workers.specs.Seen.{GoesTo, SeenWithin};
 ghost use Rattle.run_record.specs.declared.done.Done.{Done as Entry};
 
 use crate::desk::Desk;
+use crate::pace::Busy;
 use call_script::Plan;
 use interleave_core::Watch;
 use link_steps::{LinkStep, Reply};
@@ -16,8 +17,8 @@ use net_units::{ActorNo, OutOfMemory};
 use run_record::Done;
 use tick_plane::Plane;
 
-/// The plane's steps from where it stands until round `until` begins, each shown to the watcher of the run. Each link has answered
-/// what it is asked until then.
+// The plane's steps from where it stands until round `until` begins, each shown to the watcher of the run. Each link has answered
+// what it is asked until then. Answers in how many of these rounds something happened.
 pub(crate) fn tell_all<L: LinkStep, W: Watch>(
     plan: &Plan,
     plane: &mut Plane,
@@ -26,7 +27,7 @@ pub(crate) fn tell_all<L: LinkStep, W: Watch>(
     actor: ActorNo,
     from: u64,
     until: u64,
-) -> Result<(), OutOfMemory>
+) -> Result<u64, OutOfMemory>
     requires actor { actor_number actor ≡ length plan.now.callers }
     requires within { (run : List Entry) × SeenWithin (rules_at L.link_of) (stands_at L.stands_for) left_at W.saw plan.now from until desks.old plane.old watch.old run }
     ensures goes { OnOk result ((past : List Entry) → SeenWithin (rules_at L.link_of) (stands_at L.stands_for) left_at W.saw plan.now from until desks.old plane.old watch.old past → GoesTo (network_of plan.now) actor past (SeenWithin (rules_at L.link_of) (stands_at L.stands_for) left_at W.saw plan.now from until desks.new plane.new watch.new)) }
@@ -34,10 +35,27 @@ pub(crate) fn tell_all<L: LinkStep, W: Watch>(
     ensures rounds { OnOk result (plane.new.rounds ≡ plane.old.rounds) }
     ensures table { OnOk result (W.has_table watch.new ≡ W.has_table watch.old) }
 {
+    let mut busy = Busy::new();
     while plane.round() < until {
-        tell_one(plan, plane, desks, watch, actor, from, until)?;
+        let round = plane.round();
+        let reply = tell_one(plan, plane, desks, watch, actor, from, until)?;
+        busy.note(round, is_quiet(&reply));
     }
-    Ok(())
+    Ok(busy.rounds())
+}
+
+// Whether nothing happened in the step that got this reply.
+fn is_quiet(reply: &Reply) -> bool {
+    matches!(
+        reply,
+        Reply::Ticked {
+            full: 0,
+            sent: None,
+            best_sent: false,
+            best_lost: false,
+            ..
+        }
+    )
 }
 
 // The plane's next step, whose reply its link has given already.
@@ -49,7 +67,7 @@ fn tell_one<L: LinkStep, W: Watch>(
     actor: ActorNo,
     from: u64,
     until: u64,
-) -> Result<(), OutOfMemory>
+) -> Result<Reply, OutOfMemory>
     requires actor { actor_number actor ≡ length plan.now.callers }
     requires within { (run : List Entry) × SeenWithin (rules_at L.link_of) (stands_at L.stands_for) left_at W.saw plan.now from until desks.old plane.old watch.old run }
     requires early { plane.old.at.round < until }
@@ -71,7 +89,7 @@ fn tell_one<L: LinkStep, W: Watch>(
         reply,
     };
     watch.see(plan, &done)?;
-    Ok(())
+    Ok(reply)
 }
 
 // The next reply of the link of this number that isn't told yet.

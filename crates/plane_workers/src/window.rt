@@ -52,9 +52,36 @@ pub(crate) fn answer_windows<R: Threads + Sync, L: LinkStep + Send, G: Gate + Sy
     );
 }
 
+// Each link answers what the plane asks of it until a round begins, as far as the packets on their way tell that.
+fn answer_until<R: Threads + Sync, L: LinkStep + Send, G: Gate + Sync>(
+    rt: &R,
+    alloc: Global,
+    plane: &Plane,
+    desks: &mut [Desk<L>],
+    until: u64,
+    workers: usize,
+    gate: &G,
+    actor: ActorNo,
+) -> Result<(), OutOfMemory>
+    requires workers { 0 < workers }
+    requires few { length desks.old ≤ 32 }
+    requires fits { (n : ℕ) (desk : _) → slice_get desks.old n ≡ Some desk → Each (AskFits (L.link_of desk.link).shape) (window_at n until plane.now.at) }
+    requires early { (n : ℕ) (desk : _) → slice_get desks.old n ≡ Some desk → L.clock_at desk.link + ticks_in (window_at n until plane.now.at) < 2 ^ 61 }
+    ensures long { OnOk result (length desks.new ≡ length desks.old) }
+    ensures answered { OnOk result ((n : ℕ) (x y : _) → slice_get desks.old n ≡ Some x → slice_get desks.new n ≡ Some y → IsAnswered L.link_of L.stands_for x.link y.link (window_at n until plane.now.at) (left_at y)) }
+{
+    let window = plane.window(alloc, until)?;
+    answer_windows(rt, alloc, desks, &window, workers, gate, actor);
+    if any_wanted(desks) {
+        return Err(OutOfMemory);
+    }
+    Ok(())
+}
+
 // The rounds from where the plane stands until one begins, which is no further than the gap allows: each link answers on its own, by
-// this many workers, and then the steps are shown to the watcher of the run in the order in which the plane asks.
-fn make_window<R: Threads + Sync, L: LinkStep + Send, W: Watch, G: Gate + Sync>(
+// this many workers, and then the steps are shown to the watcher of the run in the order in which the plane asks. Answers in how many
+// of the rounds something happened.
+pub(crate) fn make_window<R: Threads + Sync, L: LinkStep + Send, W: Watch, G: Gate + Sync>(
     rt: &R,
     alloc: Global,
     plan: &Plan,
@@ -66,7 +93,7 @@ fn make_window<R: Threads + Sync, L: LinkStep + Send, W: Watch, G: Gate + Sync>(
     until: u64,
     workers: usize,
     gate: &G,
-) -> Result<(), OutOfMemory>
+) -> Result<u64, OutOfMemory>
     requires workers { 0 < workers }
     requires actor { actor_number actor ≡ length plan.now.callers }
     requires between { (run : List Step) × SeenBetween (rules_at L.link_of) (stands_at L.stands_for) W.saw plan.now gap desks.old plane.old watch.old run }
@@ -79,12 +106,8 @@ fn make_window<R: Threads + Sync, L: LinkStep + Send, W: Watch, G: Gate + Sync>(
     ensures table { OnOk result (W.has_table watch.new ≡ W.has_table watch.old) }
 {
     let from = plane.round();
-    let window = plane.window(alloc, until)?;
     tell_time(desks);
-    answer_windows(rt, alloc, desks, &window, workers, gate, actor);
-    if any_wanted(desks) {
-        return Err(OutOfMemory);
-    }
+    answer_until(rt, alloc, plane, desks, until, workers, gate, actor)?;
     tell_all(plan, plane, desks, watch, actor, from, until)
 }
 
@@ -98,51 +121,4 @@ pub(crate) fn any_wanted<L: LinkStep>(desks: &[Desk<L>]) -> bool
     ensures { result ≡ false → (n : ℕ) (desk : _) → slice_get desks.now n ≡ Some desk → desk.wanted ≡ false }
 {
     desks.iter().any(|desk| desk.wanted)
-}
-
-/// The rounds from where the plane stands until one begins, by windows. What leaves a link reaches the next one more than `gap`
-/// rounds later, so a window has at most one round more than `gap`.
-pub(crate) fn make_rounds<R: Threads + Sync, L: LinkStep + Send, W: Watch, G: Gate + Sync>(
-    rt: &R,
-    alloc: Global,
-    plan: &Plan,
-    plane: &mut Plane,
-    desks: &mut [Desk<L>],
-    watch: &mut W,
-    actor: ActorNo,
-    gap: u64,
-    until: u64,
-    workers: usize,
-    gate: &G,
-) -> Result<(), OutOfMemory>
-    requires workers { 0 < workers }
-    requires gap { gap < 2 ^ 60 }
-    requires actor { actor_number actor ≡ length plan.now.callers }
-    requires between { (run : List Step) × SeenBetween (rules_at L.link_of) (stands_at L.stands_for) W.saw plan.now gap desks.old plane.old watch.old run }
-    requires all { until ≤ plane.old.rounds }
-    ensures goes { OnOk result ((past : List Step) → SeenBetween (rules_at L.link_of) (stands_at L.stands_for) W.saw plan.now gap desks.old plane.old watch.old past → GoesTo (network_of plan.now) actor past (SeenBetween (rules_at L.link_of) (stands_at L.stands_for) W.saw plan.now gap desks.new plane.new watch.new)) }
-    ensures at { OnOk result (until ≤ plane.new.at.round) }
-    ensures table { OnOk result (W.has_table watch.new ≡ W.has_table watch.old) }
-{
-    // The first window has two workers, where there are two, though it may be short.
-    let mut least = 2;
-    while plane.round() < until {
-        let round = plane.round();
-        let next = until.min(round + gap + 1);
-        let count = worth(desks.len(), next - round).max(least).min(workers);
-        make_window(
-            rt, alloc, plan, plane, desks, watch, actor, gap, next, count, gate,
-        )?;
-        least = 1;
-    }
-    Ok(())
-}
-
-// How many workers are worth starting for this many rounds of this many links: one for each thousand ticks beside the first. Starting
-// one takes as long as some 600 ticks.
-fn worth(links: usize, rounds: u64) -> usize
-    ensures { 1 ≤ result }
-{
-    let ticks = rounds.saturating_mul(links as u64);
-    1 + (ticks / 1_000).min(31) as usize
 }

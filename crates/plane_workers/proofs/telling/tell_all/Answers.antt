@@ -20,7 +20,7 @@ pub loop-actor-preserved : goal.loop-actor-preserved
 loop-actor-preserved g c = record {
   goes = λ past stand.
       comes-both (network_of c.args.plan.now) c.args.actor past (SeenWithin (rules_at g.L.LinkStep.link_of) (stands_at g.L.LinkStep.stands_for) left_at g.W.Watch.saw c.args.plan.now c.args.from c.args.until c.loop-actor.desks c.loop-actor.plane c.loop-actor.watch)
-      (SeenWithin (rules_at g.L.LinkStep.link_of) (stands_at g.L.LinkStep.stands_for) left_at g.W.Watch.saw c.args.plan.now c.args.from c.args.until c.tell_one.new.desks c.tell_one.new.plane c.tell_one.new.watch) (c.loop-actor.invariant.goes past stand) c.in_ok-tell_one.ensures.goes;
-  rounds = c.in_ok-tell_one.ensures.rounds ∙ c.loop-actor.invariant.rounds;
-  table = c.in_ok-tell_one.ensures.table ∙ c.loop-actor.invariant.table;
+      (SeenWithin (rules_at g.L.LinkStep.link_of) (stands_at g.L.LinkStep.stands_for) left_at g.W.Watch.saw c.args.plan.now c.args.from c.args.until c.tell_one.new.desks c.tell_one.new.plane c.tell_one.new.watch) (c.loop-actor.invariant.goes past stand) c.in_ok-reply.ensures.goes;
+  rounds = c.in_ok-reply.ensures.rounds ∙ c.loop-actor.invariant.rounds;
+  table = c.in_ok-reply.ensures.table ∙ c.loop-actor.invariant.table;
 }

@@ -1,38 +1,26 @@
 -- Each link may answer what it is asked, and then the window is told.
-use Rattle.std.proofs.Common.{◌≡◌, ◌+◌, ◌<◌, ◌^◌, ℕ, Some, refl, sym, subst}
-use Rattle.std.specs.List.{slice_get}
-use Rattle.link_steps.specs.Legal.{AskFits}
-use Rattle.link_steps.specs.Lists.{Each}
-use Rattle.tick_plane.specs.Windows.{WindowAt, window_at}
-use Rattle.plane_workers.specs.Answered.{IsAnswered, ticks_in}
+use Rattle.std.proofs.Common.{◌≡◌}
 use Rattle.plane_workers.specs.Desks.{rules_at, stands_at, left_at}
-use Rattle.plane_workers.specs.declared.desk.Desk.{Desk}
 use Rattle.plane_workers.proofs.MakeFacts.{links-few, asks-fit, asks-early, seen-begins, seen-again, on-ok}
 use Rattle.plane_workers.proofs.window.make_window.Goals as goal
 
-pub answer_windows-requires-clause-few : goal.answer_windows-requires-clause-few
-answer_windows-requires-clause-few g c κs within = links-few (rules_at g.L.LinkStep.link_of) (stands_at g.L.LinkStep.stands_for) c.args.plan.now c.args.gap c.args.until c.args.desks.now c.args.plane.now c.requires.between.0 c.requires.between.1.between
+pub answer_until-requires-clause-few : goal.answer_until-requires-clause-few
+answer_until-requires-clause-few g c κs within = links-few (rules_at g.L.LinkStep.link_of) (stands_at g.L.LinkStep.stands_for) c.args.plan.now c.args.gap c.args.until c.args.desks.now c.args.plane.now c.requires.between.0 c.requires.between.1.between
 
-pub answer_windows-requires-clause-fits : goal.answer_windows-requires-clause-fits
-answer_windows-requires-clause-fits g c κs within =
-    subst (λ (w : WindowAt). (n : ℕ) (d : Desk g.row.L.Denot) → slice_get c.args.desks.now n ≡ Some d → Each (AskFits (g.L.LinkStep.link_of d.link).shape) (window_at n w.until w.at)) (sym c.in_ok-window.ensures)
-    (asks-fit (rules_at g.L.LinkStep.link_of) (stands_at g.L.LinkStep.stands_for) c.args.plan.now c.args.gap c.args.until c.args.desks.now c.args.plane.now c.requires.between.0 c.requires.between.1.between)
+pub answer_until-requires-clause-fits : goal.answer_until-requires-clause-fits
+answer_until-requires-clause-fits g c κs within = asks-fit (rules_at g.L.LinkStep.link_of) (stands_at g.L.LinkStep.stands_for) c.args.plan.now c.args.gap c.args.until c.args.desks.now c.args.plane.now c.requires.between.0 c.requires.between.1.between
 
-pub answer_windows-requires-clause-early : goal.answer_windows-requires-clause-early
-answer_windows-requires-clause-early g c κs within =
-    subst (λ (w : WindowAt). (n : ℕ) (d : Desk g.row.L.Denot) → slice_get c.args.desks.now n ≡ Some d → g.L.LinkStep.clock_at d.link + ticks_in (window_at n w.until w.at) < 2 ^ 61) (sym c.in_ok-window.ensures)
-    (asks-early (rules_at g.L.LinkStep.link_of) (stands_at g.L.LinkStep.stands_for) c.args.plan.now c.args.gap c.args.until c.args.desks.now c.args.plane.now c.requires.between.0 c.requires.between.1.between
-    (λ (d : Desk g.row.L.Denot). g.L.LinkStep.clock_at d.link) c.tell_time.ensures c.requires.all c.requires.early)
+pub answer_until-requires-clause-early : goal.answer_until-requires-clause-early
+answer_until-requires-clause-early g c κs within =
+    asks-early (rules_at g.L.LinkStep.link_of) (stands_at g.L.LinkStep.stands_for) c.args.plan.now c.args.gap c.args.until c.args.desks.now c.args.plane.now c.requires.between.0 c.requires.between.1.between
+    (λ d. g.L.LinkStep.clock_at d.link) c.tell_time.ensures c.requires.all c.requires.early
 
 pub tell_all-requires-clause-within : goal.tell_all-requires-clause-within
 tell_all-requires-clause-within g c = (
   c.requires.between.0,
-  seen-begins (rules_at g.L.LinkStep.link_of) (stands_at g.L.LinkStep.stands_for) left_at g.W.Watch.saw c.args.plan.now c.args.gap c.round-from.result c.args.until c.args.desks.now c.answer_windows.new.desks c.args.plane.now c.args.watch.now c.requires.between.0 c.requires.between.1
-      c.round-from.ensures c.requires.near c.requires.early c.requires.all c.answer_windows.ensures.long
-      (λ n x y found after.
-      let is = c.answer_windows.ensures.answered n x y found after (c.if-any_wanted.ensures refl n y after) in
-      subst (λ (w : WindowAt). IsAnswered (rules_at g.L.LinkStep.link_of) (stands_at g.L.LinkStep.stands_for) x y (window_at n w.until w.at) (left_at y)) c.in_ok-window.ensures
-      (record { same = is.same; long = is.long; stands_on = is.stands_on; replied = is.replied })),
+  seen-begins (rules_at g.L.LinkStep.link_of) (stands_at g.L.LinkStep.stands_for) left_at g.W.Watch.saw c.args.plan.now c.args.gap c.round-from.result c.args.until c.args.desks.now c.answer_until.new.desks c.args.plane.now c.args.watch.now c.requires.between.0 c.requires.between.1
+      c.round-from.ensures c.requires.near c.requires.early c.requires.all c.in_ok-answer_until.ensures.long
+      (λ n x y found after. let is = c.in_ok-answer_until.ensures.answered n x y found after in record { same = is.same; long = is.long; stands_on = is.stands_on; replied = is.replied }),
 )
 
 pub returns-clause-goes : goal.returns-clause-goes
@@ -41,10 +29,7 @@ returns-clause-goes g c =
     (λ goes over past stand.
     seen-again (rules_at g.L.LinkStep.link_of) (stands_at g.L.LinkStep.stands_for) left_at g.W.Watch.saw c.args.plan.now c.args.gap c.round-from.result c.args.until c.args.actor c.tell_all.new.desks c.tell_all.new.plane c.tell_all.new.watch past stand.between.keeps over
     (goes past
-    (seen-begins (rules_at g.L.LinkStep.link_of) (stands_at g.L.LinkStep.stands_for) left_at g.W.Watch.saw c.args.plan.now c.args.gap c.round-from.result c.args.until c.args.desks.now c.answer_windows.new.desks c.args.plane.now c.args.watch.now past stand
-    c.round-from.ensures c.requires.near c.requires.early c.requires.all c.answer_windows.ensures.long
-    (λ n x y found after.
-    let is = c.answer_windows.ensures.answered n x y found after (c.if-any_wanted.ensures refl n y after) in
-    subst (λ (w : WindowAt). IsAnswered (rules_at g.L.LinkStep.link_of) (stands_at g.L.LinkStep.stands_for) x y (window_at n w.until w.at) (left_at y)) c.in_ok-window.ensures
-    (record { same = is.same; long = is.long; stands_on = is.stands_on; replied = is.replied })))))
+    (seen-begins (rules_at g.L.LinkStep.link_of) (stands_at g.L.LinkStep.stands_for) left_at g.W.Watch.saw c.args.plan.now c.args.gap c.round-from.result c.args.until c.args.desks.now c.answer_until.new.desks c.args.plane.now c.args.watch.now past stand
+    c.round-from.ensures c.requires.near c.requires.early c.requires.all c.in_ok-answer_until.ensures.long
+    (λ n x y found after. let is = c.in_ok-answer_until.ensures.answered n x y found after in record { same = is.same; long = is.long; stands_on = is.stands_on; replied = is.replied }))))
     c.tell_all.ensures.goes c.tell_all.ensures.over

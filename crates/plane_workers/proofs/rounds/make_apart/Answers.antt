@@ -1,0 +1,56 @@
+-- The links go to desks, and come back from them.
+use Rattle.std.proofs.Common.{◌≡◌, ◌≤◌, List, length, map, sym, ap, ◌∙◌, arith}
+use Rattle.std.proofs.lemmas.List.{with_items_is}
+use Rattle.net_units.specs.Numbers.{actor_number}
+use Rattle.call_script.specs.Tasks.{network_of}
+use Rattle.link_quota.specs.declared.any_link.AnyLink.{AnyLink}
+use Rattle.tick_plane.specs.Kept.{KeptPlane}
+use Rattle.interleave_core.proofs.Keeping.ActorFacts.{plane-number}
+use Rattle.interleave_core.proofs.Keeping.StepFacts.{callers-few}
+use Rattle.interleave_core.proofs.Watched.QuietRounds.{plane-is}
+use Rattle.plane_workers.specs.declared.desk.Desk.{Desk}
+use Rattle.plane_workers.proofs.RoundFacts.{engine-again, plane-actor, seen-first}
+use Rattle.plane_workers.proofs.rounds.make_apart.Goals as goal
+
+pub make_window-requires-clause-actor : goal.make_window-requires-clause-actor
+make_window-requires-clause-actor g c κs within = plane-actor c.args.plan.now c.args.actor c.requires.stand.1.stands.plan c.requires.actor
+
+pub make_window-requires-clause-between : goal.make_window-requires-clause-between
+make_window-requires-clause-between g c κs within = (
+  c.requires.stand.0,
+  seen-first (λ (d : Desk AnyLink). d.link) g.W.Watch.saw c.args.plan.now c.args.engine c.args.gap c.into_parts-links.result.0.items c.into_parts-links.result.1 c.deref_mut.result.now c.args.watch.now c.requires.stand.0 c.requires.stand.1
+      (ap (λ links. links.items) c.into_parts-links.ensures.links) c.into_parts-links.ensures.plane (ap (map (λ (d : Desk AnyLink). d.link)) c.deref_mut.ensures.value ∙ c.in_ok-desks.ensures) c.requires.keeps,
+)
+
+pub make_window-requires-clause-early : goal.make_window-requires-clause-early
+make_window-requires-clause-early g c κs within = (let same = ap (λ (p : KeptPlane). p.at.round) c.into_parts-links.ensures.plane in let early = c.requires.early in omega (arith, same, early))
+
+pub make_window-requires-clause-near : goal.make_window-requires-clause-near
+make_window-requires-clause-near g c κs within = (let same = ap (λ (p : KeptPlane). p.at.round) c.into_parts-links.ensures.plane in let near = c.requires.near in omega (arith, same, near))
+
+pub make_window-requires-clause-all : goal.make_window-requires-clause-all
+make_window-requires-clause-all g c κs within =
+    let same = ap (λ (p : KeptPlane). p.rounds) c.into_parts-links.ensures.plane in
+    let rounds = c.requires.stand.1.stands.actors.plane.rounds in
+    let all = c.requires.all in
+    omega (arith, same, rounds, all)
+
+pub returns-clause-plays : goal.returns-clause-plays
+returns-clause-plays g c = λ past stand.
+    let v = c.in_ok-desks.desks in
+    let new = c.make_window.new.desks in
+    let first = seen-first (λ (d : Desk AnyLink). d.link) g.W.Watch.saw c.args.plan.now c.args.engine c.args.gap c.into_parts-links.result.0.items c.into_parts-links.result.1 c.deref_mut.result.now c.args.watch.now past stand
+    (ap (λ links. links.items) c.into_parts-links.ensures.links) c.into_parts-links.ensures.plane (ap (map (λ (d : Desk AnyLink). d.link)) c.deref_mut.ensures.value ∙ c.in_ok-desks.ensures) c.requires.keeps in
+    let goes = c.in_ok-busy.ensures.goes past first in
+    let before = first.between.kept.same in
+    let after = goes.comes.between.kept.same in
+    let value = ap length c.deref_mut.ensures.value in
+    let long : length new ≡ v.len = omega (arith, before, after, value, v.ok.0) in
+    let high = plane-actor c.args.plan.now c.args.actor stand.stands.plan c.requires.actor in
+    engine-again (λ (d : Desk AnyLink). d.link) g.W.Watch.saw c.args.plan.now c.args.engine c.args.gap c.into_parts-links.result.2 new c.make_window.new.plane c.from_parts.result c.args.watch.now c.make_window.new.watch past c.args.actor stand (omega (arith, high))
+    c.into_parts-links.ensures.callers
+    (ap (λ links. links.items) c.from_parts.ensures.links ∙ c.in_ok-links.ensures ∙ ap (map (λ (d : Desk AnyLink). d.link)) (with_items_is v new long))
+    c.from_parts.ensures.plane c.from_parts.ensures.callers goes
+
+pub returns-clause-at : goal.returns-clause-at
+returns-clause-at g c = (let at = c.in_ok-busy.ensures.at in let same = ap (λ (p : KeptPlane). p.at.round) c.from_parts.ensures.plane in omega (arith, at, same))

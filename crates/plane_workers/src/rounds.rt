@@ -1,0 +1,121 @@
+//! The plane's rounds, by several workers where that pays.
+ghost use Rattle.std.specs.Prelude.{◌≡◌, ◌^◌, ◌+◌, ◌<◌, ◌≤◌, List, IfOk, OnOk, length};
+ghost use Rattle.net_units.specs.Numbers.{actor_at};
+ghost use Rattle.call_script.specs.Tasks.{network_of};
+ghost use Rattle.interleave_core.specs.schedules.Quiet.{the_plane};
+ghost use Rattle.interleave_core.specs.schedules.Watching.{PlaysOut, WatchStands};
+ghost use Rattle.plane_workers.specs.Seen.{PlaysMore};
+ghost use Rattle.plane_workers.specs.Windows.{KeepsGap};
+ghost use Rattle.run_record.specs.declared.done.Done.{Done as Step};
+
+use crate::alone::make_alone;
+use crate::desk::{desks_of, links_of};
+use crate::gap::least_gap;
+use crate::pace::{Pace, Part};
+use crate::window::make_window;
+use call_script::Plan;
+use interleave_core::{Engine, Watch, actor_of};
+use net_units::{ActorNo, Gate, OutOfMemory};
+use std::alloc::Global;
+use std::thread::Threads;
+
+// Lets the plane make its rounds until none is left.
+pub(crate) fn make_rounds<R: Threads + Sync, W: Watch, G: Gate + Sync>(
+    rt: &R,
+    alloc: Global,
+    plan: &Plan,
+    engine: Engine,
+    workers: usize,
+    gate: &G,
+    watch: &mut W,
+) -> Result<Engine, OutOfMemory>
+    requires stand { (run : List Step) × WatchStands W.saw plan.now engine watch.old run }
+    ensures out { IfOk result (λ made. (past : List Step) → WatchStands W.saw plan.now engine watch.old past → PlaysOut W.saw plan.now made watch.new past (actor_at (length plan.now.callers))) }
+    ensures table { OnOk result (W.has_table watch.new ≡ W.has_table watch.old) }
+{
+    let gap = least_gap(plan);
+    let rounds = plan.rounds() + plan.tail();
+    let actor = actor_of(plan.callers().len());
+    let mut pace = Pace::new(plan.links().len(), gap, workers);
+    let mut engine = engine;
+    while engine.round() < rounds {
+        let round = engine.round();
+        let part = pace.next(round, rounds, engine.flights());
+        let made = make_part(rt, alloc, plan, engine, watch, actor, gap, &part, gate)?;
+        engine = made.0;
+        pace.note(part.until.saturating_sub(round), made.1);
+    }
+    Ok(engine)
+}
+
+// The rounds until that of the part begins. Answers in how many of them something happened.
+fn make_part<R: Threads + Sync, W: Watch, G: Gate + Sync>(
+    rt: &R,
+    alloc: Global,
+    plan: &Plan,
+    engine: Engine,
+    watch: &mut W,
+    actor: ActorNo,
+    gap: u64,
+    part: &Part,
+    gate: &G,
+) -> Result<(Engine, u64), OutOfMemory>
+    requires actor { actor ≡ the_plane (network_of plan.now) }
+    requires keeps { KeepsGap (network_of plan.now) gap }
+    requires stand { (run : List Step) × WatchStands W.saw plan.now engine watch.old run }
+    requires early { engine.actors.plane.at.round < part.now.until }
+    requires all { part.now.until ≤ (network_of plan.now).rounds }
+    requires near { 1 < part.now.workers → part.now.until ≤ engine.actors.plane.at.round + gap + 1 }
+    ensures plays { IfOk result (λ made. (past : List Step) → WatchStands W.saw plan.now engine watch.old past → PlaysMore W.saw plan.now made.0 watch.new past actor 0) }
+    ensures at { IfOk result (λ made. part.now.until ≤ made.0.actors.plane.at.round) }
+    ensures table { OnOk result (W.has_table watch.new ≡ W.has_table watch.old) }
+{
+    if part.workers > 1 {
+        return make_apart(rt, alloc, plan, engine, watch, actor, gap, part, gate);
+    }
+    let mut engine = engine;
+    let busy = make_alone(&mut engine, plan, watch, gate, actor, part.until)?;
+    Ok((engine, busy))
+}
+
+// The same by several workers, for whom the links are taken out of the engine.
+fn make_apart<R: Threads + Sync, W: Watch, G: Gate + Sync>(
+    rt: &R,
+    alloc: Global,
+    plan: &Plan,
+    engine: Engine,
+    watch: &mut W,
+    actor: ActorNo,
+    gap: u64,
+    part: &Part,
+    gate: &G,
+) -> Result<(Engine, u64), OutOfMemory>
+    requires actor { actor ≡ the_plane (network_of plan.now) }
+    requires keeps { KeepsGap (network_of plan.now) gap }
+    requires stand { (run : List Step) × WatchStands W.saw plan.now engine watch.old run }
+    requires workers { 0 < part.now.workers }
+    requires early { engine.actors.plane.at.round < part.now.until }
+    requires all { part.now.until ≤ (network_of plan.now).rounds }
+    requires near { part.now.until ≤ engine.actors.plane.at.round + gap + 1 }
+    ensures plays { IfOk result (λ made. (past : List Step) → WatchStands W.saw plan.now engine watch.old past → PlaysMore W.saw plan.now made.0 watch.new past actor 0) }
+    ensures at { IfOk result (λ made. part.now.until ≤ made.0.actors.plane.at.round) }
+    ensures table { OnOk result (W.has_table watch.new ≡ W.has_table watch.old) }
+{
+    let (links, mut plane, callers) = engine.into_parts();
+    let mut desks = desks_of(alloc, links)?;
+    let busy = make_window(
+        rt,
+        alloc,
+        plan,
+        &mut plane,
+        &mut desks,
+        watch,
+        actor,
+        gap,
+        part.until,
+        part.workers,
+        gate,
+    )?;
+    let links = links_of(alloc, desks)?;
+    Ok((Engine::from_parts(links, plane, callers), busy))
+}
