@@ -6,6 +6,8 @@ LC_ALL=C
 export LC_ALL
 script=ask/${0##*/}
 program=${TENET:-$here/../crates/tenet_app/out/tenet_app}
+# (the build without proofs that ./tenet makes serves as well)
+[ -n "${TENET-}" ] || [ -x "$program" ] || program=$here/../out/unproved/tenet_app
 . "$here/text.sh"
 
 # words FEWEST MOST WORDS..: prints the head of the script where help is asked for, and judges the number of words
