@@ -3,9 +3,9 @@
 # where it was called, and its words. It goes by these variables:
 #   RT_STATUS=N      it does nothing, and ends with this status
 #   RT_SLEEPS=WORD   its command of this name sleeps for a minute, and writes its process to $work/asleep
-#   RT_LIMIT=yes     its `try` stops at a limit
+#   RT_LIMIT=yes     its `try` stops at a limit; with the name of a test, that test does
 #   RT_PLAIN=yes     its `try` links nothing that could be kept
-#   RT_REFUSED=NAME  it refuses this crate, or fails this test
+#   RT_REFUSED=NAME  it refuses this crate, or fails this test; all_of_NAME: it doesn't build the tests of this crate
 #   RT_CHANGES=FILE  it writes this file while it builds the program
 
 # where the stand-in is, with a space in its name, and where its command is found
@@ -41,13 +41,14 @@ build() {
 
 # the tests in the crate's code, each of which passes
 test_crate() {
-  grep -A 1 '#\[test\]' src/*.rt | sed -n 's/.*fn \([a-z_0-9]*\)(.*/\1/p' >"$STAND_IN/tests"
-  echo "tests: $(wc -l <"$STAND_IN/tests")"
-  while read -r test; do
+  tests=$(sed -n 's/^    fn \([a-z_0-9]*\)(.*/\1/p' src/*.rt)
+  echo "tests: $(printf '%s\n' "$tests" | wc -l)"
+  [ "$RT_REFUSED" != "all_of_$name" ] || { echo 'run=none proved=no' >&2; exit 1; }
+  for test in $tests; do
     if [ "$RT_LIMIT" = "$test" ]; then printf 'test tests::%s ... FAILED\n    checked: no-answer: the program did not end within the time limit\n    run=no-answer\n' "$test"
     elif [ "$RT_REFUSED" = "$test" ]; then printf 'test tests::%s ... FAILED\n    assertion failed\n' "$test"
     else echo "test tests::$test ... ok"; fi
-  done <"$STAND_IN/tests"
+  done
   echo 'run=ended status=0 runners=1 proved=no' >&2
 }
 
@@ -63,7 +64,7 @@ case $command in
   try)
     [ "$1" != --test ] || { test_crate; exit; }
     shift
-    if [ "$RT_LIMIT" ]; then
+    if [ "$RT_LIMIT" = yes ]; then
       printf 'checked: no-answer: the program did not end within the time limit\nrun=no-answer proved=no\n' >&2
       exit 6
     fi
@@ -98,7 +99,7 @@ END
 # make_clone FOLDER: a clone of two crates, the program and one below it, with the scripts
 make_clone() {
   mkdir -p "$1"
-  cp -R tenet prove builds hints examples "$1"
+  cp -R tenet prove check builds hints examples "$1"
   printf 'low:\ntenet_app: low\nhigh: tenet_app\n' >"$1/crates.txt"
   echo 'Handles allowed: none.' >"$1/HANDLES"
   for crate in low tenet_app high; do
@@ -124,13 +125,19 @@ stops() {
   done
   kill -s "$signal" "$stopped"
   ! wait "$stopped" || return
+  [ -s "$work/asleep" ] || return
   tries=0
+  until is_gone; do
+    [ "$tries" -lt 20 ] || return
+    sleep 1
+    tries=$((tries + 1))
+  done
+}
+
+# is_gone: whether no process that slept is left, nor a file that was kept
+is_gone() {
   while read -r asleep; do
-    while kill -0 "$asleep" 2>/dev/null && [ "$tries" -lt 5 ]; do
-      sleep 1
-      tries=$((tries + 1))
-    done
     ! kill -0 "$asleep" 2>/dev/null || return
   done <"$work/asleep"
-  [ -s "$work/asleep" ] && [ -z "$(ls "$work/kept")" ]
+  [ -z "$(ls "$work/kept")" ]
 }

@@ -1,12 +1,12 @@
-# Which files the program is made of, and whether a build was made of them. For ./tenet, ./prove, .ci/run and builds/unproved: they
+# Which files the program is made of, and whether a build was made of them. For ./tenet, ./prove, ./check, .ci/run and builds/unproved: they
 # set $root, the top of the repository, and $work, a folder of their own, and then source this.
 #
 # Beside a built program stands PROGRAM.files, which builds leave: the folders of the crates that it is made of, and a checksum of each file
 # there, of crates.txt and HANDLES, and of the program.
 
-# where a program stands that was proved, and one that wasn't
+# where `rt` leaves the proved program, and where one stands that wasn't proved: the gate clears the folders out/ of crates alone
 proved=$root/crates/tenet_app/out/tenet_app
-unproved=$root/crates/tenet_app/out/unproved/tenet_app
+unproved=$root/out/unproved/tenet_app
 
 # crates_below NAME: the crates that this one stands on, and last itself
 crates_below() {
@@ -67,7 +67,7 @@ note_build() {
   {
     cat "$work/sums"
     cksum <"$1"
-  } >"$1.noted" && touch -r "$work/looked" "$1.noted" && mv -f "$1.noted" "$1.files"
+  } >"$1.$$" && touch -r "$work/looked" "$1.$$" && mv -f "$1.$$" "$1.files"
 }
 
 # is_untouched PROGRAM: whether no file, folder or program is newer than the note, by when it was written or renamed. A file that is gone, or
@@ -93,9 +93,15 @@ is_built() {
   return 0
 }
 
+# unproved_folder: the folder for a build without proofs: where it is kept, if that can be written
+unproved_folder() {
+  folder=${unproved%/*}
+  if mkdir -p "$folder" 2>/dev/null && [ -w "$folder" ]; then echo "$folder"; else echo "$work"; fi
+}
+
 # make_kit FOLDER LEVEL: makes the folder a toolchain of links to the installed one. Only its compiler, its linker and its prover are scripts of
-# builds/kit, by which `rt try` builds as far optimized as -O0 or -O1 says, without the sanitizer, keeps the built program as FOLDER/made, and
-# has no names checked by the prover. The scripts of `rt` are copied, since they look for the others beside themselves.
+# builds/kit, by which `rt try` builds as far optimized as -O0 or -O1 says, without the sanitizer, keeps the built program in FOLDER/made, if that is
+# there, and has no names checked by the prover. The scripts of `rt` are copied, since they look for the others beside themselves.
 make_kit() {
   installed=$(rt doc) && installed=${installed%/*} || return
   [ -x "$installed/toolchain/bin/clang" ] && [ -x "$installed/toolchain/bin/ld.lld" ] || return
