@@ -54,6 +54,7 @@ test_crate() {
 
 shift
 case $command in
+  ci) mkdir -p crates/tenet_app/out && cp "$STAND_IN/built" crates/tenet_app/out/tenet_app ;;
   run)
     while [ "$1" ] && [ "$1" != -- ]; do shift; done
     shift
