@@ -69,6 +69,23 @@ fn a_released_channel_holds_its_share(rt: HostRuntime) -> Result<(), Fail> {
     Ok(())
 }
 
+// And it keeps its units of the buffer: 4 of 7, and another channel needs 4, too.
+#[test]
+fn a_released_channel_keeps_its_units(rt: HostRuntime) -> Result<(), Fail> {
+    let voice = voice()?;
+    let full = Refusal::NoBuffer { need: 4, free: 3 };
+    let turns = [
+        Asked(reserve(1, &voice, 12), offer(1, 1)),
+        Asked(relax(1, 1), RELAXED),
+        Asked(release(1, None), closing(0, 0)),
+        Asked(reserve(2, &voice, 22), Reply::Refused(full)),
+        Asked(Ask::Tick, ticked(0, 0, None)),
+        Asked(reserve(2, &voice, 12), offer(1, 1)),
+    ];
+    assert_eq!(rt; first_other(rt.alloc(), &three_levels(7)?, &turns)?, None);
+    Ok(())
+}
+
 // Behind another link, under delay-jitter control, a packet waits until it is due.
 #[test]
 fn a_packet_that_arrives_waits_until_it_is_due(rt: HostRuntime) -> Result<(), Fail> {
