@@ -155,6 +155,25 @@ fn over(number: u32, contract: &Contract, sum: u64, bound: u64) -> Turn
     }
 }
 
+// One behind a hop whose reach has a bound of 400 ticks. It may be relaxed to the last level here, so it needs units for the packets
+// of 440 ticks, and its group has fewer free.
+fn full(number: u32, contract: &Contract, need: u64, free: u64) -> Turn
+    requires { number < most_channels }
+{
+    Turn {
+        ask: Ask::Reserve {
+            chan: chan(number),
+            contract: *contract,
+            kind: Kind::Rate,
+            delay: 412,
+            up_reach: 400,
+            first: false,
+            next: None,
+        },
+        reply: Reply::Refused(Refusal::NoBuffer { need, free }),
+    }
+}
+
 fn reserve(number: u32, contract: &Contract, delay: u64) -> Ask
     requires { number < most_channels }
 {
@@ -224,12 +243,14 @@ fn ticked() -> Turn {
     }
 }
 
-// A channel of group 2 is offered what group 1 has used up; a row that is denied or has expired is given back to its group; a
-// channel of no group has no share.
+// A channel that needs more of the buffer than its group may have is denied, though the link has it free. A channel of group 2 is
+// offered what group 1 has used up; a row that is denied or has expired is given back to its group; a channel of no group has no
+// share.
 #[test]
 fn each_group_goes_by_its_own_quota(rt: HostRuntime) -> Result<(), Fail> {
     let voice = Contract::new(5, 10, 20, 2)?;
     let turns = [
+        full(1, &voice, 88, 50),
         offered(1, &voice, 12, 1, 1),
         relaxed(1, 1),
         offered(2, &voice, 22, 2, 2),
