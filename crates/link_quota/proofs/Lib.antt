@@ -5,10 +5,13 @@ pub mod Isolated
 pub mod GroupFacts
 pub mod ChangeFacts
 pub mod RowChanges
+pub mod ClosingFacts
 pub mod QuotaFacts
 pub mod AnewFacts
 pub mod BestFacts
 pub mod RoomFacts
 pub mod HeldFacts
 pub mod StepFacts
+pub mod ClosingSteps
+pub mod ClosingShares
 pub mod RestFacts

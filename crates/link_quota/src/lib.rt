@@ -1,8 +1,8 @@
 //! A link that is split between groups of channels.
 #![tactic(auto)]
 
-mod anew;
 pub mod any_link;
+mod closing;
 mod groups;
 pub mod laws;
 mod offer;

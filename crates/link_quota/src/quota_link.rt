@@ -4,14 +4,15 @@ ghost use Rattle.link_steps.specs.Split.{Link, SplitFits};
 ghost use Rattle.link_server.specs.Held.{reservations_held};
 ghost use Rattle.link_server.specs.Resting.{RestsFromClock, RestsFromClock-prop};
 ghost use Rattle.link_server.specs.State.{kept_in};
+ghost use Rattle.link_quota.specs.Closing.{AreClosing, AreClosing-prop};
 ghost use Rattle.link_quota.specs.Shares.{AreShares, AreShares-prop};
 ghost use Rattle.link_quota.specs.Stood.{IsLegallyStood, IsLegallyStood-prop, SplitFits-prop};
 
-use crate::anew::count_anew;
+use crate::closing::{drop_expired, give_back_expired, list_released};
 use crate::groups::{change_row, group_of, place_of};
 use crate::offer::best;
 use crate::share::Share;
-use link_server::LinkState;
+use link_server::{HeldRow, LinkState};
 use link_steps::{Ask, LinkShape, LinkStep, Quota, Refusal, Reply, Split};
 use net_units::limits::MOST_LEVELS;
 use net_units::{ChanNo, Level, OutOfMemory};
@@ -23,17 +24,20 @@ use traffic_contract::Contract;
 /// its channel's group.
 ///
 /// It leaves all asks but a reserve to the link inside. Beside that link it keeps what the rows of each group hold
-/// together, so that a reserve looks at no row.
+/// together, so that a reserve looks at no row, and the closing rows, so that a tick in which rows expire looks at no others.
 #[derive(Drop)]
 pub struct QuotaLink {
     pub(crate) link: LinkState,
     pub(crate) split: Split,
     // What the rows of each group that has a quota hold together, in the order of the quotas.
     pub(crate) shares: Vec<Share>,
+    // The closing rows, in the order of their releases.
+    pub(crate) closing: Vec<HeldRow>,
     // Nothing falls due in the link inside before this tick.
     pub(crate) due: u64,
     ghost fits: { SplitFits (record { shape = link.shape; split = split }) } by { SplitFits-prop (record { shape = link.shape; split = split }) },
     ghost shared: { AreShares (record { shape = link.shape; split = split }) (reservations_held link) shares.items } by { AreShares-prop (record { shape = link.shape; split = split }) (reservations_held link) shares.items },
+    ghost listed: { AreClosing (record { shape = link.shape; split = split }) (reservations_held link) closing.items } by { AreClosing-prop (record { shape = link.shape; split = split }) (reservations_held link) closing.items },
     ghost stood: { IsLegallyStood (record { shape = link.shape; split = split }) (kept_in link) } by { IsLegallyStood-prop (record { shape = link.shape; split = split }) (kept_in link) },
     ghost rests: { RestsFromClock link.shape due (kept_in link) } by { RestsFromClock-prop link.shape due (kept_in link) },
 }
@@ -74,6 +78,7 @@ impl QuotaLink {
             link,
             split,
             shares,
+            closing: Vec::new(alloc),
             due: 0,
         })
     }
@@ -183,6 +188,10 @@ impl QuotaLink {
         match self.offer(*chan, contract, *delay, *up_reach) {
             Err(refusal) => Ok(Reply::Refused(refusal)),
             Ok(level) => {
+                // Room for each row to close, so that nothing but a reserve has to look for memory.
+                let rows = self.link.rows_held() as usize + 1;
+                self.closing
+                    .reserve(rows.saturating_sub(self.closing.len()))?;
                 self.due = 0;
                 let reply = self.link.reserve_at(ask, level)?;
                 let shape = self.link.shape();
@@ -206,11 +215,13 @@ impl QuotaLink {
         ensures ticked { IfOk result (λ _. self.new.link.clock ≡ clock_with ask.now self.old.link.clock) }
         ensures stopped { OnErr result (self.new.link.clock ≡ self.old.link.clock) }
     {
+        self.closing.reserve(1)?;
         self.due = 0;
         let before = self.link.held_of(chan);
         let reply = self.link.step(ask)?;
         let shape = self.link.shape();
         let after = self.link.held_of(chan);
+        list_released(&mut self.closing, &before, &after);
         change_row(&mut self.shares, &self.split, &shape, before, after);
         Ok(reply)
     }
@@ -235,7 +246,8 @@ impl QuotaLink {
         let reply = self.link.step(ask);
         self.due = self.link.rests_until();
         if self.link.rows_held() < before {
-            count_anew(&mut self.shares, &self.split, &self.link);
+            give_back_expired(&mut self.shares, &self.split, &self.link, &self.closing);
+            drop_expired(&mut self.closing, &self.link);
         }
         reply
     }

@@ -3,9 +3,11 @@ use Rattle.std.proofs.Common.{sym, ap, subst}
 use Rattle.link_steps.specs.Split.{Link, SplitFits}
 use Rattle.link_server.specs.Held.{reservations_held}
 use Rattle.link_server.specs.State.{kept_in}
+use Rattle.link_quota.specs.Closing.{AreClosing}
 use Rattle.link_quota.specs.Shares.{AreShares}
 use Rattle.link_quota.specs.State.{rules_of}
 use Rattle.link_quota.specs.Stood.{IsLegallyStood}
+use Rattle.link_quota.proofs.ClosingSteps.{closing-carried}
 use Rattle.link_quota.proofs.StepFacts.{goes-all, same-shape, stood-all, carried-all, carrying-other}
 use Rattle.link_server.proofs.RestFacts.{due-now}
 use Rattle.link_quota.proofs.quota_link.QuotaLink.carry.Goals as goal
@@ -23,6 +25,8 @@ invariant_of-self c =
       fits = subst (λ s. SplitFits (record { shape = s; split = c.args.self.now.split })) (sym shape) c.args.self.now.fits;
       shared = subst (λ s. AreShares (record { shape = s; split = c.args.self.now.split }) (reservations_held c.step.new.self) c.args.self.now.shares.items) (sym shape)
           (carried-all (rules_of c.args.self.now) (kept_in c.args.self.now.link) (kept_in c.step.new.self) c.args.ask.now c.step.result c.args.self.now.shares.items goes same c.requires.carries c.args.self.now.stood c.args.self.now.shared);
+      listed = subst (λ s. AreClosing (record { shape = s; split = c.args.self.now.split }) (reservations_held c.step.new.self) c.args.self.now.closing.items) (sym shape)
+          (closing-carried (rules_of c.args.self.now) (kept_in c.args.self.now.link) (kept_in c.step.new.self) c.args.ask.now c.step.result c.args.self.now.closing.items goes same c.requires.carries c.args.self.now.stood c.args.self.now.listed);
       stood = subst (λ s. IsLegallyStood (record { shape = s; split = c.args.self.now.split }) (kept_in c.step.new.self)) (sym shape)
           (stood-all (rules_of c.args.self.now) (kept_in c.args.self.now.link) (kept_in c.step.new.self) c.args.ask.now c.step.result goes same c.args.self.now.stood);
       rests = due-now c.step.new.self.shape (kept_in c.step.new.self);

@@ -1,8 +1,10 @@
 -- A new link holds no rows.
 use Rattle.std.proofs.lemmas.List.{length_push}
 use Rattle.link_quota.specs.declared.share.Share.{Share}
-use Rattle.std.proofs.Common.{◌≡◌, ◌∙◌, List, [], ◌∷◌, ◌++◌, ◌+◌, length, sym, ap, subst, arith}
+use Rattle.std.proofs.Common.{◌≡◌, ◌∙◌, List, [], ◌∷◌, ◌++◌, ◌+◌, length, rules, sym, ap, subst, arith}
 use Rattle.link_server.specs.State.{kept_in}
+use Rattle.traffic_contract.specs.Admission.{total}
+use Rattle.link_quota.specs.Closing.{closing_part}
 use Rattle.link_quota.specs.Shares.{AreShares}
 use Rattle.link_quota.proofs.AnewFacts.{AreNoneTo, none-push, shares-none}
 use Rattle.link_quota.proofs.QuotaFacts.{stood-new, held-new}
@@ -22,6 +24,7 @@ invariant_of-result c =
       shared =
           subst (λ held. AreShares (record { shape = c.in_ok-link.link.shape; split = c.args.split }) held c.loop.shares.items) (sym (held-new c.in_ok-link.link stands))
           (shares-none (record { shape = c.in_ok-link.link.shape; split = c.args.split }) c.loop.shares.items c.loop.index (omega (arith, long)) (omega (arith, long, past, end, quotas)) c.loop.invariant.1);
+      listed = λ splits f. ap (total f) (let empty : c.new-2.result.items ≡ [] = search rules in empty) ∙ ap (total (closing_part c.in_ok-link.link.shape.bounds f)) (sym (held-new c.in_ok-link.link stands));
       stood = stood-new (record { shape = c.in_ok-link.link.shape; split = c.args.split }) (kept_in c.in_ok-link.link) stands;
       rests = due-now c.in_ok-link.link.shape (kept_in c.in_ok-link.link);
     }

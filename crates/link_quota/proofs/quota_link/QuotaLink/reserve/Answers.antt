@@ -12,13 +12,16 @@ use Rattle.link_steps.specs.Scan.{scan_of}
 use Rattle.link_server.specs.Held.{reservations_held, seen, seen_of, reach_at}
 use Rattle.link_quota.proofs.RowChanges.{IsSetupOf, OffersNew}
 use Rattle.link_server.specs.State.{kept_in}
+use Rattle.link_server.specs.declared.held_row.HeldRow as Row
 use Rattle.link_quota.specs.Places.{AreSmall, AreChangedBy}
+use Rattle.link_quota.specs.Closing.{AreClosing}
 use Rattle.link_quota.specs.Shares.{AreShares}
 use Rattle.link_quota.specs.State.{rules_of}
 use Rattle.link_quota.specs.Steps.{GoesOn}
 use Rattle.link_quota.specs.Stood.{IsLegallyStood}
 use Rattle.link_quota.specs.declared.share.Share.{Share}
 use Rattle.link_quota.proofs.QuotaFacts.{stood-goes, stood-same, shares-kept, shares-setup, reserve-legal, refused-enters, offer-may-be, offers-new, offered-none}
+use Rattle.link_quota.proofs.ClosingSteps.{closing-kept, closing-reserved}
 use Rattle.link_quota.proofs.StepFacts.{on-err, written-back, small-after, small-shares}
 use Rattle.link_server.proofs.RestFacts.{due-now}
 use Rattle.link_quota.proofs.quota_link.QuotaLink.reserve.Goals as goal
@@ -40,16 +43,19 @@ returns-in-Err-clause-goes c = record {
 -- ---- want of memory
 
 pub returns-in_err-reply-in-Ok-clause-memory : goal.returns-in_err-reply-in-Ok-clause-memory
-returns-in_err-reply-in-Ok-clause-memory c = on-err _ c.from_residual.result (λ h stands. (goal.at.returns-in_err-reply-in-Ok-clause-memory c).In_err-reply-in-Ok.in_err-reply-in-Ok.ensures.memory h stands)
+returns-in_err-reply-in-Ok-clause-memory c = on-err _ c.from_residual-in_err-reply-in-Ok.result (λ h stands. (goal.at.returns-in_err-reply-in-Ok-clause-memory c).In_err-reply-in-Ok.in_err-reply-in-Ok.ensures.memory h stands)
 
-pub invariant_of-self : goal.invariant_of-self
-invariant_of-self c =
+pub invariant_of-self-in-Break-branch-2 : goal.invariant_of-self-in-Break-branch-2
+invariant_of-self-in-Break-branch-2 c =
     let shape = c.reserve_at.ensures.shape in
     let same : (h : List Entry) → StandsFor c.args.self.now.link.shape (kept_in c.args.self.now.link) h → StandsFor c.args.self.now.link.shape (kept_in c.reserve_at.new.self) h = λ h stands. subst (λ s. StandsFor s (kept_in c.reserve_at.new.self) h) c.reserve_at.ensures.shape (c.in_err-reply-in-Ok.ensures.memory h stands) in
     record {
       fits = subst (λ s. SplitFits (record { shape = s; split = c.args.self.now.split })) (sym shape) c.args.self.now.fits;
       shared = subst (λ s. AreShares (record { shape = s; split = c.args.self.now.split }) (reservations_held c.reserve_at.new.self) c.args.self.now.shares.items) (sym shape)
           (shares-kept (rules_of c.args.self.now) (kept_in c.args.self.now.link) (kept_in c.reserve_at.new.self) c.args.self.now.shares.items same c.args.self.now.stood c.args.self.now.shared);
+      listed = subst (λ (items : List Row.HeldRow). AreClosing (record { shape = c.reserve_at.new.self.shape; split = c.args.self.now.split }) (reservations_held c.reserve_at.new.self) items) (sym c.reserve.ensures.items)
+          (subst (λ s. AreClosing (record { shape = s; split = c.args.self.now.split }) (reservations_held c.reserve_at.new.self) c.args.self.now.closing.items) (sym shape)
+          (closing-kept (rules_of c.args.self.now) (kept_in c.args.self.now.link) (kept_in c.reserve_at.new.self) c.args.self.now.closing.items same c.args.self.now.stood c.args.self.now.listed));
       stood = subst (λ s. IsLegallyStood (record { shape = s; split = c.args.self.now.split }) (kept_in c.reserve_at.new.self)) (sym shape)
           (stood-same (rules_of c.args.self.now) (kept_in c.args.self.now.link) (kept_in c.reserve_at.new.self) same c.args.self.now.stood);
       rests = due-now c.reserve_at.new.self.shape (kept_in c.reserve_at.new.self);
@@ -104,6 +110,9 @@ invariant_of-self-in-Ok c =
           (shares-setup (rules_of c.args.self.now) (kept_in c.args.self.now.link) (kept_in c.reserve_at.new.self) c.args.ask.now c.in_ok-reply-in-Ok.reply c.in-Reserve.chan c.args.self.now.shares.items c.change_row.new.shares c.args.self.now.fits (goes here.In_ok-reply-in-Ok) (subst (IsSetupOf c.in-Reserve.chan) (sym c.in-Reserve.is) refl)
           (λ h stands. subst (λ reply. OffersNew c.args.ask.now reply (scan_of c.args.self.now.link.shape h).rows) (sym c.in_ok-reply-in-Ok.ensures.offered) (offers-new (rules_of c.args.self.now) (kept_in c.args.self.now.link) c.in-Reserve.chan c.in-Reserve.contract c.in-Reserve.kind c.in-Reserve.delay c.in-Reserve.up_reach c.in-Reserve.first c.in-Reserve.next c.args.ask.now c.in-Ok.level _ c.in-Reserve.is none h stands))
           c.args.self.now.stood c.args.self.now.shared changed));
+      listed = subst (λ (items : List Row.HeldRow). AreClosing (record { shape = c.reserve_at.new.self.shape; split = c.args.self.now.split }) (reservations_held c.reserve_at.new.self) items) (sym c.reserve.ensures.items)
+          (subst (λ s. AreClosing (record { shape = s; split = c.args.self.now.split }) (reservations_held c.reserve_at.new.self) c.args.self.now.closing.items) (sym same)
+          (closing-reserved (rules_of c.args.self.now) (kept_in c.args.self.now.link) (kept_in c.reserve_at.new.self) c.args.ask.now c.in_ok-reply-in-Ok.reply c.args.self.now.closing.items (goes here.In_ok-reply-in-Ok) c.requires.reserves c.args.self.now.stood c.args.self.now.listed));
       stood = subst (λ s. IsLegallyStood (record { shape = s; split = c.args.self.now.split }) (kept_in c.reserve_at.new.self)) (sym same) (stood here.In_ok-reply-in-Ok);
       rests = due-now c.reserve_at.new.self.shape (kept_in c.reserve_at.new.self);
     }

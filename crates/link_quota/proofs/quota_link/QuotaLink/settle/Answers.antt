@@ -1,16 +1,19 @@
 -- The channel's row before is given back, and the one after is held.
-use Rattle.std.proofs.Common.{◌≡◌, List, sym, ap, ◌∙◌, subst}
+use Rattle.std.proofs.Common.{◌≡◌, ◌+◌, List, sym, ap, ◌∙◌, subst}
 use Rattle.std.specs.Prelude.{IfSome}
 use Rattle.link_steps.specs.Split.{Link, SplitFits}
 use Rattle.link_server.specs.Held.{reservations_held, seen_of}
 use Rattle.link_server.specs.State.{kept_in}
-use Rattle.link_quota.specs.Places.{HavePart, AreSmall, AreChangedBy}
+use Rattle.link_quota.specs.Places.{HavePart, AreSmall, AreChangedBy, value_of}
+use Rattle.traffic_contract.specs.Admission.{total}
+use Rattle.link_quota.specs.Closing.{AreClosing, is_closing, if_closing}
 use Rattle.link_quota.specs.Shares.{AreShares}
 use Rattle.link_quota.specs.State.{rules_of}
 use Rattle.link_quota.specs.Steps.{GoesOn}
 use Rattle.link_quota.specs.Stood.{IsLegallyStood}
 use Rattle.link_quota.specs.declared.share.Share.{Share}
 use Rattle.link_quota.proofs.QuotaFacts.{goes-on, stood-goes, shares-setup}
+use Rattle.link_quota.proofs.ClosingSteps.{closing-settled}
 use Rattle.link_quota.proofs.StepFacts.{written-back, settling-other, settling-setup, settling-new, part-before, small-after, small-shares}
 use Rattle.link_server.proofs.RestFacts.{due-now}
 use Rattle.link_quota.proofs.quota_link.QuotaLink.settle.Goals as goal
@@ -70,6 +73,13 @@ invariant_of-self-2 c =
           subst (λ (items : List Share). AreShares (record { shape = c.step.new.self.shape; split = c.args.self.now.split }) (reservations_held c.step.new.self) items) (sym back)
           (subst (λ s. AreShares (record { shape = s; split = c.args.self.now.split }) (reservations_held c.step.new.self) c.change_row.new.shares) (sym same)
           (shares-setup (rules_of c.args.self.now) (kept_in c.args.self.now.link) (kept_in c.step.new.self) c.args.ask.now c.in_ok-reply.reply c.args.chan c.args.self.now.shares.items c.change_row.new.shares c.args.self.now.fits (goes here.In_ok-reply) (settling-setup c.args.chan c.args.ask.now c.requires.settles) (λ h stands. settling-new c.args.chan c.args.ask.now c.in_ok-reply.reply _ c.requires.settles) c.args.self.now.stood c.args.self.now.shared changed));
+      listed = subst (λ s. AreClosing (record { shape = s; split = c.args.self.now.split }) (reservations_held c.step.new.self) c.list_released.new.closing.items) (sym same)
+          (closing-settled (rules_of c.args.self.now) (kept_in c.args.self.now.link) (kept_in c.step.new.self) c.args.ask.now c.in_ok-reply.reply c.args.chan c.args.self.now.closing.items c.list_released.new.closing.items c.args.self.now.fits (goes here.In_ok-reply) c.requires.settles c.args.self.now.stood
+          (λ apart f. c.list_released.ensures.new (ap is_closing c.held_of-before.ensures.row ∙ apart) f
+          ∙ ap (λ items. total f items + value_of (if_closing f) c.held_of-after.result) c.reserve.ensures.items
+          ∙ ap (λ row. total f c.args.self.now.closing.items + value_of (if_closing f) row) (after here.After-held_of-after))
+          (λ was. c.list_released.ensures.old (ap is_closing c.held_of-before.ensures.row ∙ was) ∙ c.reserve.ensures.items)
+          c.args.self.now.listed);
       stood = subst (λ s. IsLegallyStood (record { shape = s; split = c.args.self.now.split }) (kept_in c.step.new.self)) (sym same) (stood here.In_ok-reply);
       rests = due-now c.step.new.self.shape (kept_in c.step.new.self);
     }
