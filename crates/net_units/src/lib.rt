@@ -53,6 +53,3 @@ pub fn ceil_div(a: u64, b: u64) -> u64
 {
     a.div_ceil(b)
 }
-
-#[cfg(test)]
-mod tests;

@@ -12,6 +12,3 @@ pub mod loads;
 mod rows;
 
 pub use level_sums::{LevelSums, NoLevel};
-
-#[cfg(test)]
-mod tests;

@@ -16,6 +16,3 @@ pub use done::Done;
 pub use hop_table::HopTable;
 pub use record::Record;
 pub use rows::{HopRow, HopRows};
-
-#[cfg(test)]
-mod tests;

@@ -90,36 +90,3 @@ impl Record {
         Ok(HopRows::new(rows))
     }
 }
-
-#[cfg(test)]
-mod tests {
-    use super::*;
-    use link_steps::{Ask, Reply};
-    use net_units::{ActorNo, LinkNo};
-    use std::test::Fail;
-
-    // actor 2 asked link 1 for a tick
-    fn tick_with(reply: Reply) -> Result<Done, Fail> {
-        Ok(Done {
-            actor: ActorNo::new(2).ok_or("an actor")?,
-            link: LinkNo::new(1).ok_or("a link")?,
-            ask: Ask::Tick,
-            reply,
-        })
-    }
-
-    #[test]
-    fn keeps_the_order(rt: HostRuntime) -> Result<(), Fail> {
-        let first = tick_with(Reply::Denied)?;
-        let second = tick_with(Reply::Relaxed { clock: 7 })?;
-        let mut record = Record::new(rt.alloc());
-        record.reserve(2)?;
-        record.push(first);
-        record.push(second);
-        let entries = record.entries();
-        assert_eq!(rt; entries.len(), 2);
-        assert_eq!(rt; entries[0], first);
-        assert_eq!(rt; entries[1], second);
-        Ok(())
-    }
-}

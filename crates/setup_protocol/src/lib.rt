@@ -16,6 +16,3 @@ pub use request::{Control, Request};
 pub use setup::Setup;
 pub use teardown::Teardown;
 pub use verdict::{Deny, Verdict};
-
-#[cfg(test)]
-mod tests;

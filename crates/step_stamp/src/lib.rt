@@ -17,6 +17,3 @@ pub mod views;
 pub use marks::Mark;
 pub use seats::{LinkSeat, PassSeat, Ticket};
 pub use stamps::Stamps;
-
-#[cfg(test)]
-mod tests;

@@ -1,5 +1,5 @@
 use Rattle.std.proofs.Common.{◌≡◌, ◌≤◌, ◌-◌, length, take}
-use Rattle.run_record.proofs.tests.rows_of_steps.Given as goal
+use Rattle.run_record_tests.proofs.tests.rows_of_steps.Given as goal
 
 -- the record has the steps so far, and room for the others
 abbrev pub invariant-loop-done : goal.invariant-loop-done

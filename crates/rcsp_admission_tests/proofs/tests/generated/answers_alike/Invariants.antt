@@ -1,5 +1,5 @@
 use Rattle.std.proofs.Common.{◌≡◌, length}
-use Rattle.rcsp_admission.proofs.tests.generated.answers_alike.Given as goal
+use Rattle.rcsp_admission_tests.proofs.tests.generated.answers_alike.Given as goal
 
 -- the link keeps its three levels
 abbrev pub invariant-loop-turn : goal.invariant-loop-turn

@@ -3,11 +3,11 @@ ghost use Rattle.std.specs.Prelude.{IfOk};
 ghost use Rattle.step_stamp.specs.Opening.{IsNewLink, IsNewPass};
 ghost use Rattle.step_stamp.specs.Seats.{stamps_table};
 
-use crate::{LinkSeat, PassSeat, Stamps};
 use link_steps::Ask;
 use net_units::OutOfMemory;
 use std::alloc::Global;
 use std::test::Fail;
+use step_stamp::{LinkSeat, PassSeat, Stamps};
 
 // The stamps of one link and of one actor, with the two seats.
 fn opened(alloc: Global) -> Result<(Stamps, LinkSeat, PassSeat), OutOfMemory>

@@ -1,9 +1,9 @@
 //! The rows of a link as a plain list. It keeps no load and no index: for each answer it sums all rows anew, under the least
 //! test in each window. Generated lists of calls run through it and through a `LevelSums`. It has two units a tick, a blocking
 //! of four ticks and three levels.
-use crate::NoLevel;
-use crate::loads::level_at;
 use net_units::Level;
+use rcsp_admission::NoLevel;
+use rcsp_admission::loads::level_at;
 use std::alloc::{AllocFailed, Global};
 use traffic_contract::{Contract, Test};
 

@@ -1,10 +1,10 @@
 //! Setups and a teardown over two links, worked by hand. Each link has levels of 10, 20 and 40 ticks and a propagation of
 //! 2, and offers level 1, so the delay offered is 24.
-use super::*;
 use hop_reservation::{Hop, Route};
 use link_steps::{Ask, Refusal, Reply, Unexpected};
 use net_units::{Bounds, ChanNo, Kind, Level, LinkNo};
 use relaxation::EndDenial;
+use setup_protocol::{Control, Deny, Request, Setup, Teardown, Verdict};
 use std::process::Abort;
 use std::test::Fail;
 use traffic_contract::Contract;

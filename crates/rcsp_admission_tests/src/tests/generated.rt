@@ -3,9 +3,9 @@ ghost use Rattle.std.specs.Prelude.{◌≡◌, ◌≤◌, IfOk, length};
 ghost use Rattle.net_units.specs.Numbers.{level_number};
 
 use super::plain::PlainSums;
-use crate::LevelSums;
-use crate::loads::level_at;
 use net_units::{Bounds, Level};
+use rcsp_admission::LevelSums;
+use rcsp_admission::loads::level_at;
 use std::alloc::Global;
 use std::process::Abort;
 use std::test::Fail;

@@ -3,9 +3,9 @@ ghost use Rattle.std.specs.Prelude.{IfOk, OnOk};
 ghost use Rattle.link_steps.specs.Lists.{Each};
 ghost use Rattle.run_record.specs.Rows.{IsEarly};
 
-use super::*;
 use link_steps::{Ask, Packet, Reply, Sent};
 use net_units::{ActorNo, ChanNo, Kind, Level, LinkNo, OutOfMemory};
+use run_record::{Done, HopRow, HopRows, HopTable, Record};
 use std::alloc::Global;
 use std::test::Fail;
 use traffic_contract::Contract;
@@ -189,5 +189,30 @@ fn a_link_without_an_offer_is_no_hop(rt: HostRuntime) -> Result<(), Fail> {
 fn a_run_without_departures_has_no_rows(rt: HostRuntime) -> Result<(), Fail> {
     let rows = rows_of_steps(rt.alloc(), &[offer(1, 0)?])?;
     assert!(rt; rows.as_slice().is_empty());
+    Ok(())
+}
+
+// Actor 2 asked link 1 for a tick.
+fn tick_with(reply: Reply) -> Result<Done, Fail> {
+    Ok(Done {
+        actor: ActorNo::new(2).ok_or("an actor")?,
+        link: link(1)?,
+        ask: Ask::Tick,
+        reply,
+    })
+}
+
+#[test]
+fn keeps_the_order(rt: HostRuntime) -> Result<(), Fail> {
+    let first = tick_with(Reply::Denied)?;
+    let second = tick_with(Reply::Relaxed { clock: 7 })?;
+    let mut record = Record::new(rt.alloc());
+    record.reserve(2)?;
+    record.push(first);
+    record.push(second);
+    let entries = record.entries();
+    assert_eq!(rt; entries.len(), 2);
+    assert_eq!(rt; entries[0], first);
+    assert_eq!(rt; entries[1], second);
     Ok(())
 }

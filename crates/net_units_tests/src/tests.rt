@@ -1,5 +1,5 @@
 //! Values of the limits, worked by hand.
-use super::*;
+use net_units::{ActorNo, Bounds, ChanNo, Level, Levels, LinkNo, Name, ceil_div};
 use std::process::Abort;
 use std::test::Fail;
 
