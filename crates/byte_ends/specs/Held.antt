@@ -27,6 +27,12 @@ pub record HoldsParts (t : Cutting) (front block : List ℕ) (capacity : ℕ) : 
   pub no_feed : HasNoFeed front
   pub reserved : length front + length block ≤ capacity
 
+-- what is pending, without the beginning of a line that no block has any more
+pub record IsRestOfBlock (pending rest : List ℕ) : Type 0 where
+  pub front : List ℕ
+  pub joined : pending ≡ front ++ rest
+  pub no_feed : HasNoFeed front
+
 -- the first line feed of a list stands at this place
 pub record IsFirstFeed (bs : List ℕ) (at : ℕ) : Type 0 where
   pub within : at < length bs

@@ -24,6 +24,3 @@ pub use source::{Source, Took};
 pub use standard::{StdSink, StdSource};
 pub use sure_sink::SureSink;
 pub use sure_source::SureSource;
-
-#[cfg(test)]
-mod tests;

@@ -3,7 +3,7 @@ ghost use Rattle.std.specs.Prelude.{◌≡◌, ◌+◌, ◌-◌, ◌^◌, ◌<�
 ghost use Rattle.byte_ends.specs.Answers.{Answers, Foretells};
 ghost use Rattle.byte_ends.specs.Steps.{Fetches, Settles};
 ghost use Rattle.byte_ends.specs.Cutting.{HasLine, HasNoFeed, IsCut, IsCutting, IsDone, IsFinal, IsOf, WantsMore, IsOver, IsDecided, ahead, let_go};
-ghost use Rattle.byte_ends.specs.Held.{IsFirstFeed, front_of};
+ghost use Rattle.byte_ends.specs.Held.{IsFirstFeed, IsRestOfBlock, front_of};
 
 use crate::block::{BLOCK, Block};
 use crate::reserved::add_reserved;
@@ -111,6 +111,14 @@ impl Lines {
         ensures { result ≡ self.now.number }
     {
         self.number
+    }
+
+    /// The bytes that are pending, as far as they stand in the block that was read last. Before them stands at most the
+    /// beginning of a line.
+    pub fn rest_of_block(&self) -> &[u8]
+        ensures { IsRestOfBlock self.now.pending result.now }
+    {
+        self.block.rest()
     }
 
     /// Cuts off the next line. It reads only where the bytes that it has taken decide nothing.

@@ -170,6 +170,3 @@ fn flush_retrying<W: Write>(to: &mut W) -> bool {
 fn is_interrupted(error: &Error) -> bool {
     error.kind() == ErrorKind::Interrupted
 }
-
-#[cfg(test)]
-mod tests;

@@ -1,6 +1,12 @@
-use super::*;
+//! Lines that are cut from a source, and pieces that a sink takes.
+use byte_ends::{
+    Cut, Gather, LineRefusal, Lines, MemSink, MemSource, Sink, Source, SureSink, SureSource,
+    WriteFault, put_all,
+};
 use std::process::Abort;
 use std::test::Fail;
+
+mod standard;
 
 // The next call gives this line, with this number.
 fn gives<S: Source>(rt: &impl Abort, lines: &mut Lines, source: &mut S, line: &[u8], number: u64) {
