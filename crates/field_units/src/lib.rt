@@ -7,13 +7,12 @@
 
 pub mod laws;
 pub mod quantity;
+pub mod rounded;
 pub mod scale;
 pub mod stream;
 pub mod text;
 
 pub use quantity::{Rate, Size, Time};
+pub use rounded::Rounded;
 pub use scale::{Misfit, Scale};
 pub use stream::{BadStream, Stream};
-
-#[cfg(test)]
-mod tests;

@@ -148,7 +148,7 @@ impl Decimal {
 }
 
 /// The last of these units of which a quantity is a whole number, behind that number. The first is the base unit.
-fn whole_in(quantity: u64, units: &[Unit]) -> (u64, &'static str) {
+pub(crate) fn whole_in(quantity: u64, units: &[Unit]) -> (u64, &'static str) {
     let mut whole = (quantity, units.first().map_or("", |(name, _)| *name));
     for &(name, scale) in units {
         if scale > 0 && quantity >= scale && quantity % scale == 0 {

@@ -1,9 +1,7 @@
 //! Numbers of real networks, worked by hand.
 
-use crate::quantity::{Rate, Size, Time};
-use crate::scale::{Misfit, Scale};
-use crate::stream::{BadStream, Stream};
-use crate::text::BadQuantity;
+use field_units::text::BadQuantity;
+use field_units::{BadStream, Misfit, Rate, Scale, Size, Stream, Time};
 use std::test::Fail;
 use std::vec::Vec;
 use traffic_contract::Contract;
@@ -117,6 +115,47 @@ fn quantities_are_printed_in_the_largest_unit_that_is_exact(rt: HostRuntime) -> 
         .as_str(),
         "2048 kbit/s"
     );
+    Ok(())
+}
+
+/// 1.530417 ms, 999.6 us, 12.3456 ms, 12,345 s; a frame of 1,538 bytes, 1,234,567 bytes; a trunk of 2.048 Mbit/s and a
+/// carrier of 9.95328 Gbit/s.
+#[test]
+fn quantities_are_rounded_with_a_sign_that_they_are(rt: HostRuntime) -> Result<(), Fail> {
+    let alloc = rt.alloc();
+    for (picoseconds, want) in [
+        (1_530_417_000, "~1.53 ms"),
+        (1_530_000_000, "1530 us"),
+        (15_300_000_001, "~15.3 ms"),
+        (999_600_001, "~1 ms"),
+        (12_345_600_000, "~12.3 ms"),
+        (123_456_000_000, "~123 ms"),
+        (123_000_000_000, "123 ms"),
+        (12_300_000_000_000, "12.3 s"),
+        (12_345_000_000_000_000, "~3.43 h"),
+        (9_999, "9999 ps"),
+        (10_004, "~10 ns"),
+        (0, "0 ps"),
+    ] {
+        let text = format!(in alloc; "{}", Time { picoseconds }.rounded())?;
+        assert_eq!(rt; text.as_str(), want);
+    }
+    assert_eq!(rt;
+        format!(in alloc; "{}", bytes(1_538).rounded())?.as_str(),
+        "1538 B"
+    );
+    assert_eq!(rt;
+        format!(in alloc; "{}", bytes(1_234_567).rounded())?.as_str(),
+        "~1.23 MB"
+    );
+    for (bits_a_second, want) in [
+        (2_048_000, "2048 kbit/s"),
+        (9_953_280_000, "~9.95 Gbit/s"),
+        (12_300_000_000, "12.3 Gbit/s"),
+    ] {
+        let text = format!(in alloc; "{}", Rate { bits_a_second }.rounded())?;
+        assert_eq!(rt; text.as_str(), want);
+    }
     Ok(())
 }
 
