@@ -162,7 +162,7 @@ total-shares shape h (row ∷ rows) each =
 -- ---- the rows that are gone
 
 -- a packet of a row that is gone, of one of the levels, has departed
-gone-departed : (shape : LinkShape) (h : List Entry) (p : Arrival) (gone : List Row) → Each (λ row. TellsPackets (scan_of shape h).packets row × HasExpired shape (clock_of h) row) gone → Among p (scan_of shape h).packets → 1 ≤ p.level → p.level ≤ length shape.bounds
+gone-departed : (shape : LinkShape) (h : List Entry) (p : Arrival) (gone : List Row) → Each (λ row. TellsPackets (length shape.bounds) (scan_of shape h).packets row × HasExpired shape (clock_of h) row) gone → Among p (scan_of shape h).packets → 1 ≤ p.level → p.level ≤ length shape.bounds
     → HasLeftInTime shape (clock_of h) (starts_of shape h) p → Any (IsRowOf p) gone → has_departed shape.rate (starts_of shape h) (clock_of h) p ≡ true
 gone-departed shape h p [] each among one upto left any = absurd any
 gone-departed shape h p (row ∷ gone) each among one upto left (inr any) = gone-departed shape h p gone each.1 among one upto left any
@@ -186,7 +186,7 @@ held-here shape h legal =
     let upto : p.level ≤ length shape.bounds = ltb-false (length shape.bounds) p.level own in
     let carried = Each-among (IsCarried shape) p (scan_of shape h).packets order.carried inside.0 in
     let left = Each-among (HasLeftInTime shape (clock_of h) (starts_of shape h)) p (scan_of shape h).packets (guaranteed shape h legal).in_time inside.0 in
-    let gone = Each-both (TellsPackets (scan_of shape h).packets) (HasExpired shape (clock_of h)) (scan_of shape h).gone rows.gone order.expired in
+    let gone = Each-both (TellsPackets (length shape.bounds) (scan_of shape h).packets) (HasExpired shape (clock_of h)) (scan_of shape h).gone rows.gone order.expired in
     ⊎_elim
     (λ (held : Any (IsRowOf p) (scan_of shape h).rows). held)
     (λ (out : Any (IsRowOf p) (scan_of shape h).gone).

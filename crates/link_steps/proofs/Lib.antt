@@ -48,6 +48,7 @@ pub mod RowPackets
 pub mod RowsStanding
 pub mod SourcesServed
 pub mod SourceHistory
+mod OnlyRows
 pub mod PacketRows
 pub mod SlotsHeld
 pub mod TogetherHeld

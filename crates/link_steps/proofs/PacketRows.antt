@@ -12,7 +12,7 @@ use Rattle.link_steps.specs.declared.asks.Packet.{Packet}
 use Rattle.link_steps.specs.declared.replies.Entry.{Entry}
 use Rattle.link_steps.specs.declared.shape.LinkShape.{LinkShape}
 use Rattle.link_steps.specs.Admissible.{IsAdmissible}
-use Rattle.link_steps.specs.Belonging.{own_packets, eligible_of, TellsPackets, IsRowOf, HasRow, PacketsHaveRows}
+use Rattle.link_steps.specs.Belonging.{own_packets, eligible_of, TellsPackets, IsRowOf, HasRow, HasOnlyRow, PacketsHaveRows}
 use Rattle.link_steps.specs.BestEffort.{best_packet}
 use Rattle.link_steps.specs.Hold.{expires, stays}
 use Rattle.link_steps.specs.Lists.{change_first, without_first, Each, Any, Among}
@@ -26,6 +26,7 @@ use Rattle.link_steps.proofs.ChangeFacts.{Each-from_among}
 use Rattle.link_steps.proofs.LegalOrder.{ScanInOrder, legal-order}
 use Rattle.link_steps.proofs.LegalRowFacts.{IsInOrder}
 use Rattle.link_steps.proofs.ListFacts.{Each-append, Each-both, Each-find, Each-if, Each-among}
+use Rattle.link_steps.proofs.OnlyRows.{only-row}
 use Rattle.link_steps.proofs.RowPackets.{IsLedUpTo, IsHeld, IsBeside, lead-cases}
 use Rattle.link_steps.proofs.SourceHistory.{ScanServed, legal-served}
 use Rattle.link_steps.proofs.SourcesServed.{HasSource}
@@ -237,8 +238,24 @@ legal-have shape h legal =
 pub packets-have_rows : (shape : LinkShape) (h : List Entry) → IsAdmissible shape h → PacketsHaveRows shape h
 packets-have_rows shape h legal =
     let stand = (legal-served shape h legal).stand in
+    let order = legal-order shape h legal in
+    let levels = length shape.bounds in
+    let packets = (scan_of shape h).packets in
+    let rows = (scan_of shape h).rows in
+    let gone = (scan_of shape h).gone in
+    let have = legal-have shape h legal in
     record {
-      held = Each-if (IsHeld (HasSource (clock_of h)) (scan_of shape h).packets) (TellsPackets (scan_of shape h).packets) (scan_of shape h).rows (λ row held. record { ticks = held.fact.eligible; level = held.fact.levels }) stand.held;
-      gone = Each-if (IsBeside (HasSource (clock_of h)) (scan_of shape h).packets (scan_of shape h).rows) (TellsPackets (scan_of shape h).packets) (scan_of shape h).gone (λ row beside. record { ticks = beside.fact.eligible; level = beside.fact.levels }) stand.beside;
-      each = legal-have shape h legal;
+      held = Each-if (λ row. IsHeld (HasSource (clock_of h)) packets row × IsInOrder shape (clock_of h) row) (TellsPackets levels packets) rows
+          (λ row both. record { ticks = both.0.fact.eligible; level = both.0.fact.levels; within = both.1.level_most })
+          (Each-both (IsHeld (HasSource (clock_of h)) packets) (IsInOrder shape (clock_of h)) rows stand.held order.held);
+      gone = Each-if (λ row. IsBeside (HasSource (clock_of h)) packets rows row × IsInOrder shape (clock_of h) row) (TellsPackets levels packets) gone
+          (λ row both. record { ticks = both.0.fact.eligible; level = both.0.fact.levels; within = both.1.level_most })
+          (Each-both (IsBeside (HasSource (clock_of h)) packets rows) (IsInOrder shape (clock_of h)) gone stand.beside order.gone);
+      each = have;
+      alone = Each-if (λ p. IsLedUpTo (length packets) p × HasRow levels rows gone p) (HasOnlyRow levels (rows ++ gone)) packets
+          (λ p both. only-row shape h p legal both.0 (λ upto. ⊎_elim
+          (λ (held : Any (IsRowOf p) rows). Any-append-left (IsRowOf p) rows gone held)
+          (λ (out : Any (IsRowOf p) gone). Any-append-right (IsRowOf p) rows gone out)
+          (both.1.one upto)))
+          (Each-both (IsLedUpTo (length packets)) (HasRow levels rows gone) packets stand.leads have);
     }

@@ -31,7 +31,7 @@ stand-if P Q R S A B packets others rows aside within first second stand = recor
 
 -- ---- rows expire
 
-leads-filter : (test : Row → Bool) (rows : List Row) → LeadsApart rows → LeadsApart (filter test rows)
+pub leads-filter : (test : Row → Bool) (rows : List Row) → LeadsApart rows → LeadsApart (filter test rows)
 leads-filter test [] apart = tt
 leads-filter test (row ∷ rows) apart =
     cond_both (test row) (row ∷ filter test rows) (filter test rows) LeadsApart

@@ -33,8 +33,8 @@ Any-among x (y ∷ ys) (inl same) = inl (sym same)
 Any-among x (y ∷ ys) (inr among) = inr (Any-among x ys among)
 
 -- the row of a packet brings it
-brings : (packets : List Arrival) (p : Arrival) (row : Row) → Among p packets → TellsPackets packets row → IsRowOf p row → BringsPacket p row
-brings packets p row among tells is =
+brings : (levels : ℕ) (packets : List Arrival) (p : Arrival) (row : Row) → Among p packets → TellsPackets levels packets row → IsRowOf p row → BringsPacket p row
+brings levels packets p row among tells is =
     let own = Among-passes (has_lead row.lead) p packets (eq-eqb p.lead row.lead (sym is)) among in
     record {
       own = is;
@@ -42,10 +42,10 @@ brings packets p row among tells is =
       tick = Any-among p.eligible row.ticks (Among-reverse p.eligible row.ticks (subst (Among p.eligible) (sym tells.ticks) (Among-map eligible_of p (own_packets row packets) own)));
     }
 
-any-brings : (packets : List Arrival) (p : Arrival) (rows : List Row) → Among p packets → Each (TellsPackets packets) rows → Any (IsRowOf p) rows → Any (BringsPacket p) rows
-any-brings packets p [] among tells any = absurd any
-any-brings packets p (row ∷ rows) among tells (inl is) = inl (brings packets p row among tells.0 is)
-any-brings packets p (row ∷ rows) among tells (inr any) = inr (any-brings packets p rows among tells.1 any)
+any-brings : (levels : ℕ) (packets : List Arrival) (p : Arrival) (rows : List Row) → Among p packets → Each (TellsPackets levels packets) rows → Any (IsRowOf p) rows → Any (BringsPacket p) rows
+any-brings levels packets p [] among tells any = absurd any
+any-brings levels packets p (row ∷ rows) among tells (inl is) = inl (brings levels packets p row among tells.0 is)
+any-brings levels packets p (row ∷ rows) among tells (inr any) = inr (any-brings levels packets p rows among tells.1 any)
 
 -- ---- a window that the clock hasn't passed
 
@@ -84,9 +84,9 @@ brought-now shape h m t legal from upto near =
           let level = window.level in
           let start = window.from in
           ⊎_elim
-          (λ (held : Any (IsRowOf p) (scan_of shape h).rows). any-brings (scan_of shape h).packets p (scan_of shape h).rows among rows.held held)
+          (λ (held : Any (IsRowOf p) (scan_of shape h).rows). any-brings (length shape.bounds) (scan_of shape h).packets p (scan_of shape h).rows among rows.held held)
           (λ (gone : Any (IsRowOf p) (scan_of shape h).gone).
-          let early = gone-early shape (clock_of h) p (scan_of shape h).gone expired (any-brings (scan_of shape h).packets p (scan_of shape h).gone among rows.gone gone) in
+          let early = gone-early shape (clock_of h) p (scan_of shape h).gone expired (any-brings (length shape.bounds) (scan_of shape h).packets p (scan_of shape h).gone among rows.gone gone) in
           absurd (omega (arith, early, near, last, start)))
           ((Each-among (HasRow (length shape.bounds) (scan_of shape h).rows (scan_of shape h).gone) p (scan_of shape h).packets rows.each among).one (omega (arith, level, upto)));
     })

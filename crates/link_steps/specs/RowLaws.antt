@@ -16,7 +16,7 @@ use Rattle.link_steps.specs.WindowRows.{StandTogether}
 abbrev pub PacketsAreNumbered : Type 0
 PacketsAreNumbered = (shape : LinkShape) (h : List Entry) → AreNumbered 0 (scan_of shape h).packets
 
--- each packet of a channel has a row, held or gone, and the row has its level and its eligible tick
+-- each packet of a channel has one row, held or gone, and no other, and the row has its level and its eligible tick
 abbrev pub EachPacketHasARow : Type 0
 EachPacketHasARow = (shape : LinkShape) (h : List Entry) → IsAdmissible shape h → PacketsHaveRows shape h
 

@@ -6,8 +6,8 @@ pub fn packets_are_numbered()
     ensures { PacketsAreNumbered }
 {}
 
-/// Each packet of a channel belongs to a row, held or gone: the one with its lead. Its level is that of the row, and its
-/// eligible tick is one of the row's.
+/// Each packet of a channel belongs to one row, held or gone, and to no other: the one with its lead. Its level is that of the
+/// row, which is one of the link's, and its eligible tick is one of the row's.
 pub fn each_packet_has_a_row()
     ensures { EachPacketHasARow }
 {}

@@ -133,30 +133,3 @@ impl LinkShape {
         self.cap.div_ceil(self.rate)
     }
 }
-
-#[cfg(test)]
-mod tests {
-    use super::*;
-    use std::test::Fail;
-
-    #[test]
-    fn shapes_and_their_blocking(rt: HostRuntime) -> Result<(), Fail> {
-        let link = LinkNo::new(0).ok_or("no such link")?;
-        let bounds = Bounds::new(&[10, 20, 40]).ok_or("no such bounds")?;
-        for (rate, cap, prop, buffer, best, want) in [
-            (1, 4, 2, 100, 0, Ok(4)),
-            (125, 1250, 50, 65_536, 1_024, Ok(10)),
-            (1, 11, 2, 100, 0, Err(ShapeField::Bounds)),
-            (0, 0, 2, 100, 0, Err(ShapeField::Rate)),
-            (1, 65_537, 2, 100, 0, Err(ShapeField::Cap)),
-            (1, 4, 1_048_577, 262_145, 0, Err(ShapeField::Prop)),
-            (1, 4, 2, 262_145, 1_025, Err(ShapeField::Buffer)),
-            (1, 11, 2, 100, 1_025, Err(ShapeField::Best)),
-        ] {
-            let made = LinkShape::new(link, rate, cap, prop, buffer, bounds, Test::Whole, best);
-            let blocking = made.map(|shape| shape.blocking()).map_err(|bad| bad.field);
-            assert_eq!(rt; blocking, want, "rate {rate}, cap {cap}");
-        }
-        Ok(())
-    }
-}

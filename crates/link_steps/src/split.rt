@@ -59,23 +59,3 @@ impl Split {
         self.groups.as_slice()
     }
 }
-
-#[cfg(test)]
-mod tests {
-    use super::*;
-    use std::test::Fail;
-
-    #[test]
-    fn a_split_has_its_quotas_and_groups(rt: HostRuntime) -> Result<(), Fail> {
-        let bounds = Bounds::new(&[10, 20, 40]).ok_or("no such bounds")?;
-        let quota = Quota {
-            group: 1,
-            buffer: 50,
-            levels: [4, 8, 20, 0, 0, 0, 0, 0],
-        };
-        let split = Split::new(rt.alloc(), bounds, &[quota], &[0, 1, 1]).map_err(|_| "no memory")?;
-        assert_eq!(rt; split.quotas(), [quota].as_slice());
-        assert_eq!(rt; split.groups(), [0u8, 1, 1].as_slice());
-        Ok(())
-    }
-}
