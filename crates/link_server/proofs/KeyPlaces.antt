@@ -1,5 +1,5 @@
 -- Where a key stands among the others, which its stamp tells.
-use Rattle.std.proofs.Common.{◌≡◌, ◌≢◌, ℕ, zero, suc, ◌+◌, ◌<◌, ◌≤◌, inl, inr, Result, Ok, Err, List, [], ◌∷◌, ◌++◌, MatchResult, length, map, get_or, set, remove, refl, sym, ap, ◌∙◌, subst, arith}
+use Rattle.std.proofs.Common.{◌≡◌, ◌≢◌, ℕ, zero, suc, ◌+◌, ◌<◌, ◌≤◌, inl, inr, Result, Ok, Err, List, [], ◌∷◌, ◌++◌, MatchResult, length, map, take, get_or, set, remove, refl, sym, ap, ◌∙◌, subst, arith}
 use Rattle.std.proofs.lemmas.Bool.{cases_Bool, cases_lt, eq-eqb, eqb-true, ne_eqb}
 use Rattle.std.proofs.lemmas.List.{get_or_default, get_or-map, get_or-set_same, get_or-set_other, length-map, length-set, map_push}
 use Rattle.std.proofs.lemmas.List.Elements.{All-push}
@@ -45,7 +45,17 @@ position-is (key ∷ keys) (suc i) d apart inside =
     let within : i < length keys = omega (arith, inside) in
     rw (ne_eqb key (get_or keys i d) (λ same. none-there keys key i d apart.0 within (sym same))) (ap suc (position-is keys i d apart.1 within))
 
+-- none of those before it is the same
+pub none-before : (keys : List ℕ) (i d : ℕ) → AreApart keys → i < length keys → IsNoneOf (take i keys) (get_or keys i d)
+none-before [] i d apart inside = absurd (omega (arith, inside))
+none-before (key ∷ keys) zero d apart inside = tt
+none-before (key ∷ keys) (suc i) d apart inside = (let within : i < length keys = omega (arith, inside) in ((λ same. none-there keys key i d apart.0 within (sym same)), none-before keys i d apart.1 within))
+
 -- ---- stamps
+
+-- no key has none
+pub stamps-none : (under : List ℕ) → AreStamps [] [] under 0
+stamps-none under = record { told = refl; inside = λ k d inside. absurd (omega (arith, inside)); rising = omega arith }
 
 module _ (keys stamps under : List ℕ) (next : ℕ) (are : AreStamps keys stamps under next) where
   pub stamp-inside : (key : ℕ) → position keys key < length keys → key < length under

@@ -1,7 +1,8 @@
 //! A list whose values stand in a slab, each under a key.
-ghost use Rattle.std.specs.Prelude.{◌≡◌, ◌≤◌, ◌<◌, ◌-◌, ◌++◌, ◌∷◌, [], ℕ, List, IfNone, IfSome, OnOk, length, remove, slice_index_or};
+ghost use Rattle.std.specs.Prelude.{◌≡◌, ◌+◌, ◌≤◌, ◌<◌, ◌^◌, ◌-◌, ◌++◌, ◌∷◌, [], ℕ, List, IfNone, IfSome, OnOk, length, remove, slice_index_or};
 ghost use Rattle.std.specs.Borrow.{sem};
-ghost use Rattle.link_server.specs.KeyedList.{AreStamps, IsNoneOf, IsUnder, position};
+ghost use Rattle.std.specs.Vec.{vec_capacity};
+ghost use Rattle.link_server.specs.KeyedList.{AreApart, AreStamps, IsNoneOf, IsUnder, position};
 
 use net_units::OutOfMemory;
 use slab::Slab;
@@ -61,7 +62,7 @@ impl<T> KeyedList<T> {
         self.keys.len()
     }
 
-    // Makes room for this many more values. None is left either once the stamps run out, after 2^64 values.
+    // Makes room for this many more values.
     pub(crate) fn reserve(&mut self, more: usize) -> Result<(), OutOfMemory>
         ensures room { OnOk result (more ≤ self.new.spare) }
         ensures kept { self.new ≡ record self.old { spare = self.new.spare } }
@@ -69,14 +70,18 @@ impl<T> KeyedList<T> {
         if more <= self.spare {
             return Ok(());
         }
-        if u64::MAX - self.next < more as u64 {
-            return Err(OutOfMemory);
-        }
         self.spare = 0;
         self.slots.reserve(more)?;
         self.keys.reserve(more)?;
         self.stamps.reserve(more)?;
         reserve_stamps(&mut self.stamp_under, self.slots.capacity())?;
+        self.next = renew_stamps(
+            &self.keys,
+            &mut self.stamps,
+            &mut self.stamp_under,
+            self.next,
+            more,
+        );
         self.spare = more;
         Ok(())
     }
@@ -168,4 +173,34 @@ fn reserve_stamps(under: &mut Vec<u64>, above: usize) -> Result<(), OutOfMemory>
         under.resize(above, 0)?;
     }
     Ok(())
+}
+
+// The stamp of the next value, after which so many more are left. Where they have run out, after 2^64 values, all stamps are
+// numbered anew from 0 on, in their order.
+fn renew_stamps(
+    keys: &[usize],
+    stamps: &mut Vec<u64>,
+    under: &mut Vec<u64>,
+    next: u64,
+    more: usize,
+) -> u64
+    requires are { AreStamps keys.now stamps.old.items under.old.items next }
+    requires apart { AreApart keys.now }
+    requires few { length keys.now + more < 2 ^ 64 }
+    ensures are { AreStamps keys.now stamps.new.items under.new.items result }
+    ensures left { result + more < 2 ^ 64 }
+    ensures capacity { vec_capacity stamps.new ≡ vec_capacity stamps.old }
+    ensures long { length under.new.items ≡ length under.old.items }
+{
+    if more as u64 <= u64::MAX - next {
+        return next;
+    }
+    stamps.clear();
+    let mut stamp = 0;
+    for key in keys {
+        stamps.push_reserved(stamp);
+        under[*key] = stamp;
+        stamp += 1;
+    }
+    stamp
 }
