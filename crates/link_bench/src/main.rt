@@ -92,6 +92,3 @@ fn work_times(alloc: Global, words: &Words) -> Option<Made> {
     }
     Some(made)
 }
-
-#[cfg(test)]
-mod tests;

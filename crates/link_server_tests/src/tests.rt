@@ -168,7 +168,9 @@ fn ticked(clock: u64, full: u32, sent: Option<Sent>) -> Reply {
 mod arrivals;
 mod best_effort;
 mod chosen;
+mod generated;
 mod history;
+mod plain;
 mod releases;
 mod setup;
 mod ticks;

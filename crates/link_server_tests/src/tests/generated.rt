@@ -4,11 +4,12 @@ ghost use Rattle.traffic_contract.specs.Contract.{IsContract};
 ghost use Rattle.link_steps.specs.Legal.{AskFits, SubmitFits};
 ghost use Rattle.link_steps.specs.declared.shape.LinkShape.{LinkShape as Shape};
 
+use super::history::three_levels;
 use super::plain::PlainLink;
-use super::{open, step};
 use link_server::LinkState;
 use link_steps::{Ask, LinkStep, Packet, Reply};
 use net_units::{ChanNo, Kind, Level};
+use std::alloc::Global;
 use std::test::Fail;
 use traffic_contract::Contract;
 
@@ -186,6 +187,21 @@ fn are_quiet(plain: &mut PlainLink, clock: u64, ticks: u64) -> Result<bool, Fail
 enum Outcome {
     Same { rested: u64 },
     Differs { ask: u64 },
+}
+
+fn open(alloc: Global, buffer: u32) -> Result<LinkState, Fail> {
+    Ok(LinkState::new(alloc, three_levels(buffer)?)?)
+}
+
+// One step. A test fails where its link's clock would be past the range of a step, so that none has to say that it
+// isn't.
+fn step<L: LinkStep>(link: &mut L, ask: &Ask) -> Result<Reply, Fail>
+    requires { AskFits (L.link_of link.old).shape ask.now }
+{
+    if link.clock() >= 1 << 61 {
+        return Err(Fail::from("the clock is too late for a step"));
+    }
+    Ok(link.step(ask)?)
 }
 
 // A list of asks, to the link and to the plain lists. In four of five lists the link makes ticks in strides, too.
