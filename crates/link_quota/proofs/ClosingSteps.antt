@@ -171,11 +171,11 @@ no-offer : (chan : ChanNo) (ask : Ask) (reply : Reply) (rows : List Row) → IsS
 no-offer chan (Reserve chan' contract kind delay up_reach first next) reply rows is = absurd is
 no-offer chan _ reply rows is = tt
 
-value-part : (bounds : List ℕ) (f : HeldRow → ℕ) (found : Option Reservation) → value_of (if_closing f) (option_map (seen bounds) found) ≡ value_of (closing_part bounds f) found
+pub value-part : (bounds : List ℕ) (f : HeldRow → ℕ) (found : Option Reservation) → value_of (if_closing f) (option_map (seen bounds) found) ≡ value_of (closing_part bounds f) found
 value-part bounds f None = refl
 value-part bounds f (Some terms) = refl
 
-value-open : (f : HeldRow → ℕ) (row : Option HeldRow) → is_closing row ≡ false → value_of (if_closing f) row ≡ 0
+pub value-open : (f : HeldRow → ℕ) (row : Option HeldRow) → is_closing row ≡ false → value_of (if_closing f) row ≡ 0
 value-open f None open_is = refl
 value-open f (Some row) open_is = rw open_is refl
 
@@ -207,7 +207,7 @@ closing-settled link k k' ask reply chan rows rows' fits goes is stood fresh old
 -- ---- a tick in which rows expire
 
 -- the rows held after a tick are those that stay
-left-terms : (shape : LinkShape) (t : ℕ) (scan : Scan) → map row_terms (after_tick shape t scan).rows ≡ map row_terms (filter (stays shape.bounds t) scan.rows)
+pub left-terms : (shape : LinkShape) (t : ℕ) (scan : Scan) → map row_terms (after_tick shape t scan).rows ≡ map row_terms (filter (stays shape.bounds t) scan.rows)
 unfolding after_tick with_best with_sources without_expired
 left-terms shape t scan = rows_after-terms shape.bounds (here_at shape.rate scan.packets t) t (length scan.packets) (filter (stays shape.bounds t) scan.rows)
 

@@ -12,6 +12,8 @@ pub mod BestFacts
 pub mod RoomFacts
 pub mod HeldFacts
 pub mod StepFacts
+mod StaysWithin
 pub mod ClosingSteps
+pub mod ClosingRoom
 pub mod ClosingShares
 pub mod RestFacts

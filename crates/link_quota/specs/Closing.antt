@@ -1,12 +1,13 @@
 -- A split link lists its closing rows, each as a caller saw it when it was released. A closing row stays as it is until it
 -- expires, and no other row expires, so a tick in which rows do looks at these alone. What is summed over the list is what is
--- summed over the closing rows that are held.
+-- summed over the closing rows that are held. A reserve makes room in it for every row held, so a release wants no memory.
 use Rattle.std.specs.Prelude.{◌≡◌, ℕ, ◌+◌, ◌≤◌, ◌<◌, Bool, true, false, if◌then◌else◌, Option, Some, None, is_some, List, length, slice_index}
+use Rattle.std.specs.Coded.{le_prop}
 use native.Mathlib.Nat.{ℕ_set}
 use Rattle.traffic_contract.specs.Admission.{total}
 use Rattle.link_steps.specs.declared.replies.Phase.TheVariants.{Closing}
 use Rattle.link_steps.specs.Reservation.{Reservation, is_phase}
-use Rattle.link_steps.specs.Split.{Link, is_split}
+use Rattle.link_steps.specs.Split.{Link, Split, is_split}
 use Rattle.link_server.specs.Held.{seen, seen_of}
 use Rattle.link_server.specs.declared.held_row.HeldRow.{HeldRow}
 use Rattle.link_quota.specs.declared.share.Share.{Share}
@@ -31,6 +32,13 @@ AreClosing link held rows = is_split link.split ≡ true → (f : HeldRow → �
 -- there is at most one proof of it
 pub AreClosing-prop : (link : Link) (held : List Reservation) (rows : List HeldRow) → IsProp (AreClosing link held rows)
 AreClosing-prop link held rows = Prim.hlevel ℕ_set
+
+-- the list has room for every row that a split link holds, so that each may be released
+abbrev pub HasRoomToClose : Split → List Reservation → ℕ → Type 0
+HasRoomToClose split held capacity = is_split split ≡ true → length held ≤ capacity
+
+pub HasRoomToClose-prop : (split : Split) (held : List Reservation) (capacity : ℕ) → IsProp (HasRoomToClose split held capacity)
+HasRoomToClose-prop split held capacity = Prim.hlevel le_prop
 
 -- ---- the rows that have expired
 

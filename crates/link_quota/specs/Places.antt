@@ -89,7 +89,7 @@ pub record AreChangedBy (link : Link) (row row' : Option HeldRow) (before after 
   pub long : length after ≡ length before
   pub each : EachChange link before after (λ quota share share'. IsChangedFor link quota.group row row' share share')
 
--- the reservations of each group that has a quota are within it
+-- the reservations of each group are within its quota, which is nothing for one that has none
 pub record AreFew (link : Link) (held : List Reservation) : Type 0 where
   pub levels : (group m : ℕ) → 1 ≤ m → m ≤ length link.shape.bounds → total (group_work link group m) held ≤ level_quota link group m
   pub buffer : (group : ℕ) → total (group_units link group) held ≤ buffer_quota link group

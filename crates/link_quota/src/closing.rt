@@ -26,15 +26,16 @@ pub(crate) fn is_closing(row: &Option<HeldRow>) -> bool
     }
 }
 
-// Lists the row of a channel, if it is closing and wasn't before. There is room for it.
+// Lists the row of a channel, if it is closing and wasn't before. There is room for it then.
 pub(crate) fn list_released(
     closing: &mut Vec<HeldRow>,
     before: &Option<HeldRow>,
     after: &Option<HeldRow>,
 )
-    requires room { length closing.old.items < vec_capacity closing.old }
+    requires room { is_closing before.now ≡ false → is_closing after.now ≡ true → length closing.old.items < vec_capacity closing.old }
     ensures new { is_closing before.now ≡ false → (f : Row.HeldRow → ℕ) → total f closing.new.items ≡ total f closing.old.items + value_of (if_closing f) after.now }
     ensures old { is_closing before.now ≡ true → closing.new.items ≡ closing.old.items }
+    ensures capacity { vec_capacity closing.new ≡ vec_capacity closing.old }
 {
     if is_closing(before) {
         return;
@@ -69,7 +70,8 @@ pub(crate) fn give_back_expired(
 
 // Takes the expired ones of these rows off their list.
 pub(crate) fn drop_expired(closing: &mut Vec<HeldRow>, link: &LinkState)
-    ensures { closing.new.items ≡ filter (is_held link.now.shape.bounds (reservations_held link.now)) closing.old.items }
+    ensures items { closing.new.items ≡ filter (is_held link.now.shape.bounds (reservations_held link.now)) closing.old.items }
+    ensures capacity { vec_capacity closing.new ≡ vec_capacity closing.old }
 {
     closing.retain(|row| link.held_of(row.chan).is_some());
 }

@@ -4,7 +4,8 @@ ghost use Rattle.link_steps.specs.Split.{Link, SplitFits};
 ghost use Rattle.link_server.specs.Held.{reservations_held};
 ghost use Rattle.link_server.specs.Resting.{RestsFromClock, RestsFromClock-prop};
 ghost use Rattle.link_server.specs.State.{kept_in};
-ghost use Rattle.link_quota.specs.Closing.{AreClosing, AreClosing-prop};
+ghost use Rattle.std.specs.Vec.{vec_capacity};
+ghost use Rattle.link_quota.specs.Closing.{AreClosing, AreClosing-prop, HasRoomToClose, HasRoomToClose-prop};
 ghost use Rattle.link_quota.specs.Shares.{AreShares, AreShares-prop};
 ghost use Rattle.link_quota.specs.Stood.{IsLegallyStood, IsLegallyStood-prop, SplitFits-prop};
 
@@ -31,13 +32,14 @@ pub struct QuotaLink {
     pub(crate) split: Split,
     // What the rows of each group that has a quota hold together, in the order of the quotas.
     pub(crate) shares: Vec<Share>,
-    // The closing rows, in the order of their releases.
+    // The closing rows, in the order of their releases, with room for every row that is held.
     pub(crate) closing: Vec<HeldRow>,
     // Nothing falls due in the link inside before this tick.
     pub(crate) due: u64,
     ghost fits: { SplitFits (record { shape = link.shape; split = split }) } by { SplitFits-prop (record { shape = link.shape; split = split }) },
     ghost shared: { AreShares (record { shape = link.shape; split = split }) (reservations_held link) shares.items } by { AreShares-prop (record { shape = link.shape; split = split }) (reservations_held link) shares.items },
     ghost listed: { AreClosing (record { shape = link.shape; split = split }) (reservations_held link) closing.items } by { AreClosing-prop (record { shape = link.shape; split = split }) (reservations_held link) closing.items },
+    ghost room: { HasRoomToClose split (reservations_held link) (vec_capacity closing) } by { HasRoomToClose-prop split (reservations_held link) (vec_capacity closing) },
     ghost stood: { IsLegallyStood (record { shape = link.shape; split = split }) (kept_in link) } by { IsLegallyStood-prop (record { shape = link.shape; split = split }) (kept_in link) },
     ghost rests: { RestsFromClock link.shape due (kept_in link) } by { RestsFromClock-prop link.shape due (kept_in link) },
 }
@@ -56,6 +58,8 @@ impl QuotaLink {
     ghost use Rattle.link_quota.specs.State.{rules_of, QuotaStands};
     ghost use Rattle.link_quota.specs.Steps.{GoesOn, IsReserve, IsSettling, IsCarrying};
     ghost use Rattle.std.specs.Prelude.{false};
+    ghost use Rattle.link_server.specs.Asks.{IsOffer, TakesNone};
+    ghost use Rattle.link_steps.specs.Replies.{reply_to};
     ghost use Rattle.link_steps.specs.declared.asks.Ask.TheVariants.{Tick};
     ghost use Rattle.link_steps.specs.declared.replies.Entry.{Entry};
     ghost use Rattle.link_steps.specs.Legal.{AskFits};
@@ -157,6 +161,8 @@ impl QuotaLink {
         ensures memory { OnErr result ((h : List Entry) → QuotaStands self.old h → QuotaStands self.new h) }
         ensures ticked { IfOk result (λ _. self.new.link.clock ≡ clock_with ask.now self.old.link.clock) }
         ensures stopped { OnErr result (self.new.link.clock ≡ self.old.link.clock) }
+        ensures sure { TakesNone ask.now → IsOk result }
+        ensures instead { OnErr result ((h : List Entry) → QuotaStands self.old h → IsOffer (reply_to (rules_of self.old) h ask.now)) }
     {
         self.due = 0;
         self.link.step(ask)
@@ -174,6 +180,7 @@ impl QuotaLink {
         ensures memory { OnErr result ((h : List Entry) → QuotaStands self.old h → QuotaStands self.new h) }
         ensures ticked { IfOk result (λ _. self.new.link.clock ≡ clock_with ask.now self.old.link.clock) }
         ensures stopped { OnErr result (self.new.link.clock ≡ self.old.link.clock) }
+        ensures instead { OnErr result ((h : List Entry) → QuotaStands self.old h → IsOffer (reply_to (rules_of self.old) h ask.now)) }
     {
         let Ask::Reserve {
             chan,
@@ -214,8 +221,8 @@ impl QuotaLink {
         ensures memory { OnErr result ((h : List Entry) → QuotaStands self.old h → QuotaStands self.new h) }
         ensures ticked { IfOk result (λ _. self.new.link.clock ≡ clock_with ask.now self.old.link.clock) }
         ensures stopped { OnErr result (self.new.link.clock ≡ self.old.link.clock) }
+        ensures sure { IsOk result }
     {
-        self.closing.reserve(1)?;
         self.due = 0;
         let before = self.link.held_of(chan);
         let reply = self.link.step(ask)?;
@@ -240,6 +247,7 @@ impl QuotaLink {
         ensures memory { OnErr result ((h : List Entry) → QuotaStands self.old h → QuotaStands self.new h) }
         ensures ticked { IfOk result (λ _. self.new.link.clock ≡ clock_with ask.now self.old.link.clock) }
         ensures stopped { OnErr result (self.new.link.clock ≡ self.old.link.clock) }
+        ensures sure { IsOk result }
     {
         self.due = 0;
         let before = self.link.rows_held();
@@ -263,6 +271,7 @@ impl QuotaLink {
         ensures memory { OnErr result ((h : List Entry) → QuotaStands self.old h → QuotaStands self.new h) }
         ensures ticked { IfOk result (λ _. self.new.link.clock ≡ clock_with ask.now self.old.link.clock) }
         ensures stopped { OnErr result (self.new.link.clock ≡ self.old.link.clock) }
+        ensures sure { IsOk result }
     {
         self.due = 0;
         self.link.step(ask)
@@ -280,6 +289,8 @@ impl QuotaLink {
         ensures memory { OnErr result ((h : List Entry) → QuotaStands self.old h → QuotaStands self.new h) }
         ensures ticked { IfOk result (λ _. self.new.link.clock ≡ clock_with ask.now self.old.link.clock) }
         ensures stopped { OnErr result (self.new.link.clock ≡ self.old.link.clock) }
+        ensures sure { TakesNone ask.now → IsOk result }
+        ensures instead { OnErr result ((h : List Entry) → QuotaStands self.old h → IsOffer (reply_to (rules_of self.old) h ask.now)) }
     {
         match ask {
             Ask::Tick if self.link.clock() < self.due => Ok(self.rest_once()),
@@ -299,6 +310,8 @@ impl QuotaLink {
         ensures memory { OnErr result ((h : List Entry) → QuotaStands self.old h → QuotaStands self.new h) }
         ensures ticked { IfOk result (λ _. self.new.link.clock ≡ clock_with ask.now self.old.link.clock) }
         ensures stopped { OnErr result (self.new.link.clock ≡ self.old.link.clock) }
+        ensures sure { TakesNone ask.now → IsOk result }
+        ensures instead { OnErr result ((h : List Entry) → QuotaStands self.old h → IsOffer (reply_to (rules_of self.old) h ask.now)) }
     {
         if self.split.quotas().is_empty() {
             return self.whole(ask);
@@ -320,6 +333,7 @@ impl LinkStep for QuotaLink {
     ghost use Rattle.link_steps.specs.Legal.{AskFits, IsLegal};
     ghost use Rattle.link_steps.specs.Replies.{reply_to};
     ghost use Rattle.link_steps.specs.Scan.{clock_with};
+    ghost use Rattle.link_server.specs.Asks.{IsOffer, TakesNone};
     ghost use Rattle.link_quota.specs.State.{rules_of, QuotaStands, quota-clock, quota-fits};
 
     ghost link_of = { rules_of };
@@ -336,7 +350,8 @@ impl LinkStep for QuotaLink {
         self.link.clock()
     }
 
-    /// Makes one step. A reply that is a refusal leaves the link as it was, and so does want of memory.
+    /// Makes one step. A reply that is a refusal leaves the link as it was, and so does want of memory, which comes for a
+    /// reserve alone, and there only in place of an offer.
     ///
     /// Where the history is legal, the next one has the hop guarantee (`guaranteed`): after each of its entries the
     /// held rows, of all groups together, pass the admission test, and each packet leaves in time.
@@ -351,8 +366,10 @@ impl LinkStep for QuotaLink {
         ensures ticked { IfOk result (λ _. self.new.link.clock ≡ clock_with ask.now self.old.link.clock) }
         ensures stopped { OnErr result (self.new.link.clock ≡ self.old.link.clock) }
 
-        // The hop guarantee.
+        // The hop guarantee, and want of memory.
         ensures guaranteed { IfOk result (λ reply. (h : List Entry) → QuotaStands self.old h → IsLegal (rules_of self.old) h → HopGuarantee self.old.link.shape (record { ask = ask.now; reply = reply } ∷ h)) }
+        ensures sure { TakesNone ask.now → IsOk result }
+        ensures instead { OnErr result ((h : List Entry) → QuotaStands self.old h → IsOffer (reply_to (rules_of self.old) h ask.now)) }
     {
         self.answer(ask)
     }

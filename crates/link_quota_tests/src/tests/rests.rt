@@ -1,51 +1,28 @@
 //! Ticks in which nothing falls due, made at once and one by one.
 ghost use Rattle.std.specs.Prelude.{◌+◌, ◌≤◌, IfOk};
 
-use super::{relaxed, reserve, split_link, step};
+use super::{Opened, chan, relax, reserve, step};
 use link_quota::{AnyLink, QuotaLink};
-use link_server::LinkState;
-use link_steps::{Ask, LinkShape, LinkStep, Reply};
-use net_units::{Bounds, ChanNo, LinkNo};
+use link_steps::{Ask, LinkStep, Reply};
 use std::alloc::Global;
 use std::process::Abort;
 use std::test::Fail;
-use traffic_contract::{Contract, Test};
 
 // A channel's packets, one each ten ticks. With the third tick the first of them has left, and the next is planned for tick 10.
-fn begin<L: LinkStep>(link: &mut L) -> Result<(), Fail> {
-    let contract = Contract::new(5, 10, 20, 2)?;
+fn begun<L: LinkStep>(link: L) -> Result<L, Fail> {
+    let mut link = link;
     let sends = Ask::Submit {
-        chan: ChanNo::new(1).ok_or("channel")?,
+        chan: chan(1)?,
         count: 3,
         gap: 10,
         size: 2,
     };
-    for ask in [
-        reserve(1, &contract, 12),
-        relaxed(1, 1).ask,
-        sends,
-        Ask::Tick,
-        Ask::Tick,
-        Ask::Tick,
-    ] {
-        step(link, &ask)?;
+    step(&mut link, &reserve(1, 12)?)?;
+    step(&mut link, &relax(1, 1)?)?;
+    step(&mut link, &sends)?;
+    for _tick in 0..3 {
+        step(&mut link, &Ask::Tick)?;
     }
-    Ok(())
-}
-
-fn split(alloc: Global) -> Result<QuotaLink, Fail> {
-    let mut link = split_link(alloc)?;
-    begin(&mut link)?;
-    Ok(link)
-}
-
-// A link that isn't split.
-fn whole(alloc: Global) -> Result<LinkState, Fail> {
-    let number = LinkNo::new(0).ok_or("link")?;
-    let bounds = Bounds::new(&[10, 20, 40]).ok_or("bounds")?;
-    let shape = LinkShape::new(number, 1, 4, 2, 100, bounds, Test::Whole, 0)?;
-    let mut link = LinkState::new(alloc, shape).map_err(|_| "no memory")?;
-    begin(&mut link)?;
     Ok(link)
 }
 
@@ -61,7 +38,7 @@ fn left(clock: u64, until: u64) -> Result<u64, Fail>
 }
 
 // A link that makes at once the ticks in which nothing falls due.
-trait Stride: LinkStep {
+trait Stride: Opened {
     // Makes the ticks before the one until which it rests, and answers how many they are.
     fn stride(&mut self) -> Result<u64, Fail>;
 }
@@ -136,30 +113,21 @@ fn leave_after_seven<L: Stride, M: LinkStep>(one: L, other: M) -> Result<Option<
     leave_alike(one, other, 20)
 }
 
-// After ticks 0, 1 and 2 it rests for seven, and two packets leave in ticks 10 to 29.
-#[test]
-fn a_split_link_rests_as_it_ticks(rt: HostRuntime) -> Result<(), Fail> {
-    let one = split(rt.alloc())?;
-    let other = split(rt.alloc())?;
-    assert_eq!(rt; leave_after_seven(one, other)?, Some(2));
+// After ticks 0, 1 and 2 a link rests for seven, and two packets leave in ticks 10 to 29, whether it makes the seven at once or one by one.
+fn rests_as_it_ticks<L: Stride>(rt: &impl Abort, alloc: Global, splits: bool) -> Result<(), Fail> {
+    let one = begun(L::open(alloc, splits)?)?;
+    let other = begun(L::open(alloc, splits)?)?;
+    assert_eq!(rt; leave_after_seven(one, other)?, Some(2), "{splits}");
     Ok(())
 }
 
-// A link of either kind, likewise.
-fn either(alloc: Global, splits: bool) -> Result<AnyLink, Fail> {
-    if splits {
-        Ok(AnyLink::Quota(split(alloc)?))
-    } else {
-        Ok(AnyLink::Plain(whole(alloc)?))
-    }
+#[test]
+fn a_split_link_rests_as_it_ticks(rt: HostRuntime) -> Result<(), Fail> {
+    rests_as_it_ticks::<QuotaLink>(&rt, rt.alloc(), true)
 }
 
 #[test]
 fn a_link_of_either_kind_rests_as_it_ticks(rt: HostRuntime) -> Result<(), Fail> {
-    for splits in [true, false] {
-        let one = either(rt.alloc(), splits)?;
-        let other = either(rt.alloc(), splits)?;
-        assert_eq!(rt; leave_after_seven(one, other)?, Some(2), "{splits}");
-    }
-    Ok(())
+    rests_as_it_ticks::<AnyLink>(&rt, rt.alloc(), true)?;
+    rests_as_it_ticks::<AnyLink>(&rt, rt.alloc(), false)
 }

@@ -25,6 +25,7 @@ invariant_of-result c =
           subst (λ held. AreShares (record { shape = c.in_ok-link.link.shape; split = c.args.split }) held c.loop.shares.items) (sym (held-new c.in_ok-link.link stands))
           (shares-none (record { shape = c.in_ok-link.link.shape; split = c.args.split }) c.loop.shares.items c.loop.index (omega (arith, long)) (omega (arith, long, past, end, quotas)) c.loop.invariant.1);
       listed = λ splits f. ap (total f) (let empty : c.new-2.result.items ≡ [] = search rules in empty) ∙ ap (total (closing_part c.in_ok-link.link.shape.bounds f)) (sym (held-new c.in_ok-link.link stands));
+      room = λ splits. (let none = ap length (held-new c.in_ok-link.link stands) in omega (arith, none));
       stood = stood-new (record { shape = c.in_ok-link.link.shape; split = c.args.split }) (kept_in c.in_ok-link.link) stands;
       rests = due-now c.in_ok-link.link.shape (kept_in c.in_ok-link.link);
     }

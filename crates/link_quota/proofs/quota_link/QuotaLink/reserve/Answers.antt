@@ -1,5 +1,6 @@
 -- The reply is by the room of the group, and the new row is held in the group's share.
-use Rattle.std.proofs.Common.{◌≡◌, List, ◌∷◌, None, refl, sym, ap, ◌∙◌, subst}
+use Rattle.std.proofs.Common.{◌≡◌, List, ◌∷◌, None, refl, sym, ap, ◌∙◌, subst, arith}
+use Rattle.std.specs.Vec.{vec_capacity}
 use Rattle.net_units.specs.Numbers.{level_number}
 use Rattle.net_units.specs.LevelBounds.{reach_of}
 use Rattle.link_steps.specs.declared.replies.Entry.{Entry}
@@ -21,8 +22,9 @@ use Rattle.link_quota.specs.Steps.{GoesOn}
 use Rattle.link_quota.specs.Stood.{IsLegallyStood}
 use Rattle.link_quota.specs.declared.share.Share.{Share}
 use Rattle.link_quota.proofs.QuotaFacts.{stood-goes, stood-same, shares-kept, shares-setup, reserve-legal, refused-enters, offer-may-be, offers-new, offered-none}
+use Rattle.link_quota.proofs.ClosingRoom.{room-more, room-reserved, room-same}
 use Rattle.link_quota.proofs.ClosingSteps.{closing-kept, closing-reserved}
-use Rattle.link_quota.proofs.StepFacts.{on-err, written-back, small-after, small-shares}
+use Rattle.link_quota.proofs.StepFacts.{on-err, instead-offered, written-back, small-after, small-shares}
 use Rattle.link_server.proofs.RestFacts.{due-now}
 use Rattle.link_quota.proofs.quota_link.QuotaLink.reserve.Goals as goal
 use Rattle.link_quota.proofs.quota_link.QuotaLink.reserve.Goals.{In-Ok, In_ok-reply-in-Ok, In_err-reply-in-Ok}
@@ -42,6 +44,16 @@ returns-in-Err-clause-goes c = record {
 
 -- ---- want of memory
 
+pub returns-in_err-reserve-in-Ok-clause-instead : goal.returns-in_err-reserve-in-Ok-clause-instead
+returns-in_err-reserve-in-Ok-clause-instead c =
+    on-err _ c.from_residual.result
+    (instead-offered (rules_of c.args.self.now) (kept_in c.args.self.now.link) c.in-Reserve.chan c.in-Reserve.contract c.in-Reserve.kind c.in-Reserve.delay c.in-Reserve.up_reach c.in-Reserve.first c.in-Reserve.next c.args.ask.now c.in-Ok.level _ c.in-Reserve.is c.in-Ok.ensures.reply)
+
+pub returns-in_err-reply-in-Ok-clause-instead : goal.returns-in_err-reply-in-Ok-clause-instead
+returns-in_err-reply-in-Ok-clause-instead c =
+    on-err _ c.from_residual-in_err-reply-in-Ok.result
+    (instead-offered (rules_of c.args.self.now) (kept_in c.args.self.now.link) c.in-Reserve.chan c.in-Reserve.contract c.in-Reserve.kind c.in-Reserve.delay c.in-Reserve.up_reach c.in-Reserve.first c.in-Reserve.next c.args.ask.now c.in-Ok.level _ c.in-Reserve.is c.in-Ok.ensures.reply)
+
 pub returns-in_err-reply-in-Ok-clause-memory : goal.returns-in_err-reply-in-Ok-clause-memory
 returns-in_err-reply-in-Ok-clause-memory c = on-err _ c.from_residual-in_err-reply-in-Ok.result (λ h stands. (goal.at.returns-in_err-reply-in-Ok-clause-memory c).In_err-reply-in-Ok.in_err-reply-in-Ok.ensures.memory h stands)
 
@@ -56,6 +68,8 @@ invariant_of-self-in-Break-branch-2 c =
       listed = subst (λ (items : List Row.HeldRow). AreClosing (record { shape = c.reserve_at.new.self.shape; split = c.args.self.now.split }) (reservations_held c.reserve_at.new.self) items) (sym c.reserve.ensures.items)
           (subst (λ s. AreClosing (record { shape = s; split = c.args.self.now.split }) (reservations_held c.reserve_at.new.self) c.args.self.now.closing.items) (sym shape)
           (closing-kept (rules_of c.args.self.now) (kept_in c.args.self.now.link) (kept_in c.reserve_at.new.self) c.args.self.now.closing.items same c.args.self.now.stood c.args.self.now.listed));
+      room = room-more c.args.self.now.split (reservations_held c.reserve_at.new.self) (vec_capacity c.args.self.now.closing) (vec_capacity c.reserve.new.self) c.reserve.ensures.capacity
+          (room-same (rules_of c.args.self.now) (kept_in c.args.self.now.link) (kept_in c.reserve_at.new.self) (vec_capacity c.args.self.now.closing) same c.args.self.now.stood c.args.self.now.room);
       stood = subst (λ s. IsLegallyStood (record { shape = s; split = c.args.self.now.split }) (kept_in c.reserve_at.new.self)) (sym shape)
           (stood-same (rules_of c.args.self.now) (kept_in c.args.self.now.link) (kept_in c.reserve_at.new.self) same c.args.self.now.stood);
       rests = due-now c.reserve_at.new.self.shape (kept_in c.reserve_at.new.self);
@@ -113,6 +127,8 @@ invariant_of-self-in-Ok c =
       listed = subst (λ (items : List Row.HeldRow). AreClosing (record { shape = c.reserve_at.new.self.shape; split = c.args.self.now.split }) (reservations_held c.reserve_at.new.self) items) (sym c.reserve.ensures.items)
           (subst (λ s. AreClosing (record { shape = s; split = c.args.self.now.split }) (reservations_held c.reserve_at.new.self) c.args.self.now.closing.items) (sym same)
           (closing-reserved (rules_of c.args.self.now) (kept_in c.args.self.now.link) (kept_in c.reserve_at.new.self) c.args.ask.now c.in_ok-reply-in-Ok.reply c.args.self.now.closing.items (goes here.In_ok-reply-in-Ok) c.requires.reserves c.args.self.now.stood c.args.self.now.listed));
+      room = room-reserved (rules_of c.args.self.now) (kept_in c.args.self.now.link) (kept_in c.reserve_at.new.self) c.args.ask.now c.in_ok-reply-in-Ok.reply (vec_capacity c.reserve.new.self) (goes here.In_ok-reply-in-Ok) c.requires.reserves c.args.self.now.stood
+          (let rows = c.rows_held.ensures.count in let long = c.len.ensures in let more = c.saturating_sub.ensures in let place = c.in_ok-reserve-in-Ok.ensures.ok in let same = c.reserve.ensures.len in omega (arith, rows, long, more, place, same));
       stood = subst (λ s. IsLegallyStood (record { shape = s; split = c.args.self.now.split }) (kept_in c.reserve_at.new.self)) (sym same) (stood here.In_ok-reply-in-Ok);
       rests = due-now c.reserve_at.new.self.shape (kept_in c.reserve_at.new.self);
     }

@@ -6,7 +6,8 @@ use Rattle.link_steps.proofs.QuietFacts.{later-rests, quiet-ticks}
 use Rattle.link_server.specs.Resting.{RestsFromClock}
 use Rattle.link_server.specs.State.{kept_in}
 use Rattle.link_server.proofs.StepFacts.{rows-have}
-use Rattle.link_quota.specs.Closing.{AreClosing}
+use Rattle.std.specs.Vec.{vec_capacity}
+use Rattle.link_quota.specs.Closing.{AreClosing, HasRoomToClose}
 use Rattle.link_quota.specs.Shares.{AreShares}
 use Rattle.link_quota.specs.State.{rules_of}
 use Rattle.link_quota.specs.Stood.{IsLegallyStood}
@@ -25,6 +26,7 @@ invariant_of-self c =
           (subst (λ (k : Kept). AreShares (rules_of quota) (held_in k) quota.shares.items) (sym c.rest.ensures.kept) quota.shared);
       listed = subst (λ s. AreClosing (record { shape = s; split = quota.split }) (held_in (kept_in c.rest.new.self)) quota.closing.items) (sym shape)
           (subst (λ (k : Kept). AreClosing (rules_of quota) (held_in k) quota.closing.items) (sym c.rest.ensures.kept) quota.listed);
+      room = subst (λ (k : Kept). HasRoomToClose quota.split (held_in k) (vec_capacity quota.closing)) (sym c.rest.ensures.kept) quota.room;
       stood = subst (λ s. IsLegallyStood (record { shape = s; split = quota.split }) (kept_in c.rest.new.self)) (sym shape)
           (subst (IsLegallyStood (rules_of quota)) (sym c.rest.ensures.kept) (later-stood (rules_of quota) rests.0 c.args.ticks (kept_in quota.link) (rows-have quota.link) rests.1.0 rests.1.1 quota.stood));
       rests = subst (λ s. RestsFromClock s quota.due (kept_in c.rest.new.self)) (sym shape)

@@ -1,18 +1,20 @@
 -- The channel's row before is given back, and the one after is held.
 use Rattle.std.proofs.Common.{◌≡◌, ◌+◌, List, sym, ap, ◌∙◌, subst}
 use Rattle.std.specs.Prelude.{IfSome}
+use Rattle.std.specs.Vec.{vec_capacity}
 use Rattle.link_steps.specs.Split.{Link, SplitFits}
 use Rattle.link_server.specs.Held.{reservations_held, seen_of}
 use Rattle.link_server.specs.State.{kept_in}
 use Rattle.link_quota.specs.Places.{HavePart, AreSmall, AreChangedBy, value_of}
 use Rattle.traffic_contract.specs.Admission.{total}
-use Rattle.link_quota.specs.Closing.{AreClosing, is_closing, if_closing}
+use Rattle.link_quota.specs.Closing.{AreClosing, HasRoomToClose, is_closing, if_closing}
 use Rattle.link_quota.specs.Shares.{AreShares}
 use Rattle.link_quota.specs.State.{rules_of}
 use Rattle.link_quota.specs.Steps.{GoesOn}
 use Rattle.link_quota.specs.Stood.{IsLegallyStood}
 use Rattle.link_quota.specs.declared.share.Share.{Share}
 use Rattle.link_quota.proofs.QuotaFacts.{goes-on, stood-goes, shares-setup}
+use Rattle.link_quota.proofs.ClosingRoom.{room-settled, place-to-close}
 use Rattle.link_quota.proofs.ClosingSteps.{closing-settled}
 use Rattle.link_quota.proofs.StepFacts.{written-back, settling-other, settling-setup, settling-new, part-before, small-after, small-shares}
 use Rattle.link_server.proofs.RestFacts.{due-now}
@@ -53,6 +55,15 @@ change_row-requires-clause-small c =
     let here = goal.at.change_row-requires-clause-small c in
     small-after (rules_of c.args.self.now) (kept_in c.step.new.self) c.args.chan c.held_of-after.result c.args.self.now.fits c.requires.splits (stood here.In_ok-reply) (after here.After-held_of-after)
 
+pub list_released-requires : goal.list_released-requires
+list_released-requires c =
+    let here = goal.at.list_released-requires c in
+    record {
+      room = λ apart closes.
+          place-to-close (rules_of c.args.self.now) (kept_in c.args.self.now.link) (kept_in c.step.new.self) c.args.ask.now c.in_ok-reply.reply c.args.chan c.args.self.now.closing.items (vec_capacity c.args.self.now.closing) c.args.self.now.fits c.requires.splits (goes here.In_ok-reply) c.requires.settles c.args.self.now.stood c.args.self.now.listed c.args.self.now.room
+          (sym (ap is_closing c.held_of-before.ensures.row) ∙ apart) (sym (ap is_closing (after here.After-held_of-after)) ∙ closes);
+    }
+
 pub returns-clause-goes : goal.returns-clause-goes
 returns-clause-goes c = goes (goal.at.returns-clause-goes c).In_ok-reply
 
@@ -76,10 +87,11 @@ invariant_of-self-2 c =
       listed = subst (λ s. AreClosing (record { shape = s; split = c.args.self.now.split }) (reservations_held c.step.new.self) c.list_released.new.closing.items) (sym same)
           (closing-settled (rules_of c.args.self.now) (kept_in c.args.self.now.link) (kept_in c.step.new.self) c.args.ask.now c.in_ok-reply.reply c.args.chan c.args.self.now.closing.items c.list_released.new.closing.items c.args.self.now.fits (goes here.In_ok-reply) c.requires.settles c.args.self.now.stood
           (λ apart f. c.list_released.ensures.new (ap is_closing c.held_of-before.ensures.row ∙ apart) f
-          ∙ ap (λ items. total f items + value_of (if_closing f) c.held_of-after.result) c.reserve.ensures.items
           ∙ ap (λ row. total f c.args.self.now.closing.items + value_of (if_closing f) row) (after here.After-held_of-after))
-          (λ was. c.list_released.ensures.old (ap is_closing c.held_of-before.ensures.row ∙ was) ∙ c.reserve.ensures.items)
+          (λ was. c.list_released.ensures.old (ap is_closing c.held_of-before.ensures.row ∙ was))
           c.args.self.now.listed);
+      room = subst (HasRoomToClose c.args.self.now.split (reservations_held c.step.new.self)) (sym c.list_released.ensures.capacity)
+          (room-settled (rules_of c.args.self.now) (kept_in c.args.self.now.link) (kept_in c.step.new.self) c.args.ask.now c.in_ok-reply.reply c.args.chan (vec_capacity c.args.self.now.closing) (goes here.In_ok-reply) c.requires.settles c.args.self.now.stood c.args.self.now.room);
       stood = subst (λ s. IsLegallyStood (record { shape = s; split = c.args.self.now.split }) (kept_in c.step.new.self)) (sym same) (stood here.In_ok-reply);
       rests = due-now c.step.new.self.shape (kept_in c.step.new.self);
     }

@@ -1,6 +1,7 @@
 -- Where rows have expired they give their parts back, and elsewhere no reservation changes.
 use Rattle.std.proofs.Common.{◌≡◌, List, sym, ap, subst, arith}
 use Rattle.std.specs.Prelude.{IfOk, IsOk, OnErr, filter}
+use Rattle.std.specs.Vec.{vec_capacity}
 use Rattle.link_steps.specs.declared.asks.Ask.TheVariants.{Tick}
 use Rattle.link_server.specs.Asks.{TakesNone}
 use Rattle.link_steps.specs.declared.replies.Entry.{Entry}
@@ -8,12 +9,13 @@ use Rattle.link_steps.specs.Kept.{StandsFor}
 use Rattle.link_steps.specs.Split.{Link, SplitFits}
 use Rattle.link_server.specs.Held.{reservations_held}
 use Rattle.link_server.specs.State.{kept_in}
-use Rattle.link_quota.specs.Closing.{AreClosing, is_held, HaveGone, AreLowered}
+use Rattle.link_quota.specs.Closing.{AreClosing, HasRoomToClose, is_held, HaveGone, AreLowered}
 use Rattle.link_quota.specs.Shares.{AreShares}
 use Rattle.link_quota.specs.State.{rules_of}
 use Rattle.link_quota.specs.Steps.{GoesOn}
 use Rattle.link_quota.specs.Stood.{IsLegallyStood}
 use Rattle.link_quota.specs.declared.share.Share.{Share}
+use Rattle.link_quota.proofs.ClosingRoom.{room-ticked}
 use Rattle.link_quota.proofs.ClosingSteps.{have-gone, shares-lowered, closing-left, closing-ticked}
 use Rattle.link_quota.proofs.StepFacts.{written-back, tick-other, goes-all, same-shape, stood-all, ticked-all}
 use Rattle.link_quota.proofs.quota_link.QuotaLink.tick.Goals as goal
@@ -38,6 +40,10 @@ ok c = c.step-reply.ensures.sure (subst TakesNone (sym c.requires.ticks) tt)
 ticked : (c : After-rows_held) → IfOk c.step-reply.result (GoesOn (rules_of c.args.self.now) (kept_in c.args.self.now.link) (kept_in c.step-reply.new.self) Tick)
 ticked c = subst (λ ask. IfOk c.step-reply.result (GoesOn (rules_of c.args.self.now) (kept_in c.args.self.now.link) (kept_in c.step-reply.new.self) ask)) c.requires.ticks (goes c)
 
+-- no row is added
+room : (c : After-rows_held) → HasRoomToClose c.args.self.now.split (reservations_held c.step-reply.new.self) (vec_capacity c.args.self.now.closing)
+room c = room-ticked (rules_of c.args.self.now) (kept_in c.args.self.now.link) (kept_in c.step-reply.new.self) c.step-reply.result (vec_capacity c.args.self.now.closing) (ticked c) (kept-same c) c.args.self.now.stood c.args.self.now.room
+
 pub give_back_expired-requires-clause-parts : goal.give_back_expired-requires-clause-parts
 give_back_expired-requires-clause-parts c =
     let here = goal.at.give_back_expired-requires-clause-parts c in
@@ -51,6 +57,12 @@ returns-then-rows_held-before-clause-goes c = goes (goal.at.returns-then-rows_he
 
 pub returns-else-rows_held-before-clause-goes : goal.returns-else-rows_held-before-clause-goes
 returns-else-rows_held-before-clause-goes c = goes (goal.at.returns-else-rows_held-before-clause-goes c).After-rows_held
+
+pub returns-then-rows_held-before-clause-sure : goal.returns-then-rows_held-before-clause-sure
+returns-then-rows_held-before-clause-sure c = ok (goal.at.returns-then-rows_held-before-clause-sure c).After-rows_held
+
+pub returns-else-rows_held-before-clause-sure : goal.returns-else-rows_held-before-clause-sure
+returns-else-rows_held-before-clause-sure c = ok (goal.at.returns-else-rows_held-before-clause-sure c).After-rows_held
 
 pub invariant_of-self : goal.invariant_of-self
 invariant_of-self c =
@@ -66,9 +78,10 @@ invariant_of-self c =
       shared = subst (λ (items : List Share). AreShares (record { shape = c.step-reply.new.self.shape; split = c.args.self.now.split }) (reservations_held c.step-reply.new.self) items) (sym back)
           (subst (λ s. AreShares (record { shape = s; split = c.args.self.now.split }) (reservations_held c.step-reply.new.self) c.give_back_expired.new.shares) (sym shape)
           (shares-lowered (rules_of c.args.self.now) (kept_in c.args.self.now.link) (kept_in c.step-reply.new.self) c.step-reply.result c.args.self.now.closing.items c.args.self.now.shares.items c.give_back_expired.new.shares c.args.self.now.fits (ok here.After-rows_held) (ticked here.After-rows_held) c.args.self.now.stood c.requires.splits c.args.self.now.listed c.args.self.now.shared lowered));
-      listed = subst (λ items. AreClosing (record { shape = c.step-reply.new.self.shape; split = c.args.self.now.split }) (reservations_held c.step-reply.new.self) items) (sym c.drop_expired.ensures)
+      listed = subst (λ items. AreClosing (record { shape = c.step-reply.new.self.shape; split = c.args.self.now.split }) (reservations_held c.step-reply.new.self) items) (sym c.drop_expired.ensures.items)
           (subst (λ s. AreClosing (record { shape = s; split = c.args.self.now.split }) (reservations_held c.step-reply.new.self) (filter (is_held s.bounds (reservations_held c.step-reply.new.self)) c.args.self.now.closing.items)) (sym shape)
           (closing-left (rules_of c.args.self.now) (kept_in c.args.self.now.link) (kept_in c.step-reply.new.self) c.step-reply.result c.args.self.now.closing.items c.args.self.now.fits (ok here.After-rows_held) (ticked here.After-rows_held) c.args.self.now.stood c.args.self.now.listed));
+      room = subst (HasRoomToClose c.args.self.now.split (reservations_held c.step-reply.new.self)) (sym c.drop_expired.ensures.capacity) (room here.After-rows_held);
       stood = subst (λ s. IsLegallyStood (record { shape = s; split = c.args.self.now.split }) (kept_in c.step-reply.new.self)) (sym shape) (stood here.After-rows_held);
       rests = λ before. c.rests_until-self.ensures;
     }
@@ -86,6 +99,7 @@ invariant_of-self-else-rows_held-before c =
           (ticked-all (rules_of c.args.self.now) (kept_in c.args.self.now.link) (kept_in c.step-reply.new.self) c.step-reply.result c.args.self.now.shares.items (ticked here.After-rows_held) (kept-same here.After-rows_held) (omega (arith, was, now, most)) c.args.self.now.stood c.args.self.now.shared);
       listed = subst (λ s. AreClosing (record { shape = s; split = c.args.self.now.split }) (reservations_held c.step-reply.new.self) c.args.self.now.closing.items) (sym shape)
           (closing-ticked (rules_of c.args.self.now) (kept_in c.args.self.now.link) (kept_in c.step-reply.new.self) c.step-reply.result c.args.self.now.closing.items (ticked here.After-rows_held) (kept-same here.After-rows_held) (omega (arith, was, now, most)) c.args.self.now.stood c.args.self.now.listed);
+      room = room here.After-rows_held;
       stood = subst (λ s. IsLegallyStood (record { shape = s; split = c.args.self.now.split }) (kept_in c.step-reply.new.self)) (sym shape) (stood here.After-rows_held);
       rests = λ before. c.rests_until-self.ensures;
     }

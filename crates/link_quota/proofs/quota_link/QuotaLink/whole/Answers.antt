@@ -7,13 +7,16 @@ use Rattle.link_quota.specs.Shares.{AreShares}
 use Rattle.link_quota.specs.State.{rules_of}
 use Rattle.link_quota.specs.Stood.{IsLegallyStood}
 use Rattle.link_quota.proofs.QuotaFacts.{shares-unsplit}
-use Rattle.link_quota.proofs.StepFacts.{goes-all-unsplit, same-shape, stood-all}
+use Rattle.link_quota.proofs.StepFacts.{goes-all-unsplit, instead-unsplit, same-shape, stood-all}
 use Rattle.link_server.proofs.RestFacts.{due-now}
 use Rattle.link_quota.proofs.quota_link.QuotaLink.whole.Goals as goal
 
 pub returns-clause-goes : goal.returns-clause-goes
 returns-clause-goes c =
     goes-all-unsplit c.args.self.now.split c.args.self.now.link c.step.new.self c.args.ask.now c.step.result c.requires.whole c.requires.fits (ap (λ (l : Link). l.shape) c.step.ensures.same) c.step.ensures.legal c.step.ensures.entered
+
+pub returns-clause-instead : goal.returns-clause-instead
+returns-clause-instead c = instead-unsplit c.args.self.now.split c.args.self.now.link c.args.ask.now c.step.result c.requires.whole c.step.ensures.instead
 
 pub invariant_of-self : goal.invariant_of-self
 invariant_of-self c =
@@ -25,6 +28,7 @@ invariant_of-self c =
       shared = subst (λ s. AreShares (record { shape = s; split = c.args.self.now.split }) (reservations_held c.step.new.self) c.args.self.now.shares.items) (sym shape)
           (shares-unsplit (rules_of c.args.self.now) (reservations_held c.args.self.now.link) (reservations_held c.step.new.self) c.args.self.now.shares.items c.requires.whole c.args.self.now.shared);
       listed = λ splits. absurd (let clash : true ≡ false = sym splits ∙ c.requires.whole in cc);
+      room = λ splits. absurd (let clash : true ≡ false = sym splits ∙ c.requires.whole in cc);
       stood = subst (λ s. IsLegallyStood (record { shape = s; split = c.args.self.now.split }) (kept_in c.step.new.self)) (sym shape)
           (stood-all (rules_of c.args.self.now) (kept_in c.args.self.now.link) (kept_in c.step.new.self) c.args.ask.now c.step.result goes same c.args.self.now.stood);
       rests = due-now c.step.new.self.shape (kept_in c.step.new.self);
