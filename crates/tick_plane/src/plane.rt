@@ -1,5 +1,5 @@
 //! The rounds of arrivals and ticks.
-ghost use Rattle.std.specs.Prelude.{◌≡◌, ◌+◌, ◌-◌, ◌^◌, ◌<◌, ◌≤◌, ◌↔◌, ◌++◌, None, Some, IsTrue, IsOk, IsNone, OnOk, OnErr, IfOk, IfErr, IfNone, IfSome, length, option_map};
+ghost use Rattle.std.specs.Prelude.{◌≡◌, ◌+◌, ◌-◌, ◌^◌, ◌<◌, ◌≤◌, ◌↔◌, ◌++◌, true, None, Some, IsTrue, IsOk, IsNone, OnOk, OnErr, IfOk, IfErr, IfNone, IfSome, length, option_map};
 ghost use Rattle.net_units.specs.Numbers.{link_at};
 ghost use Rattle.link_steps.specs.Lists.{Each};
 ghost use Rattle.tick_plane.specs.Calm.{IsCalm, rounds_later};
@@ -121,7 +121,7 @@ impl Plane {
                 Ok(())
             }
             (None, Reply::Ticked { sent, .. }) => {
-                self.tick(sent);
+                self.tick(&sent);
                 Ok(())
             }
             (Some(flight), _) => Err(Unexpected {
@@ -134,6 +134,23 @@ impl Plane {
                 ask: Ask::Tick,
                 reply,
             }),
+        }
+    }
+
+    /// Takes the reply to the next ask, as [`Plane::take`] does, where it is one to that ask. It isn't copied.
+    pub fn take_expected(&mut self, reply: &Reply)
+        requires left { self.old.at.round < self.old.rounds }
+        requires room { self.old.links - self.old.at.ticked ≤ self.old.spare }
+        requires later { IsDueLater self.old.at.round reply.now }
+        requires expected { plane_expects (next_due self.old.at) reply.now ≡ true }
+        ensures taken { self.new.at ≡ plane_after self.old.links reply.now self.old.at }
+        ensures links { self.new.links ≡ self.old.links }
+        ensures rounds { self.new.rounds ≡ self.old.rounds }
+        ensures room { self.new.at.round ≡ self.old.at.round → self.new.links - self.new.at.ticked ≤ self.new.spare }
+    {
+        match reply {
+            Reply::Ticked { sent, .. } => self.tick(sent),
+            _ => self.flights.land(),
         }
     }
 
@@ -209,12 +226,12 @@ impl Plane {
 
 impl Plane {
     // The next link has made its tick, and this packet left it.
-    fn tick(&mut self, sent: Option<Sent>)
+    fn tick(&mut self, sent: &Option<Sent>)
         requires none { next_due self.old.at ≡ None }
         requires left { self.old.at.round < self.old.rounds }
         requires room { self.old.links - self.old.at.ticked ≤ self.old.spare }
-        requires later { Each (λ flight. self.old.at.round < flight.round) (flight_of sent) }
-        ensures ticked { self.new.at ≡ tick_made self.old.links self.old.at (flight_of sent) }
+        requires later { Each (λ flight. self.old.at.round < flight.round) (flight_of sent.now) }
+        ensures ticked { self.new.at ≡ tick_made self.old.links self.old.at (flight_of sent.now) }
         ensures links { self.new.links ≡ self.old.links }
         ensures rounds { self.new.rounds ≡ self.old.rounds }
         ensures room { 1 ≤ self.new.at.ticked → self.new.links - self.new.at.ticked ≤ self.new.spare }
@@ -231,10 +248,10 @@ impl Plane {
     }
 
     // A packet that has left a link is on its way, where there is a next link.
-    fn depart(&mut self, sent: Option<Sent>)
+    fn depart(&mut self, sent: &Option<Sent>)
         requires room { 1 ≤ self.old.spare }
-        requires later { Each (λ flight. self.old.at.round < flight.round) (flight_of sent) }
-        ensures { self.new ≡ record self.old { at = record self.old.at { flights = self.old.at.flights ++ flight_of sent }; spare = self.old.spare - length (flight_of sent) } }
+        requires later { Each (λ flight. self.old.at.round < flight.round) (flight_of sent.now) }
+        ensures { self.new ≡ record self.old { at = record self.old.at { flights = self.old.at.flights ++ flight_of sent.now }; spare = self.old.spare - length (flight_of sent.now) } }
     {
         if let Some(
             Sent {
@@ -246,9 +263,9 @@ impl Plane {
         ) = sent
         {
             self.flights.put(Flight {
-                to,
-                round: arrives,
-                packet,
+                to: *to,
+                round: *arrives,
+                packet: *packet,
             });
         }
     }
