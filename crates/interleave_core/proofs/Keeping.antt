@@ -5,3 +5,4 @@ pub mod SplitLinks
 pub mod ActorFacts
 pub mod StepFacts
 pub mod EngineFacts
+pub mod PlaneFacts

@@ -4,3 +4,4 @@ pub mod Schedules
 pub mod Watching
 pub mod Quiet
 pub mod Resting
+pub mod PlaneSteps

@@ -5,12 +5,13 @@ ghost use Rattle.call_script.specs.Parts.{PlanParts};
 ghost use Rattle.call_script.specs.Plans.{IsPlan};
 ghost use Rattle.call_script.specs.Tasks.{network_of};
 ghost use Rattle.interleave_core.specs.runs.Runs.{next_for};
+ghost use Rattle.interleave_core.specs.schedules.PlaneSteps.{IsPlaneStep};
 ghost use Rattle.interleave_core.specs.schedules.Standing.{ActorsStand, IsDueStep};
 ghost use Rattle.run_record.specs.declared.done.Done.{Done as Entry};
 
 use crate::callers::Callers;
 use call_script::Plan;
-use link_steps::Ask;
+use link_steps::{Ask, Reply};
 use net_units::{ActorNo, LinkNo, OutOfMemory};
 use run_record::Done;
 use std::alloc::Global;
@@ -62,10 +63,18 @@ impl Actors {
     {
         let number = usize::from(done.actor.get());
         if number == self.callers.by_number.len() {
-            self.plane.take(done.reply).unwrap();
+            self.take_plane(&done.reply);
         } else {
             self.callers.take(plan, done);
         }
+    }
+
+    // Hands the plane the reply of its next step.
+    pub(crate) fn take_plane(&mut self, reply: &Reply)
+        requires { (parts : PlanParts) × (past : List Entry) × (done : Entry) × IsPlaneStep parts self.old past done reply.now }
+        ensures { (parts : PlanParts) (past : List Entry) (done : Entry) → IsPlaneStep parts self.old past done reply.now → ActorsStand parts self.new (done ∷ past) }
+    {
+        self.plane.take_expected(reply);
     }
 }
 

@@ -1,8 +1,10 @@
 //! The links and the actors of a plan on their way through a run, which they don't record.
 ghost use Rattle.std.specs.Prelude.{◌≡◌, ◌≤◌, ◌∷◌, [], List, IfOk, OnErr, length};
 ghost use Rattle.net_units.specs.Numbers.{actor_number};
+ghost use Rattle.net_units.specs.declared.numbers.ActorNo.{ActorNo as Actor};
 ghost use Rattle.call_script.specs.Parts.{PlanParts};
 ghost use Rattle.call_script.specs.Tasks.{network_of};
+ghost use Rattle.interleave_core.specs.schedules.PlaneSteps.{IsAnswered};
 ghost use Rattle.interleave_core.specs.schedules.Resting.{EngineRests, MakesStride};
 ghost use Rattle.interleave_core.specs.runs.Runs.{next_for};
 ghost use Rattle.interleave_core.specs.schedules.Standing.{EngineStands, IsAboutTo, MakesStep};
@@ -13,7 +15,7 @@ use crate::callers::Callers;
 use crate::links::{new_links, rest_links, step_link, ticks_at_rest};
 use call_script::Plan;
 use link_quota::AnyLink;
-use link_steps::Ask;
+use link_steps::{Ask, Reply};
 use net_units::{ActorNo, LinkNo, OutOfMemory};
 use run_record::Done;
 use std::alloc::Global;
@@ -58,8 +60,7 @@ impl Engine {
         ensures made { IfOk result (λ done. (run : List Entry) → IsAboutTo plan.now self.old run actor link ask → MakesStep plan.now self.new run actor done) }
         ensures memory { OnErr result ((run : List Entry) → EngineStands plan.now self.old run → EngineStands plan.now self.new run) }
     {
-        self.actors.ready()?;
-        let reply = step_link(&mut self.links, usize::from(link.get()), &ask)?;
+        let reply = self.ask_link(link, &ask)?;
         let done = Done {
             actor,
             link,
@@ -68,6 +69,17 @@ impl Engine {
         };
         self.actors.take(plan, &done);
         Ok(done)
+    }
+
+    // Asks the link what an actor asks next, whose reply the actor hasn't got then.
+    #[inline(always)]
+    pub(crate) fn ask_link(&mut self, link: LinkNo, ask: &Ask) -> Result<Reply, OutOfMemory>
+        requires { (parts : PlanParts) × (run : List Entry) × (actor : Actor) × IsAboutTo parts self.old run actor link ask.now }
+        ensures answered { IfOk result (λ reply. (parts : PlanParts) (run : List Entry) (actor : Actor) → IsAboutTo parts self.old run actor link ask.now → IsAnswered parts self.new run (record { actor = actor; link = link; ask = ask.now; reply = reply })) }
+        ensures memory { OnErr result ((parts : PlanParts) (run : List Entry) → EngineStands parts self.old run → EngineStands parts self.new run) }
+    {
+        self.actors.ready()?;
+        step_link(&mut self.links, usize::from(link.get()), ask)
     }
 
     /// The number of the plane's round.

@@ -14,6 +14,7 @@ mod links;
 pub mod playing;
 mod quiet;
 pub mod refusal;
+mod rounds;
 pub mod stepping;
 pub mod watching;
 
@@ -22,6 +23,7 @@ pub use callers::{Callers, replay, replay_watched};
 pub use engine::Engine;
 pub use links::new_link;
 pub use playing::{PlayFault, play, play_watched};
+pub use quiet::plane_of;
 pub use refusal::CoreRefusal;
 pub use stepping::Core;
 pub use watching::{Watch, make_watched, stride_watched};

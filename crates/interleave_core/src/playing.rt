@@ -1,8 +1,7 @@
 //! Runs that are played by a schedule.
-ghost use Rattle.std.specs.Prelude.{◌≡◌, ◌+◌, ◌<◌, ◌≤◌, [], List, IfOk, IfErr, OnOk, length, reverse};
+ghost use Rattle.std.specs.Prelude.{◌≡◌, ◌+◌, ◌<◌, ◌≤◌, [], true, List, IfOk, IfErr, OnOk, length, reverse};
 ghost use Rattle.call_script.specs.Tasks.{network_of};
 ghost use Rattle.interleave_core.specs.schedules.Quiet.{the_plane};
-ghost use Rattle.interleave_core.specs.schedules.Resting.{EngineRests};
 ghost use Rattle.interleave_core.specs.runs.Runs.{next_for};
 ghost use Rattle.interleave_core.specs.schedules.Schedules.{IsActorOf, IsFaultOf, IsPlayed, IsStop, IsWanted, lined_turns, repeated, turn_of, turns_of};
 ghost use Rattle.interleave_core.specs.schedules.Standing.{IsGuaranteedRun};
@@ -14,7 +13,8 @@ ghost use Rattle.run_record.specs.declared.done.Done.{Done as Entry};
 use crate::actors::actor_of;
 use crate::callers::Callers;
 use crate::engine::Engine;
-use crate::watching::{Watch, make_watched, stride_watched};
+use crate::rounds::make_plane_steps;
+use crate::watching::{Watch, make_watched};
 use call_script::{Do, Plan, Schedule};
 use net_units::{ActorNo, OutOfMemory};
 use run_record::Record;
@@ -160,8 +160,8 @@ fn make_all<W: Watch>(
     unreachable!()
 }
 
-// Makes steps of the actor, at most this many: a stride of whole rounds where it is the plane and all rests, or else one step.
-// Answers how many it made, which is 0 exactly where the actor has none left.
+// Makes steps of the actor, at most this many: some of the plane's at once, or else one step. Answers how many it made, which is 0
+// exactly where the actor has none left.
 fn make_some<W: Watch>(
     engine: &mut Engine,
     watch: &mut W,
@@ -176,11 +176,8 @@ fn make_some<W: Watch>(
     ensures over { IfOk result (λ made. made ≡ 0 → (past : List Entry) → WatchStands W.saw plan.now engine.old watch.old past → next_for (network_of plan.now) (actor_number actor) past ≡ None) }
     ensures table { OnOk result (W.has_table watch.new ≡ W.has_table watch.old) }
 {
-    let links = plan.links().len() as u64;
-    let rounds = rounds_at_once(engine, plan, actor, most / links);
-    if rounds > 0 {
-        stride_watched(engine, watch, plan, rounds)?;
-        return Ok(rounds * links);
+    if is_plane(plan, actor) {
+        return make_plane_steps(engine, watch, plan, most);
     }
     match engine.next_ask(plan, actor) {
         Some((link, ask)) => {
@@ -191,14 +188,9 @@ fn make_some<W: Watch>(
     }
 }
 
-// How many rounds the actor makes in one stride, at most this many: none where it isn't the plane.
-fn rounds_at_once(engine: &Engine, plan: &Plan, actor: ActorNo, most: u64) -> u64
-    ensures most { result ≤ most }
-    ensures rests { 1 ≤ result → EngineRests engine.now result }
-    ensures plane { 1 ≤ result → actor ≡ the_plane (network_of plan.now) }
+// Whether the actor is the plane.
+fn is_plane(plan: &Plan, actor: ActorNo) -> bool
+    ensures { result ≡ true → actor ≡ the_plane (network_of plan.now) }
 {
-    if usize::from(actor.get()) != plan.callers().len() {
-        return 0;
-    }
-    engine.rounds_at_rest().min(most)
+    usize::from(actor.get()) == plan.callers().len()
 }

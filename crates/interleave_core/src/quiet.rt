@@ -10,8 +10,8 @@ use link_steps::{Ask, Reply};
 use net_units::{ActorNo, LinkNo, OutOfMemory};
 use run_record::{Done, Record};
 
-// The plane of a plan.
-pub(crate) fn plane_of(plan: &Plan) -> ActorNo
+/// The plane of a plan.
+pub fn plane_of(plan: &Plan) -> ActorNo
     ensures { result ≡ the_plane (network_of plan.now) }
 {
     actor_of(plan.callers().len())

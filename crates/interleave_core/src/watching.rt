@@ -3,6 +3,7 @@ ghost use Rattle.std.specs.Prelude.{◌≡◌, ◌*◌, ◌∷◌, Bool, true, L
 ghost use Rattle.net_units.specs.Numbers.{actor_number};
 ghost use Rattle.call_script.specs.Parts.{PlanParts};
 ghost use Rattle.call_script.specs.Tasks.{network_of};
+ghost use Rattle.interleave_core.specs.schedules.PlaneSteps.{plane_step};
 ghost use Rattle.interleave_core.specs.schedules.Quiet.{rested, the_plane};
 ghost use Rattle.interleave_core.specs.schedules.Resting.{EngineRests};
 ghost use Rattle.interleave_core.specs.schedules.Schedules.{repeated};
@@ -13,7 +14,7 @@ ghost use Rattle.run_record.specs.declared.done.Done.{Done as Entry};
 use crate::engine::Engine;
 use crate::quiet::{plane_of, record_rounds};
 use call_script::Plan;
-use link_steps::Ask;
+use link_steps::{Ask, Reply};
 use net_units::{ActorNo, LinkNo, OutOfMemory};
 use run_record::{Done, Record};
 
@@ -30,6 +31,27 @@ pub trait Watch: Drop {
         requires { (past : List Entry) × IsNextSeen saw plan.now self.old past done.now }
         ensures seen { OnOk result ((past : List Entry) → IsNextSeen saw plan.now self.old past done.now → saw self.new plan.now (done.now ∷ past)) }
         ensures table { OnOk result (has_table self.new ≡ has_table self.old) };
+
+    /// Sees the plane's next step, which asks this link this and gets this reply, as [`Watch::see`] does its entry.
+    fn see_plane(
+        &mut self,
+        plan: &Plan,
+        link: LinkNo,
+        ask: &Ask,
+        reply: &Reply,
+    ) -> Result<(), OutOfMemory>
+        requires { (past : List Entry) × IsNextSeen saw plan.now self.old past (plane_step (network_of plan.now) link ask.now reply.now) }
+        ensures seen { OnOk result ((past : List Entry) → IsNextSeen saw plan.now self.old past (plane_step (network_of plan.now) link ask.now reply.now) → saw self.new plan.now (plane_step (network_of plan.now) link ask.now reply.now ∷ past)) }
+        ensures table { OnOk result (has_table self.new ≡ has_table self.old) }
+    {
+        let done = Done {
+            actor: plane_of(plan),
+            link,
+            ask: *ask,
+            reply: *reply,
+        };
+        self.see(plan, &done)
+    }
 
     /// Sees the next rounds of the run at once: this many quiet ones, the first of which has this number. An `Err` comes only for
     /// want of memory, and then nothing more is said of the watcher.

@@ -1,11 +1,8 @@
--- A stride is a number of turns of the plane, and a step is one.
-use Rattle.std.proofs.Common.{length, sym, ap, ◌∙◌, arith}
-use Rattle.interleave_core.proofs.Watched.StrideFacts.{links-some, plays-once}
+-- A step is one turn.
+use Rattle.std.proofs.Common.{sym, ◌∙◌}
+use Rattle.interleave_core.proofs.Watched.StrideFacts.{plays-once}
 use Rattle.interleave_core.proofs.Watched.WatchFacts.{plays-none, plays-one}
 use Rattle.interleave_core.proofs.playing.make_some.Goals as goal
-
-pub nonzero_div-most : goal.nonzero_div-most
-nonzero_div-most g c = (let some = links-some c.args.plan.now c.links.ensures.valid in let same = ap length c.links.ensures.value in omega (arith, some, same))
 
 pub returns-in_ok-make_watched-in-Some-clause-plays : goal.returns-in_ok-make_watched-in-Some-clause-plays
 returns-in_ok-make_watched-in-Some-clause-plays g c = λ past stand.
