@@ -1,13 +1,16 @@
 //! What a report tells of a run, kept while the run is made.
-ghost use Rattle.std.specs.Prelude.{◌≡◌, ℕ, ◌+◌, ◌<◌, ◌^◌, ◌∷◌, ◌++◌, [], false, List, IfOk, OnOk, length, slice_index_or};
+ghost use Rattle.std.specs.Prelude.{◌≡◌, ℕ, ◌+◌, ◌<◌, ◌^◌, ◌∷◌, ◌++◌, [], true, false, None, List, IfOk, OnOk, length, slice_index_or};
 ghost use Rattle.net_units.specs.Numbers.{actor_number, link_number};
 ghost use Rattle.link_steps.specs.Scan.{clock_of};
 ghost use Rattle.run_record.specs.Hops.{AreHops};
-ghost use Rattle.run_record.specs.Rows.{IsEarly};
+ghost use Rattle.net_units.specs.declared.numbers.LinkNo.{LinkNo as Link};
+ghost use Rattle.run_record.specs.Rows.{IsEarly, offer_by, rows_by};
 ghost use Rattle.run_record.specs.Runs.{part_of};
 ghost use Rattle.run_record.specs.declared.done.Done.{Done as Step};
 ghost use Rattle.channel_report.specs.Ends.{AreKept, is_end, is_kept};
+ghost use Rattle.channel_report.specs.Sources.{act_of};
 ghost use Rattle.channel_report.specs.StepCounts.{AreStepCounts};
+ghost use Rattle.channel_report.specs.declared.source_act.Act.TheVariants.{Nothing};
 ghost use Rattle.channel_report.specs.Tallied.{IsTallied};
 ghost use Rattle.channel_report.specs.Tallies.{AreLinkTallies, HaveRested};
 ghost use Rattle.channel_report.specs.declared.link_tally.LinkTally.{LinkTally as Counts};
@@ -16,8 +19,9 @@ use crate::channel_tally::ChannelTally;
 use crate::counts::{keep_source, new_tallies};
 use crate::link_tally::LinkTally;
 use call_script::Plan;
-use interleave_core::Watch;
-use net_units::{ActorNo, OutOfMemory};
+use interleave_core::{Watch, plane_of};
+use link_steps::{Ask, Reply};
+use net_units::{ActorNo, LinkNo, OutOfMemory};
 use run_record::{Done, HopRow, HopTable};
 use std::alloc::Global;
 
@@ -81,6 +85,31 @@ impl Watch for Tally {
         Ok(())
     }
 
+    fn see_plane(
+        &mut self,
+        plan: &Plan,
+        link: LinkNo,
+        ask: &Ask,
+        reply: &Reply,
+    ) -> Result<(), OutOfMemory> {
+        let actor = plane_of(plan);
+        // Most steps are such, and they cost no entry.
+        if is_counted_alone(ask, reply) {
+            self.links[usize::from(link.get())].add(ask, reply);
+            count_step(&mut self.made, actor);
+            self.steps += 1;
+            return Ok(());
+        }
+        let done = Done {
+            actor,
+            link,
+            ask: *ask,
+            reply: *reply,
+        };
+        self.see(plan, &done)?;
+        Ok(())
+    }
+
     fn rested(&mut self, plan: &Plan, _first: u64, rounds: u64) -> Result<(), OutOfMemory> {
         let steps = rounds * plan.links().len() as u64;
         rest_links(&mut self.links, rounds);
@@ -91,6 +120,18 @@ impl Watch for Tally {
 
     fn steps_of(&self, actor: ActorNo) -> u64 {
         steps_at(self.made.as_slice(), actor)
+    }
+}
+
+// Whether of a step that asks this and gets this reply nothing is kept but counts: it is for no source, makes no offer and tells no row.
+fn is_counted_alone(ask: &Ask, reply: &Reply) -> bool
+    ensures sources { result ≡ true → act_of ask.now reply.now ≡ Nothing }
+    ensures offers { result ≡ true → offer_by ask.now reply.now ≡ None }
+    ensures rows { result ≡ true → (run : List Step) (link : Link) → rows_by run link reply.now ≡ [] }
+{
+    match reply {
+        Reply::Ticked { sent: Some(_), .. } => false,
+        _ => matches!(ask, Ask::Arrive { .. } | Ask::Tick),
     }
 }
 

@@ -1,0 +1,87 @@
+-- The counts have the new entry, and there is nothing else to keep of it; or it is seen as any other.
+use Rattle.std.proofs.Common.{◌≡◌, ◌<◌, None, Some, List, [], ◌∷◌, ◌++◌, length, reverse, sym, ap, subst, ◌∙◌, arith}
+use Rattle.std.proofs.lemmas.List.{reverse-append}
+use Rattle.net_units.specs.Numbers.{actor_number}
+use Rattle.net_units.specs.declared.numbers.ActorNo.{ActorNo}
+use Rattle.net_units.specs.declared.numbers.ChanNo.{ChanNo}
+use Rattle.call_script.specs.Tasks.{network_of}
+use Rattle.interleave_core.specs.schedules.PlaneSteps.{plane_step}
+use Rattle.call_script.specs.Parts.{PlanParts}
+use Rattle.interleave_core.specs.schedules.Watching.{IsNextSeen}
+use Rattle.interleave_core.proofs.Runs.RunLength.{run-short}
+use Rattle.run_record.proofs.HopFacts.{hops-kept}
+use Rattle.run_record.specs.Hops.{AreHops}
+use Rattle.run_record.specs.Runs.{part_of}
+use Rattle.run_record.specs.declared.done.Done.{Done}
+use Rattle.channel_report.specs.Ends.{AreKept, is_kept}
+use Rattle.channel_report.specs.Sources.{chan_of}
+use Rattle.channel_report.specs.declared.source_act.Act.{Act}
+use Rattle.channel_report.specs.declared.source_act.Act.TheVariants.{Nothing}
+use Rattle.channel_report.specs.Tallied.{IsTallied}
+use Rattle.channel_report.specs.Tallies.{IsTally}
+use Rattle.channel_report.specs.declared.tally.Tally.{Tally}
+use Rattle.channel_report.proofs.ChannelTallies.{sources-same}
+use Rattle.channel_report.proofs.KeptFacts.{row-none}
+use Rattle.channel_report.proofs.LinkTallies.{link-within, part-short, tallies-more}
+use Rattle.channel_report.proofs.tally.TallyWatch.see_plane.Goals as goal
+
+pub index_mut-requires : goal.index_mut-requires
+index_mut-requires c =
+    let next = c.requires.1 in
+    omega (arith, c.from.ensures, c.get.ensures.value, link-within c.args.plan.now c.requires.0 (plane_step (network_of c.args.plan.now) c.args.link c.args.ask.now c.args.reply.now) next.next, next.seen.links.all, c.args.self.now.links.ok.0)
+
+pub count_step-requires : goal.count_step-requires
+count_step-requires c = (c.requires.0, (c.requires.1.seen.made, run-short c.args.plan.now c.requires.0 c.requires.1.plan c.requires.1.run))
+
+pub overflow_add-self : goal.overflow_add-self
+overflow_add-self c = (let short = run-short c.args.plan.now c.requires.0 c.requires.1.plan c.requires.1.run in omega (arith, short, c.requires.1.seen.steps))
+
+pub add-requires : goal.add-requires
+add-requires c =
+    let past = c.requires.0 in
+    let next = c.requires.1 in
+    let place = c.from.result in
+    let within = link-within c.args.plan.now past (plane_step (network_of c.args.plan.now) c.args.link c.args.ask.now c.args.reply.now) next.next in
+    let tally = next.seen.links.tells place c.index_mut.result.now (omega (arith, c.from.ensures, c.get.ensures.value, within)) in
+    (part_of place past, (subst (IsTally (part_of place past)) (sym c.index_mut.ensures.value) tally, omega (arith, part-short place past, run-short c.args.plan.now past next.plan next.run)))
+
+-- it is for no source
+for-none : (act : Act) (chan : ChanNo) → act ≡ Nothing → chan_of act ≡ Some chan → ⊥
+for-none act chan nothing of = (let clash : None ≡ Some chan = sym (ap chan_of nothing) ∙ of in cc)
+
+pub returns-then-is_counted_alone-clause-seen : goal.returns-then-is_counted_alone-clause-seen
+returns-then-is_counted_alone-clause-seen c = λ past next.
+    let parts = c.args.plan.now in
+    let old = c.args.self.now in
+    let done : Done = plane_step (network_of parts) c.args.link c.args.ask.now c.args.reply.now in
+    let seen = next.seen in
+    let alone = c.if-is_counted_alone.true in
+    let turned : reverse past ++ done ∷ [] ≡ reverse (done ∷ past) = sym (reverse-append (done ∷ []) past) in
+    let place = c.from.result in
+    let number = c.from.ensures ∙ c.get.ensures.value in
+    let inside : place < length parts.links = omega (arith, number, link-within parts past done next.next) in
+    let tally = seen.links.tells place c.index_mut.result.now inside in
+    let added = c.add.ensures (part_of place past) (subst (IsTally (part_of place past)) (sym c.index_mut.ensures.value) tally) in
+    record {
+      links = tallies-more (length parts.links) past done old.links.items place c.add.new.self seen.links (sym number) inside added;
+      channels = sources-same parts.requests past done old.channels.items seen.channels (λ n entry chan found on of own. for-none _ chan (c.is_counted_alone.ensures.sources alone) of);
+      hops = subst (λ entries. AreHops entries old.hops.channels.items) turned (hops-kept (reverse past) done old.hops.channels.items (c.is_counted_alone.ensures.offers alone) seen.hops);
+      rows = subst (λ entries. AreKept (is_kept parts.requests old.packets) entries old.rows.items) turned (row-none (is_kept parts.requests old.packets) (reverse past) done old.rows.items (λ run. c.is_counted_alone.ensures.rows alone run c.args.link) seen.rows);
+      made = c.count_step.ensures past done seen.made (ap actor_number (sym c.plane_of-actor.ensures));
+      steps = omega (arith, seen.steps);
+    }
+
+-- the entry is that of the actor, by whatever name
+seen-by : (parts : PlanParts) (tally : Tally) (past : List Done) (done : Done) (actor : ActorNo) → actor ≡ done.actor → IsNextSeen (λ (t : Tally) ps run. IsTallied ps run t) parts tally past done → IsNextSeen (λ (t : Tally) ps run. IsTallied ps run t) parts tally past (record done { actor = actor })
+seen-by parts tally past done actor is next = subst (λ a. IsNextSeen (λ (t : Tally) ps run. IsTallied ps run t) parts tally past (record done { actor = a })) (sym is) next
+
+pub see-requires : goal.see-requires
+see-requires c =
+    let done = plane_step (network_of c.args.plan.now) c.args.link c.args.ask.now c.args.reply.now in
+    (c.requires.0, seen-by c.args.plan.now c.args.self.now c.requires.0 done c.plane_of-actor.result c.plane_of-actor.ensures c.requires.1)
+
+pub returns-clause-seen : goal.returns-clause-seen
+returns-clause-seen c = λ past next.
+    let done = plane_step (network_of c.args.plan.now) c.args.link c.args.ask.now c.args.reply.now in
+    subst (λ (actor : ActorNo). IsTallied c.args.plan.now (record done { actor = actor } ∷ past) c.see.new.self) c.plane_of-actor.ensures
+    (c.in_ok-see.ensures.seen past (seen-by c.args.plan.now c.args.self.now past done c.plane_of-actor.result c.plane_of-actor.ensures next))
