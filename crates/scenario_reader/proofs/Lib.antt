@@ -33,6 +33,7 @@ pub mod LineFacts
 pub mod TextFacts
 pub mod AuditFacts
 pub mod CsvRows
+pub mod TableReading
 pub mod LevelFields
 pub mod AuditKeeps
 mod Worked

@@ -17,6 +17,7 @@ pub mod BothWays
 pub mod AuditLines
 pub mod AuditRows
 pub mod CsvRows
+pub mod TableReading
 pub mod AuditReading
 pub mod AuditKept
 pub mod AuditSteps

@@ -4,3 +4,4 @@ pub(crate) mod draft;
 pub(crate) mod place;
 pub mod reader;
 pub(crate) mod row;
+pub(crate) mod table_reader;

@@ -19,8 +19,15 @@ pub(crate) trait TakesLines {
 
     ghost language: { Language Self Whole };
 
-    /// Judges the line of this number, and adds what it says where it isn't refused.
-    fn add_line(&mut self, alloc: Global, number: u64, line: &[u8]) -> Result<(), LineFault>
+    /// Judges the line of this number, and adds what it says where it isn't refused. `ahead` are bytes that stand after it and are in
+    /// hand; they are not judged.
+    fn add_line(
+        &mut self,
+        alloc: Global,
+        number: u64,
+        line: &[u8],
+        ahead: &[u8],
+    ) -> Result<(), LineFault>
         ensures { Adds result self.new (language.says self.old number line.now) };
 
     /// Why the text may not end here, if it may not.
@@ -72,7 +79,13 @@ fn read_line<S: Source, D: TakesLines>(
     match lines.read_line(source) {
         Ok(Cut::End) => Ok(false),
         Ok(Cut::Line) => {
-            take_line(alloc, draft, lines.number(), lines.line())?;
+            take_line(
+                alloc,
+                draft,
+                lines.number(),
+                lines.line(),
+                lines.rest_of_block(),
+            )?;
             Ok(true)
         }
         Err(LineRefusal::ReadFault) => Err(ReadRefusal::ReadFault),
@@ -91,10 +104,11 @@ fn take_line<D: TakesLines>(
     draft: &mut D,
     number: u64,
     line: &[u8],
+    ahead: &[u8],
 ) -> Result<(), ReadRefusal>
     ensures { AddsLine result number draft.new (D.language.says draft.old number line.now) }
 {
-    match draft.add_line(alloc, number, line) {
+    match draft.add_line(alloc, number, line, ahead) {
         Ok(()) => Ok(()),
         Err(LineFault::Memory) => Err(ReadRefusal::Memory),
         Err(LineFault::Refused(cause)) => Err(ReadRefusal::Refused {

@@ -62,7 +62,13 @@ impl TakesLines for Draft {
 
     ghost language = { scenarios };
 
-    fn add_line(&mut self, alloc: Global, number: u64, line: &[u8]) -> Result<(), LineFault> {
+    fn add_line(
+        &mut self,
+        alloc: Global,
+        number: u64,
+        line: &[u8],
+        _ahead: &[u8],
+    ) -> Result<(), LineFault> {
         let item = self.judge(alloc, number, line)?;
         self.put(alloc, item)?;
         Ok(())

@@ -23,11 +23,11 @@ const HEADER: &str = "channel,packet,hop,link,size,at,eligible,departed";
 // What is read of an audit's input: its plan, the levels of each request and the rows.
 type Audit = (Plan, Vec<Option<Levels>>, Vec<HopRow>);
 
-// What is read of a scenario, the line `report` and this rest.
-fn read(alloc: Global, rest: &str) -> Result<Result<Audit, ReadRefusal>, Fail> {
+// What is read of a scenario, the line `report` and this rest, from a source that gives at most so many bytes a read.
+fn read(alloc: Global, rest: &str, piece: usize) -> Result<Result<Audit, ReadRefusal>, Fail> {
     let text = format!(in alloc; "{SCENARIO}report\n{rest}")?;
     let bytes = Vec::from_slice(alloc, text.as_bytes())?;
-    let mut source = MemSource::new(bytes, 7, Vec::new(alloc));
+    let mut source = MemSource::new(bytes, piece, Vec::new(alloc));
     Ok(read_audit(alloc, &mut source))
 }
 
@@ -57,15 +57,33 @@ fn levels_and_rows_are_read(rt: HostRuntime) -> Result<(), Fail> {
     let rest = format!(in alloc;
         "accept r1 delay 22 levels 2\nlink A sent 1\n{HEADER}\nr1,3,1,A,2,20,21,31\n"
     )?;
-    let (plan, levels, rows) = read(alloc, rest.as_str())??;
+    let (plan, levels, rows) = read(alloc, rest.as_str(), 7)??;
     assert!(rt; plan.requests().len() == 1);
     assert!(rt; are_levels(levels.as_slice())?);
     assert!(rt; are_rows(rows.as_slice()));
     Ok(())
 }
 
+// A table of three rows, of which each is longer than the one before it.
+const THREE: &str = "channel,packet,hop,link,size,at,eligible,departed
+r1,1,1,A,2,0,0,2
+r1,2,1,A,2,10,10,12
+r1,3,1,A,2,20,21,31
+";
+
+#[test]
+fn rows_are_read_whether_they_come_at_once_or_not(rt: HostRuntime) -> Result<(), Fail> {
+    let alloc = rt.alloc();
+    for piece in [7, 20, 50, 4096] {
+        let (_, _, rows) = read(alloc, THREE, piece)??;
+        assert!(rt; rows.len() == 3);
+        assert!(rt; are_rows(&rows[2..]));
+    }
+    Ok(())
+}
+
 // What stands after `report`, with the line that is refused and its cause.
-const BAD: [(&str, u64, Cause); 9] = [
+const BAD: [(&str, u64, Cause); 10] = [
     ("", 9, Cause::Table),
     ("accept r1 delay 21 levels 2\n", 9, Cause::Accept),
     (
@@ -91,6 +109,11 @@ const BAD: [(&str, u64, Cause); 9] = [
         Cause::Table,
     ),
     (
+        "channel,packet,hop,link,size,at,eligible,departed\nr1,3,1,A,2,20,21,31\nr1,4,1,A,2,20,21,31,1\n",
+        11,
+        Cause::Table,
+    ),
+    (
         "channel,packet,hop,link,size,at,eligible,departed\nr1,3,1,A,2,20,21,31",
         10,
         Cause::Cut,
@@ -101,7 +124,7 @@ const BAD: [(&str, u64, Cause); 9] = [
 fn refuses_all<R: Abort>(rt: &R, alloc: Global, rows: &[(&str, u64, Cause)]) -> Result<(), Fail> {
     for (rest, line, cause) in rows {
         let (line, cause) = (*line, *cause);
-        let found = read(alloc, rest)?.err();
+        let found = read(alloc, rest, 4096)?.err();
         assert_eq!(rt; found, Some(ReadRefusal::Refused { line, cause }));
     }
     Ok(())

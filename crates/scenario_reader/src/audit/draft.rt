@@ -11,12 +11,15 @@ ghost use Rattle.scenario_reader.specs.Fields.{fields_of};
 ghost use Rattle.scenario_reader.specs.declared.audit.place.Place.TheVariants as place;
 
 use crate::audit::place::Place;
+use crate::audit::row::is_row_text;
+use crate::audit::table_reader::TableReader;
 use crate::by_line::TakesLines;
 use crate::cause::{Cause, LineFault};
 use crate::draft::Draft;
 use crate::fields::{field, field_count, has_fields};
 use crate::values::require;
 use call_script::Plan;
+use csv::ByteRecord;
 use net_units::{Levels, OutOfMemory};
 use run_record::HopRow;
 use std::alloc::Global;
@@ -35,6 +38,9 @@ pub struct AuditDraft {
     // From `report` on one entry a request.
     pub(crate) levels: Vec<Option<Levels>>,
     pub(crate) rows: Vec<HopRow>,
+    // Reads the lines of the table; and the fields of the line that it read last.
+    pub(crate) table: TableReader,
+    pub(crate) fields: ByteRecord,
 }
 
 impl Model for AuditDraft {
@@ -58,11 +64,17 @@ impl TakesLines for AuditDraft {
     ghost language = { audits };
 
     #[tactic(auto, unfolding(crate::specs::AuditReading::audit_line))]
-    fn add_line(&mut self, alloc: Global, number: u64, line: &[u8]) -> Result<(), LineFault> {
+    fn add_line(
+        &mut self,
+        alloc: Global,
+        number: u64,
+        line: &[u8],
+        ahead: &[u8],
+    ) -> Result<(), LineFault> {
         match self.place {
-            Place::Scenario => self.take_scenario(alloc, number, line),
+            Place::Scenario => self.take_scenario(alloc, number, line, ahead),
             Place::Report => self.take_report(line),
-            Place::Table => self.take_row(line),
+            Place::Table => self.take_row(alloc, line, ahead),
         }
     }
 
@@ -87,11 +99,19 @@ impl AuditDraft {
             place: Place::Scenario,
             levels: Vec::new(alloc),
             rows: Vec::new(alloc),
+            table: TableReader::new(alloc),
+            fields: ByteRecord::new(alloc),
         })
     }
 
     // A line of the scenario, or the line `report`.
-    fn take_scenario(&mut self, alloc: Global, number: u64, line: &[u8]) -> Result<(), LineFault>
+    fn take_scenario(
+        &mut self,
+        alloc: Global,
+        number: u64,
+        line: &[u8],
+        ahead: &[u8],
+    ) -> Result<(), LineFault>
         requires { self.old.place ≡ place.Scenario }
         ensures { Adds result self.new (scenario_line self.old number line.now) }
     {
@@ -99,7 +119,7 @@ impl AuditDraft {
             require(field_count(line) == 1, Cause::Shape)?;
             self.begin_report(alloc)?;
         } else {
-            self.draft.add_line(alloc, number, line)?;
+            self.draft.add_line(alloc, number, line, ahead)?;
         }
         Ok(())
     }
@@ -137,12 +157,14 @@ impl AuditDraft {
         Ok(())
     }
 
-    // A line of the table.
-    fn take_row(&mut self, line: &[u8]) -> Result<(), LineFault>
+    // A line of the table, with bytes that stand after it.
+    fn take_row(&mut self, alloc: Global, line: &[u8], ahead: &[u8]) -> Result<(), LineFault>
         requires { self.old.place ≡ place.Table }
         ensures { Adds result self.new (with_row self.old (row_told self.old.said line.now)) }
     {
-        let row = self.draft.row_told(line).ok_or(Cause::Table)?;
+        require(is_row_text(line), Cause::Table)?;
+        self.table.read(alloc, line, ahead, &mut self.fields)?;
+        let row = self.draft.row_of(&self.fields).ok_or(Cause::Table)?;
         self.put_row(&row)?;
         Ok(())
     }

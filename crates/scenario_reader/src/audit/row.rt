@@ -1,8 +1,9 @@
 //! Judging the rows of a table.
-ghost use Rattle.std.specs.Prelude.{◌≡◌, IfOk, IfSome, length, option_map};
+ghost use Rattle.std.specs.Prelude.{◌≡◌, IfOk, IfSome, option_map};
 ghost use Rattle.std.specs.List.{list_all};
+ghost use Rattle.csv.specs.Records.{fields_of};
 ghost use Rattle.run_record.specs.SmallRows.{IsSmall};
-ghost use Rattle.scenario_reader.specs.AuditRows.{AreSmallNumbers, is_plain, is_row_text, link_in, numbers_of, numbers_rule, row_fields, row_told};
+ghost use Rattle.scenario_reader.specs.AuditRows.{AreSmallNumbers, is_plain, is_row_text, link_in, numbers_of, numbers_rule, row_of};
 ghost use Rattle.scenario_reader.specs.Causes.{Judges};
 ghost use Rattle.scenario_reader.specs.Drafts.{shape_in};
 ghost use Rattle.scenario_reader.specs.Fields.{field_at};
@@ -10,6 +11,7 @@ ghost use Rattle.scenario_reader.specs.Fields.{field_at};
 use crate::cause::Cause;
 use crate::draft::Draft;
 use crate::values::{name, number};
+use csv::ByteRecord;
 use link_steps::LinkShape;
 use run_record::HopRow;
 
@@ -28,17 +30,17 @@ pub(crate) struct RowNumbers {
 }
 
 impl Draft {
-    // The row that a line is, if it is one.
-    pub(crate) fn row_told(&self, line: &[u8]) -> Option<HopRow>
-        ensures value { result ≡ row_told self.now line.now }
+    // The row that has these fields, if there is one.
+    pub(crate) fn row_of(&self, fields: &ByteRecord) -> Option<HopRow>
+        ensures value { result ≡ row_of self.now (fields_of fields.now) }
         ensures small { IfSome result IsSmall }
     {
-        if !is_row_text(line) || column_count(line) != 8 {
+        if fields.len() != 8 {
             return None;
         }
-        let chan = self.channel_in(column(line, 0))?;
-        let link = self.link_in(column(line, 3))?;
-        let numbers = judge_numbers(line).ok()?;
+        let chan = self.channel_in(column(fields, 0))?;
+        let link = self.link_in(column(fields, 3))?;
+        let numbers = judge_numbers(fields).ok()?;
         Some(HopRow {
             chan,
             number: numbers.number,
@@ -61,16 +63,16 @@ impl Draft {
 }
 
 // The numbers of a row, where each is within what it may be.
-fn judge_numbers(line: &[u8]) -> Result<RowNumbers, Cause>
-    ensures judged { Judges result (numbers_rule (row_fields line.now)) (numbers_of (row_fields line.now)) }
+fn judge_numbers(fields: &ByteRecord) -> Result<RowNumbers, Cause>
+    ensures judged { Judges result (numbers_rule (fields_of fields.now)) (numbers_of (fields_of fields.now)) }
     ensures small { IfOk result AreSmallNumbers }
 {
-    let packet = number(column(line, 1), 0, MOST_COUNT)?;
-    let hop = number(column(line, 2), 0, u64::from(u8::MAX))?;
-    let size = number(column(line, 4), 0, u64::from(u32::MAX))?;
-    let at = number(column(line, 5), 0, MOST_COUNT)?;
-    let eligible = number(column(line, 6), 0, MOST_COUNT)?;
-    let departed = number(column(line, 7), 0, MOST_COUNT)?;
+    let packet = number(column(fields, 1), 0, MOST_COUNT)?;
+    let hop = number(column(fields, 2), 0, u64::from(u8::MAX))?;
+    let size = number(column(fields, 4), 0, u64::from(u32::MAX))?;
+    let at = number(column(fields, 5), 0, MOST_COUNT)?;
+    let eligible = number(column(fields, 6), 0, MOST_COUNT)?;
+    let departed = number(column(fields, 7), 0, MOST_COUNT)?;
     Ok(RowNumbers {
         number: packet,
         hop: hop as u8,
@@ -82,7 +84,7 @@ fn judge_numbers(line: &[u8]) -> Result<RowNumbers, Cause>
 }
 
 // Whether the line isn't empty, and has bytes from 0x21 to 0x7E alone and no quote.
-fn is_row_text(line: &[u8]) -> bool
+pub(crate) fn is_row_text(line: &[u8]) -> bool
     ensures { result ≡ is_row_text line.now }
 {
     !line.is_empty() && are_plain(line)
@@ -91,23 +93,15 @@ fn is_row_text(line: &[u8]) -> bool
 fn are_plain(line: &[u8]) -> bool
     ensures { result ≡ list_all is_plain line.now }
 {
-    line.iter()
-        .all(|byte| byte.is_ascii_graphic() && *byte != b'"')
+    line.iter().all(|byte| matches!(*byte, b'!' | b'#'..=b'~'))
 }
 
-// The part of the line at a place, from 0, between its commas, or no bytes where there is none.
-fn column(line: &[u8], place: usize) -> &[u8]
-    ensures { result.now ≡ field_at (row_fields line.now) place }
+// The field at a place, from 0, or no bytes where there is none.
+fn column(fields: &ByteRecord, place: usize) -> &[u8]
+    ensures { result.now ≡ field_at (fields_of fields.now) place }
 {
-    match line.split(|byte| *byte == b',').nth(place) {
-        Some(part) => part,
+    match fields.get(place) {
+        Some(field) => field,
         None => &[],
     }
-}
-
-// How many parts the line has between its commas.
-fn column_count(line: &[u8]) -> usize
-    ensures { result ≡ length (row_fields line.now) }
-{
-    line.split(|byte| *byte == b',').count()
 }

@@ -1,25 +1,10 @@
-use Rattle.std.proofs.Common.{◌≡◌, ℕ, zero, suc, List, [], ◌∷◌, None, get_or, option_map, refl, ap, sym, ◌∙◌, rules, tests}
-use Rattle.std.proofs.lemmas.Iterator.Consumers.{nth_from_yields_List}
-use Rattle.std.proofs.lemmas.Iterator.Splits.{YieldsList-from_slice_split}
-use Rattle.std.proofs.lemmas.Option.{get_or_from_slice_get}
-use Rattle.std.specs.List.{slice_get}
-use Rattle.scenario_reader.specs.AuditRows.{is_comma, row_fields}
+use Rattle.std.proofs.Common.{◌∙◌, ap, option_map, sym}
+use Rattle.csv.specs.Records.{fields_of}
+use Rattle.scenario_reader.proofs.TableReading.{field_is, field_missing}
 use Rattle.scenario_reader.proofs.audit.row.column.Goals as goal
 
--- where the look-up finds no field, there are no bytes
-field_missing : (fields : List (List ℕ)) (place : ℕ) → slice_get fields place ≡ None → ◌≡◌ {A = List ℕ} [] (get_or fields place [])
-field_missing [] place e = refl
-field_missing (f ∷ fields) zero e = cc
-field_missing (f ∷ fields) (suc place) e = field_missing fields place e
-
 pub returns-in-Some : goal.returns-in-Some
-returns-in-Some c =
-    let found = nth_from_yields_List c.nth.result c.nth.new.self c.args.place c.nth.ensures.ran
-    (YieldsList-from_slice_split _ is_comma c.args.line.now c.split.ensures.rest c.split.ensures.done c.split.ensures.closure (λ x b q k. search (rules, tests))) in
-    sym (get_or_from_slice_get (row_fields c.args.line.now) c.args.place c.in-Some.part.now [] (sym found ∙ ap (option_map (λ x. x.now)) c.in-Some.is))
+returns-in-Some c = field_is (fields_of c.args.fields.now) c.args.place c.in-Some.field.now (sym c.get.ensures.value ∙ ap (option_map (λ field. field.now)) c.in-Some.is)
 
 pub returns-in-None : goal.returns-in-None
-returns-in-None c =
-    let found = nth_from_yields_List c.nth.result c.nth.new.self c.args.place c.nth.ensures.ran
-    (YieldsList-from_slice_split _ is_comma c.args.line.now c.split.ensures.rest c.split.ensures.done c.split.ensures.closure (λ x b q k. search (rules, tests))) in
-    field_missing (row_fields c.args.line.now) c.args.place (sym found ∙ ap (option_map (λ x. x.now)) c.in-None.is)
+returns-in-None c = field_missing (fields_of c.args.fields.now) c.args.place (sym c.get.ensures.value ∙ ap (option_map (λ field. field.now)) c.in-None.is)
