@@ -10,4 +10,5 @@ pub mod PairedRows
 pub mod RowCount
 pub mod EveryDelay
 pub mod LinkCounts
+pub mod LostPackets
 pub mod CountFacts

@@ -30,8 +30,9 @@ pub fn reports_tell_every_delay()
     ensures { ReportsTellEveryDelay }
 {}
 
-/// A link's *sent* is the number of packets of channels that have left it, *best* that of best-effort packets that have, and *refused*
-/// that of pours that were answered with a refusal.
+/// A link's *sent* is the number of packets of channels that have left it, and *full* that of source packets that its rows, held or
+/// gone, have dropped. Its *best* is the number of best-effort packets that have left it, *lost* that of those whose tick was made and
+/// which it hasn't taken, and *refused* that of pours that were answered with a refusal.
 pub fn reports_tell_what_links_did()
     ensures { ReportsTellWhatLinksDid }
 {}
