@@ -1,4 +1,7 @@
 //! Two links that make ticks beside each other, worked by hand. They have the levels 10, 20 and 40, and nothing to do.
+ghost use Rattle.std.specs.Prelude.{◌≡◌, IfOk};
+ghost use Rattle.net_units.specs.Numbers.{link_number};
+
 use link_server::LinkState;
 use link_steps::{Ask, LinkShape, LinkStep, Reply};
 use net_units::{ActorNo, Bounds, Gate, LinkNo};
@@ -11,14 +14,21 @@ use std::thread;
 use std::thread::Threads;
 use traffic_contract::Test;
 
+mod counted;
 mod one_link;
 
-// A link of this number that has made no step.
-fn link(alloc: Global, number: u8) -> Result<LinkState, Fail> {
+// A link of this number.
+fn shape(number: u8) -> Result<LinkShape, Fail>
+    ensures { IfOk result (λ made. link_number made.link ≡ number) }
+{
     let link = LinkNo::new(number).ok_or("a link")?;
     let bounds = Bounds::new(&[10, 20, 40]).ok_or("bounds")?;
-    let shape = LinkShape::new(link, 1, 4, 2, 100, bounds, Test::Whole, 0)?;
-    Ok(LinkState::new(alloc, shape)?)
+    Ok(LinkShape::new(link, 1, 4, 2, 100, bounds, Test::Whole, 0)?)
+}
+
+// It has made no step.
+fn link(alloc: Global, number: u8) -> Result<LinkState, Fail> {
+    Ok(LinkState::new(alloc, shape(number)?)?)
 }
 
 // The replies to a tick of the second of two links, one of the first, and another of the second, by two workers.

@@ -1,0 +1,30 @@
+-- Two links, without requests and callers, are the parts of a plan.
+use Rattle.std.proofs.Common.{◌≡◌, ℕ, zero, suc, List, [], ◌∷◌, Some, refl, sym, subst, arith}
+use Rattle.std.proofs.lemmas.Option.{same_Some}
+use Rattle.std.specs.List.{All, slice_get}
+use Rattle.net_units.specs.Numbers.{link_number}
+use Rattle.link_steps.specs.declared.quota.Quota.{Quota}
+use Rattle.call_script.specs.Parts.{ArePlanned, LeavesUnused, openings_of, parts_with}
+use Rattle.call_script.specs.declared.entries.LinkEntry.{LinkEntry}
+use Rattle.call_script.specs.declared.version.Version.{Version}
+
+-- what each of two elements has
+both-of : {X : Type 0} (P : ℕ → X → Type 0) (x y : X) → P 0 x → P 1 y → (n : ℕ) (z : X) → slice_get (x ∷ y ∷ []) n ≡ Some z → P n z
+both-of P x y own other zero z found = subst (P 0) (same_Some x z found) own
+both-of P x y own other (suc zero) z found = subst (P 1) (same_Some y z found) other
+both-of P x y own other (suc (suc n)) z found = cc
+
+-- no quotas leave all unused
+none-leaves : (bounds : List ℕ) (quotas : List Quota) → quotas ≡ [] → All (LeavesUnused bounds) quotas
+none-leaves bounds quotas none = subst (All (LeavesUnused bounds)) (sym none) (λ k d inside. absurd (omega (arith, inside)))
+
+pub two-planned : (version : Version) (first second : LinkEntry) (rounds tail : ℕ) → link_number first.shape.link ≡ 0 → link_number second.shape.link ≡ 1 → first.quotas ≡ [] → second.quotas ≡ []
+    → ArePlanned (parts_with version (first ∷ second ∷ []) [] [] [] rounds tail)
+unfolding openings_of
+two-planned version first second rounds tail zeroth next unsplit whole = record {
+  links = both-of (λ n (entry : LinkEntry). link_number entry.shape.link ≡ n) first second zeroth next;
+  requests = λ n entry found. cc;
+  openings = refl;
+  hops = λ n entry found. cc;
+  unused = both-of (λ n (entry : LinkEntry). All (LeavesUnused entry.shape.bounds) entry.quotas) first second (none-leaves first.shape.bounds first.quotas unsplit) (none-leaves second.shape.bounds second.quotas whole);
+}
