@@ -11,6 +11,8 @@ use std::alloc::Global;
 use std::test::Fail;
 use trace_audit::{Check, Finding, audit};
 
+mod recorded;
+
 // Level 1 at the one hop.
 fn level_one() -> Result<Levels, Fail>
     ensures { IfOk result (λ given. levels_of given ≡ 1 ∷ []) }
