@@ -18,10 +18,12 @@ use Rattle.scenario_reader.specs.Kept.{IsDo, IsScheduleOf}
 use Rattle.scenario_reader.specs.PlanText.{plan_text}
 use Rattle.scenario_reader.specs.Reading.{PlanRead, reading}
 use Rattle.scenario_reader.specs.declared.reader.TheConstants.{MOST_BYTES}
+use Rattle.scenario_reader.proofs.ReadNames.{what-is-readable}
 use Rattle.scenario_reader.proofs.TextBack.{text_is_read}
-use Rattle.tenet_app.specs.Again.{RacesArePlayedAgain}
+use Rattle.tenet_app.specs.Again.{EveryRaceIsPlayedAgain, RacesArePlayedAgain}
 use Rattle.tenet_app.specs.Playing.{IsDueFor, Reports}
 use Rattle.tenet_app.specs.declared.status.Status.TheVariants as status
+use Rattle.tenet_app.proofs.PlayFacts.{at-bytes}
 
 -- ---- the turns of a schedule don't depend on the numbers of its lines
 
@@ -71,3 +73,9 @@ races-are-played-again parts closed schedule entries plan named routes race few 
     let back : ReadsAs (reading MOST_BYTES (plan_text parts schedule)) parts schedule = text_is_read parts schedule plan named routes (can-stand parts.callers schedule race.language race.written) few in
     let played : IsPlayed (network_of parts) back.again (reverse entries) = still-played (network_of parts) back.again schedule (reverse entries) back.same race.written race.played in
     record { again = back.again; read = back.is; played = played; due = report-due parts schedule back.again entries back.is played }
+
+-- the plan of a race that was made has been read, so it has names and routes that were found
+pub every-race-is-played-again : EveryRaceIsPlayedAgain
+every-race-is-played-again packets raced before after bytes told done few =
+    let is = what-is-readable MOST_BYTES bytes done.parts done.unused (at-bytes before.left bytes (λ r. r ≡ PlanRead done.parts done.unused) told done.read) in
+    races-are-played-again done.parts done.closed done.schedule done.entries is.plan is.named is.found done.race few

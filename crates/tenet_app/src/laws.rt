@@ -1,5 +1,5 @@
 //! Laws of the words `play`, `race`, `make` and `audit`, each as the contract of a function that does nothing.
-ghost use Rattle.tenet_app.specs.Again.{RacesArePlayedAgain};
+ghost use Rattle.tenet_app.specs.Again.{EveryRaceIsPlayedAgain, RacesArePlayedAgain};
 ghost use Rattle.tenet_app.specs.Auditing.{AuditsDetermine};
 ghost use Rattle.tenet_app.specs.Making.{LoadsDetermine};
 ghost use Rattle.tenet_app.specs.Playing.{BytesDetermine};
@@ -19,4 +19,10 @@ pub fn without_a_fault_the_bytes_determine_the_answer()
 /// by which the plan is played to the race's run. So the race's report is due for that text.
 pub fn a_race_is_played_again()
     ensures { RacesArePlayedAgain }
+{}
+
+/// So is every race that `race` or `top` has made and ends as done, where the source tells its bytes. What the law above asks of a plan,
+/// the plan that was read has.
+pub fn every_race_is_played_again()
+    ensures { EveryRaceIsPlayedAgain }
 {}
