@@ -9,9 +9,10 @@ ghost use Rattle.shared_network.specs.Planes.{IsPlanes};
 ghost use Rattle.shared_network.specs.Ready.{IsNew, MayStep};
 ghost use Rattle.shared_network.specs.Worked.{IsOverLink, IsWorkedLink, MayPlan, MayMove};
 
-use crate::calls::{actor_no, link_no, links, open_for_two, request, two};
+use crate::calls::{Opened, actor_no, link_no, open_for_two, request, two};
 use channel_move::{Mover, Shifted};
 use link_ledger::{Home, Pass};
+use link_server::LinkState;
 use link_steps::{Ask, LinkStep, Reply};
 use net_units::{ActorNo, NoGate};
 use setup_protocol::{Request, Verdict};
@@ -191,11 +192,16 @@ fn moved_at_home<L: LinkStep + Send, W: Wait>(
     moved::<L, Brand, W>(rt, alloc, opened, links, owner, requests, rounds)
 }
 
-fn moved_after<W: Wait>(rt: &W, alloc: Global, rounds: u8) -> Result<(Shifted, Pass), Fail> {
+fn moved_after<L: Opened, W: Wait>(
+    rt: &W,
+    alloc: Global,
+    rounds: u8,
+) -> Result<(Shifted, Pass), Fail> {
     let opened = Stamps::open(alloc, 2, 2)?;
     let owner = actor_no(0)?;
     let requests = (request(0, 0)?, request(1, 1)?);
-    moved_at_home(rt, alloc, opened, links(alloc)?, owner, &requests, rounds)
+    let links = (L::open(alloc, 0)?, L::open(alloc, 1)?);
+    moved_at_home(rt, alloc, opened, links, owner, &requests, rounds)
 }
 
 // The pass has set both channels up and planned the packets; it has then released channel 0, which told these counts, and planned
@@ -232,7 +238,7 @@ fn moves<R: Wait + Abort>(
     rounds: u8,
     (kept, shifted): (u64, u64),
 ) -> Result<(), Fail> {
-    let (told, pass) = moved_after(rt, alloc, rounds)?;
+    let (told, pass) = moved_after::<LinkState, R>(rt, alloc, rounds)?;
     assert_eq!(rt; told, Shifted { kept, shifted });
     assert!(rt; has_moved(&pass, told, u64::from(rounds))?);
     Ok(())
