@@ -1,0 +1,27 @@
+//! What a design file says: the links and streams of a network in the numbers of the field, or all that is wrong with the file.
+//!
+//! A design is a TOML text. [`read_design`] makes a [`Design`] of it, or tells every mistake, each with its file, its line and its key, what
+//! stands there and what may stand there.
+#![tactic(auto)]
+
+pub mod design;
+pub mod field;
+pub mod keys;
+mod links;
+mod marks;
+pub mod mistake;
+mod network;
+mod read;
+mod rows;
+mod sheets;
+mod spread;
+mod streams;
+mod values;
+
+pub use design::{Design, DesignLink, DesignStream, Way};
+pub use field::{Field, Kind, Place, Row};
+pub use mistake::{Mistake, Mistakes};
+pub use read::{BadDesign, File, read_design};
+
+#[cfg(test)]
+mod tests;

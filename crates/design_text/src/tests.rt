@@ -1,0 +1,215 @@
+//! Designs, and files that aren't.
+
+use crate::mistake::Mistake;
+use crate::read::{BadDesign, File, read_design};
+use std::alloc::Global;
+use std::test::Fail;
+use std::vec::Vec;
+
+const SMALL: &str = "tick = \"10 us\"
+unit = \"1 byte\"
+
+[[link]]
+from = \"a\"
+to = \"b\"
+rate = \"100 Mbit/s\"
+levels = [\"0.5 ms\", \"5 ms\"]
+
+[[stream]]
+name = \"video\"
+route = \"a_b\"
+every = \"1 ms\"
+size = \"1000 B\"
+within = \"2 ms\"
+count = 10
+";
+
+/// The mistakes of a text, each on a line.
+fn mistakes(alloc: Global, text: &'static str) -> Result<String, Fail> {
+    let file = File {
+        name: "net.toml",
+        text,
+    };
+    let list = refused(alloc, &file)?;
+    lines_of(alloc, list.as_slice())
+}
+
+/// The mistakes of a file.
+fn refused(alloc: Global, file: &File) -> Result<Vec<Mistake>, Fail> {
+    match read_design(alloc, file, &[]) {
+        Err(BadDesign::Mistakes(list)) => Ok(list),
+        _ => Err("refused")?,
+    }
+}
+
+/// Each mistake on a line.
+fn lines_of(alloc: Global, list: &[Mistake]) -> Result<String, Fail> {
+    let mut told = String::new(alloc);
+    for mistake in list {
+        let line = format!(in alloc; "{mistake}\n")?;
+        told.push_str(line.as_str())?;
+    }
+    Ok(told)
+}
+
+#[test]
+fn a_design_is_read(rt: HostRuntime) -> Result<(), Fail> {
+    let file = File {
+        name: "net.toml",
+        text: SMALL,
+    };
+    let design = read_design(rt.alloc(), &file, &[])?;
+    let link = design.links.first().ok_or("link")?;
+    assert_eq!(rt; link.name.as_str(), "a_b");
+    assert_eq!(rt; link.rate.bits_a_second, 100_000_000);
+    assert_eq!(rt; link.levels.len(), 2);
+    let stream = design.streams.first().ok_or("stream")?;
+    assert_eq!(rt; stream.within.picoseconds, 2_000_000_000);
+    assert_eq!(rt; stream.count, 10);
+    Ok(())
+}
+
+#[test]
+fn all_mistakes_are_told(rt: HostRuntime) -> Result<(), Fail> {
+    let text = "tick = \"10 us\"
+unit = \"1 bite\"
+
+[[link]]
+from = \"a\"
+to = \"b\"
+rate = \"100 Mb/s\"
+
+[[stream]]
+name = \"video\"
+route = \"a_b\"
+every = \"1 ms\"
+size = 1000
+\"with in\" = \"2 ms\"
+";
+    let told = mistakes(rt.alloc(), text)?;
+    assert_eq!(rt;
+        told.as_str(),
+        "net.toml:2: unit = 1 bite: its unit isn't known; wanted is a size in bit, kbit, Mbit, B, bytes, kB, KiB, MB or MiB, as in 1538 B
+net.toml:4: levels is missing: a time in ps, ns, us, ms, s, min, h or d, as in 0.5 ms
+net.toml:7: rate = 100 Mb/s: its unit isn't known; wanted is a rate in bit/s, kbit/s, Mbit/s, Gbit/s, B/s, kB/s or MB/s, as in 100 Mbit/s
+net.toml:9: within is missing: a time in ps, ns, us, ms, s, min, h or d, as in 0.5 ms
+net.toml:13: size = 1000: its unit isn't known; wanted is a size in bit, kbit, Mbit, B, bytes, kB, KiB, MB or MiB, as in 1538 B
+net.toml:14: with in = 2 ms: no such key; did you mean within?
+"
+    );
+    Ok(())
+}
+
+/// Two cables, of which one has two directions, and forty streams of two classes.
+#[test]
+fn rows_stand_for_several(rt: HostRuntime) -> Result<(), Fail> {
+    let text = "tick = \"10 us\"
+unit = \"1 byte\"
+link = [
+  { from = \"es{}\", to = \"sw\", copies = 3 },
+  { name = \"up\", from = \"sw\", to = \"server\", both = true, rate = \"1 Gbit/s\" },
+]
+stream = [
+  { name = \"sensor\", class = \"slow\", from = \"es{}\", to = \"server\", copies = 3 },
+  { name = \"a{}b\", class = \"slow\", route = \"up_back\", copies = 2, overhead = \"ethernet, udp\" },
+]
+
+[defaults.link]
+rate = \"100 Mbit/s\"
+levels = [\"0.5 ms\", \"5 ms\"]
+
+[class.slow]
+every = \"10 ms\"
+size = \"100 B\"
+within = \"20 ms\"
+";
+    let file = File {
+        name: "net.toml",
+        text,
+    };
+    let design = read_design(rt.alloc(), &file, &[])?;
+    let mut told = String::new(rt.alloc());
+    for link in &design.links {
+        let (name, from, to) = (link.name, link.from, link.to);
+        let line = format!(in rt.alloc(); "{name} {from} {to} {}\n", link.rate)?;
+        told.push_str(line.as_str())?;
+    }
+    for stream in &design.streams {
+        let name = stream.name;
+        let line = format!(in rt.alloc(); "{name} {}\n", stream.source.size)?;
+        told.push_str(line.as_str())?;
+    }
+    assert_eq!(rt;
+        told.as_str(),
+        "es1_sw es1 sw 100 Mbit/s
+es2_sw es2 sw 100 Mbit/s
+es3_sw es3 sw 100 Mbit/s
+up sw server 1 Gbit/s
+up_back server sw 1 Gbit/s
+sensor1 100 B
+sensor2 100 B
+sensor3 100 B
+a1b 166 B
+a2b 166 B
+"
+    );
+    Ok(())
+}
+
+/// A mistake of a class, of a row that stands for several, and of a text that is no TOML.
+#[test]
+fn a_mistake_is_told_once_where_it_stands(rt: HostRuntime) -> Result<(), Fail> {
+    let text = "tick = \"10 us\"
+unit = \"1 byte\"
+stream = [
+  { name = \"s\", class = \"slow\", route = \"a\", copies = 3, sice = \"1 B\" },
+  { name = \"t\", class = \"fast\", route = \"a\" },
+]
+
+[class.slow]
+every = \"10 ms\"
+size = \"100 B\"
+within = \"20 seconds\"
+";
+    let told = mistakes(rt.alloc(), text)?;
+    assert_eq!(rt;
+        told.as_str(),
+        "net.toml:4: sice = 1 B: no such key; did you mean size?
+net.toml:5: class = fast: a class that the design has
+net.toml:5: every is missing: a time, or packets, in and apart in its place
+net.toml:5: size is missing: a size in bit, kbit, Mbit, B, bytes, kB, KiB, MB or MiB, as in 1538 B
+net.toml:5: within is missing: a time in ps, ns, us, ms, s, min, h or d, as in 0.5 ms
+net.toml:11: within = 20 seconds: its unit isn't known; wanted is a time in ps, ns, us, ms, s, min, h or d, as in 0.5 ms
+"
+    );
+    let told = mistakes(rt.alloc(), "tick = \"10 us\"\nunit = 1 byte\n")?;
+    assert!(rt; told.as_str().starts_with("net.toml:2: "), "{told}");
+    Ok(())
+}
+
+/// Links from a spreadsheet, with a mistake in its third line, and streams from one that isn't there.
+#[test]
+fn links_stand_in_a_sheet(rt: HostRuntime) -> Result<(), Fail> {
+    let design = File {
+        name: "net.toml",
+        text: "tick = \"10 us\"\nunit = \"1 byte\"\nlinks = \"links.csv\"\nstreams = \"streams.csv\"\n",
+    };
+    let sheet = File {
+        name: "links.csv",
+        text: "from,to,rate,levels,best\na,b,100 Mbit/s,\"0.5 ms, 5 ms\",\nb,c,fast,1 ms,4\n",
+    };
+    let mut told = String::new(rt.alloc());
+    if let Err(BadDesign::Mistakes(list)) = read_design(rt.alloc(), &design, &[sheet]) {
+        for mistake in &list {
+            let line = format!(in rt.alloc(); "{mistake}\n")?;
+            told.push_str(line.as_str())?;
+        }
+    }
+    assert_eq!(rt;
+        told.as_str(),
+        "net.toml:4: streams = streams.csv: the name of a sheet that is there
+links.csv:3: rate = fast: no number comes first; wanted is a rate in bit/s, kbit/s, Mbit/s, Gbit/s, B/s, kB/s or MB/s, as in 100 Mbit/s
+"
+    );
+    Ok(())
+}
