@@ -1,0 +1,4 @@
+pub mod ListSteps
+pub mod LinkFacts
+pub mod RequestFacts
+pub mod PlanFacts

@@ -1,0 +1,20 @@
+//! From a design in the numbers of the field to the plan of a run.
+//!
+//! [`plan_of`] rounds each number of a design to the safe side, at the design's tick and unit, and makes the plan, or tells every number for
+//! which the scenario has none, with the tick that would do. [`write_design`] writes the plan's scenario.
+#![tactic(auto)]
+
+pub mod links;
+mod misfits;
+mod nodes;
+pub mod plan;
+pub mod refusal;
+pub mod requests;
+mod script;
+pub mod terms;
+pub mod text;
+pub mod ways;
+
+pub use design_text::{BadDesign, Design, File, Mistake, read_design};
+pub use plan::plan_of;
+pub use text::write_design;
