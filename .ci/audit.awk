@@ -78,7 +78,7 @@ reported && $1 == "accept" {
   next
 }
 
-# a route that was found is told by the report
+# a route that was found is stated by the report
 reported && $1 == "route" {
   for (i = 3; $i != "prop"; i++) route[$2, i - 2] = $i
   hops[$2] = i - 3

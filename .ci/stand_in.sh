@@ -110,6 +110,10 @@ make_clone() {
   done
 }
 
+# the signals by which a terminal or a user stops a script: HUP, where it isn't ignored from the start, as it is under nohup, and TERM
+signals=TERM
+sh -c 'kill -s HUP $$' 2>/dev/null || signals='HUP TERM'
+
 # stops SIGNAL COMMAND..: begins the command, whose stand-in sleeps, and stops it by this signal: it fails, what it has begun is gone, and so
 # is each file that it has kept. (A shell that isn't interactive has INT ignored behind &.)
 stops() {

@@ -1,6 +1,6 @@
 # guess.awk: how many steps each item of a plan has, from the last play. Read after network.awk; the files are the plan, the steps of which that
 # play had the first `played`, the scenario, and that play's report with its table; the steps and the report are empty before the first. The
-# first line of the answer is how many items are known: from the front, as many as were played with the steps that the play tells of them.
+# first line of the answer is how many items are known: from the front, as many as were played with the steps that the play shows of them.
 
 FILENAME ~ /plan$/ { item[++items] = $0 }
 

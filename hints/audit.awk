@@ -1,5 +1,5 @@
 # Explains a line of an audit's input that is refused after its line `report`, for ./tenet: awk -v at=LINE -v cause=CAUSE -f audit.awk INPUT
-# prints the line, the field where it can be told, and a sentence on the cause, which is `accept` or `table`. It decides nothing: the
+# prints the line, the field where it can be named, and a sentence on the cause, which is `accept` or `table`. It decides nothing: the
 # program has refused the line, and this only looks for what to show.
 
 function is_number(field) {
@@ -24,7 +24,7 @@ function counted(count, noun) {
 
 # ---- accept NAME delay SUM levels L1 .. Lh
 
-# the levels of a line, one of its link for each hop, and their sum; whether one of these was told to be wrong
+# the levels of a line, one of its link for each hop, and their sum; whether one of these was shown to be wrong
 function tell_levels(    hop, link, sum) {
   if (!($2 in hops)) return 0
   if (NF - 5 != hops[$2]) {

@@ -1,5 +1,5 @@
 # Explains a refused line, for ./tenet: awk -v at=LINE -v cause=CAUSE -f refusal.awk SCENARIO prints the line, the field where it can
-# be told, and a sentence on the cause. Of the cause `step`, -v left=COUNT says how many steps are left. It decides nothing: the program has
+# be named, and a sentence on the cause. Of the cause `step`, -v left=COUNT says how many steps are left. It decides nothing: the program has
 # refused the line, and this only looks for what to show.
 
 # ---- what a field has to be
@@ -297,7 +297,7 @@ function is_later(place, since) {
   return 1
 }
 
-# whether a fixed word doesn't stand in its place; the first one that doesn't is told
+# whether a fixed word doesn't stand in its place; the first one that doesn't is shown
 function tell_wrong_word(    from) {
   if ($1 == "link") return stands(5, "rate") || stands(7, "cap") || stands(9, "prop") || stands(11, "buffer") || stands($13 == "best" ? 15 : 13, "levels")
   if ($1 == "quota") return stands(4, "buffer") || stands(6, "levels")
@@ -426,6 +426,9 @@ NR == at {
   told = 1
   exit
 }
+
+# what notes and steps say isn't needed below, and a scenario may have hundreds of thousands of them
+/^#/ || /^do / { next }
 
 # the numbers of a link
 function keep_numbers(    i, from) {

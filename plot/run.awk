@@ -7,7 +7,7 @@
 #   hops      place, hop, begin and end of its bound, begin and end of its worst (or NaN), in percent of the delay wanted
 #   names, names_of_requests, names_of_links      gnuplot's settings for the tics of channels, requests and links
 #   links     name, then for each of 8 levels the load in percent of its bound, and for each the load if all channels were held at once
-#   settings  what gnuplot is told of the numbers
+# settings gnuplot's settings for the numbers
 #   malformed the number of the first line with a name or a number that isn't one, if there is such a line
 
 # ---- the report and its table
