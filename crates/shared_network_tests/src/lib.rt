@@ -4,4 +4,12 @@
 #[cfg(test)]
 mod calls;
 #[cfg(test)]
+mod closing;
+#[cfg(test)]
 mod moves;
+#[cfg(test)]
+mod networks;
+#[cfg(test)]
+mod races;
+#[cfg(test)]
+mod rounds;

@@ -9,7 +9,7 @@ ghost use Rattle.shared_network.specs.Planes.{IsPlanes};
 ghost use Rattle.shared_network.specs.Ready.{IsNew, MayStep};
 ghost use Rattle.shared_network.specs.Worked.{IsOverLink, IsWorkedLink, MayPlan, MayMove};
 
-use crate::calls::{Opened, actor_no, link_no, open_for_two, request, two};
+use crate::networks::{Opened, actor_no, link_no, open_for_two, request, two};
 use channel_move::{Mover, Shifted};
 use link_ledger::{Home, Pass};
 use link_server::LinkState;

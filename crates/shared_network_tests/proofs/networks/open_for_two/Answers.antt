@@ -1,6 +1,6 @@
 use Rattle.std.proofs.Common.{◌∷◌, length, sym, ap, ◌∙◌, arith}
 use Rattle.shared_network.proofs.WorkedFacts.{seats-are, passes-are, first-new, first-actor, second-new, second-actor}
-use Rattle.shared_network_tests.proofs.calls.open_for_two.Goals as goal
+use Rattle.shared_network_tests.proofs.networks.open_for_two.Goals as goal
 
 pub open-requires-clause-seats : goal.open-requires-clause-seats
 open-requires-clause-seats g c κs within = seats-are g.H.Home.table 2 (length g.H.Home.links) c.args.opened.1.items c.args.opened.2.items c.requires.seats c.requires.passes

@@ -1,7 +1,7 @@
 use Rattle.std.proofs.Common.{length, ap, ◌∙◌}
 use Rattle.tick_plane.specs.Kept.{KeptPlane}
 use Rattle.shared_network.proofs.WorkedFacts.{planes-first}
-use Rattle.shared_network_tests.proofs.calls.first_round.Goals as goal
+use Rattle.shared_network_tests.proofs.rounds.first_round.Goals as goal
 
 pub plane_step-requires-clause-planes : goal.plane_step-requires-clause-planes
 plane_step-requires-clause-planes g c κs within = planes-first (length g.H.Home.links) c.ready.new.self c.args.pass.now.own c.requires.new.own (ap (λ (p : KeptPlane). p.at) c.ready.ensures.kept ∙ c.requires.start)
