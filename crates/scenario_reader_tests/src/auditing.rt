@@ -1,4 +1,6 @@
 //! An audit's input that is read, and lines of it that are refused.
+ghost use Rattle.std.specs.Prelude.{◌≤◌};
+
 use byte_ends::MemSource;
 use call_script::Plan;
 use net_units::Levels;
@@ -24,7 +26,9 @@ const HEADER: &str = "channel,packet,hop,link,size,at,eligible,departed";
 type Audit = (Plan, Vec<Option<Levels>>, Vec<HopRow>);
 
 // What is read of a scenario, the line `report` and this rest, from a source that gives at most so many bytes a read.
-fn read(alloc: Global, rest: &str, piece: usize) -> Result<Result<Audit, ReadRefusal>, Fail> {
+fn read(alloc: Global, rest: &str, piece: usize) -> Result<Result<Audit, ReadRefusal>, Fail>
+    requires { 1 ≤ piece }
+{
     let text = format!(in alloc; "{SCENARIO}report\n{rest}")?;
     let bytes = Vec::from_slice(alloc, text.as_bytes())?;
     let mut source = MemSource::new(bytes, piece, Vec::new(alloc));
@@ -71,14 +75,21 @@ r1,2,1,A,2,10,10,12
 r1,3,1,A,2,20,21,31
 ";
 
+// Whether all three are read in pieces of so many bytes, the last one as it stands.
+fn are_three(alloc: Global, piece: usize) -> Result<bool, Fail>
+    requires { 1 ≤ piece }
+{
+    let (_, _, rows) = read(alloc, THREE, piece)??;
+    Ok(rows.len() == 3 && are_rows(&rows[2..]))
+}
+
 #[test]
 fn rows_are_read_whether_they_come_at_once_or_not(rt: HostRuntime) -> Result<(), Fail> {
     let alloc = rt.alloc();
-    for piece in [7, 20, 50, 4096] {
-        let (_, _, rows) = read(alloc, THREE, piece)??;
-        assert!(rt; rows.len() == 3);
-        assert!(rt; are_rows(&rows[2..]));
-    }
+    assert!(rt; are_three(alloc, 7)?);
+    assert!(rt; are_three(alloc, 20)?);
+    assert!(rt; are_three(alloc, 50)?);
+    assert!(rt; are_three(alloc, 4096)?);
     Ok(())
 }
 
