@@ -6,6 +6,7 @@ pub mod RowLevels
 pub mod AcceptedPath
 pub mod KeptRequest
 pub mod FarHolds
+pub mod OwnerEntries
 pub mod ChainLaw
 pub mod LevelsHold
 pub mod AcceptedOnly

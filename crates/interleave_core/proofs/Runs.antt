@@ -1,5 +1,6 @@
 -- Runs, and their parts on each link and for each actor.
 pub mod RunLegal
+pub mod EachRun
 pub mod RunOf
 pub mod PartLaws
 pub mod PartsRun

@@ -20,22 +20,22 @@ use Rattle.setup_protocol.proofs.ProgressFacts.{offers-more, offers-other}
 use Rattle.channel_laws.specs.Asks.{IsReserve, IsOff, IsMild}
 use Rattle.call_script.specs.Fits.{NetworkFits}
 use Rattle.call_script.specs.Owners.{OwnedFully, AllOwned}
-use Rattle.call_script.specs.Scripts.{Standing, standing, ask_at, first_ask}
+use Rattle.call_script.specs.Scripts.{Standing, standing, first_ask}
 use Rattle.call_script.specs.Tasks.{Network}
 use Rattle.call_script.specs.declared.tasks.Task.{Task}
 use Rattle.run_record.specs.Rows.{offer_by, is_to, links_of, place_in, hop_among}
 use Rattle.run_record.specs.Runs.{replies_to}
 use Rattle.run_record.specs.declared.done.Done.{Done}
 use Rattle.interleave_core.specs.replies.Answers.{IsReplyOf}
-use Rattle.interleave_core.specs.runs.Runs.{plane_no, plane_at, IsNext, IsRun}
+use Rattle.interleave_core.specs.runs.Runs.{IsNext, IsRun}
 use Rattle.interleave_core.specs.replies.Verdicts.{is_setup_ask, setup_replies}
 use Rattle.interleave_core.proofs.Replies.Replying.{asks-answered}
-use Rattle.interleave_core.proofs.Replies.RunCloses.{owned-once}
-use Rattle.interleave_core.proofs.Replies.RunGoes.{ScriptOnce, IsBegun, task-off, tasks-off, plane-off-ask, off-standing, mild-tasks}
-use Rattle.interleave_core.proofs.Runs.RunLegal.{plane-next, caller-next}
+use Rattle.interleave_core.proofs.Replies.RunCloses.{owned-once, others-off}
+use Rattle.interleave_core.proofs.Replies.VerdictHolds.{VerdictAt, verdict-run}
+use Rattle.interleave_core.proofs.Runs.EachRun.{owner-asks}
+use Rattle.interleave_core.proofs.Tasks.EachSetup.{Before, Under, After, OpenedOnce, IsBegun}
 use Rattle.interleave_core.proofs.Tasks.SetupOnce.{reserves}
-use Rattle.interleave_core.proofs.Replies.VerdictHolds.{VerdictAt, Before, Under, After, verdict-run}
-use Rattle.tick_plane.specs.Planes.{next_due}
+use Rattle.interleave_core.proofs.Tasks.TaskAsks.{task-mild, mild-tasks}
 
 -- ---- an offer to the channel
 
@@ -53,40 +53,27 @@ offer-is c _ _ is = absurd (false≢true is)
 -- ---- who asks for it
 
 -- at the owner's own standing
-owner-asks : (request : Request) (past : List Done) (done : Done) (at : Standing) → OfferIs (channel_number request.chan) done.ask done.reply → VerdictAt request past at → first_ask at.tasks at.replies ≡ Some (done.link, done.ask) → next_ask request (setup_replies (channel_number request.chan) past) ≡ Some (done.link, done.ask)
-owner-asks request past done at offer (Before once begun none quiet) asks = by-tasks at.tasks once begun asks where
-  by-tasks : (tasks : List Task) → ScriptOnce request tasks → IsBegun request tasks at.replies → first_ask tasks at.replies ≡ Some (done.link, done.ask) → next_ask request (setup_replies (channel_number request.chan) past) ≡ Some (done.link, done.ask)
-  by-tasks [] once begun asks = cc
-  by-tasks (task ∷ tasks) (inl off) begun asks = absurd (offer.off (task-off (channel_number request.chan) task at.replies done.link done.ask off.0 asks))
+setup-asks : (request : Request) (past : List Done) (done : Done) (at : Standing) → OfferIs (channel_number request.chan) done.ask done.reply → VerdictAt request past at → first_ask at.tasks at.replies ≡ Some (done.link, done.ask) → next_ask request (setup_replies (channel_number request.chan) past) ≡ Some (done.link, done.ask)
+setup-asks request past done at offer (Before opened begun quiet none) asks = by-tasks at.tasks opened begun asks where
+  by-tasks : (tasks : List Task) → OpenedOnce request tasks → IsBegun request tasks at.replies → first_ask tasks at.replies ≡ Some (done.link, done.ask) → next_ask request (setup_replies (channel_number request.chan) past) ≡ Some (done.link, done.ask)
+  by-tasks [] opened begun asks = cc
+  by-tasks (task ∷ tasks) (inl other) begun asks = absurd (offer.mild (task-mild (channel_number request.chan) task at.replies done.link done.ask other.0 asks))
   by-tasks (task ∷ tasks) (inr own) begun asks =
       let empty : at.replies ≡ [] = begun own.0 in
       let asks' : next_ask request at.replies ≡ Some (done.link, done.ask) = subst (λ t. first_ask (t ∷ tasks) at.replies ≡ Some (done.link, done.ask)) own.0 asks in
       ap (next_ask request) (none ∙ sym empty) ∙ asks'
-owner-asks request past done at offer (Under rest is others same none quiet) asks =
+setup-asks request past done at offer (Under rest is others quiet to more same) asks =
     ap (next_ask request) same ∙ subst (λ ts. first_ask ts at.replies ≡ Some (done.link, done.ask)) is asks
-owner-asks request past done at offer (After others same) asks = absurd (offer.mild (mild-tasks (channel_number request.chan) at.tasks at.replies done.link done.ask others asks))
+setup-asks request past done at offer (After others same) asks = absurd (offer.mild (mild-tasks (channel_number request.chan) at.tasks at.replies done.link done.ask others asks))
 
-offer-asked : (network : Network) (request : Request) (owner : ℕ) (tasks : List Task) (past : List Done) (done : Done) → IsRoute request.route → OwnedFully network request owner → slice_get network.scripts owner ≡ Some tasks → IsRun network past → (next : IsNext network past done) → OfferIs (channel_number request.chan) done.ask done.reply
+offer-asked : (network : Network) (request : Request) (owner : ℕ) (tasks : List Task) (past : List Done) (done : Done) → OwnedFully network request owner → slice_get network.scripts owner ≡ Some tasks → IsRun network past → (next : IsNext network past done) → OfferIs (channel_number request.chan) done.ask done.reply
     → next_ask request (setup_replies (channel_number request.chan) past) ≡ Some (done.link, done.ask)
-offer-asked network request owner tasks past done route full found is next offer =
-    let once = owned-once network request owner full in
-    elim (cases_Bool (nat_eq (actor_number done.actor) (plane_no network))) [
-      | inl plane ↦
-          (let asks = plane-next network past done next (eqb-true (actor_number done.actor) (plane_no network) plane) in
-          absurd (offer.off (plane-off-ask (channel_number request.chan) (next_due (plane_at network past)) (plane_at network past).ticked done.link done.ask asks.asks)))
-      | inr caller ↦
-          (let asks = caller-next network past done next (eqb-false (actor_number done.actor) (plane_no network) caller) in
-          elim (cases_Bool (nat_eq (actor_number done.actor) owner)) [
-            | inl by ↦
-                (let e : actor_number done.actor ≡ owner = eqb-true (actor_number done.actor) owner by in
-                let own : asks.tasks ≡ tasks = same_Some asks.tasks tasks (sym asks.found ∙ ap (slice_get network.scripts) e ∙ found) in
-                let asked' : ask_at (standing tasks (replies_to owner past)) ≡ Some (done.link, done.ask) = subst (λ ts. ask_at (standing ts (replies_to owner past)) ≡ Some (done.link, done.ask)) own (subst (λ a. ask_at (standing asks.tasks (replies_to a past)) ≡ Some (done.link, done.ask)) e asks.asks) in
-                owner-asks request past done (standing tasks (replies_to owner past)) offer (verdict-run network request owner tasks past route.least once found is) asked')
-            | inr off ↦
-                (let other = eqb-false (actor_number done.actor) owner off in
-                let others = off-standing (channel_number request.chan) asks.tasks (replies_to (actor_number done.actor) past) (once.others (actor_number done.actor) asks.tasks other asks.found) in
-                absurd (offer.off (tasks-off (channel_number request.chan) _ _ done.link done.ask others asks.asks)))
-          ])
+offer-asked network request owner tasks past done full found is next offer =
+    elim (cases_Bool (nat_eq (actor_number done.actor) owner)) [
+      | inl own ↦
+          (let by = eqb-true (actor_number done.actor) owner own in
+          setup-asks request past done (standing tasks (replies_to owner past)) offer (verdict-run network request owner tasks past (owned-once network request owner full) found is) (owner-asks network past done owner tasks next by found))
+      | inr others ↦ (let other = eqb-false (actor_number done.actor) owner others in absurd (offer.off (others-off network request owner past done full next other)))
     ]
 
 -- ---- the links that have made offers
@@ -154,7 +141,7 @@ offers-in-order network request owner tasks (done ∷ past) fits owned route ful
           ∙ ap (λ ls. map link_of (take (length ls) request.route)) (sym (offers-same (channel_number request.chan) past done (asks-answered network past done fits owned is.0 is.1) off))
       | inl on ↦
           (let offer = offer-is (channel_number request.chan) done.ask done.reply on in
-          let asks = offer-asked network request owner tasks past done route full found is.0 is.1 offer in
+          let asks = offer-asked network request owner tasks past done full found is.0 is.1 offer in
           let own = reserves request (setup_replies (channel_number request.chan) past) done.link done.ask asks offer.reserve in
           let n : ℕ = length (offers_in (setup_replies (channel_number request.chan) past)) in
           let more : offers_in (setup_replies (channel_number request.chan) (done ∷ past)) ≡ offers_in (setup_replies (channel_number request.chan) past) ++ _ ∷ [] = ap offers_in (replies-one (channel_number request.chan) past done offer.own) ∙ offers-more (setup_replies (channel_number request.chan) past) done.reply own.alone offer.offer in

@@ -1,14 +1,13 @@
 -- The fates of a channel's reservations in every run, by one induction with what its teardown was told.
 use Rattle.std.proofs.Common.{◌≡◌, ◌≢◌, ℕ, zero, suc, ◌≤◌, ◌⊎◌, true, List, [], ◌∷◌, ◌++◌, length, Option, Some, None, refl, sym, ap, ◌∙◌, subst, inl, inr, arith}
-use Rattle.std.proofs.lemmas.Bool.{cases_Bool, cases_lt, eqb-true, eqb-false}
+use Rattle.std.proofs.lemmas.Bool.{cases_lt}
 use Rattle.std.proofs.lemmas.Option.{same_Some}
 use Rattle.std.specs.List.{slice_get}
-use Rattle.std.specs.Prelude.{nat_eq, find}
-use Rattle.net_units.specs.Numbers.{link_number, actor_number, channel_number}
-use Rattle.net_units.specs.declared.numbers.LinkNo.{LinkNo}
+use Rattle.std.specs.Prelude.{find}
+use Rattle.net_units.specs.Numbers.{link_number, channel_number}
 use Rattle.hop_reservation.specs.Routes.{link_of}
 use Rattle.link_steps.specs.declared.asks.Ask.{Ask}
-use Rattle.link_steps.specs.declared.asks.Ask.TheVariants.{Submit, Release, Tick}
+use Rattle.link_steps.specs.declared.asks.Ask.TheVariants.{Release, Tick}
 use Rattle.link_steps.specs.declared.replies.Phase.{Phase}
 use Rattle.link_steps.specs.declared.replies.Phase.TheVariants as Ph
 use Rattle.link_steps.specs.declared.replies.Reply.{Reply}
@@ -17,7 +16,7 @@ use Rattle.link_steps.specs.Replies.{count_at_release, reply_at, release_to}
 use Rattle.link_steps.specs.Reservation.{Reservation, closing}
 use Rattle.link_steps.specs.Scan.{clock_of, scan_of, is_row_at_hop, after}
 use Rattle.setup_protocol.specs.Hops.{RequestFits}
-use Rattle.setup_protocol.specs.Setup.{Progress, Reserving, Undoing, Relaxing, Settled, Accepts, Denies, asked}
+use Rattle.setup_protocol.specs.Setup.{Progress, Reserving, Undoing, Relaxing, Settled, Accepts, Denies}
 use Rattle.setup_protocol.specs.Teardown.{first_count, told_count}
 use Rattle.setup_protocol.specs.declared.request.Request.{Request}
 use Rattle.run_record.specs.declared.done.Done.{Done}
@@ -27,34 +26,37 @@ use Rattle.interleave_core.specs.channels.Hops.{packets_on, ChannelAsked}
 use Rattle.call_script.specs.declared.tasks.Task.{Task}
 use Rattle.call_script.specs.declared.tasks.Task.TheVariants.{Opens, Closes, Moves}
 use Rattle.call_script.specs.Tasks.{Network}
-use Rattle.tick_plane.specs.Planes.{next_due}
 use Rattle.run_record.specs.Runs.{part_of, replies_to}
-use Rattle.interleave_core.specs.runs.Runs.{plane_no, plane_at, IsNext, IsRun}
-use Rattle.call_script.specs.Scripts.{Learnt, Standing, task_ask, continued, resumed, standing, first_ask, ask_at}
-use Rattle.interleave_core.proofs.Tasks.CallerFacts.{StandingFits, nothing-asked, standing-more}
-use Rattle.channel_laws.proofs.ChannelRows.{own-count, legal-free, row-of, find-passes}
+use Rattle.interleave_core.specs.runs.Runs.{IsNext, IsRun}
+use Rattle.call_script.specs.Scripts.{Learnt, Standing, standing}
+use Rattle.channel_laws.proofs.ChannelRows.{own-count, find-passes}
 use Rattle.channel_laws.proofs.HoldFates.{Fate, FateOpen, TellsAll, NotCommitted, held-released, released-count}
 use Rattle.hop_reservation.proofs.RouteFacts.{index-apart}
 use Rattle.setup_protocol.proofs.HopHolds.{IsComm, IsTail, HopStands, reserved_of}
-use Rattle.interleave_core.proofs.Channels.RowsFollow.{held_at, held-here, held-elsewhere, hop-reply, same-held}
+use Rattle.interleave_core.proofs.Channels.RowsFollow.{held_at, held-here, hop-reply, same-held}
 use Rattle.call_script.specs.Owners.{OwnedFully}
-use Rattle.interleave_core.proofs.Replies.ClosingStands.{ClosesAt, AllComm, comm-later}
-use Rattle.interleave_core.proofs.Replies.ClosingSteps.{head-same}
-use Rattle.interleave_core.proofs.Replies.RunCloses.{run-closes, owned-once}
-use Rattle.interleave_core.proofs.Replies.RunGoes.{GoesAt, run-goes, owned-asked, tasks-off, plane-off-ask, off-standing, off-mild}
-use Rattle.interleave_core.proofs.Runs.RunLegal.{plane-next, caller-next, replies-by, replies-off, run-stands}
+use Rattle.interleave_core.proofs.Replies.ClosingStands.{AllComm, comm-later, send-later}
+use Rattle.interleave_core.proofs.Replies.RunCloses.{owned-once, others-off}
+use Rattle.interleave_core.proofs.Replies.RunGoes.{owned-asked, hop-comes}
+use Rattle.interleave_core.proofs.Runs.EachRun.{head-same, OwnStep, KeptByOthers, KeptBySteps, each-run}
+use Rattle.interleave_core.proofs.Channels.OwnerEntries.{step-kind}
+use Rattle.interleave_core.proofs.Keeping.Lookups.{held}
 use Rattle.channel_laws.specs.Reservations.{IsReleased}
 use Rattle.channel_laws.proofs.SendReplies.{release-committed}
 use Rattle.channel_laws.specs.Asks.{IsOff, IsMild}
 use Rattle.channel_laws.specs.Reservations.{held_by}
-use Rattle.channel_laws.proofs.TermsAfter.{held-submitted}
-use Rattle.interleave_core.proofs.Channels.FarHolds.{hop-tells, hop-fate, first-same, hop-comes, committed-comes, Frozen, frozen-later, NoRelease, IsLeaving, OwnKind, OwnOff, OwnAside, OwnSetup, OwnSend, OwnClose, own-kind}
+use Rattle.interleave_core.proofs.Channels.FarHolds.{hop-tells, hop-fate, first-same, committed-comes, Frozen, frozen-later, NoRelease, IsLeaving, OwnKind, OwnOff, OwnAside, OwnSetup, OwnSend, OwnClose}
 use Rattle.interleave_core.specs.channels.Paths.{HopAt, count_at}
+use Rattle.interleave_core.proofs.Tasks.TaskAsks.{off-mild}
 
-pub record Chain (network : Network) (request : Request) (owner : ℕ) (first : HopAt network request 0) (run : List Done) : Type 0 where
+pub record Chain (network : Network) (request : Request) (first : HopAt network request 0) (run : List Done) : Type 0 where
   pub fates : 1 ≤ count_at network request 0 first run → (i : ℕ) (at : HopAt network request i) → Fate (count_at network request 0 first run) (count_at network request i at run) (held_at network request i at run)
-  pub told : (tasks : List Task) → slice_get network.scripts owner ≡ Some tasks → (task : Task) (rest : List Task) (told : ℕ) → (standing tasks (replies_to owner run)).tasks ≡ task ∷ rest → IsLeaving request task → first_count (standing tasks (replies_to owner run)).replies ≡ Some told → Frozen network request first run told
   pub whole : (terms : Reservation) → held_at network request 0 first run ≡ Some terms → terms.phase ≡ Ph.Committed → (levels : List ℕ) × AllComm network request levels 0 run
+
+-- with what the replies to a task that leaves the channel tell
+record ChainAt (network : Network) (request : Request) (first : HopAt network request 0) (run : List Done) (at : Standing) : Type 0 where
+  chain : Chain network request first run
+  told : (task : Task) (rest : List Task) (told : ℕ) → at.tasks ≡ task ∷ rest → IsLeaving request task → first_count at.replies ≡ Some told → Frozen network request first run told
 
 pub open-or-not : (held : Option Reservation) → ((terms : Reservation) × (held ≡ Some terms) × (terms.phase ≡ Ph.Committed)) ⊎ NotCommitted held
 open-or-not None = inr (λ terms is phase. (let clash : None ≡ Some terms = is in cc))
@@ -73,10 +75,10 @@ pub is-tick : (ask : Ask) → (ask ≡ Tick) ⊎ (ask ≢ Tick)
 is-tick Tick = inl refl
 is-tick _ = inr (λ same. cc)
 
-pub fates-next : (network : Network) (request : Request) (owner : ℕ) (first : HopAt network request 0) (done : Done) (past : List Done) → NetworkFits network → RequestFits network.links request → ((run : List Done) → IsRun network run → ChannelAsked request run) → IsRun network past → (next : IsNext network past done) → Chain network request owner first past
+fates-next : (network : Network) (request : Request) (first : HopAt network request 0) (done : Done) (past : List Done) → NetworkFits network → RequestFits network.links request → ((run : List Done) → IsRun network run → ChannelAsked request run) → IsRun network past → (next : IsNext network past done) → Chain network request first past
     → ((i : ℕ) (at : HopAt network request i) → link_number done.link ≡ link_number at.hop.link → TellsAll (channel_number request.chan) (count_at network request 0 first past) (count_at network request i at past) done.ask)
     → 1 ≤ count_at network request 0 first (done ∷ past) → (i : ℕ) (at : HopAt network request i) → Fate (count_at network request 0 first (done ∷ past)) (count_at network request i at (done ∷ past)) (held_at network request i at (done ∷ past))
-fates-next network request owner first done past fits sound asked run next was tells some i at =
+fates-next network request first done past fits sound asked run next was tells some i at =
     elim (is-tick done.ask) [
       | inl tick ↦ elim (open-or-not (held_at network request 0 first past)) [
         | inl opened ↦
@@ -127,18 +129,11 @@ close-tells network request first done past replies k here sound on is zeroth fr
 
 -- ---- the first hop committed
 
-mild-whole : (network : Network) (request : Request) (owner : ℕ) (first : HopAt network request 0) (done : Done) (past : List Done) → NetworkFits network → IsRun network past → IsMild (channel_number request.chan) done.ask → Chain network request owner first past → ((levels : List ℕ) → AllComm network request levels 0 past → AllComm network request levels 0 (done ∷ past))
+mild-whole : (network : Network) (request : Request) (first : HopAt network request 0) (done : Done) (past : List Done) → NetworkFits network → IsRun network past → IsMild (channel_number request.chan) done.ask → Chain network request first past → ((levels : List ℕ) → AllComm network request levels 0 past → AllComm network request levels 0 (done ∷ past))
     → (terms : Reservation) → held_at network request 0 first (done ∷ past) ≡ Some terms → terms.phase ≡ Ph.Committed → (levels : List ℕ) × AllComm network request levels 0 (done ∷ past)
-mild-whole network request owner first done past fits run mild was later terms held phase =
+mild-whole network request first done past fits run mild was later terms held phase =
     let before = committed-comes terms (held_at network request 0 first past) phase (hop-comes network request 0 first done past terms fits run mild held) in
     let all = was.whole terms before phase in (all.0, later all.0 all.1)
-
-send-later : (network : Network) (request : Request) (done : Done) (past : List Done) (count gap size : ℕ) (levels : List ℕ) → done.ask ≡ Submit request.chan count gap size → AllComm network request levels 0 past → AllComm network request levels 0 (done ∷ past)
-send-later network request done past count gap size levels is comm i at from =
-    elim (cases_Bool (nat_eq (link_number done.link) (link_number at.hop.link))) [
-      | inl on ↦ subst (IsComm Some request levels i) (sym (held-here network request i at done past (eqb-true (link_number done.link) (link_number at.hop.link) on) ∙ ap (λ a. held_by request.chan (after at.link.shape (clock_of (part_of (link_number at.hop.link) past)) (scan_of at.link.shape (part_of (link_number at.hop.link) past)) a done.reply).rows) is ∙ held-submitted at.link.shape request.chan request.chan (clock_of (part_of (link_number at.hop.link) past)) (scan_of at.link.shape (part_of (link_number at.hop.link) past)) count gap size done.reply)) (comm i at from)
-      | inr off ↦ subst (IsComm Some request levels i) (sym (held-elsewhere network request i at done past (eqb-false (link_number done.link) (link_number at.hop.link) off))) (comm i at from)
-    ]
 
 setup-whole : (network : Network) (request : Request) (first : HopAt network request 0) (run : List Done) (offers : List ℕ) (p : Progress) → ((i : ℕ) (at : HopAt network request i) → HopStands None Some request offers p i (held_at network request i at run)) → (terms : Reservation) → held_at network request 0 first run ≡ Some terms → terms.phase ≡ Ph.Committed → (levels : List ℕ) × AllComm network request levels 0 run
 setup-whole network request first run offers p stands terms held phase =
@@ -182,13 +177,7 @@ first-released network request first done past levels fits asked run next on is 
             held = held-here network request 0 first done past on ∙ ap (λ a. held_by request.chan (after first.link.shape (clock_of (part_of (link_number first.hop.link) past)) (scan_of first.link.shape (part_of (link_number first.hop.link) past)) a done.reply).rows) is ∙ ap (λ r. held_by request.chan (after first.link.shape (clock_of (part_of (link_number first.hop.link) past)) (scan_of first.link.shape (part_of (link_number first.hop.link) past)) (Release request.chan None) r).rows) same ∙ held-released request.chan true (clock_of (part_of (link_number first.hop.link) past)) count _ comm.terms comm.is comm.first;
             phase = refl;
           }
-      by-reply (Is.Offer level reach) same reply released = absurd (subst IsReleased same released)
-      by-reply (Is.Relaxed clock) same reply released = absurd (subst IsReleased same released)
-      by-reply Is.Denied same reply released = absurd (subst IsReleased same released)
-      by-reply (Is.Planned clock) same reply released = absurd (subst IsReleased same released)
-      by-reply (Is.Taken clock eligible) same reply released = absurd (subst IsReleased same released)
-      by-reply (Is.Ticked clock full sent best_sent best_lost) same reply released = absurd (subst IsReleased same released)
-      by-reply (Is.Refused refusal) same reply released = absurd (subst IsReleased same released)
+      by-reply _ same reply released = absurd (subst IsReleased same released)
 
 -- the first hop is frozen after a release
 close-frozen : (network : Network) (request : Request) (first : HopAt network request 0) (done : Done) (past : List Done) (levels : List ℕ) (replies : List Reply) (k : ℕ) (here : HopAt network request k) (told : ℕ) → NetworkFits network → ChannelAsked request past → IsRun network past → (next : IsNext network past done) → link_number done.link ≡ link_number here.hop.link → done.ask ≡ Release request.chan (first_count replies) → (replies ≡ [] → k ≡ 0) → IsComm Some request levels k (held_at network request k here past) → ((given : ℕ) → first_count replies ≡ Some given → Frozen network request first past given)
@@ -219,27 +208,7 @@ close-whole network request first done past levels replies k here fits asked run
           let closes = (close-frozen network request first done past levels replies k here told fits asked run next on is zeroth comm frozen some).closes terms held in
           let clash : Ph.Committed ≡ Ph.Closing = sym phase ∙ closes in cc
 
--- ---- what the owner's replies tell
-
-continued-told : (outcomes : List Learnt) (task head : Task) (tasks : List Task) (replies : List Reply) (next : Option (LinkNo × Ask)) (rest : List Task) (told : ℕ) → (continued outcomes task tasks replies next).tasks ≡ head ∷ rest → first_count (continued outcomes task tasks replies next).replies ≡ Some told → (task ≡ head) × (first_count replies ≡ Some told)
-continued-told outcomes task head tasks replies (Some to) rest told same first = (head-same task tasks head rest same, first)
-continued-told outcomes task head tasks replies None rest told same first = absurd (let clash : None ≡ Some told = first in cc)
-
-resumed-told : (outcomes : List Learnt) (task head : Task) (tasks : List Task) (replies : List Reply) (rest : List Task) (told : ℕ) → (resumed outcomes (task ∷ tasks) replies).tasks ≡ head ∷ rest → first_count (resumed outcomes (task ∷ tasks) replies).replies ≡ Some told → (task ≡ head) × (first_count replies ≡ Some told)
-unfolding resumed
-resumed-told outcomes task head tasks replies rest told same first = continued-told outcomes task head tasks replies (task_ask task replies) rest told same first
-
 -- ---- one entry more
-
-off-chain : (network : Network) (request : Request) (owner : ℕ) (first : HopAt network request 0) (done : Done) (past : List Done) → NetworkFits network → RequestFits network.links request → ((run : List Done) → IsRun network run → ChannelAsked request run) → IsRun network past → (next : IsNext network past done) → actor_number done.actor ≢ owner → IsOff (channel_number request.chan) done.ask → Chain network request owner first past → Chain network request owner first (done ∷ past)
-off-chain network request owner first done past fits sound asked run next other off was = record {
-  fates = fates-next network request owner first done past fits sound asked run next was (λ i at on. off-tells (channel_number request.chan) _ _ done.ask off);
-  told = λ tasks found task rest told same leaving given.
-      (let still = replies-off owner done past other in
-      frozen-later network request first done past told fits (asked past run) run next (off-mild (channel_number request.chan) done.ask off)
-      (was.told tasks found task rest told (subst (λ rs. (standing tasks rs).tasks ≡ task ∷ rest) still same) leaving (subst (λ rs. first_count (standing tasks rs).replies ≡ Some told) still given)));
-  whole = mild-whole network request owner first done past fits run (off-mild (channel_number request.chan) done.ask off) was (λ levels comm. comm-later network request levels 0 done past fits run off comm);
-}
 
 -- what the owner's entry leaves, by the task that asked
 record OwnLeaves (network : Network) (request : Request) (first : HopAt network request 0) (run : List Done) (done : Done) (past : List Done) (task : Task) (replies : List Reply) : Type 0 where
@@ -251,128 +220,85 @@ opens-stay : (request : Request) (task : Task) → task ≡ Opens request → Is
 opens-stay request task own (inl closes) = (let clash : Opens request ≡ Closes request = sym own ∙ closes in cc)
 opens-stay request task own (inr moves) = (let clash : Opens request ≡ Moves request moves.new moves.gap moves.size = sym own ∙ moves.is in cc)
 
-own-leaves : (network : Network) (request : Request) (owner : ℕ) (first : HopAt network request 0) (done : Done) (past : List Done) (task : Task) (replies : List Reply) → NetworkFits network → RequestFits network.links request → ((run : List Done) → IsRun network run → ChannelAsked request run) → IsRun network past → (next : IsNext network past done) → Chain network request owner first past → ((given : ℕ) → IsLeaving request task → first_count replies ≡ Some given → Frozen network request first past given) → OwnKind network request done past task replies → OwnLeaves network request first (done ∷ past) done past task replies
-own-leaves network request owner first done past task replies fits sound asked run next was frozen (OwnOff other off) = record {
+own-leaves : (network : Network) (request : Request) (first : HopAt network request 0) (done : Done) (past : List Done) (task : Task) (replies : List Reply) → NetworkFits network → RequestFits network.links request → ((run : List Done) → IsRun network run → ChannelAsked request run) → IsRun network past → (next : IsNext network past done) → Chain network request first past → ((given : ℕ) → IsLeaving request task → first_count replies ≡ Some given → Frozen network request first past given) → OwnKind network request done past task replies → OwnLeaves network request first (done ∷ past) done past task replies
+own-leaves network request first done past task replies fits sound asked run next was frozen (OwnOff other off) = record {
   tells = λ i at on. off-tells (channel_number request.chan) _ _ done.ask off;
   told = λ given is some. absurd (other is);
-  whole = mild-whole network request owner first done past fits run (off-mild (channel_number request.chan) done.ask off) was (λ levels comm. comm-later network request levels 0 done past fits run off comm);
+  whole = mild-whole network request first done past fits run (off-mild (channel_number request.chan) done.ask off) was (λ levels comm. comm-later network request levels 0 done past fits run off comm);
 }
-own-leaves network request owner first done past task replies fits sound asked run next was frozen (OwnSetup later made own rows setup) = record {
+own-leaves network request first done past task replies fits sound asked run next was frozen (OwnSetup later made own rows setup) = record {
   tells = λ i at on. setup-tells (channel_number request.chan) _ _ done.ask setup;
   told = λ given is some. absurd (opens-stay request task own is);
   whole = setup-whole network request first (done ∷ past) _ _ rows.hops;
 }
-own-leaves network request owner first done past task replies fits sound asked run next was frozen (OwnSend count gap size own is) = record {
+own-leaves network request first done past task replies fits sound asked run next was frozen (OwnSend count gap size own is) = record {
   tells = λ i at on. subst (TellsAll (channel_number request.chan) (count_at network request 0 first past) (count_at network request i at past)) (sym is) tt;
   told = λ given leaving some. absurd (own leaving);
-  whole = mild-whole network request owner first done past fits run (subst (IsMild (channel_number request.chan)) (sym is) tt) was (λ levels comm. send-later network request done past count gap size levels is comm);
+  whole = mild-whole network request first done past fits run (subst (IsMild (channel_number request.chan)) (sym is) tt) was (λ levels comm. send-later network request done past count gap size levels is comm);
 }
-own-leaves network request owner first done past task replies fits sound asked run next was frozen (OwnClose levels leaving k here on is zeroth comm) = record {
+own-leaves network request first done past task replies fits sound asked run next was frozen (OwnClose levels leaving k here on is zeroth comm) = record {
   tells = close-tells network request first done past replies k here sound on is zeroth (λ given some. frozen given leaving some);
   told = λ given closes some. close-frozen network request first done past levels replies k here given fits (asked past run) run next on is zeroth comm (λ g s. frozen g leaving s) some;
   whole = λ terms held phase. absurd (close-whole network request first done past levels replies k here fits (asked past run) run next on is zeroth comm (λ g s. frozen g leaving s) terms held phase);
 }
-own-leaves network request owner first done past task replies fits sound asked run next was frozen (OwnAside reply one off) = record {
+own-leaves network request first done past task replies fits sound asked run next was frozen (OwnAside reply one off) = record {
   tells = λ i at on. off-tells (channel_number request.chan) _ _ done.ask off;
   told = λ given leaving some. frozen-later network request first done past given fits (asked past run) run next (off-mild (channel_number request.chan) done.ask off) (frozen given leaving (ap first_count one ∙ sym (ap (λ rs. first_count (rs ++ done.reply ∷ [])) one) ∙ some));
-  whole = mild-whole network request owner first done past fits run (off-mild (channel_number request.chan) done.ask off) was (λ levels comm. comm-later network request levels 0 done past fits run off comm);
+  whole = mild-whole network request first done past fits run (off-mild (channel_number request.chan) done.ask off) was (λ levels comm. comm-later network request levels 0 done past fits run off comm);
 }
 
-resumed-at : (at : Standing) (reply : Reply) (outcomes : List Learnt) (left : List Task) (replies : List Reply) → at ≡ record { tasks = left; replies = replies; outcomes = outcomes } → resumed at.outcomes at.tasks (at.replies ++ reply ∷ []) ≡ resumed outcomes left (replies ++ reply ∷ [])
-resumed-at at reply outcomes left replies is = ap (λ s. resumed s.outcomes s.tasks (s.replies ++ reply ∷ [])) is
+-- ---- every run
 
-pub owner-now : (owner : ℕ) (done : Done) (past : List Done) (own tasks : List Task) (outcomes : List Learnt) (left : List Task) (replies : List Reply) → own ≡ tasks → actor_number done.actor ≡ owner → standing tasks (replies_to owner past) ≡ record { tasks = left; replies = replies; outcomes = outcomes }
-    → standing own (replies_to owner (done ∷ past)) ≡ resumed outcomes left (replies ++ done.reply ∷ [])
-owner-now owner done past own tasks outcomes left replies script by is =
-    ap (λ ts. standing ts (replies_to owner (done ∷ past))) script ∙ ap (standing tasks) (replies-by owner done past by) ∙ standing-more tasks done.reply (replies_to owner past) ∙ resumed-at (standing tasks (replies_to owner past)) done.reply outcomes left replies is
+module _ (network : Network) (request : Request) (owner : ℕ) (first : HopAt network request 0) (fits : NetworkFits network) (sound : RequestFits network.links request) (full : OwnedFully network request owner) where
+  asked : (run : List Done) → IsRun network run → ChannelAsked request run
+  asked run is = owned-asked network request owner fits sound (owned-once network request owner full) run is
 
-told-at : (at now : Standing) (head : Task) (rest : List Task) (told : ℕ) → at ≡ now → at.tasks ≡ head ∷ rest → first_count at.replies ≡ Some told → (now.tasks ≡ head ∷ rest) × (first_count now.replies ≡ Some told)
-told-at at now head rest told same closes first = (sym (ap (λ s. s.tasks) same) ∙ closes, sym (ap (λ s. first_count s.replies) same) ∙ first)
+  none-chain : Chain network request first []
+  unfolding part_of scan_of
+  none-chain = record { fates = λ some. absurd (omega (arith, some)); whole = λ terms held phase. absurd (let clash : None ≡ Some terms = held in cc) }
 
-told-was : (at : Standing) (outcomes : List Learnt) (task : Task) (rest : List Task) (replies : List Reply) (given : ℕ) → at ≡ record { tasks = task ∷ rest; replies = replies; outcomes = outcomes } → first_count replies ≡ Some given → (at.tasks ≡ task ∷ rest) × (first_count at.replies ≡ Some given)
-told-was at outcomes task rest replies given is some = (ap (λ s. s.tasks) is, ap (λ s. first_count s.replies) is ∙ some)
+  off-chain : KeptByOthers network owner (ChainAt network request first)
+  off-chain past done at run next other was =
+      let off = others-off network request owner past done full next other in
+      let mild = off-mild (channel_number request.chan) done.ask off in
+      record {
+        chain = record {
+          fates = fates-next network request first done past fits sound asked run next was.chain (λ i here on. off-tells (channel_number request.chan) _ _ done.ask off);
+          whole = mild-whole network request first done past fits run mild was.chain (λ levels comm. comm-later network request levels 0 done past fits run off comm);
+        };
+        told = λ task rest told same leaving given. frozen-later network request first done past told fits (asked past run) run next mild (was.told task rest told same leaving given);
+      }
 
-own-told : (network : Network) (request : Request) (owner : ℕ) (first : HopAt network request 0) (done : Done) (past : List Done) (tasks : List Task) (outcomes : List Learnt) (task : Task) (rest : List Task) (replies : List Reply) → slice_get network.scripts owner ≡ Some tasks → actor_number done.actor ≡ owner
-    → standing tasks (replies_to owner past) ≡ record { tasks = task ∷ rest; replies = replies; outcomes = outcomes } → OwnLeaves network request first (done ∷ past) done past task replies
-    → (own : List Task) → slice_get network.scripts owner ≡ Some own → (head : Task) (more : List Task) (told : ℕ) → (standing own (replies_to owner (done ∷ past))).tasks ≡ head ∷ more → IsLeaving request head → first_count (standing own (replies_to owner (done ∷ past))).replies ≡ Some told → Frozen network request first (done ∷ past) told
-own-told network request owner first done past tasks outcomes task rest replies found by is leaves own here head more told same leaving given =
-    let now = owner-now owner done past own tasks outcomes (task ∷ rest) replies (same_Some own tasks (sym here ∙ found)) by is in
-    let at = told-at _ _ head more told now same given in
-    let both = resumed-told outcomes task head rest (replies ++ done.reply ∷ []) more told at.0 at.1 in
-    leaves.told told (subst (IsLeaving request) (sym both.0) leaving) both.1
+  leaves : (script : List Task) (past : List Done) (done : Done) (task : Task) (rest : List Task) (replies : List Reply) (outcomes : List Learnt) → OwnStep network owner script past done task rest replies outcomes → ChainAt network request first past (record { tasks = task ∷ rest; replies = replies; outcomes = outcomes })
+      → OwnLeaves network request first (done ∷ past) done past task replies
+  leaves script past done task rest replies outcomes step was =
+      own-leaves network request first done past task replies fits sound asked step.run step.next was.chain (λ given leaving some. was.told task rest given refl leaving some) (step-kind network request owner script past done task rest replies outcomes fits sound full step)
 
-own-chain : (network : Network) (request : Request) (owner : ℕ) (first : HopAt network request 0) (done : Done) (past : List Done) (tasks : List Task) (outcomes : List Learnt) (task : Task) (rest : List Task) (replies : List Reply) → NetworkFits network → RequestFits network.links request → ((run : List Done) → IsRun network run → ChannelAsked request run) → IsRun network past → (next : IsNext network past done) → slice_get network.scripts owner ≡ Some tasks → actor_number done.actor ≡ owner
-    → standing tasks (replies_to owner past) ≡ record { tasks = task ∷ rest; replies = replies; outcomes = outcomes } → OwnLeaves network request first (done ∷ past) done past task replies → Chain network request owner first past → Chain network request owner first (done ∷ past)
-own-chain network request owner first done past tasks outcomes task rest replies fits sound names run next found by is leaves was = record {
-  fates = fates-next network request owner first done past fits sound names run next was leaves.tells;
-  told = own-told network request owner first done past tasks outcomes task rest replies found by is leaves;
-  whole = leaves.whole;
-}
+  own-chain : (script : List Task) (past : List Done) (done : Done) (task : Task) (rest : List Task) (replies : List Reply) (outcomes : List Learnt) → OwnStep network owner script past done task rest replies outcomes → ChainAt network request first past (record { tasks = task ∷ rest; replies = replies; outcomes = outcomes }) → Chain network request first (done ∷ past)
+  own-chain script past done task rest replies outcomes step was =
+      let left = leaves script past done task rest replies outcomes step was in
+      record { fates = fates-next network request first done past fits sound asked step.run step.next was.chain left.tells; whole = left.whole }
 
-frozen-was : (network : Network) (request : Request) (owner : ℕ) (first : HopAt network request 0) (past : List Done) (tasks : List Task) (outcomes : List Learnt) (task : Task) (rest : List Task) (replies : List Reply) → slice_get network.scripts owner ≡ Some tasks
-    → standing tasks (replies_to owner past) ≡ record { tasks = task ∷ rest; replies = replies; outcomes = outcomes } → Chain network request owner first past → (given : ℕ) → IsLeaving request task → first_count replies ≡ Some given → Frozen network request first past given
-frozen-was network request owner first past tasks outcomes task rest replies found is was given same some =
-    let both = told-was (standing tasks (replies_to owner past)) outcomes task rest replies given is some in was.told tasks found task rest given both.0 same both.1
+  -- before a task begins nothing was told to it
+  chain-keeps : (script : List Task) → KeptBySteps network owner script (λ run outcomes tasks. Chain network request first run) (ChainAt network request first)
+  chain-keeps script = record {
+    first = none-chain;
+    begins = λ run outcomes tasks was. record { chain = was; told = λ task rest told same leaving given. absurd (let clash : None ≡ Some told = given in cc) };
+    off = off-chain;
+    goes = λ past done task rest replies outcomes to step more was. record {
+      chain = own-chain script past done task rest replies outcomes step was;
+      told = λ own others told same leaving given. (leaves script past done task rest replies outcomes step was).told told (subst (IsLeaving request) (sym (head-same task rest own others same)) leaving) given;
+    };
+    over = λ past done task rest replies outcomes step none was. own-chain script past done task rest replies outcomes step was;
+  }
 
-own-some : (network : Network) (request : Request) (owner : ℕ) (first : HopAt network request 0) (done : Done) (past : List Done) (tasks : List Task) (outcomes : List Learnt) (task : Task) (rest : List Task) (replies : List Reply) → NetworkFits network → RequestFits network.links request → ((run : List Done) → IsRun network run → ChannelAsked request run) → IsRun network past → (next : IsNext network past done) → slice_get network.scripts owner ≡ Some tasks → actor_number done.actor ≡ owner
-    → standing tasks (replies_to owner past) ≡ record { tasks = task ∷ rest; replies = replies; outcomes = outcomes } → OwnKind network request done past task replies → Chain network request owner first past → Chain network request owner first (done ∷ past)
-own-some network request owner first done past tasks outcomes task rest replies fits sound names run next found by is kind was =
-    own-chain network request owner first done past tasks outcomes task rest replies fits sound names run next found by is
-    (own-leaves network request owner first done past task replies fits sound names run next was (frozen-was network request owner first past tasks outcomes task rest replies found is was) kind) was
+  chain-at : (run : List Done) (script : List Task) → IsRun network run → slice_get network.scripts owner ≡ Some script → ChainAt network request first run (standing script (replies_to owner run))
+  chain-at run script is found = each-run network owner script found (λ past outcomes tasks. Chain network request first past) (ChainAt network request first) (chain-keeps script) run is
 
-own-next : (network : Network) (request : Request) (owner : ℕ) (first : HopAt network request 0) (done : Done) (past : List Done) (tasks : List Task) (outcomes : List Learnt) (left : List Task) (replies : List Reply) → NetworkFits network → RequestFits network.links request → ((run : List Done) → IsRun network run → ChannelAsked request run) → IsRun network past → (next : IsNext network past done) → slice_get network.scripts owner ≡ Some tasks → actor_number done.actor ≡ owner
-    → standing tasks (replies_to owner past) ≡ record { tasks = left; replies = replies; outcomes = outcomes } → first_ask left replies ≡ Some (done.link, done.ask) → StandingFits network.links (record { tasks = left; replies = replies; outcomes = outcomes }) → GoesAt network request past left replies outcomes → ClosesAt network request past (record { tasks = left; replies = replies; outcomes = outcomes }) → Chain network request owner first past → Chain network request owner first (done ∷ past)
-own-next network request owner first done past tasks outcomes [] replies fits sound names run next found by is asks stands goes closes was = absurd (nothing-asked replies (done.link, done.ask) asks)
-own-next network request owner first done past tasks outcomes (task ∷ rest) replies fits sound names run next found by is asks stands goes closes was =
-    own-some network request owner first done past tasks outcomes task rest replies fits sound names run next found by is (own-kind network request done past outcomes task rest replies fits sound run next stands goes asks closes) was
+  -- the first hop after a release that the owner's task asks
+  pub leaves-frozen : (script : List Task) (past : List Done) (done : Done) (task : Task) (rest : List Task) (replies : List Reply) (outcomes : List Learnt) (given : ℕ) → OwnStep network owner script past done task rest replies outcomes → IsLeaving request task → first_count (replies ++ done.reply ∷ []) ≡ Some given → Frozen network request first (done ∷ past) given
+  leaves-frozen script past done task rest replies outcomes given step leaving some =
+      (leaves script past done task rest replies outcomes step (subst (ChainAt network request first past) step.stands (chain-at past script step.run step.found))).told given leaving some
 
-chain-next : (network : Network) (request : Request) (owner : ℕ) (first : HopAt network request 0) (done : Done) (past : List Done) → NetworkFits network → RequestFits network.links request → OwnedFully network request owner → IsRun network past → (next : IsNext network past done) → Chain network request owner first past → Chain network request owner first (done ∷ past)
-chain-next network request owner first done past fits sound full run next was =
-    let once = owned-once network request owner full in
-    let asked = owned-asked network request owner fits sound once in
-    let inside = full.inside in
-    elim (cases_Bool (nat_eq (actor_number done.actor) (plane_no network))) [
-      | inl plane ↦
-          (let same = eqb-true (actor_number done.actor) (plane_no network) plane in
-          let asks = plane-next network past done next same in
-          off-chain network request owner first done past fits sound asked run next (λ own. (let clash : owner ≡ length network.scripts = sym own ∙ same in absurd (omega (arith, clash, inside))))
-          (plane-off-ask (channel_number request.chan) (next_due (plane_at network past)) (plane_at network past).ticked done.link done.ask asks.asks) was)
-      | inr caller ↦
-          (let asks = caller-next network past done next (eqb-false (actor_number done.actor) (plane_no network) caller) in
-          elim (cases_Bool (nat_eq (actor_number done.actor) owner)) [
-            | inl by ↦
-                (let e : actor_number done.actor ≡ owner = eqb-true (actor_number done.actor) owner by in
-                let found : slice_get network.scripts owner ≡ Some asks.tasks = ap (slice_get network.scripts) (sym e) ∙ asks.found in
-                own-next network request owner first done past asks.tasks (standing asks.tasks (replies_to owner past)).outcomes (standing asks.tasks (replies_to owner past)).tasks (standing asks.tasks (replies_to owner past)).replies fits sound asked run next found e refl
-                (subst (λ a. ask_at (standing asks.tasks (replies_to a past)) ≡ Some (done.link, done.ask)) e asks.asks)
-                ((run-stands network past fits run).callers owner asks.tasks found) ((run-goes network request owner past fits sound once run).at asks.tasks found) ((run-closes network request owner past fits sound full run).at asks.tasks found) was)
-            | inr off ↦
-                (let other = eqb-false (actor_number done.actor) owner off in
-                let others = off-standing (channel_number request.chan) asks.tasks (replies_to (actor_number done.actor) past) (full.others (actor_number done.actor) asks.tasks other asks.found) in
-                off-chain network request owner first done past fits sound asked run next other (tasks-off (channel_number request.chan) _ _ done.link done.ask others asks.asks) was)
-          ])
-    ]
-
-no-first : (tasks : List Task) (replies : List Reply) → replies ≡ [] → (told : ℕ) → first_count replies ≡ Some told → ⊥
-no-first tasks [] none told some = cc
-no-first tasks (r ∷ rs) none told some = cc
-
-pub run-chain : (network : Network) (request : Request) (owner : ℕ) (first : HopAt network request 0) (run : List Done) → NetworkFits network → RequestFits network.links request → OwnedFully network request owner → IsRun network run → Chain network request owner first run
-unfolding IsRun part_of scan_of replies_to standing
-run-chain network request owner first [] fits sound full is = record {
-  fates = λ some. absurd (omega (arith, some));
-  told = λ tasks found task rest told same leaving given. absurd (no-first tasks [] refl told given);
-  whole = λ terms held phase. absurd (let clash : None ≡ Some terms = held in cc);
-}
-run-chain network request owner first (done ∷ past) fits sound full is = chain-next network request owner first done past fits sound full is.0 is.1 (run-chain network request owner first past fits sound full is.0)
-
--- the first hop after a release that the owner's task asks
-pub leaves-frozen : (network : Network) (request : Request) (owner : ℕ) (first : HopAt network request 0) (done : Done) (past : List Done) (tasks : List Task) (outcomes : List Learnt) (task : Task) (rest : List Task) (replies : List Reply) (given : ℕ) → NetworkFits network → RequestFits network.links request → OwnedFully network request owner → IsRun network past → (next : IsNext network past done) → slice_get network.scripts owner ≡ Some tasks
-    → standing tasks (replies_to owner past) ≡ record { tasks = task ∷ rest; replies = replies; outcomes = outcomes } → first_ask (task ∷ rest) replies ≡ Some (done.link, done.ask) → IsLeaving request task → first_count (replies ++ done.reply ∷ []) ≡ Some given → Frozen network request first (done ∷ past) given
-leaves-frozen network request owner first done past tasks outcomes task rest replies given fits sound full run next found is asks leaving some =
-    let once = owned-once network request owner full in
-    let was = run-chain network request owner first past fits sound full run in
-    let stands = subst (StandingFits network.links) is ((run-stands network past fits run).callers owner tasks found) in
-    let goes : GoesAt network request past (task ∷ rest) replies outcomes = subst (λ s. GoesAt network request past s.tasks s.replies s.outcomes) is ((run-goes network request owner past fits sound once run).at tasks found) in
-    let closes = subst (ClosesAt network request past) is ((run-closes network request owner past fits sound full run).at tasks found) in
-    (own-leaves network request owner first done past task replies fits sound (owned-asked network request owner fits sound once) run next was (frozen-was network request owner first past tasks outcomes task rest replies found is was) (own-kind network request done past outcomes task rest replies fits sound run next stands goes asks closes)).told given leaving some
+pub run-chain : (network : Network) (request : Request) (owner : ℕ) (first : HopAt network request 0) (run : List Done) → NetworkFits network → RequestFits network.links request → OwnedFully network request owner → IsRun network run → Chain network request first run
+run-chain network request owner first run fits sound full is = (let script = held network.scripts owner full.inside in (chain-at network request owner first fits sound full run script.item is script.found).chain)

@@ -12,11 +12,11 @@ use Rattle.call_script.specs.declared.tasks.Task.TheVariants.{Sends, Closes, Mov
 use Rattle.setup_protocol.specs.Teardown.{told_count}
 use Rattle.link_steps.specs.Lists.{Each}
 use Rattle.std.proofs.Common.{◌≡◌, ◌≢◌, ◌⊎◌, ℕ, suc, ◌≤◌, Bool, List, [], ◌∷◌, ◌++◌, length, Option, Some, None, refl, sym, ap, ◌∙◌, subst, inl, inr, arith}
-use Rattle.std.proofs.lemmas.Bool.{cases_Bool, cases_lt, eqb-true, eqb-false, eq-eqb}
+use Rattle.std.proofs.lemmas.Bool.{cases_Bool, cases_lt, eq-eqb}
 use Rattle.std.proofs.lemmas.List.{length-append}
 use Rattle.std.proofs.lemmas.List.Elements.{filter-append}
 use Rattle.std.proofs.lemmas.Option.{same_Some, slice_get_within}
-use Rattle.std.specs.Prelude.{nat_eq, find}
+use Rattle.std.specs.Prelude.{find}
 use Rattle.net_units.specs.Numbers.{link_number, channel_number}
 use Rattle.net_units.specs.declared.numbers.LinkNo.{LinkNo}
 use Rattle.hop_reservation.specs.declared.route.Hop.{Hop}
@@ -44,9 +44,8 @@ use Rattle.channel_laws.specs.Channels.{is_of_channel, channel_packets, channel_
 use Rattle.call_script.specs.Fits.{NetworkFits}
 use Rattle.interleave_core.specs.channels.Hops.{packets_on, terms_at, ChannelAsked}
 use Rattle.call_script.specs.declared.tasks.Task.{Task}
-use Rattle.call_script.specs.declared.tasks.Task.TheVariants.{Opens, Sends, Closes}
 use Rattle.call_script.specs.Tasks.{Network}
-use Rattle.run_record.specs.Runs.{entry_of, part_of}
+use Rattle.run_record.specs.Runs.{part_of}
 use Rattle.interleave_core.specs.runs.Runs.{IsNext, IsRun}
 use Rattle.call_script.specs.Scripts.{Learnt, once_next, task_ask, first_ask}
 use Rattle.interleave_core.proofs.Tasks.CallerFacts.{StandingFits}
@@ -56,18 +55,20 @@ use Rattle.channel_laws.proofs.HoldFates.{Fate, FateOpen, FateClosing, FateGone,
 use Rattle.interleave_core.proofs.Channels.ChannelsAt.{stands-at}
 use Rattle.interleave_core.proofs.Channels.HopsAt.{hop-at}
 use Rattle.setup_protocol.proofs.HopHolds.{IsComm}
-use Rattle.interleave_core.proofs.Channels.RowsFollow.{held_at, held-here, held-elsewhere, hop-may, SetupRows, setup-goes}
+use Rattle.interleave_core.proofs.Channels.RowsFollow.{held_at, hop-may, SetupRows, setup-goes}
 use Rattle.interleave_core.proofs.Replies.ClosingStands.{ClosesAt, Early, Denied, Fresh, Open, Closing, MovingFrom, MovingOnto, Over, AllComm, FreshFirst, left_in, left_by}
-use Rattle.interleave_core.proofs.Replies.ClosingSteps.{not-own, head-same, goes-rows}
+use Rattle.interleave_core.proofs.Replies.ClosingSteps.{not-own}
 use Rattle.call_script.specs.Owners.{TaskOff}
-use Rattle.interleave_core.proofs.Replies.RunGoes.{GoesAt, task-off, is-run}
-use Rattle.interleave_core.proofs.Runs.RunLegal.{part-on, part-off, part-admissible}
+use Rattle.interleave_core.proofs.Replies.RunGoes.{GoesAt, goes-rows, hop-comes}
+use Rattle.interleave_core.proofs.Runs.RunLegal.{part-admissible, by-part}
 use Rattle.channel_laws.specs.Asks.{IsOff, IsMild}
 use Rattle.channel_laws.specs.Reservations.{held_by, ComesOf, Stays, Closed}
-use Rattle.channel_laws.proofs.TermsAfter.{comes-mild}
 use Rattle.interleave_core.specs.channels.Paths.{HopAt, packets_at, count_at}
 use Rattle.setup_protocol.proofs.HopAsks.{asked-at, of-setup}
 use Rattle.interleave_core.proofs.Tasks.OnceFacts.{once-asked}
+use Rattle.interleave_core.proofs.Runs.EachRun.{head-same}
+use Rattle.interleave_core.proofs.Tasks.TaskAsks.{task-off}
+use Rattle.interleave_core.proofs.Tasks.EachSetup.{is-run}
 
 -- ---- one hop
 
@@ -109,45 +110,24 @@ pub hop-fate : (network : Network) (request : Request) (i : ℕ) (at : HopAt net
     → (link_number done.link ≡ link_number at.hop.link → TellsAll (channel_number request.chan) least (count_at network request i at past) done.ask) → Fate least (count_at network request i at past) (held_at network request i at past) → Fate least (count_at network request i at (done ∷ past)) (held_at network request i at (done ∷ past))
 unfolding scan_of offers_to
 hop-fate network request i at done past least fits sound asked run next some tells fate =
-    elim (cases_Bool (nat_eq (link_number done.link) (link_number at.hop.link))) [
-      | inl on ↦
-          (let e = eqb-true (link_number done.link) (link_number at.hop.link) on in
-          let part = part-on (link_number at.hop.link) done past e in
-          let legal = part-admissible network past (link_number at.hop.link) at.link fits run at.linked in
-          let once : offers_to (channel_number request.chan) (entry_of done ∷ part_of (link_number at.hop.link) past) ≤ 1 = subst (λ h. offers_to (channel_number request.chan) h ≤ 1) part ((asked (done ∷ past) (is-run network past done run next)).once (link_number at.hop.link)) in
-          let grows : count_at network request i at past ≤ length (channel_packets (channel_number request.chan) (scan_of at.link.shape (entry_of done ∷ part_of (link_number at.hop.link) past)).packets) = subst (λ h. count_at network request i at past ≤ length (channel_packets (channel_number request.chan) (scan_of at.link.shape h).packets)) part (count-grows network request i at done past) in
-          subst (λ h. Fate least (length (channel_packets (channel_number request.chan) (scan_of at.link.shape h).packets)) (held_by request.chan (scan_of at.link.shape h).rows)) (sym part)
-          (fate-after at.link.shape request.chan (clock_of (part_of (link_number at.hop.link) past)) (scan_of at.link.shape (part_of (link_number at.hop.link) past)) done.ask done.reply least (count_at network request i at past) _
-          (legal-channels at.link.shape (part_of (link_number at.hop.link) past) legal) (hop-may network request i at done past fits run next e)
-          (λ row chan test found. sym (own-count row.ticks _ (hop-tells network request i at past row test fits run (asked past run) found chan).eligible)) grows
-          (no-second at.link.shape request (part_of (link_number at.hop.link) past) done.ask done.reply least legal once some fate) (tells e) fate))
-      | inr off ↦ subst (λ h. Fate least (length (channel_packets (channel_number request.chan) (scan_of at.link.shape h).packets)) (held_by request.chan (scan_of at.link.shape h).rows)) (sym (part-off (link_number at.hop.link) done past (eqb-false (link_number done.link) (link_number at.hop.link) off))) fate
-    ]
+    let legal = part-admissible network past (link_number at.hop.link) at.link fits run at.linked in
+    by-part (λ h. offers_to (channel_number request.chan) h ≤ 1 → count_at network request i at past ≤ length (channel_packets (channel_number request.chan) (scan_of at.link.shape h).packets) → Fate least (length (channel_packets (channel_number request.chan) (scan_of at.link.shape h).packets)) (held_by request.chan (scan_of at.link.shape h).rows)) (link_number at.hop.link) done past
+    (λ e once grows. fate-after at.link.shape request.chan (clock_of (part_of (link_number at.hop.link) past)) (scan_of at.link.shape (part_of (link_number at.hop.link) past)) done.ask done.reply least (count_at network request i at past) _
+    (legal-channels at.link.shape (part_of (link_number at.hop.link) past) legal) (hop-may network request i at done past fits run next e)
+    (λ row chan test found. sym (own-count row.ticks _ (hop-tells network request i at past row test fits run (asked past run) found chan).eligible)) grows
+    (no-second at.link.shape request (part_of (link_number at.hop.link) past) done.ask done.reply least legal once some fate) (tells e) fate)
+    (λ off once grows. fate)
+    ((asked (done ∷ past) (is-run network past done run next)).once (link_number at.hop.link)) (count-grows network request i at done past)
 
 -- the first hop takes no packet but by a tick while it is committed
 pub first-same : (network : Network) (request : Request) (first : HopAt network request 0) (done : Done) (past : List Done) → NetworkFits network → ChannelAsked request past → IsRun network past → (next : IsNext network past done) → (done.ask ≡ Tick → NotCommitted (held_at network request 0 first past)) → count_at network request 0 first (done ∷ past) ≡ count_at network request 0 first past
 unfolding scan_of
 first-same network request first done past fits asked run next none =
-    elim (cases_Bool (nat_eq (link_number done.link) (link_number first.hop.link))) [
-      | inl on ↦
-          (let e = eqb-true (link_number done.link) (link_number first.hop.link) on in
-          let legal = part-admissible network past (link_number first.hop.link) first.link fits run first.linked in
-          ap (λ h. length (channel_packets (channel_number request.chan) (scan_of first.link.shape h).packets)) (part-on (link_number first.hop.link) done past e)
-          ∙ ap length (first-quiet first.link.shape request.chan (clock_of (part_of (link_number first.hop.link) past)) (scan_of first.link.shape (part_of (link_number first.hop.link) past)) done.ask done.reply (legal-channels first.link.shape (part_of (link_number first.hop.link) past) legal) (legal-order first.link.shape (part_of (link_number first.hop.link) past) legal).held (hop-may network request 0 first done past fits run next e)
-          (λ row chan test found. (hop-tells network request 0 first past row test fits run asked found chan).first_is) none))
-      | inr off ↦ ap (λ h. length (channel_packets (channel_number request.chan) (scan_of first.link.shape h).packets)) (part-off (link_number first.hop.link) done past (eqb-false (link_number done.link) (link_number first.hop.link) off))
-    ]
-
--- a mild entry keeps or closes a reservation
-pub hop-comes : (network : Network) (request : Request) (i : ℕ) (at : HopAt network request i) (done : Done) (past : List Done) (terms : Reservation) → NetworkFits network → IsRun network past → IsMild (channel_number request.chan) done.ask → held_at network request i at (done ∷ past) ≡ Some terms → ComesOf terms (held_at network request i at past)
-hop-comes network request i at done past terms fits run mild held =
-    elim (cases_Bool (nat_eq (link_number done.link) (link_number at.hop.link))) [
-      | inl on ↦
-          (let e = eqb-true (link_number done.link) (link_number at.hop.link) on in
-          comes-mild at.link.shape request.chan (clock_of (part_of (link_number at.hop.link) past)) (scan_of at.link.shape (part_of (link_number at.hop.link) past)) done.ask done.reply terms mild
-          (legal-channels at.link.shape (part_of (link_number at.hop.link) past) (part-admissible network past (link_number at.hop.link) at.link fits run at.linked)) (sym (held-here network request i at done past e) ∙ held))
-      | inr off ↦ Stays (sym (held-elsewhere network request i at done past (eqb-false (link_number done.link) (link_number at.hop.link) off)) ∙ held)
-    ]
+    let legal = part-admissible network past (link_number first.hop.link) first.link fits run first.linked in
+    by-part (λ h. length (channel_packets (channel_number request.chan) (scan_of first.link.shape h).packets) ≡ count_at network request 0 first past) (link_number first.hop.link) done past
+    (λ e. ap length (first-quiet first.link.shape request.chan (clock_of (part_of (link_number first.hop.link) past)) (scan_of first.link.shape (part_of (link_number first.hop.link) past)) done.ask done.reply (legal-channels first.link.shape (part_of (link_number first.hop.link) past) legal) (legal-order first.link.shape (part_of (link_number first.hop.link) past) legal).held (hop-may network request 0 first done past fits run next e)
+    (λ row chan test found. (hop-tells network request 0 first past row test fits run asked found chan).first_is) none))
+    (λ off. refl)
 
 pub committed-comes : (terms : Reservation) (before : Option Reservation) → terms.phase ≡ Ph.Committed → ComesOf terms before → before ≡ Some terms
 committed-comes terms before phase (Stays is) = is
@@ -208,13 +188,7 @@ send-kind network request done past task replies hop count gap size is asks = Ow
 -- the count that the first reply tells
 pub told-kept : (reply : Reply) → told_count reply ≡ kept_in reply
 told-kept (Is.Closing count cancelled) = refl
-told-kept (Is.Offer level reach) = refl
-told-kept (Is.Relaxed clock) = refl
-told-kept Is.Denied = refl
-told-kept (Is.Planned clock) = refl
-told-kept (Is.Taken clock eligible) = refl
-told-kept (Is.Ticked clock full sent best_sent best_lost) = refl
-told-kept (Is.Refused refusal) = refl
+told-kept _ = refl
 
 pub stage-told : (replies : List Reply) (told : Shifted) (made : ℕ) → stage_after replies ≡ Releasing told made → first_count replies ≡ Some told.kept
 stage-told [] told made stage = cc

@@ -1,6 +1,6 @@
 -- Every run of a network whose parts fit, and whose channels each have one owner, is guaranteed after each of its entries.
 use Rattle.std.proofs.Common.{◌≡◌, ℕ, suc, ◌+◌, ◌-◌, ◌<◌, ◌≤◌, true, List, [], ◌∷◌, length, map, get_or, Some, None, refl, sym, ap, ◌∙◌, subst, inl, inr, arith}
-use Rattle.std.proofs.lemmas.Bool.{cases_Bool, eqb-true, eqb-false, eq-eqb, ne_eqb, and_from, lt-ltb}
+use Rattle.std.proofs.lemmas.Bool.{eq-eqb, ne_eqb, and_from, lt-ltb}
 use Rattle.std.proofs.lemmas.List.{take_all}
 use Rattle.std.proofs.lemmas.Option.{same_Some, slice_get_within}
 use Rattle.std.specs.List.{slice_get}
@@ -36,9 +36,8 @@ use Rattle.call_script.specs.Fits.{NetworkFits}
 use Rattle.interleave_core.specs.channels.Hops.{packets_on, terms_at, ChannelAsked}
 use Rattle.call_script.specs.declared.tasks.Task.{Task}
 use Rattle.call_script.specs.Tasks.{Network}
-use Rattle.tick_plane.specs.Planes.{next_due}
 use Rattle.run_record.specs.Runs.{part_of, replies_to}
-use Rattle.interleave_core.specs.runs.Runs.{plane_no, plane_at, IsNext, IsRun}
+use Rattle.interleave_core.specs.runs.Runs.{IsNext, IsRun}
 use Rattle.call_script.specs.Scripts.{standing, outcome_in}
 use Rattle.interleave_core.proofs.Channels.AcceptedPath.{accepted-path}
 use Rattle.channel_laws.proofs.ChannelRows.{legal-free}
@@ -53,10 +52,10 @@ use Rattle.interleave_core.proofs.Channels.AcceptedOnly.{taken-accepted}
 use Rattle.interleave_core.proofs.Flights.ReadyRun.{arrives-taken}
 use Rattle.call_script.specs.Owners.{OwnedFully, IsOwned, IsUnnamed, AllOwned}
 use Rattle.interleave_core.proofs.Replies.RunCloses.{owned-once}
-use Rattle.interleave_core.proofs.Replies.RunGoes.{owned-asked, accepted-levels, tasks-off, plane-off-ask, off-standing}
-use Rattle.interleave_core.proofs.Runs.RunLegal.{plane-next, caller-next, part-on, part-off, part-admissible}
+use Rattle.interleave_core.proofs.Replies.RunGoes.{owned-asked, accepted-levels}
+use Rattle.interleave_core.proofs.Runs.RunLegal.{part-admissible, by-part}
 use Rattle.channel_laws.specs.Asks.{IsOff}
-use Rattle.interleave_core.proofs.Channels.KeptRequest.{verdict-kept}
+use Rattle.interleave_core.proofs.Channels.KeptRequest.{accepted-kept}
 use Rattle.interleave_core.specs.channels.Paths.{HopAt, reaches_at, bound_of, packets_at, hop_ticks, arrival_ticks, eligible_at, arrived_at, delay_before, Passed}
 use Rattle.interleave_core.specs.channels.Guarantee.{LeavesWithinBound, TakesArrive, IsOfAccepted, LinkGuaranteed, SourceKept, HasLeft, ChannelGuaranteed, Guaranteed}
 use Rattle.interleave_core.specs.channels.Kept.{VerdictSums}
@@ -67,6 +66,7 @@ use Rattle.interleave_core.proofs.Channels.ChannelsAt.{packets-numbered, packet-
 use Rattle.link_steps.proofs.ChangeFacts.{Each-from_among}
 use Rattle.hop_reservation.specs.Offers.{delay_over}
 use Rattle.hop_reservation.proofs.OfferFacts.{AreLevels-at}
+use Rattle.interleave_core.proofs.Tasks.TaskAsks.{entry-off}
 
 -- ---- an accepted channel
 
@@ -129,7 +129,7 @@ channel-guaranteed network request owner tasks levels delay first run fits sound
   have = (accepted-levels network request owner run tasks levels delay fits sound (owned-once network request owner full) is found accepted).0
 
   sums : VerdictSums request levels delay
-  sums = (verdict-kept network request owner run fits sound full is).kept tasks found levels delay accepted
+  sums = accepted-kept network request owner run tasks levels delay fits sound full is found accepted
 
   ticks : HaveTicks network request levels
   ticks = have-ticks network request levels delay sums.keeps
@@ -156,24 +156,14 @@ off-offers c n (Reserve chan contract kind delay up_reach first next) (Is.Offer 
 off-offers c n _ _ off = refl
 
 unnamed-off : (network : Network) (c : ℕ) (done : Done) (past : List Done) → IsUnnamed network c → (next : IsNext network past done) → IsOff c done.ask
-unnamed-off network c done past unnamed next =
-    elim (cases_Bool (nat_eq (actor_number done.actor) (plane_no network))) [
-      | inl plane ↦ (let asks = plane-next network past done next (eqb-true (actor_number done.actor) (plane_no network) plane) in plane-off-ask c (next_due (plane_at network past)) (plane_at network past).ticked done.link done.ask asks.asks)
-      | inr caller ↦
-          (let asks = caller-next network past done next (eqb-false (actor_number done.actor) (plane_no network) caller) in
-          let others = off-standing c asks.tasks (replies_to (actor_number done.actor) past) (unnamed (actor_number done.actor) asks.tasks asks.found) in
-          tasks-off c _ _ done.link done.ask others asks.asks)
-    ]
+unnamed-off network c done past unnamed next = entry-off network c past done next (unnamed (actor_number done.actor))
 
 unnamed-none : (network : Network) (c n : ℕ) (run : List Done) → IsUnnamed network c → IsRun network run → offers_to c (part_of n run) ≡ 0
 unfolding IsRun part_of offers_to
 unnamed-none network c n [] unnamed is = refl
 unnamed-none network c n (done ∷ past) unnamed is =
     let rest = unnamed-none network c n past unnamed is.0 in
-    elim (cases_Bool (nat_eq (link_number done.link) n)) [
-      | inl on ↦ ap (offers_to c) (part-on n done past (eqb-true (link_number done.link) n on)) ∙ off-offers c (offers_to c (part_of n past)) done.ask done.reply (unnamed-off network c done past unnamed is.1) ∙ rest
-      | inr off ↦ ap (offers_to c) (part-off n done past (eqb-false (link_number done.link) n off)) ∙ rest
-    ]
+    by-part (λ h. offers_to c h ≡ 0) n done past (λ on. off-offers c (offers_to c (part_of n past)) done.ask done.reply (unnamed-off network c done past unnamed is.1) ∙ rest) (λ off. rest)
 
 -- no numbered packet is of it
 pub unnamed-packet : (network : Network) (n : ℕ) (link : Link) (p : Arrival) (run : List Done) → NetworkFits network → IsRun network run → slice_get network.links n ≡ Some link → Among p (packets_on link n run) → is_of_channel (channel_number p.chan) p ≡ true → IsUnnamed network (channel_number p.chan) → ⊥

@@ -1,15 +1,12 @@
 -- In every run: once a packet of a channel was taken at its first hop, the packets and the reservations of all hops have
 -- the levels of one list.
-use Rattle.std.proofs.Common.{◌≡◌, ◌≢◌, ℕ, ◌≤◌, List, [], ◌∷◌, Option, Some, None, sym, ap, ◌∙◌, subst, inl, inr, arith}
-use Rattle.std.proofs.lemmas.Bool.{cases_Bool, cases_lt, eqb-true, eqb-false}
+use Rattle.std.proofs.Common.{◌≡◌, ℕ, ◌≤◌, List, [], ◌∷◌, Option, Some, None, sym, ap, ◌∙◌, subst, inl, inr, arith}
+use Rattle.std.proofs.lemmas.Bool.{cases_lt}
 use Rattle.std.proofs.lemmas.Option.{same_Some}
-use Rattle.std.specs.List.{slice_get}
-use Rattle.std.specs.Prelude.{nat_eq}
-use Rattle.net_units.specs.Numbers.{actor_number, channel_number}
+use Rattle.net_units.specs.Numbers.{channel_number}
 use Rattle.link_steps.specs.declared.asks.Ask.{Ask}
 use Rattle.link_steps.specs.declared.asks.Ask.TheVariants.{Tick}
 use Rattle.link_steps.specs.declared.replies.Phase.TheVariants as Ph
-use Rattle.link_steps.specs.declared.replies.Reply.{Reply}
 use Rattle.link_steps.specs.Reservation.{Reservation}
 use Rattle.link_steps.specs.Scan.{scan_of}
 use Rattle.setup_protocol.specs.Hops.{RequestFits}
@@ -18,67 +15,22 @@ use Rattle.setup_protocol.specs.declared.request.Request.{Request}
 use Rattle.run_record.specs.declared.done.Done.{Done}
 use Rattle.call_script.specs.Fits.{NetworkFits}
 use Rattle.interleave_core.specs.channels.Hops.{ChannelAsked}
-use Rattle.call_script.specs.declared.tasks.Task.{Task}
 use Rattle.call_script.specs.Tasks.{Network}
-use Rattle.tick_plane.specs.Planes.{next_due}
-use Rattle.run_record.specs.Runs.{part_of, replies_to}
-use Rattle.interleave_core.specs.runs.Runs.{plane_no, plane_at, IsNext, IsRun}
-use Rattle.call_script.specs.Scripts.{Learnt, standing, first_ask, ask_at}
-use Rattle.interleave_core.proofs.Tasks.CallerFacts.{StandingFits, nothing-asked}
+use Rattle.run_record.specs.Runs.{part_of}
+use Rattle.interleave_core.specs.runs.Runs.{IsNext, IsRun}
 use Rattle.interleave_core.proofs.Channels.ChainLaw.{is-tick, open-or-not, run-chain}
-use Rattle.interleave_core.proofs.Channels.FarHolds.{first-same, OwnKind, OwnOff, OwnAside, OwnSetup, OwnSend, OwnClose, own-kind}
+use Rattle.interleave_core.proofs.Channels.FarHolds.{first-same}
 use Rattle.channel_laws.proofs.HoldFates.{Fate, FateOpen, FateClosing, FateGone}
 use Rattle.setup_protocol.proofs.HopHolds.{IsTail, HopStands, reserved_of}
-use Rattle.interleave_core.proofs.Channels.RowsFollow.{held_at, SetupRows, AfterRows, comm-kept}
-use Rattle.interleave_core.proofs.Replies.ClosingStands.{ClosesAt, AllComm, comm-later}
-use Rattle.interleave_core.proofs.Replies.RunCloses.{run-closes, owned-once}
+use Rattle.interleave_core.proofs.Channels.RowsFollow.{held_at, AfterRows, comm-kept}
+use Rattle.interleave_core.proofs.Replies.ClosingStands.{AllComm, comm-later}
+use Rattle.interleave_core.proofs.Replies.RunCloses.{owned-once}
 use Rattle.call_script.specs.Owners.{OwnedFully}
-use Rattle.interleave_core.proofs.Replies.RunGoes.{HopLevels, levels-settled, levels-later, after-later, GoesAt, run-goes, owned-asked, tasks-off, plane-off-ask, off-standing, off-mild, is-run}
-use Rattle.interleave_core.proofs.Runs.RunLegal.{plane-next, caller-next, run-stands}
+use Rattle.interleave_core.proofs.Replies.RunGoes.{HopLevels, levels-settled, levels-later, after-later, owned-asked}
 use Rattle.channel_laws.specs.Asks.{IsOff, IsMild}
 use Rattle.interleave_core.specs.channels.Paths.{HopAt, count_at}
-
--- an entry of a setup leaves the rows that its replies say; the others neither reserve, relax nor deny the channel
-pub data EntryIs (network : Network) (request : Request) (done : Done) (past : List Done) : Type 0 where
-  MildOne : IsMild (channel_number request.chan) done.ask → EntryIs network request done past
-  SetupOne : (later : List Reply) → SetupRows network request later (done ∷ past) → done.ask ≢ Tick → EntryIs network request done past
-
-own-entry : (network : Network) (request : Request) (done : Done) (past : List Done) (task : Task) (replies : List Reply) → OwnKind network request done past task replies → EntryIs network request done past
-own-entry network request done past task replies (OwnOff other off) = MildOne (off-mild (channel_number request.chan) done.ask off)
-own-entry network request done past task replies (OwnAside first one off) = MildOne (off-mild (channel_number request.chan) done.ask off)
-own-entry network request done past task replies (OwnSetup later made own rows setup) =
-    elim (is-tick done.ask) [
-      | inl tick ↦ MildOne (subst (IsMild (channel_number request.chan)) (sym tick) tt)
-      | inr other ↦ SetupOne later rows other
-    ]
-own-entry network request done past task replies (OwnSend count gap size own is) = MildOne (subst (IsMild (channel_number request.chan)) (sym is) tt)
-own-entry network request done past task replies (OwnClose levels own k here on is zeroth comm) = MildOne (subst (IsMild (channel_number request.chan)) (sym is) tt)
-
-left-entry : (network : Network) (request : Request) (done : Done) (past : List Done) (outcomes : List Learnt) (left : List Task) (replies : List Reply) → NetworkFits network → RequestFits network.links request → IsRun network past → (next : IsNext network past done) → first_ask left replies ≡ Some (done.link, done.ask) → StandingFits network.links (record { tasks = left; replies = replies; outcomes = outcomes }) → GoesAt network request past left replies outcomes → ClosesAt network request past (record { tasks = left; replies = replies; outcomes = outcomes }) → EntryIs network request done past
-left-entry network request done past outcomes [] replies fits sound run next asks stands goes closes = absurd (nothing-asked replies (done.link, done.ask) asks)
-left-entry network request done past outcomes (task ∷ rest) replies fits sound run next asks stands goes closes = own-entry network request done past task replies (own-kind network request done past outcomes task rest replies fits sound run next stands goes asks closes)
-
-pub entry-is : (network : Network) (request : Request) (owner : ℕ) (done : Done) (past : List Done) → NetworkFits network → RequestFits network.links request → OwnedFully network request owner → IsRun network past → (next : IsNext network past done) → EntryIs network request done past
-entry-is network request owner done past fits sound full run next =
-    elim (cases_Bool (nat_eq (actor_number done.actor) (plane_no network))) [
-      | inl plane ↦
-          (let asks = plane-next network past done next (eqb-true (actor_number done.actor) (plane_no network) plane) in
-          MildOne (off-mild (channel_number request.chan) done.ask (plane-off-ask (channel_number request.chan) (next_due (plane_at network past)) (plane_at network past).ticked done.link done.ask asks.asks)))
-      | inr caller ↦
-          (let asks = caller-next network past done next (eqb-false (actor_number done.actor) (plane_no network) caller) in
-          elim (cases_Bool (nat_eq (actor_number done.actor) owner)) [
-            | inl by ↦
-                (let e : actor_number done.actor ≡ owner = eqb-true (actor_number done.actor) owner by in
-                let found : slice_get network.scripts owner ≡ Some asks.tasks = ap (slice_get network.scripts) (sym e) ∙ asks.found in
-                left-entry network request done past (standing asks.tasks (replies_to owner past)).outcomes (standing asks.tasks (replies_to owner past)).tasks (standing asks.tasks (replies_to owner past)).replies fits sound run next
-                (subst (λ a. ask_at (standing asks.tasks (replies_to a past)) ≡ Some (done.link, done.ask)) e asks.asks)
-                ((run-stands network past fits run).callers owner asks.tasks found) ((run-goes network request owner past fits sound (owned-once network request owner full) run).at asks.tasks found) ((run-closes network request owner past fits sound full run).at asks.tasks found))
-            | inr off ↦
-                (let other = eqb-false (actor_number done.actor) owner off in
-                let others = off-standing (channel_number request.chan) asks.tasks (replies_to (actor_number done.actor) past) (full.others (actor_number done.actor) asks.tasks other asks.found) in
-                MildOne (off-mild (channel_number request.chan) done.ask (tasks-off (channel_number request.chan) _ _ done.link done.ask others asks.asks)))
-          ])
-    ]
+use Rattle.interleave_core.proofs.Tasks.EachSetup.{is-run}
+use Rattle.interleave_core.proofs.Channels.OwnerEntries.{EntryIs, MildOne, SetupOne, entry-is}
 
 -- ---- the levels
 
@@ -122,9 +74,9 @@ mild-levelled network request done past fits run is asked mild was =
     let rows = after-later network request was.levels done past fits run mild was.rows in
     record { levels = was.levels; rows = rows; packets = levels-later network request was.levels done past fits is asked rows was.packets }
 
-entry-levelled : (network : Network) (request : Request) (first : HopAt network request 0) (done : Done) (past : List Done) (least count : ℕ) → NetworkFits network → IsRun network past → IsRun network (done ∷ past) → ChannelAsked request (done ∷ past) → Fate least count (held_at network request 0 first (done ∷ past)) → EntryIs network request done past → Levelled network request past → Levelled network request (done ∷ past)
-entry-levelled network request first done past least count fits run is asked fate (MildOne mild) was = mild-levelled network request done past fits run is asked mild was
-entry-levelled network request first done past least count fits run is asked fate (SetupOne later rows other) was = setup-levelled network request first done past _ _ least count fits is asked rows.hops fate was
+entry-levelled : (network : Network) (request : Request) (owner : ℕ) (first : HopAt network request 0) (done : Done) (past : List Done) (least count : ℕ) → NetworkFits network → IsRun network past → IsRun network (done ∷ past) → ChannelAsked request (done ∷ past) → Fate least count (held_at network request 0 first (done ∷ past)) → EntryIs network request owner past done → Levelled network request past → Levelled network request (done ∷ past)
+entry-levelled network request owner first done past least count fits run is asked fate (MildOne mild) was = mild-levelled network request done past fits run is asked mild was
+entry-levelled network request owner first done past least count fits run is asked fate (SetupOne later rows) was = setup-levelled network request first done past _ _ least count fits is asked rows.hops fate was
 
 off-tick : (c : ℕ) (ask : Ask) → ask ≡ Tick → IsOff c ask
 off-tick c ask is = subst (IsOff c) (sym is) tt
@@ -134,8 +86,8 @@ next-levelled network request owner first done past fits sound full run next som
     let asked = owned-asked network request owner fits sound (owned-once network request owner full) in
     let is = is-run network past done run next in
     let kept : count_at network request 0 first (done ∷ past) ≡ count_at network request 0 first past → Levelled network request (done ∷ past) = λ same.
-    entry-levelled network request first done past (count_at network request 0 first (done ∷ past)) (count_at network request 0 first (done ∷ past)) fits run is (asked (done ∷ past) is)
-    ((run-chain network request owner first (done ∷ past) fits sound full is).fates some 0 first) (entry-is network request owner done past fits sound full run next) (was (omega (arith, some, same))) in
+    entry-levelled network request owner first done past (count_at network request 0 first (done ∷ past)) (count_at network request 0 first (done ∷ past)) fits run is (asked (done ∷ past) is)
+    ((run-chain network request owner first (done ∷ past) fits sound full is).fates some 0 first) (entry-is network request owner past done fits sound full run next) (was (omega (arith, some, same))) in
     elim (is-tick done.ask) [
       | inl tick ↦ elim (open-or-not (held_at network request 0 first past)) [
         | inl opened ↦

@@ -179,12 +179,7 @@ module _ (network : Network) (request : Request) (replies : List Reply) (done : 
         offer-goes None Some request (HopAt network request) now later replies done.reply rows alone is level reach here.hop here.stands reserved_so told (λ i at. slice_get_within request.route i at.hop at.stands) fewer
         (changes-at n here ask (Is.Offer level reach) _ on own.is told (held-offered here.link.shape request.chan (clock_there n here) (scan_there n here) request.contract _ request.delay (reach_after 0 request.route replies) _ _ level reach none))
     by-reply (Is.Refused refusal) told usual = refused-goes None Some request (HopAt network request) now later replies done.reply rows alone is refusal told usual (changes-at n here ask (Is.Refused refusal) None on own.is told none)
-    by-reply (Is.Relaxed clock) told reserved_so = absurd reserved_so
-    by-reply Is.Denied told reserved_so = absurd reserved_so
-    by-reply (Is.Planned clock) told reserved_so = absurd reserved_so
-    by-reply (Is.Closing count cancelled) told reserved_so = absurd reserved_so
-    by-reply (Is.Taken clock eligible) told reserved_so = absurd reserved_so
-    by-reply (Is.Ticked clock full sent best_sent best_lost) told reserved_so = absurd reserved_so
+    by-reply _ told reserved_so = absurd reserved_so
 
 -- every reply to a setup
 pub setup-goes : (network : Network) (request : Request) (replies : List Reply) (done : Done) (past : List Done) → NetworkFits network → RequestFits network.links request → IsRun network past → (next : IsNext network past done) → AreLevels request.route (offers_in replies) → SetupRows network request replies past → next_ask request replies ≡ Some (done.link, done.ask) → SetupGoes network request replies done past
@@ -212,6 +207,7 @@ pub record Settles (network : Network) (request : Request) (replies : List Reply
   pub rows : AfterRows network request levels run
   pub comm : accepted ≡ true → (i : ℕ) (at : HopAt network request i) → IsComm Some request levels i (held_at network request i at run)
   pub whole : accepted ≡ true → length request.route ≤ length levels
+  pub none : accepted ≡ false → (i : ℕ) (at : HopAt network request i) → held_at network request i at run ≡ None
   pub denied_is : accepted ≡ false → (deny : Denial) × (verdict_of request replies ≡ Some (Denies deny))
   pub verdict_is : accepted ≡ true → (delay : ℕ) × (verdict_of request replies ≡ Some (Accepts levels delay))
   pub verdict : (own : List ℕ) (delay : ℕ) → verdict_of request replies ≡ Some (Accepts own delay) → own ≡ levels
@@ -248,15 +244,19 @@ setup-settles network request replies run rows over = by-view (view request repl
     denied_is = λ is'. (deny, ap settled_in is);
     comm = λ is' i at. cc;
     verdict_is = λ is'. cc;
-    rows = record { kept = λ i at terms held. absurd (let none = (subst (λ p. HopStands None Some request (offers_in replies) p i (held_at network request i at run)) is (rows.hops i at)).tail (omega arith) in let clash : None ≡ Some terms = sym none ∙ held in cc) };
+    none = λ is'. gone;
+    rows = record { kept = λ i at terms held. absurd (let clash : None ≡ Some terms = sym (gone i at) ∙ held in cc) };
     verdict = λ own delay same. absurd (let clash : Some (Denies deny) ≡ Some (Accepts own delay) = sym (ap settled_in is) ∙ same in cc);
-  }
+  } where
+    gone : (i : ℕ) (at : HopAt network request i) → held_at network request i at run ≡ None
+    gone i at = (subst (λ p. HopStands None Some request (offers_in replies) p i (held_at network request i at run)) is (rows.hops i at)).tail (omega arith)
 
   accepted : (levels : List ℕ) (delay : ℕ) → length request.route ≤ length levels → progress_of request replies ≡ Settled (Accepts levels delay) → Settles network request replies run
   accepted levels delay count is = record {
     levels = levels;
     accepted = true;
     whole = λ is'. count;
+    none = λ is'. cc;
     denied_is = λ is'. cc;
     comm = λ is' i at. (subst (λ p. HopStands None Some request (offers_in replies) p i (held_at network request i at run)) is (rows.hops i at)).tail (omega arith);
     verdict_is = λ is'. (delay, ap settled_in is);

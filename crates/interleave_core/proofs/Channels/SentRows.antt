@@ -1,9 +1,9 @@
 -- In every run each packet that a tick's reply tells as sent is of a start of its link, which stays among the link's starts.
 use Rattle.std.proofs.Common.{◌≡◌, ℕ, suc, ◌≤◌, Bool, List, [], ◌∷◌, Option, Some, None, refl, sym, ap, ◌∙◌, subst, inl, inr, arith}
-use Rattle.std.proofs.lemmas.Bool.{cases_Bool, cond_both, eqb-true, eqb-false}
+use Rattle.std.proofs.lemmas.Bool.{cond_both}
 use Rattle.std.proofs.lemmas.Option.{same_Some}
 use Rattle.std.specs.List.{slice_get}
-use Rattle.std.specs.Prelude.{nat_eq, filter}
+use Rattle.std.specs.Prelude.{filter}
 use Rattle.net_units.specs.Numbers.{link_number}
 use Rattle.link_steps.specs.declared.asks.Ask.TheVariants.{Tick}
 use Rattle.link_steps.specs.declared.replies.Entry.{Entry}
@@ -24,7 +24,7 @@ use Rattle.interleave_core.specs.runs.Runs.{IsNext, IsRun}
 use Rattle.interleave_core.proofs.Channels.ChainLaw.{is-tick}
 use Rattle.interleave_core.proofs.Flights.LegLaw.{quiet-clock, entry-tick}
 use Rattle.channel_laws.proofs.DepartedCount.{history-from}
-use Rattle.interleave_core.proofs.Runs.RunLegal.{part-on, part-off, part-admissible}
+use Rattle.interleave_core.proofs.Runs.RunLegal.{part-on, part-admissible, by-part}
 use Rattle.channel_laws.specs.Departing.{ticked}
 use Rattle.channel_laws.proofs.SentFacts.{sent-facts, tick-answer}
 use Rattle.interleave_core.specs.channels.Sent.{SentBy, TicksTellWhatHasLeft}
@@ -59,11 +59,9 @@ clock-up e h = elim (is-tick e.ask) [
 
 stays-sent : (shape : LinkShape) (n : ℕ) (done : Done) (past : List Done) (sent : Sent) → SentBy shape (part_of n past) sent → SentBy shape (part_of n (done ∷ past)) sent
 stays-sent shape n done past sent was =
-    elim (cases_Bool (nat_eq (link_number done.link) n)) [
-      | inl on ↦ subst (λ h. SentBy shape h sent) (sym (part-on n done past (eqb-true (link_number done.link) n on)))
-          (record { start = was.start; among = starts-stay shape (entry_of done) (part_of n past) was.start was.among; left = (let l = was.left in let up = clock-up (entry_of done) (part_of n past) in omega (arith, l, up)); is = was.is })
-      | inr off ↦ subst (λ h. SentBy shape h sent) (sym (part-off n done past (eqb-false (link_number done.link) n off))) was
-    ]
+    by-part (λ h. SentBy shape h sent) n done past
+    (λ on. record { start = was.start; among = starts-stay shape (entry_of done) (part_of n past) was.start was.among; left = (let l = was.left in let up = clock-up (entry_of done) (part_of n past) in omega (arith, l, up)); is = was.is })
+    (λ off. was)
 
 now-sent : (network : Network) (done : Done) (past : List Done) (link : Link) (clock full : ℕ) (sent : Sent) (best_sent best_lost : Bool) → NetworkFits network → IsRun network past → (next : IsNext network past done) → slice_get network.links (link_number done.link) ≡ Some link → done.ask ≡ Tick → done.reply ≡ Is.Ticked clock full (Some sent) best_sent best_lost → SentBy link.shape (part_of (link_number done.link) (done ∷ past)) sent
 unfolding clock_of

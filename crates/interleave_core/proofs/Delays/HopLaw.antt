@@ -57,7 +57,7 @@ use Rattle.channel_laws.proofs.Places.{place-of, row-keeps}
 use Rattle.link_steps.proofs.PacketRows.{Among-passes}
 use Rattle.interleave_core.proofs.Flights.FlightFacts.{part-grows, run-flights}
 use Rattle.interleave_core.proofs.Delays.HopStep.{IsTimed, eligible-after, timed-none, timed-later, timed-append, timed-more}
-use Rattle.interleave_core.proofs.Runs.RunLegal.{RunStands, clock_at, plane-next, caller-next, part-on, part-off, run-stands, part-admissible}
+use Rattle.interleave_core.proofs.Runs.RunLegal.{RunStands, clock_at, plane-next, caller-next, run-stands, part-admissible, by-part}
 use Rattle.interleave_core.specs.channels.Flights.{FlightsStand}
 use Rattle.link_steps.proofs.ListParts.{Each-parts}
 use Rattle.link_steps.proofs.ClockFacts.{clock_with-later}
@@ -340,24 +340,17 @@ hop-step : (network : Network) (request : Request) (i : ℕ) (two : TwoHops netw
     → IsTimed (kind_of request.control) (bound_at two.near.shape.bounds level + two.near.shape.prop) two.near.shape.prop (clock_of (part_of (link_number two.after.link) past)) (near_ticks network request i two past) (far_ticks network request i two (done ∷ past))
 unfolding scan_of reply_to
 hop-step network request i two past done level fits sound run asked next levels rest =
-    elim (cases_Bool (nat_eq (link_number done.link) (link_number two.after.link))) [
-      | inl on ↦
-          (let at : link_number done.link ≡ link_number two.after.link = eqb-true (link_number done.link) (link_number two.after.link) on in
-          let link : next.link ≡ two.far = same_Some next.link two.far (sym next.linked ∙ ap (slice_get network.links) at ∙ two.far_linked) in
-          let answered : done.reply ≡ reply_to two.far (part_of (link_number two.after.link) past) done.ask = next.answered ∙ ap (λ l. reply_to l (part_of (link_number done.link) past) done.ask) link ∙ ap (λ m. reply_to two.far (part_of m past) done.ask) at in
-          subst (λ h. IsTimed (kind_of request.control) (bound_at two.near.shape.bounds level + two.near.shape.prop) two.near.shape.prop (clock_of (part_of (link_number two.after.link) past)) (near_ticks network request i two past) (ticks_at (channel_number request.chan) (scan_of two.far.shape h).packets)) (sym (part-on (link_number two.after.link) done past at))
-          (far-step network request i two past done level done.ask done.reply fits sound run asked next refl at levels answered rest))
-      | inr off ↦
-          subst (λ h. IsTimed (kind_of request.control) (bound_at two.near.shape.bounds level + two.near.shape.prop) two.near.shape.prop (clock_of (part_of (link_number two.after.link) past)) (near_ticks network request i two past) (ticks_at (channel_number request.chan) (scan_of two.far.shape h).packets)) (sym (part-off (link_number two.after.link) done past (eqb-false (link_number done.link) (link_number two.after.link) off))) rest
-    ]
+    by-part (λ h. IsTimed (kind_of request.control) (bound_at two.near.shape.bounds level + two.near.shape.prop) two.near.shape.prop (clock_of (part_of (link_number two.after.link) past)) (near_ticks network request i two past) (ticks_at (channel_number request.chan) (scan_of two.far.shape h).packets)) (link_number two.after.link) done past
+    (λ at.
+    let link : next.link ≡ two.far = same_Some next.link two.far (sym next.linked ∙ ap (slice_get network.links) at ∙ two.far_linked) in
+    let answered : done.reply ≡ reply_to two.far (part_of (link_number two.after.link) past) done.ask = next.answered ∙ ap (λ l. reply_to l (part_of (link_number done.link) past) done.ask) link ∙ ap (λ m. reply_to two.far (part_of m past) done.ask) at in
+    far-step network request i two past done level done.ask done.reply fits sound run asked next refl at levels answered rest)
+    (λ off. rest)
 
 clock-later : (n : ℕ) (done : Done) (past : List Done) → clock_of (part_of n past) ≤ clock_of (part_of n (done ∷ past))
 unfolding clock_of
 clock-later n done past =
-    elim (cases_Bool (nat_eq (link_number done.link) n)) [
-      | inl on ↦ subst (λ h. clock_of (part_of n past) ≤ clock_of h) (sym (part-on n done past (eqb-true (link_number done.link) n on))) (clock_with-later done.ask (clock_of (part_of n past)))
-      | inr off ↦ subst (λ h. clock_of (part_of n past) ≤ clock_of h) (sym (part-off n done past (eqb-false (link_number done.link) n off))) (omega arith)
-    ]
+    by-part (λ h. clock_of (part_of n past) ≤ clock_of h) n done past (λ on. clock_with-later done.ask (clock_of (part_of n past))) (λ off. omega arith)
 
 -- the law of two hops
 pub hop-law : (network : Network) (request : Request) (i : ℕ) (two : TwoHops network request i) → NetworkFits network → RequestFits network.links request → ((past : List Done) → IsRun network past → ChannelAsked request past) → (run : List Done) → IsRun network run → (level : ℕ)

@@ -34,7 +34,7 @@ use Rattle.tick_plane.specs.Planes.{Plane, is_due, next_due, ask_due, flight_to,
 use Rattle.run_record.specs.Runs.{entry_of, part_of, replies_to}
 use Rattle.interleave_core.specs.channels.Flights.{FlightsStand}
 use Rattle.interleave_core.specs.runs.Runs.{plane_no, plane_at, IsNext, IsRun}
-use Rattle.interleave_core.proofs.Runs.RunLegal.{part-may, RunStands, clock_at, plane-next, plane-off, plane-by, part-on, part-off, link_at-number, run-stands}
+use Rattle.interleave_core.proofs.Runs.RunLegal.{part-may, RunStands, clock_at, plane-next, plane-off, plane-by, part-on, link_at-number, run-stands, by-part}
 use Rattle.channel_laws.specs.Departing.{ticked, IsSent}
 use Rattle.channel_laws.proofs.SentFacts.{sent-facts, tick-answer}
 use Rattle.channel_laws.proofs.DepartedCount.{history-from, more-legal}
@@ -56,10 +56,7 @@ history-grows shape e h = (let adds = history-from shape e h in record { more = 
 
 pub part-grows : (link : Link) (n : ℕ) (done : Done) (past : List Done) → Grows (packets_on link n past) (packets_on link n (done ∷ past))
 part-grows link n done past =
-    elim (cases_Bool (nat_eq (link_number done.link) n)) [
-      | inl on ↦ subst (λ h. Grows (packets_on link n past) (scan_of link.shape h).packets) (sym (part-on n done past (eqb-true (link_number done.link) n on))) (history-grows link.shape (entry_of done) (part_of n past))
-      | inr off ↦ subst (λ h. Grows (packets_on link n past) (scan_of link.shape h).packets) (sym (part-off n done past (eqb-false (link_number done.link) n off))) (grows-none (packets_on link n past))
-    ]
+    by-part (λ h. Grows (packets_on link n past) (scan_of link.shape h).packets) n done past (λ on. history-grows link.shape (entry_of done) (part_of n past)) (λ off. grows-none (packets_on link n past))
 
 among-later : (p : Arrival) (old new : List Arrival) → Grows old new → Among p old → Among p new
 among-later p old new grows among = subst (Among p) (sym grows.is) (Among-left p old grows.more among)
@@ -122,24 +119,12 @@ later-flight shape h sent (Some to) t early is =
 new-comes : (network : Network) (run : List Done) (n : ℕ) (link : Link) (h : List Entry) (reply : Reply) → slice_get network.links n ≡ Some link → part_of n run ≡ ticked link.shape h → IsAdmissible link.shape h → IsAdmissible link.shape (ticked link.shape h) → reply ≡ tick_reply link.shape (clock_of h) (scan_of link.shape h) → Each (ComesFrom network run) (flight_in reply)
 new-comes network run n link h (Is.Ticked clock full None best_sent best_lost) linked part legal may same = tt
 new-comes network run n link h (Is.Ticked clock full (Some sent) best_sent best_lost) linked part legal may same = sent-comes network run n link h sent sent.next linked part may (sent-facts link.shape h clock full sent best_sent best_lost legal same) refl
-new-comes network run n link h (Is.Offer level reach) linked part legal may same = tt
-new-comes network run n link h (Is.Relaxed clock) linked part legal may same = tt
-new-comes network run n link h Is.Denied linked part legal may same = tt
-new-comes network run n link h (Is.Planned clock) linked part legal may same = tt
-new-comes network run n link h (Is.Closing count cancelled) linked part legal may same = tt
-new-comes network run n link h (Is.Taken clock eligible) linked part legal may same = tt
-new-comes network run n link h (Is.Refused refusal) linked part legal may same = tt
+new-comes network run n link h _ linked part legal may same = tt
 
 new-later : (shape : LinkShape) (h : List Entry) (reply : Reply) (t : ℕ) → t ≤ clock_of h → IsAdmissible shape h → reply ≡ tick_reply shape (clock_of h) (scan_of shape h) → Each (λ flight. is_due t flight ≡ false) (flight_in reply)
 new-later shape h (Is.Ticked clock full None best_sent best_lost) t early legal same = tt
 new-later shape h (Is.Ticked clock full (Some sent) best_sent best_lost) t early legal same = later-flight shape h sent sent.next t early (sent-facts shape h clock full sent best_sent best_lost legal same)
-new-later shape h (Is.Offer level reach) t early legal same = tt
-new-later shape h (Is.Relaxed clock) t early legal same = tt
-new-later shape h Is.Denied t early legal same = tt
-new-later shape h (Is.Planned clock) t early legal same = tt
-new-later shape h (Is.Closing count cancelled) t early legal same = tt
-new-later shape h (Is.Taken clock eligible) t early legal same = tt
-new-later shape h (Is.Refused refusal) t early legal same = tt
+new-later shape h _ t early legal same = tt
 
 none-found : {X : Type 0} (test : X → Bool) (xs : List X) → Each (λ x. test x ≡ false) xs → find test xs ≡ None
 none-found test [] each = refl

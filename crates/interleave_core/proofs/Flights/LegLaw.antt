@@ -49,10 +49,11 @@ use Rattle.channel_laws.proofs.NumberedPackets.{HasNumber, packets-have_numbers}
 use Rattle.interleave_core.specs.channels.Flights.{IsPunctual}
 use Rattle.interleave_core.proofs.Flights.Punctual.{run-punctual}
 use Rattle.interleave_core.proofs.Flights.QueueTicks.{leg, QueueOf, SendsTo, queue-ticks}
-use Rattle.interleave_core.proofs.Runs.RunLegal.{plane-next, caller-next, plane-off, plane-by, part-on, part-off, run-stands, part-admissible}
+use Rattle.interleave_core.proofs.Runs.RunLegal.{plane-next, caller-next, plane-off, plane-by, part-on, part-off, run-stands, part-admissible, by-part}
 use Rattle.channel_laws.specs.Departing.{ticked, gone_of}
 use Rattle.channel_laws.proofs.SentFacts.{sent-facts, tick-answer}
 use Rattle.link_steps.proofs.EffectFacts.{packets-by}
+use Rattle.interleave_core.proofs.Tasks.EachSetup.{is-run}
 
 -- how many packets of the channel the far hop has taken
 abbrev pub far_count : (network : Network) (request : Request) (i : ℕ) → TwoHops network request i → List Done → ℕ
@@ -77,16 +78,13 @@ quiet-clock _ t other = refl
 pub near-quiet : (network : Network) (shape : LinkShape) (c to n m : ℕ) (done : Done) (past : List Done) (flights : List Flight) → IsAdmissible shape (part_of m (done ∷ past)) → done.ask ≢ Tick → QueueOf shape c to n (part_of m past) flights → QueueOf shape c to n (part_of m (done ∷ past)) flights
 unfolding clock_of
 near-quiet network shape c to n m done past flights legal other is =
-    elim (cases_Bool (nat_eq (link_number done.link) m)) [
-      | inl on ↦
-          (let part = part-on m done past (eqb-true (link_number done.link) m on) in
-          let still : clock_with done.ask (clock_of (part_of m past)) ≡ clock_of (part_of m past) = quiet-clock done.ask (clock_of (part_of m past)) other in
-          let gone = gone-quiet shape c (entry_of done) (part_of m past) (subst (IsAdmissible shape) part legal) still in
-          subst (λ h. QueueOf shape c to n h flights) (sym part)
-          (subst (λ dep. IsQueue (leg c to) n dep 0 (clock_with done.ask (clock_of (part_of m past)) + shape.prop) flights) (sym gone)
-          (subst (λ t. IsQueue (leg c to) n (gone_of shape c (part_of m past)) 0 (t + shape.prop) flights) (sym still) is)))
-      | inr off ↦ subst (λ h. QueueOf shape c to n h flights) (sym (part-off m done past (eqb-false (link_number done.link) m off))) is
-    ]
+    by-part (λ h. IsAdmissible shape h → QueueOf shape c to n h flights) m done past
+    (λ on legal.
+    let still : clock_with done.ask (clock_of (part_of m past)) ≡ clock_of (part_of m past) = quiet-clock done.ask (clock_of (part_of m past)) other in
+    let gone = gone-quiet shape c (entry_of done) (part_of m past) legal still in
+    subst (λ dep. IsQueue (leg c to) n dep 0 (clock_with done.ask (clock_of (part_of m past)) + shape.prop) flights) (sym gone)
+    (subst (λ t. IsQueue (leg c to) n (gone_of shape c (part_of m past)) 0 (t + shape.prop) flights) (sym still) is))
+    (λ off legal. is) legal
 
 -- an ask that is no arrive of the channel leaves the far hop's packets of it as they are
 off-arrives : (c t : ℕ) (packet : Packet) (scan : Scan) (row : Row) → find (is_row_of packet.chan) scan.rows ≡ Some row → channel_number packet.chan ≢ c → channel_packets c (scan.packets ++ arrived_packet t (suc (length scan.packets)) packet row ∷ []) ≡ channel_packets c scan.packets
@@ -110,13 +108,8 @@ far-after network request i two past ask reply fits run asked other =
 pub far-kept : (network : Network) (request : Request) (i : ℕ) (two : TwoHops network request i) (past : List Done) (done : Done) → NetworkFits network → IsRun network past → ChannelAsked request past → (link_number done.link ≡ link_number two.after.link → IsOther (channel_number request.chan) done.ask) → far_count network request i two (done ∷ past) ≡ far_count network request i two past
 unfolding scan_of
 far-kept network request i two past done fits run asked other =
-    elim (cases_Bool (nat_eq (link_number done.link) (link_number two.after.link))) [
-      | inl on ↦
-          (let at = eqb-true (link_number done.link) (link_number two.after.link) on in
-          ap (λ h. length (channel_packets (channel_number request.chan) (scan_of two.far.shape h).packets)) (part-on (link_number two.after.link) done past at)
-          ∙ ap length (far-after network request i two past done.ask done.reply fits run asked (other at)))
-      | inr off ↦ ap (λ h. length (channel_packets (channel_number request.chan) (scan_of two.far.shape h).packets)) (part-off (link_number two.after.link) done past (eqb-false (link_number done.link) (link_number two.after.link) off))
-    ]
+    by-part (λ h. length (channel_packets (channel_number request.chan) (scan_of two.far.shape h).packets) ≡ far_count network request i two past) (link_number two.after.link) done past
+    (λ at. ap length (far-after network request i two past done.ask done.reply fits run asked (other at))) (λ off. refl)
 
 -- the packets of the channel at the near hop go to the far one
 pub near-sends : (network : Network) (request : Request) (i : ℕ) (two : TwoHops network request i) (run : List Done) (p : Arrival) → NetworkFits network → RequestFits network.links request → IsRun network run → ChannelAsked request run → Among p (packets_on two.near (link_number two.hop.link) run) → is_of_channel (channel_number request.chan) p ≡ true
@@ -180,13 +173,7 @@ elsewhere-keeps network request i two run m link h n dep hi flights (Is.Ticked c
         | inr off ↦ queue-other (leg (channel_number request.chan) (link_number two.after.link)) n dep 0 hi flights (record { to = l; round = sent.arrives; packet = sent.packet }) off is
       ]
 elsewhere-keeps network request i two run m link h n dep hi flights (Is.Ticked clock full None best_sent best_lost) fits sound is-run asked linked part legal answered other is = subst (IsQueue (leg (channel_number request.chan) (link_number two.after.link)) n dep 0 hi) (sym (append-nil flights)) is
-elsewhere-keeps network request i two run m link h n dep hi flights (Is.Offer level reach) fits sound is-run asked linked part legal answered other is = subst (IsQueue (leg (channel_number request.chan) (link_number two.after.link)) n dep 0 hi) (sym (append-nil flights)) is
-elsewhere-keeps network request i two run m link h n dep hi flights (Is.Relaxed clock) fits sound is-run asked linked part legal answered other is = subst (IsQueue (leg (channel_number request.chan) (link_number two.after.link)) n dep 0 hi) (sym (append-nil flights)) is
-elsewhere-keeps network request i two run m link h n dep hi flights Is.Denied fits sound is-run asked linked part legal answered other is = subst (IsQueue (leg (channel_number request.chan) (link_number two.after.link)) n dep 0 hi) (sym (append-nil flights)) is
-elsewhere-keeps network request i two run m link h n dep hi flights (Is.Planned clock) fits sound is-run asked linked part legal answered other is = subst (IsQueue (leg (channel_number request.chan) (link_number two.after.link)) n dep 0 hi) (sym (append-nil flights)) is
-elsewhere-keeps network request i two run m link h n dep hi flights (Is.Closing count cancelled) fits sound is-run asked linked part legal answered other is = subst (IsQueue (leg (channel_number request.chan) (link_number two.after.link)) n dep 0 hi) (sym (append-nil flights)) is
-elsewhere-keeps network request i two run m link h n dep hi flights (Is.Taken clock eligible) fits sound is-run asked linked part legal answered other is = subst (IsQueue (leg (channel_number request.chan) (link_number two.after.link)) n dep 0 hi) (sym (append-nil flights)) is
-elsewhere-keeps network request i two run m link h n dep hi flights (Is.Refused refusal) fits sound is-run asked linked part legal answered other is = subst (IsQueue (leg (channel_number request.chan) (link_number two.after.link)) n dep 0 hi) (sym (append-nil flights)) is
+elsewhere-keeps network request i two run m link h n dep hi flights _ fits sound is-run asked linked part legal answered other is = subst (IsQueue (leg (channel_number request.chan) (link_number two.after.link)) n dep 0 hi) (sym (append-nil flights)) is
 
 -- each arrive of the channel at the far hop is taken there
 abbrev pub ArriveCounts : (network : Network) (request : Request) (i : ℕ) → TwoHops network request i → Done → List Done → Type 0

@@ -51,13 +51,7 @@ sent-later shape h sent (Some to) t early is =
 new-later : (shape : LinkShape) (h : List Entry) (reply : Reply) (t : ℕ) → t ≤ clock_of h → IsAdmissible shape h → reply ≡ tick_reply shape (clock_of h) (scan_of shape h) → Each (λ flight. suc t ≤ flight.round) (flight_in reply)
 new-later shape h (Is.Ticked clock full None best_sent best_lost) t early legal same = tt
 new-later shape h (Is.Ticked clock full (Some sent) best_sent best_lost) t early legal same = sent-later shape h sent sent.next t early (sent-facts shape h clock full sent best_sent best_lost legal same)
-new-later shape h (Is.Offer level reach) t early legal same = tt
-new-later shape h (Is.Relaxed clock) t early legal same = tt
-new-later shape h Is.Denied t early legal same = tt
-new-later shape h (Is.Planned clock) t early legal same = tt
-new-later shape h (Is.Closing count cancelled) t early legal same = tt
-new-later shape h (Is.Taken clock eligible) t early legal same = tt
-new-later shape h (Is.Refused refusal) t early legal same = tt
+new-later shape h _ t early legal same = tt
 
 tick-punctual : (links : ℕ) (plane : Plane) (new : List Flight) → next_due plane ≡ None → IsPunctual plane → Each (λ flight. suc plane.round ≤ flight.round) new → IsPunctual (tick_made links plane new)
 tick-punctual links plane new none punctual later =

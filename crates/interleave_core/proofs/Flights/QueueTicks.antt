@@ -54,12 +54,7 @@ others-keep c to n dep hi flights (Is.Ticked clock full (Some sent) best_sent be
   by-next None = subst (IsQueue (leg c to) n dep 0 hi) (sym (append-nil flights)) is
   by-next (Some l) = queue-other (leg c to) n dep 0 hi flights (record { to = l; round = sent.arrives; packet = sent.packet }) (other-leg c to (record { to = l; round = sent.arrives; packet = sent.packet }) (off sent clock full best_sent best_lost refl)) is
 others-keep c to n dep hi flights (Is.Offer level reach) off is = subst (IsQueue (leg c to) n dep 0 hi) (sym (append-nil flights)) is
-others-keep c to n dep hi flights (Is.Relaxed clock) off is = subst (IsQueue (leg c to) n dep 0 hi) (sym (append-nil flights)) is
-others-keep c to n dep hi flights Is.Denied off is = subst (IsQueue (leg c to) n dep 0 hi) (sym (append-nil flights)) is
-others-keep c to n dep hi flights (Is.Planned clock) off is = subst (IsQueue (leg c to) n dep 0 hi) (sym (append-nil flights)) is
-others-keep c to n dep hi flights (Is.Closing count cancelled) off is = subst (IsQueue (leg c to) n dep 0 hi) (sym (append-nil flights)) is
-others-keep c to n dep hi flights (Is.Taken clock eligible) off is = subst (IsQueue (leg c to) n dep 0 hi) (sym (append-nil flights)) is
-others-keep c to n dep hi flights (Is.Refused refusal) off is = subst (IsQueue (leg c to) n dep 0 hi) (sym (append-nil flights)) is
+others-keep c to n dep hi flights _ off is = subst (IsQueue (leg c to) n dep 0 hi) (sym (append-nil flights)) is
 
 -- where a start of the tick is of the channel, its packet goes to the link
 sent-next : (shape : LinkShape) (c to : ℕ) (h : List Entry) (sent : Sent) → IsAdmissible shape h → (is : IsSent shape h sent) → channel_number sent.packet.chan ≡ c → (sends : SendsTo shape c to (ticked shape h)) → sent.next ≡ Some sends.link

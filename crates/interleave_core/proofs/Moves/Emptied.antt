@@ -23,7 +23,7 @@ use Rattle.link_steps.specs.Reservation.{Reservation, is_of, is_phase}
 use Rattle.link_steps.specs.Rows.{Row, SourcePacket, row_terms, left_at}
 use Rattle.link_steps.specs.Scan.{Scan, clock_of, scan_of, is_row_of, is_row_at_hop, names_first_hop, relax_row, close_row, arrived_row, with_arrival, without_expired, with_sources, with_best, after_tick, after}
 use Rattle.link_steps.specs.Service.{Arrival, here_at}
-use Rattle.link_steps.specs.Sources.{SourceStep, Rests, Brings, Drops, row_after, rows_after, step_of, taken_by}
+use Rattle.link_steps.specs.Sources.{SourceStep, Rests, row_after, rows_after, step_of, taken_by}
 use Rattle.link_steps.proofs.ChangeFacts.{Each-change_found}
 use Rattle.link_steps.proofs.LegalChannels.{DifferInChannel, legal-channels}
 use Rattle.link_steps.proofs.LegalOrder.{legal-order}
@@ -107,8 +107,7 @@ sources-whole c n bounds here t taken [] each = tt
 sources-whole c n bounds here t taken (row ∷ rows) each = (one (step_of bounds here t row), sources-whole c n bounds here t (taken + taken_by (step_of bounds here t row)) rows each.1) where
   one : (step : SourceStep) → IsWhole c n (row_after step t (suc taken) row)
   one Rests = each.0
-  one (Brings size) = each.0
-  one Drops = each.0
+  one _ = each.0
 
 arrival-whole : (c n t : ℕ) (packet : Packet) (scan : Scan) (found : Option Row) → Each (IsWhole c n) scan.rows → Each (IsWhole c n) (with_arrival t packet scan found).rows
 unfolding with_arrival

@@ -21,29 +21,27 @@ use Rattle.setup_protocol.specs.Hops.{RequestFits}
 use Rattle.setup_protocol.specs.declared.request.Request.{Request}
 use Rattle.call_script.specs.Fits.{NetworkFits}
 use Rattle.call_script.specs.Owners.{TaskOff, OwnedFully, AllOwned}
-use Rattle.call_script.specs.Scripts.{Learnt, Standing, or_before, newest, outcome_by, task_ask, move_between, continued, resumed, from_step, standing, standing_of, first_ask, moved_by, moved_off}
+use Rattle.call_script.specs.Scripts.{Learnt, Standing, begun, or_before, newest, outcome_by, task_ask, move_between, continued, resumed, from_step, standing, standing_of, moved_by, moved_off}
 use Rattle.call_script.specs.Tasks.{Network}
 use Rattle.call_script.specs.declared.tasks.Task.{Task}
-use Rattle.call_script.specs.declared.tasks.Task.TheVariants.{Opens, Sends, Closes, Moves}
+use Rattle.call_script.specs.declared.tasks.Task.TheVariants.{Moves}
 use Rattle.run_record.specs.Runs.{replies_to, part_of}
 use Rattle.run_record.specs.declared.done.Done.{Done}
 use Rattle.interleave_core.specs.channels.Paths.{HopAt}
 use Rattle.interleave_core.specs.channels.Moves.{planned_in, cancelled_in, offered_in, left_in}
 use Rattle.interleave_core.specs.channels.Shifting.{given_with, given_in, IsNotLeaving, cancelled_alone, EveryMoveGivesTheShifted, EveryPlannedPacketIsTold}
-use Rattle.interleave_core.specs.runs.Runs.{IsNext, IsRun}
-use Rattle.interleave_core.proofs.Tasks.CallerFacts.{StandingFits}
-use Rattle.interleave_core.proofs.Channels.FarHolds.{own-kind}
+use Rattle.interleave_core.specs.runs.Runs.{IsRun}
 use Rattle.interleave_core.proofs.Moves.LastPackets.{some-left}
-use Rattle.interleave_core.proofs.Moves.MoveLaw.{MoveTold, Was, Now, continued-told, move-own, no-moves, run-moved}
-use Rattle.interleave_core.proofs.Moves.MoveSteps.{not-plane, owner-asks, move-fits}
+use Rattle.interleave_core.proofs.Moves.MoveLaw.{MoveTold, Was, Now, move-told, move-own, no-moves, run-moved}
+use Rattle.interleave_core.proofs.Moves.MoveSteps.{move-fits}
 use Rattle.interleave_core.proofs.Moves.MoveTotal.{begins-not, run-shifted}
 use Rattle.interleave_core.proofs.Moves.TotalLaw.{none-lost}
-use Rattle.interleave_core.proofs.Replies.ClosingStands.{ClosesAt}
-use Rattle.interleave_core.proofs.Replies.ClosingSteps.{head-same}
 use Rattle.interleave_core.proofs.Replies.Replying.{moves-plan}
-use Rattle.interleave_core.proofs.Replies.RunCloses.{owned-once, run-closes}
-use Rattle.interleave_core.proofs.Replies.RunGoes.{GoesAt, run-goes, off-standing}
-use Rattle.interleave_core.proofs.Runs.RunLegal.{replies-by, replies-off, run-stands, part-admissible}
+use Rattle.interleave_core.proofs.Runs.RunLegal.{part-admissible}
+use Rattle.interleave_core.proofs.Runs.EachRun.{not-plane, head-same, each-run-resumed, OwnStep}
+use Rattle.interleave_core.proofs.Tasks.TaskAsks.{off-standing}
+use Rattle.interleave_core.proofs.Channels.OwnerEntries.{step-kind}
+use Rattle.interleave_core.proofs.Tasks.OwnTasks.{own-task}
 
 -- ---- what the move under way has given
 
@@ -57,14 +55,11 @@ way_given c (Moves old new gap size ∷ tasks) replies = if nat_eq (channel_numb
 way_given c tasks replies = 0
 
 none-way : (c : ℕ) (tasks : List Task) → way_given c tasks [] ≡ 0
-none-way c [] = refl
-none-way c (Opens r ∷ tasks) = refl
-none-way c (Sends link chan count gap size ∷ tasks) = refl
-none-way c (Closes r ∷ tasks) = refl
 none-way c (Moves old new gap size ∷ tasks) = by (nat_eq (channel_number old.chan) c) where
   by : (b : Bool) → ◌≡◌ {A = ℕ} (if b then 0 else 0) 0
   by true = refl
   by false = refl
+none-way c _ = refl
 
 -- where a caller stands, and how many packets moves from the request's channel have given
 record GivenAt (request : Request) (n : ℕ) (at : Standing) : Type 0 where
@@ -85,17 +80,12 @@ gives-none c n (Moves old new gap size) tasks (Submit chan count own_gap own_siz
 gives-none c n _ tasks _ _ other = refl
 
 no-way : (c : ℕ) (task : Task) (tasks : List Task) (replies : List Reply) → IsNoMove c task → way_given c (task ∷ tasks) replies ≡ 0
-no-way c (Opens r) tasks replies other = refl
-no-way c (Sends link chan count gap size) tasks replies other = refl
-no-way c (Closes r) tasks replies other = refl
 no-way c (Moves old new gap size) tasks replies other = rw (ne_eqb (channel_number old.chan) c other) refl
+no-way c _ tasks replies other = refl
 
 off-none : (c n : ℕ) (tasks : List Task) (ask : Ask) (reply : Reply) → Each (TaskOff c) tasks → given_with c n tasks ask reply ≡ n
-off-none c n [] ask reply off = refl
-off-none c n (Opens r ∷ tasks) ask reply off = refl
-off-none c n (Sends link chan count gap size ∷ tasks) ask reply off = refl
-off-none c n (Closes r ∷ tasks) ask reply off = refl
 off-none c n (Moves old new gap size ∷ tasks) ask reply off = gives-none c n (Moves old new gap size) tasks ask reply off.0.0
+off-none c n _ ask reply off = refl
 
 -- what newer notes don't tell, the older ones don't either
 older-none : (request : Request) (notes outcomes : List Learnt) → moved_off request.chan (notes ++ outcomes) ≡ None → moved_off request.chan outcomes ≡ None
@@ -117,7 +107,7 @@ other-goes request n m task rest before replies outcomes (Some to) other same wa
   fresh = λ old new gap size left reply more first chan made. absurd (subst (IsNoMove (channel_number request.chan)) (head-same task rest (Moves old new gap size) left first) other chan);
 }
 other-goes request n m task rest before replies outcomes None other same was = record {
-  told = λ told moved. same ∙ by-told told (continued-told request outcomes task rest replies None told moved);
+  told = λ told moved. same ∙ by-told told (move-told request task replies outcomes told moved);
   none = λ none. same ∙ was.none (older-none request (outcome_by task replies) outcomes none) ∙ no-way (channel_number request.chan) task rest before other ∙ sym (none-way (channel_number request.chan) (from_step (outcome_by task replies ++ outcomes) rest));
   fresh = λ old new gap size left reply more first chan made. (let clash : [] ≡ reply ∷ more = made in cc);
 } where
@@ -151,7 +141,7 @@ move-goes request old new gap size m rest reply replies outcomes (Some to) least
   fresh = λ _ _ _ _ _ _ _ _ _ _. quiet;
 }
 move-goes request old new gap size m rest reply replies outcomes None least chan quiet same over = record {
-  told = λ told moved. by-told told (continued-told request outcomes (Moves old new gap size) rest (reply ∷ replies) None told moved);
+  told = λ told moved. by-told told (move-told request (Moves old new gap size) (reply ∷ replies) outcomes told moved);
   none = λ none. absurd (end-tells request old new gap size reply replies outcomes chan none);
   fresh = λ own other gap size left first more is same made. (let clash : [] ≡ first ∷ more = made in cc);
 } where
@@ -187,92 +177,85 @@ step-gives c n old new gap size rest replies to ask reply chan same planned (Ask
 -- ---- every run
 
 module _ (network : Network) (request : Request) (owner : ℕ) (first : HopAt network request 0) (fits : NetworkFits network) (all : AllOwned network) (sound : RequestFits network.links request) (full : OwnedFully network request owner) where
-  abbrev RunGiven : List Done → Type 0
-  RunGiven run = (tasks : List Task) → slice_get network.scripts owner ≡ Some tasks → GivenAt request (given_in network (channel_number request.chan) run) (standing tasks (replies_to owner run))
+  abbrev GivenBy : List Done → Standing → Type 0
+  GivenBy run at = GivenAt request (given_in network (channel_number request.chan) run) at
 
   -- a move from the channel begins but once
-  first-move : (past : List Done) (done : Done) (tasks : List Task) (old new : Request) (gap size : ℕ) (rest : List Task) (replies : List Reply) (outcomes : List Learnt) → IsRun network past → (next : IsNext network past done) → slice_get network.scripts owner ≡ Some tasks
-      → standing tasks (replies_to owner past) ≡ record { tasks = Moves old new gap size ∷ rest; replies = replies; outcomes = outcomes } → first_ask (Moves old new gap size ∷ rest) replies ≡ Some (done.link, done.ask) → channel_number old.chan ≡ channel_number request.chan
-      → GivenAt request (given_in network (channel_number request.chan) past) (record { tasks = Moves old new gap size ∷ rest; replies = replies; outcomes = outcomes }) → moved_off request.chan outcomes ≡ None
-  first-move past done tasks old new gap size rest (reply ∷ replies) outcomes run next found is asks chan was = was.fresh old new gap size rest reply replies refl chan refl
-  first-move past done tasks old new gap size rest [] outcomes run next found is asks chan was = by (moved_off request.chan outcomes) refl where
+  first-move : (script : List Task) (past : List Done) (done : Done) (old new : Request) (gap size : ℕ) (rest : List Task) (replies : List Reply) (outcomes : List Learnt) → OwnStep network owner script past done (Moves old new gap size) rest replies outcomes → channel_number old.chan ≡ channel_number request.chan
+      → GivenBy past (record { tasks = Moves old new gap size ∷ rest; replies = replies; outcomes = outcomes }) → moved_off request.chan outcomes ≡ None
+  first-move script past done old new gap size rest (reply ∷ replies) outcomes step chan was = was.fresh old new gap size rest reply replies refl chan refl
+  first-move script past done old new gap size rest [] outcomes step chan was = by (moved_off request.chan outcomes) refl where
     by : (told : Option Shifted) → moved_off request.chan outcomes ≡ told → moved_off request.chan outcomes ≡ None
     by None none = none
     by (Some told) some =
-        let stands = subst (StandingFits network.links) is ((run-stands network past fits run).callers owner tasks found) in
-        let goes : GoesAt network request past (Moves old new gap size ∷ rest) [] outcomes = subst (λ (s : Standing). GoesAt network request past s.tasks s.replies s.outcomes) is ((run-goes network request owner past fits sound (owned-once network request owner full) run).at tasks found) in
-        let closes = subst (ClosesAt network request past) is ((run-closes network request owner past fits sound full run).at tasks found) in
-        let leaving = move-own network request old new gap size rest past (record { tasks = Moves old new gap size ∷ rest; replies = []; outcomes = outcomes }) refl chan closes in
-        let kind = own-kind network request done past outcomes (Moves old new gap size) rest [] fits sound run next stands goes asks closes in
-        let frozen = (run-moved network request owner first past fits sound full run).at tasks found told (ap (λ (s : Standing). moved_off request.chan s.outcomes) is ∙ some) in
+        let leaving = move-own request old new gap size (Moves old new gap size) (own-task network request owner script past done (Moves old new gap size) rest [] outcomes full step) refl chan in
+        let kind = step-kind network request owner script past done (Moves old new gap size) rest [] outcomes fits sound full step in
+        let frozen = run-moved network request owner first fits sound full past script step.run step.found told (ap (λ (s : Standing). moved_off request.chan s.outcomes) step.stands ∙ some) in
         absurd (begins-not network request first done past (Moves old new gap size) [] told.kept frozen leaving refl kind)
 
-  -- one reply more to the owner
-  own-goes : (past : List Done) (done : Done) (tasks left : List Task) (replies : List Reply) (outcomes : List Learnt) → IsRun network past → (next : IsNext network past done) → actor_number done.actor ≡ owner → slice_get network.scripts owner ≡ Some tasks → standing tasks (replies_to owner past) ≡ record { tasks = left; replies = replies; outcomes = outcomes }
-      → first_ask left replies ≡ Some (done.link, done.ask) → GivenAt request (given_in network (channel_number request.chan) past) (record { tasks = left; replies = replies; outcomes = outcomes })
-      → GivenAt request (given_with (channel_number request.chan) (given_in network (channel_number request.chan) past) left done.ask done.reply) (resumed outcomes left (replies ++ done.reply ∷ []))
+  -- one reply more to a move from the channel
+  own-move : (script : List Task) (past : List Done) (done : Done) (old new : Request) (gap size : ℕ) (rest : List Task) (replies : List Reply) (outcomes : List Learnt) → OwnStep network owner script past done (Moves old new gap size) rest replies outcomes → channel_number old.chan ≡ channel_number request.chan
+      → GivenBy past (record { tasks = Moves old new gap size ∷ rest; replies = replies; outcomes = outcomes }) → GivenAt request (given_with (channel_number request.chan) (given_in network (channel_number request.chan) past) (Moves old new gap size ∷ rest) done.ask done.reply) (resumed outcomes (Moves old new gap size ∷ rest) (replies ++ done.reply ∷ []))
   unfolding resumed
-  own-goes past done tasks [] replies outcomes run next by found is asks was = cc
-  own-goes past done tasks (Opens r ∷ rest) replies outcomes run next by found is asks was = other-goes request (given_in network (channel_number request.chan) past) _ (Opens r) rest replies (replies ++ done.reply ∷ []) outcomes (task_ask (Opens r) (replies ++ done.reply ∷ [])) tt refl was
-  own-goes past done tasks (Sends link chan count gap size ∷ rest) replies outcomes run next by found is asks was = other-goes request (given_in network (channel_number request.chan) past) _ (Sends link chan count gap size) rest replies (replies ++ done.reply ∷ []) outcomes (task_ask (Sends link chan count gap size) (replies ++ done.reply ∷ [])) tt refl was
-  own-goes past done tasks (Closes r ∷ rest) replies outcomes run next by found is asks was = other-goes request (given_in network (channel_number request.chan) past) _ (Closes r) rest replies (replies ++ done.reply ∷ []) outcomes (task_ask (Closes r) (replies ++ done.reply ∷ [])) tt refl was
-  own-goes past done tasks (Moves old new gap size ∷ rest) replies outcomes run next by found is asks was =
+  own-move script past done old new gap size rest replies outcomes step chan was =
+      let at_tasks : (standing script (replies_to owner past)).tasks ≡ Moves old new gap size ∷ rest = ap (λ (s : Standing). s.tasks) step.stands in
+      let fit = move-fits network past owner gap size script rest old new fits step.run step.found at_tasks in
+      let quiet = first-move script past done old new gap size rest replies outcomes step chan was in
+      let before : given_in network (channel_number request.chan) past ≡ given_by replies = was.none quiet ∙ rw (eq-eqb (channel_number old.chan) (channel_number request.chan) chan) refl in
+      let other = not-plane network (actor_number done.actor) owner script step.by step.found in
+      let now = step-gives (channel_number request.chan) (given_in network (channel_number request.chan) past) old new gap size rest replies done.link done.ask done.reply chan before
+      (λ count submit. (_, (moves-plan network past done script rest old new gap size count fits all step.run step.next other (ap (slice_get network.scripts) step.by ∙ step.found) (ap (λ a. (standing script (replies_to a past)).tasks) step.by ∙ at_tasks) submit).0))
+      (move-asks (move_between old new gap size) replies done.link done.ask step.asks) in
+      more replies fit.of_new.route.least quiet now where
+        more : (rs : List Reply) → 1 ≤ length new.route → moved_off request.chan outcomes ≡ None → given_with (channel_number request.chan) (given_in network (channel_number request.chan) past) (Moves old new gap size ∷ rest) done.ask done.reply ≡ given_by (rs ++ done.reply ∷ [])
+            → GivenAt request (given_with (channel_number request.chan) (given_in network (channel_number request.chan) past) (Moves old new gap size ∷ rest) done.ask done.reply) (continued outcomes (Moves old new gap size) rest (rs ++ done.reply ∷ []) (task_ask (Moves old new gap size) (rs ++ done.reply ∷ [])))
+        more [] least quiet now = move-goes request old new gap size _ rest done.reply [] outcomes (task_ask (Moves old new gap size) (done.reply ∷ [])) least chan quiet now refl
+        more (first ∷ rs) least quiet now = move-goes request old new gap size _ rest first (rs ++ done.reply ∷ []) outcomes (task_ask (Moves old new gap size) (first ∷ rs ++ done.reply ∷ [])) least chan quiet now refl
+
+  -- one to another task
+  own-other : (past : List Done) (done : Done) (task : Task) (rest : List Task) (replies : List Reply) (outcomes : List Learnt) → IsNoMove (channel_number request.chan) task
+      → GivenBy past (record { tasks = task ∷ rest; replies = replies; outcomes = outcomes }) → GivenAt request (given_with (channel_number request.chan) (given_in network (channel_number request.chan) past) (task ∷ rest) done.ask done.reply) (resumed outcomes (task ∷ rest) (replies ++ done.reply ∷ []))
+  unfolding resumed
+  own-other past done task rest replies outcomes other was =
+      other-goes request (given_in network (channel_number request.chan) past) _ task rest replies (replies ++ done.reply ∷ []) outcomes (task_ask task (replies ++ done.reply ∷ [])) other
+      (gives-none (channel_number request.chan) (given_in network (channel_number request.chan) past) task rest done.ask done.reply other) was
+
+  own-goes : (script : List Task) (past : List Done) (done : Done) (task : Task) (rest : List Task) (replies : List Reply) (outcomes : List Learnt) → OwnStep network owner script past done task rest replies outcomes
+      → GivenBy past (record { tasks = task ∷ rest; replies = replies; outcomes = outcomes }) → GivenAt request (given_with (channel_number request.chan) (given_in network (channel_number request.chan) past) (task ∷ rest) done.ask done.reply) (resumed outcomes (task ∷ rest) (replies ++ done.reply ∷ []))
+  own-goes script past done (Moves old new gap size) rest replies outcomes step was =
       elim (cases_Bool (nat_eq (channel_number old.chan) (channel_number request.chan))) [
-        | inr off ↦
-            (let other = eqb-false (channel_number old.chan) (channel_number request.chan) off in
-            other-goes request (given_in network (channel_number request.chan) past) _ (Moves old new gap size) rest replies (replies ++ done.reply ∷ []) outcomes (task_ask (Moves old new gap size) (replies ++ done.reply ∷ [])) other
-            (gives-none (channel_number request.chan) (given_in network (channel_number request.chan) past) (Moves old new gap size) rest done.ask done.reply other) was)
-        | inl own ↦ by-move (eqb-true (channel_number old.chan) (channel_number request.chan) own)
-      ] where
-        by-move : channel_number old.chan ≡ channel_number request.chan → GivenAt request (given_with (channel_number request.chan) (given_in network (channel_number request.chan) past) (Moves old new gap size ∷ rest) done.ask done.reply) (continued outcomes (Moves old new gap size) rest (replies ++ done.reply ∷ []) (task_ask (Moves old new gap size) (replies ++ done.reply ∷ [])))
-        by-move chan =
-            let at_tasks : (standing tasks (replies_to owner past)).tasks ≡ Moves old new gap size ∷ rest = ap (λ (s : Standing). s.tasks) is in
-            let fit = move-fits network past owner gap size tasks rest old new fits run found at_tasks in
-            let quiet = first-move past done tasks old new gap size rest replies outcomes run next found is asks chan was in
-            let before : given_in network (channel_number request.chan) past ≡ given_by replies = was.none quiet ∙ rw (eq-eqb (channel_number old.chan) (channel_number request.chan) chan) refl in
-            let other = not-plane network (actor_number done.actor) owner tasks by found in
-            let now = step-gives (channel_number request.chan) (given_in network (channel_number request.chan) past) old new gap size rest replies done.link done.ask done.reply chan before
-            (λ count submit. (_, (moves-plan network past done tasks rest old new gap size count fits all run next other (ap (slice_get network.scripts) by ∙ found) (ap (λ a. (standing tasks (replies_to a past)).tasks) by ∙ at_tasks) submit).0))
-            (move-asks (move_between old new gap size) replies done.link done.ask asks) in
-            more replies fit.of_new.route.least quiet now where
-              more : (rs : List Reply) → 1 ≤ length new.route → moved_off request.chan outcomes ≡ None → given_with (channel_number request.chan) (given_in network (channel_number request.chan) past) (Moves old new gap size ∷ rest) done.ask done.reply ≡ given_by (rs ++ done.reply ∷ [])
-                  → GivenAt request (given_with (channel_number request.chan) (given_in network (channel_number request.chan) past) (Moves old new gap size ∷ rest) done.ask done.reply) (continued outcomes (Moves old new gap size) rest (rs ++ done.reply ∷ []) (task_ask (Moves old new gap size) (rs ++ done.reply ∷ [])))
-              more [] least quiet now = move-goes request old new gap size _ rest done.reply [] outcomes (task_ask (Moves old new gap size) (done.reply ∷ [])) least chan quiet now refl
-              more (first ∷ rs) least quiet now = move-goes request old new gap size _ rest first (rs ++ done.reply ∷ []) outcomes (task_ask (Moves old new gap size) (first ∷ rs ++ done.reply ∷ [])) least chan quiet now refl
+        | inr off ↦ own-other past done (Moves old new gap size) rest replies outcomes (eqb-false (channel_number old.chan) (channel_number request.chan) off) was
+        | inl own ↦ own-move script past done old new gap size rest replies outcomes step (eqb-true (channel_number old.chan) (channel_number request.chan) own) was
+      ]
+  own-goes script past done task rest replies outcomes step was = own-other past done task rest replies outcomes tt was
 
-  given-next : (past : List Done) (done : Done) → IsRun network past → (next : IsNext network past done) → RunGiven past → RunGiven (done ∷ past)
-  unfolding given_in standing
-  given-next past done run next was tasks found =
-      elim (cases_Bool (nat_eq (actor_number done.actor) owner)) [
-        | inl own ↦
-            (let e : actor_number done.actor ≡ owner = eqb-true (actor_number done.actor) owner own in
-            let asked = owner-asks network past done owner tasks next e found in
-            let at : (standing_of (slice_get network.scripts (actor_number done.actor)) (replies_to (actor_number done.actor) past)).tasks ≡ (standing tasks (replies_to owner past)).tasks =
-            ap (λ a. (standing_of (slice_get network.scripts a) (replies_to a past)).tasks) e ∙ ap (λ f. (standing_of f (replies_to owner past)).tasks) found in
-            subst (λ n. GivenAt request n (standing tasks (replies_to owner (done ∷ past)))) (ap (λ ts. given_with (channel_number request.chan) (given_in network (channel_number request.chan) past) ts done.ask done.reply) (sym at))
-            (subst (λ rs. GivenAt request (given_with (channel_number request.chan) (given_in network (channel_number request.chan) past) (standing tasks (replies_to owner past)).tasks done.ask done.reply) (standing tasks rs)) (sym (replies-by owner done past e))
-            (own-goes past done tasks (standing tasks (replies_to owner past)).tasks (standing tasks (replies_to owner past)).replies (standing tasks (replies_to owner past)).outcomes run next e found refl asked (was tasks found))))
-        | inr off ↦
-            (let other = eqb-false (actor_number done.actor) owner off in
-            let same = off-none (channel_number request.chan) (given_in network (channel_number request.chan) past) (standing_of (slice_get network.scripts (actor_number done.actor)) (replies_to (actor_number done.actor) past)).tasks done.ask done.reply (off-tasks other (slice_get network.scripts (actor_number done.actor)) refl) in
-            subst (λ n. GivenAt request n (standing tasks (replies_to owner (done ∷ past)))) (sym same) (subst (λ rs. GivenAt request (given_in network (channel_number request.chan) past) (standing tasks rs)) (sym (replies-off owner done past other)) (was tasks found)))
-      ] where
-        off-tasks : actor_number done.actor ≢ owner → (script : Option (List Task)) → slice_get network.scripts (actor_number done.actor) ≡ script → Each (TaskOff (channel_number request.chan)) (standing_of script (replies_to (actor_number done.actor) past)).tasks
-        off-tasks other None none = tt
-        off-tasks other (Some own) some = off-standing (channel_number request.chan) own (replies_to (actor_number done.actor) past) (full.others (actor_number done.actor) own other some)
+  -- the tasks that the entry's actor stands at
+  own-given : (script : List Task) (past : List Done) (done : Done) (task : Task) (rest : List Task) (replies : List Reply) (outcomes : List Learnt) → OwnStep network owner script past done task rest replies outcomes → given_in network (channel_number request.chan) (done ∷ past) ≡ given_with (channel_number request.chan) (given_in network (channel_number request.chan) past) (task ∷ rest) done.ask done.reply
+  unfolding given_in
+  own-given script past done task rest replies outcomes step =
+      ap (λ ts. given_with (channel_number request.chan) (given_in network (channel_number request.chan) past) ts done.ask done.reply)
+      (ap (λ a. (standing_of (slice_get network.scripts a) (replies_to a past)).tasks) step.by ∙ ap (λ f. (standing_of f (replies_to owner past)).tasks) step.found ∙ ap (λ (s : Standing). s.tasks) step.stands)
 
-  none-given : (tasks : List Task) → GivenAt request 0 (standing tasks [])
-  unfolding standing
+  off-given : (past : List Done) (done : Done) → actor_number done.actor ≢ owner → given_in network (channel_number request.chan) (done ∷ past) ≡ given_in network (channel_number request.chan) past
+  unfolding given_in
+  off-given past done other =
+      off-none (channel_number request.chan) (given_in network (channel_number request.chan) past) (standing_of (slice_get network.scripts (actor_number done.actor)) (replies_to (actor_number done.actor) past)).tasks done.ask done.reply (off-tasks (slice_get network.scripts (actor_number done.actor)) refl) where
+        off-tasks : (script : Option (List Task)) → slice_get network.scripts (actor_number done.actor) ≡ script → Each (TaskOff (channel_number request.chan)) (standing_of script (replies_to (actor_number done.actor) past)).tasks
+        off-tasks None none = tt
+        off-tasks (Some own) some = off-standing (channel_number request.chan) own (replies_to (actor_number done.actor) past) (full.others (actor_number done.actor) own other some)
+
+  none-given : (tasks : List Task) → GivenBy [] (begun [] tasks)
+  unfolding given_in
   none-given tasks = record {
-    told = λ told moved. absurd (no-moves request tasks told moved);
+    told = λ told moved. absurd (no-moves request told moved);
     none = λ none. sym (none-way (channel_number request.chan) (from_step [] tasks));
     fresh = λ old new gap size rest reply more is chan made. (let clash : [] ≡ reply ∷ more = made in cc);
   }
 
-  run-given : (run : List Done) → IsRun network run → RunGiven run
-  unfolding IsRun replies_to given_in
-  run-given [] is = λ tasks found. none-given tasks
-  run-given (done ∷ past) is = given-next past done is.0 is.1 (run-given past is.0)
+  run-given : (run : List Done) → IsRun network run → (script : List Task) → slice_get network.scripts owner ≡ Some script → GivenBy run (standing script (replies_to owner run))
+  run-given run is script found =
+      each-run-resumed network owner script found GivenBy (none-given script) (λ past done at before next other was. subst (λ n. GivenAt request n at) (sym (off-given past done other)) was)
+      (λ past done task rest replies outcomes step was. subst (λ n. GivenAt request n (resumed outcomes (task ∷ rest) (replies ++ done.reply ∷ []))) (sym (own-given script past done task rest replies outcomes step)) (own-goes script past done task rest replies outcomes step was)) run is
 
 pub moves-give : EveryMoveGivesTheShifted
 moves-give network request owner first run tasks told fits all sound full is found moved = record {
@@ -283,11 +266,8 @@ moves-give network request owner first run tasks told fits all sound full is fou
 -- ---- one law over both
 
 still-none : (c : ℕ) (tasks : List Task) (replies : List Reply) → IsNotLeaving c tasks → way_given c tasks replies ≡ 0
-still-none c [] replies still = refl
-still-none c (Opens r ∷ tasks) replies still = refl
-still-none c (Sends link chan count gap size ∷ tasks) replies still = refl
-still-none c (Closes r ∷ tasks) replies still = refl
 still-none c (Moves old new gap size ∷ tasks) replies still = no-way c (Moves old new gap size) tasks replies still
+still-none c _ replies still = refl
 
 pub planned-told : EveryPlannedPacketIsTold
 planned-told network request owner first run tasks fits all sound full is found still = by (moved_off request.chan (standing tasks (replies_to owner run)).outcomes) refl where

@@ -1,5 +1,5 @@
 -- Each step of a move releases a hop of the channel that is left, or plans on the other channel what the first release has cancelled.
-use Rattle.std.proofs.Common.{◌≡◌, ◌≢◌, ℕ, zero, suc, ◌+◌, ◌≤◌, false, List, [], ◌∷◌, ◌++◌, Some, None, refl, sym, ap, ◌∙◌, subst, inr, arith}
+use Rattle.std.proofs.Common.{◌≡◌, ℕ, zero, suc, ◌+◌, ◌≤◌, false, List, [], ◌∷◌, ◌++◌, Some, None, refl, sym, ap, ◌∙◌, subst, inr, arith}
 use Rattle.std.proofs.lemmas.Bool.{eqb-false}
 use Rattle.std.proofs.lemmas.Option.{same_Some, slice_get_within}
 use Rattle.std.specs.List.{slice_get}
@@ -18,7 +18,7 @@ use Rattle.setup_protocol.specs.Teardown.{first_count}
 use Rattle.setup_protocol.specs.declared.request.Request.{Request}
 use Rattle.call_script.specs.Fits.{NetworkFits, TaskFits, MoveFits}
 use Rattle.call_script.specs.Owners.{OwnedFully, AllOwned}
-use Rattle.call_script.specs.Scripts.{Learnt, Standing, move_between, standing, first_ask, ask_at}
+use Rattle.call_script.specs.Scripts.{Learnt, Standing, move_between, standing, ask_at}
 use Rattle.call_script.specs.Tasks.{Network}
 use Rattle.call_script.specs.declared.tasks.Task.{Task}
 use Rattle.call_script.specs.declared.tasks.Task.TheVariants.{Moves}
@@ -27,29 +27,18 @@ use Rattle.run_record.specs.declared.done.Done.{Done}
 use Rattle.interleave_core.specs.channels.Moves.{cancelled_with}
 use Rattle.interleave_core.specs.channels.Paths.{HopAt}
 use Rattle.interleave_core.specs.channels.Shifting.{MoveStep, Leaves, Joins, Frees, EveryMovePlansTheShifted}
-use Rattle.interleave_core.specs.runs.Runs.{plane_no, IsNext, IsRun}
+use Rattle.interleave_core.specs.runs.Runs.{IsRun}
 use Rattle.interleave_core.proofs.Channels.ChainLaw.{leaves-frozen}
-use Rattle.interleave_core.proofs.Channels.FarHolds.{IsLeaving, OwnKind, own-kind, stage-told}
+use Rattle.interleave_core.proofs.Channels.FarHolds.{IsLeaving, stage-told}
 use Rattle.interleave_core.proofs.Channels.HopsAt.{hop-at}
 use Rattle.interleave_core.proofs.Moves.LastPackets.{moves-take-last}
 use Rattle.interleave_core.proofs.Moves.MoveTotal.{cancelled_at, own-release, entry-cancels, first-cancels, run-shifted}
-use Rattle.interleave_core.proofs.Replies.ClosingStands.{ClosesAt}
 use Rattle.interleave_core.proofs.Replies.Replying.{moves-plan}
-use Rattle.interleave_core.proofs.Replies.RunCloses.{owned-once, run-closes}
-use Rattle.interleave_core.proofs.Replies.RunGoes.{GoesAt, run-goes, owned-asked}
-use Rattle.interleave_core.proofs.Runs.RunLegal.{caller-next, run-stands}
-use Rattle.interleave_core.proofs.Tasks.CallerFacts.{StandingFits}
-
--- a caller is not the plane
-pub not-plane : (network : Network) (actor owner : ℕ) (tasks : List Task) → actor ≡ owner → slice_get network.scripts owner ≡ Some tasks → actor ≢ plane_no network
-not-plane network actor owner tasks by found same = (let inside = slice_get_within network.scripts owner tasks found in absurd (omega (arith, inside, by, same)))
-
--- what a caller asks, by where it stands
-pub owner-asks : (network : Network) (past : List Done) (done : Done) (owner : ℕ) (tasks : List Task) → IsNext network past done → actor_number done.actor ≡ owner → slice_get network.scripts owner ≡ Some tasks → ask_at (standing tasks (replies_to owner past)) ≡ Some (done.link, done.ask)
-owner-asks network past done owner tasks next by found =
-    let asks = caller-next network past done next (not-plane network (actor_number done.actor) owner tasks by found) in
-    let own : asks.tasks ≡ tasks = same_Some asks.tasks tasks (sym asks.found ∙ ap (slice_get network.scripts) by ∙ found) in
-    subst (λ ts. ask_at (standing ts (replies_to owner past)) ≡ Some (done.link, done.ask)) own (subst (λ a. ask_at (standing asks.tasks (replies_to a past)) ≡ Some (done.link, done.ask)) by asks.asks)
+use Rattle.interleave_core.proofs.Replies.RunCloses.{owned-once}
+use Rattle.interleave_core.proofs.Replies.RunGoes.{owned-asked}
+use Rattle.interleave_core.proofs.Runs.RunLegal.{run-stands}
+use Rattle.interleave_core.proofs.Runs.EachRun.{owner-asks, not-plane, OwnStep}
+use Rattle.interleave_core.proofs.Channels.OwnerEntries.{step-kind}
 
 -- two hops at one place
 hop-link : (network : Network) (request : Request) (k : ℕ) (at : HopAt network request k) (to : _) → HopAsked request.route k to → link_number to ≡ link_number at.hop.link
@@ -68,15 +57,6 @@ move-fits network run owner gap size tasks rest old new fits is found first = he
 pub is-leaving : (links : List _) (old new : Request) (gap size : ℕ) → MoveFits links old new gap size → IsLeaving old (Moves old new gap size)
 is-leaving links old new gap size fit = inr (record { new = new; gap = gap; size = size; is = refl; other = λ same. fit.apart (sym same) })
 
--- what the step is to the channel that is left
-pub leaving-kind : (network : Network) (past : List Done) (done : Done) (owner gap size : ℕ) (tasks rest : List Task) (old new : Request) (replies : List Reply) (outcomes : List Learnt) → NetworkFits network → RequestFits network.links old → OwnedFully network old owner → IsRun network past → (next : IsNext network past done) → slice_get network.scripts owner ≡ Some tasks
-    → standing tasks (replies_to owner past) ≡ record { tasks = Moves old new gap size ∷ rest; replies = replies; outcomes = outcomes } → first_ask (Moves old new gap size ∷ rest) replies ≡ Some (done.link, done.ask) → OwnKind network old done past (Moves old new gap size) replies
-leaving-kind network past done owner gap size tasks rest old new replies outcomes fits sound full run next found is asks =
-    let stands = subst (StandingFits network.links) is ((run-stands network past fits run).callers owner tasks found) in
-    let goes : GoesAt network old past (Moves old new gap size ∷ rest) replies outcomes = subst (λ (s : Standing). GoesAt network old past s.tasks s.replies s.outcomes) is ((run-goes network old owner past fits sound (owned-once network old owner full) run).at tasks found) in
-    let closes = subst (ClosesAt network old past) is ((run-closes network old owner past fits sound full run).at tasks found) in
-    own-kind network old done past outcomes (Moves old new gap size) rest replies fits sound run next stands goes asks closes
-
 -- the first reply, with more of them
 stays-told : (replies : List Reply) (more : List Reply) (kept : ℕ) → first_count replies ≡ Some kept → first_count (replies ++ more) ≡ Some kept
 stays-told [] more kept is = cc
@@ -94,45 +74,46 @@ none-before network request first done past on is now =
     entry-cancels network request first done past on ∙ ap (λ a. cancelled_with (channel_number request.chan) (cancelled_at network request first past) a done.reply) is ∙ own-release request.chan (cancelled_at network request first past) None done.reply in
     omega (arith, now, more)
 
-step-of : (network : Network) (past : List Done) (done : Done) (owner gap size : ℕ) (tasks rest : List Task) (old new : Request) (first : HopAt network old 0) (replies : List Reply) (outcomes : List Learnt) → NetworkFits network → AllOwned network → RequestFits network.links old → OwnedFully network old owner → IsRun network past → (next : IsNext network past done)
-    → actor_number done.actor ≡ owner → slice_get network.scripts owner ≡ Some tasks → standing tasks (replies_to owner past) ≡ record { tasks = Moves old new gap size ∷ rest; replies = replies; outcomes = outcomes } → first_ask (Moves old new gap size ∷ rest) replies ≡ Some (done.link, done.ask)
-    → MoveAsks (move_between old new gap size) replies done.link done.ask → MoveStep network past done next old new first
-step-of network past done owner gap size tasks rest old new first replies outcomes fits all sound full run next by found is asks (AsksFirst none own release) =
-    let on = hop-link network old 0 first done.link own in
-    let fit = move-fits network past owner gap size tasks rest old new fits run found (ap (λ (s : Standing). s.tasks) is) in
-    let kind = leaving-kind network past done owner gap size tasks rest old new replies outcomes fits sound full run next found is asks in
-    let now = first-cancels network old first done past (Moves old new gap size) replies fits (owned-asked network old owner fits sound (owned-once network old owner full) past run) run next (is-leaving network.links old new gap size fit) none kind in
-    Leaves on release (none-before network old first done past on release now)
-step-of network past done owner gap size tasks rest old new first replies outcomes fits all sound full run next by found is asks (AsksSubmit reply one some own submit) =
-    let at_tasks : (standing tasks (replies_to owner past)).tasks ≡ Moves old new gap size ∷ rest = ap (λ (s : Standing). s.tasks) is in
-    let fit = move-fits network past owner gap size tasks rest old new fits run found at_tasks in
-    let to = hop-at network new 0 fit.of_new (slice_get_within new.route 0 own.hop own.stands) in
-    let other = not-plane network (actor_number done.actor) owner tasks by found in
-    let plans = moves-plan network past done tasks rest old new gap size (shifted_in reply) fits all run next other (ap (slice_get network.scripts) by ∙ found) (ap (λ a. (standing tasks (replies_to a past)).tasks) by ∙ at_tasks) submit in
-    Joins (shifted_in reply) gap size (record {
-      to = to;
-      on = hop-link network new 0 to done.link own;
-      asked = submit;
-      shifted = sym ((run-shifted network old owner first fits sound full past run tasks found).way (Moves old new gap size) rest reply [] at_tasks (is-leaving network.links old new gap size fit) (ap (λ (s : Standing). s.replies) is ∙ one));
-      some = some-more (shifted_in reply) some;
-      like = moves-take-last network old new owner gap size first past tasks rest fits all sound full run found at_tasks;
-      planned = plans.0;
-      plan = plans.1;
-    })
-step-of network past done owner gap size tasks rest old new first replies outcomes fits all sound full run next by found is asks (AsksRest told made stage own release) = later made stage own where
-  fit : MoveFits network.links old new gap size
-  fit = move-fits network past owner gap size tasks rest old new fits run found (ap (λ (s : Standing). s.tasks) is)
+module _ (network : Network) (past : List Done) (done : Done) (owner gap size : ℕ) (script rest : List Task) (old new : Request) (first : HopAt network old 0) (replies : List Reply) (outcomes : List Learnt) (fits : NetworkFits network) (all : AllOwned network) (sound : RequestFits network.links old) (full : OwnedFully network old owner) (step : OwnStep network owner script past done (Moves old new gap size) rest replies outcomes) where
+  at-tasks : (standing script (replies_to owner past)).tasks ≡ Moves old new gap size ∷ rest
+  at-tasks = ap (λ (s : Standing). s.tasks) step.stands
 
-  later : (made : ℕ) → stage_after replies ≡ Releasing told made → HopAsked old.route made done.link → MoveStep network past done next old new first
-  later zero at hop = absurd (let least = (rest-length replies told zero at).1 in omega (arith, least))
-  later (suc i) at hop =
-      let here = hop-at network old (suc i) sound (slice_get_within old.route (suc i) hop.hop hop.stands) in
-      let frozen = leaves-frozen network old owner first done past tasks outcomes (Moves old new gap size) rest replies told.kept fits sound full run next found is asks (is-leaving network.links old new gap size fit) (stays-told replies (done.reply ∷ []) told.kept (stage-told replies told (suc i) at)) in
-      Frees i told.kept here (hop-link network old (suc i) here done.link hop) release frozen.upto
+  fit : MoveFits network.links old new gap size
+  fit = move-fits network past owner gap size script rest old new fits step.run step.found at-tasks
+
+  leaving : IsLeaving old (Moves old new gap size)
+  leaving = is-leaving network.links old new gap size fit
+
+  step-of : MoveAsks (move_between old new gap size) replies done.link done.ask → MoveStep network past done step.next old new first
+  step-of (AsksFirst none own release) =
+      let on = hop-link network old 0 first done.link own in
+      let kind = step-kind network old owner script past done (Moves old new gap size) rest replies outcomes fits sound full step in
+      let now = first-cancels network old first done past (Moves old new gap size) replies fits (owned-asked network old owner fits sound (owned-once network old owner full) past step.run) step.run step.next leaving none kind in
+      Leaves on release (none-before network old first done past on release now)
+  step-of (AsksSubmit reply one some own submit) =
+      let to = hop-at network new 0 fit.of_new (slice_get_within new.route 0 own.hop own.stands) in
+      let plans = moves-plan network past done script rest old new gap size (shifted_in reply) fits all step.run step.next (not-plane network (actor_number done.actor) owner script step.by step.found) (ap (slice_get network.scripts) step.by ∙ step.found) (ap (λ a. (standing script (replies_to a past)).tasks) step.by ∙ at-tasks) submit in
+      Joins (shifted_in reply) gap size (record {
+        to = to;
+        on = hop-link network new 0 to done.link own;
+        asked = submit;
+        shifted = sym ((run-shifted network old owner first fits sound full past step.run script step.found).way (Moves old new gap size) rest reply [] at-tasks leaving (ap (λ (s : Standing). s.replies) step.stands ∙ one));
+        some = some-more (shifted_in reply) some;
+        like = moves-take-last network old new owner gap size first past script rest fits all sound full step.run step.found at-tasks;
+        planned = plans.0;
+        plan = plans.1;
+      })
+  step-of (AsksRest told made stage own release) = later made stage own where
+    later : (made : ℕ) → stage_after replies ≡ Releasing told made → HopAsked old.route made done.link → MoveStep network past done step.next old new first
+    later zero at hop = absurd (let least = (rest-length replies told zero at).1 in omega (arith, least))
+    later (suc i) at hop =
+        let here = hop-at network old (suc i) sound (slice_get_within old.route (suc i) hop.hop hop.stands) in
+        let frozen = leaves-frozen network old owner first fits sound full script past done (Moves old new gap size) rest replies outcomes told.kept step leaving (stays-told replies (done.reply ∷ []) told.kept (stage-told replies told (suc i) at)) in
+        Frees i told.kept here (hop-link network old (suc i) here done.link hop) release frozen.upto
 
 pub moves-step : EveryMovePlansTheShifted
 moves-step network past done owner gap size tasks rest old new first fits all sound full run next by found task =
-    let is = under-way (standing tasks (replies_to owner past)) old new gap size rest task in
+    let at = standing tasks (replies_to owner past) in
+    let is = under-way at old new gap size rest task in
     let asks = subst (λ (s : Standing). ask_at s ≡ Some (done.link, done.ask)) is (owner-asks network past done owner tasks next by found) in
-    step-of network past done owner gap size tasks rest old new first (standing tasks (replies_to owner past)).replies (standing tasks (replies_to owner past)).outcomes fits all sound full run next by found is asks
-    (move-asks (move_between old new gap size) (standing tasks (replies_to owner past)).replies done.link done.ask asks)
+    step-of network past done owner gap size tasks rest old new first at.replies at.outcomes fits all sound full (record { run = run; next = next; by = by; found = found; stands = is; asks = asks }) (move-asks (move_between old new gap size) at.replies done.link done.ask asks)

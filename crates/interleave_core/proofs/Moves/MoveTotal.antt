@@ -1,13 +1,12 @@
 -- Once packets of a channel have moved off, those that its source has offered and those that were shifted are all that its submits
 -- planned: the first hop's release has cancelled as many as were shifted, and none is left.
-use Rattle.std.proofs.Common.{◌≡◌, ◌≢◌, ℕ, ◌+◌, Bool, true, false, List, [], ◌∷◌, ◌++◌, length, Option, Some, None, refl, sym, ap, ◌∙◌, subst, inl, inr, arith}
-use Rattle.std.proofs.lemmas.Bool.{cases_Bool, eqb-true, eqb-false, eq-eqb, ne_eqb}
+use Rattle.std.proofs.Common.{◌≡◌, ℕ, ◌+◌, Bool, true, false, List, [], ◌∷◌, ◌++◌, length, Option, Some, None, refl, sym, ap, ◌∙◌, subst, inl, inr, arith}
+use Rattle.std.proofs.lemmas.Bool.{eq-eqb, ne_eqb}
 use Rattle.std.proofs.lemmas.Option.{same_Some}
 use Rattle.std.specs.List.{slice_get}
 use Rattle.std.specs.Prelude.{find, nat_eq, if◌then◌else◌}
-use Rattle.net_units.specs.Numbers.{link_number, actor_number, channel_number}
+use Rattle.net_units.specs.Numbers.{link_number, channel_number}
 use Rattle.net_units.specs.declared.numbers.ChanNo.{ChanNo}
-use Rattle.net_units.specs.declared.numbers.LinkNo.{LinkNo}
 use Rattle.hop_reservation.specs.Routes.{link_of}
 use Rattle.channel_move.specs.Moving.{shifted_in, told_by, first_told}
 use Rattle.channel_move.specs.declared.shifted.Shifted.{Shifted}
@@ -30,28 +29,26 @@ use Rattle.channel_laws.specs.Asks.{MayReplyTo, IsOff}
 use Rattle.channel_laws.specs.Reservations.{held_by}
 use Rattle.call_script.specs.Fits.{NetworkFits}
 use Rattle.call_script.specs.Owners.{OwnedFully}
-use Rattle.call_script.specs.Scripts.{Learnt, Standing, task_ask, continued, resumed, standing, first_ask, ask_at, moved_off}
+use Rattle.call_script.specs.Scripts.{Learnt, Standing, standing, moved_off}
 use Rattle.call_script.specs.Tasks.{Network}
 use Rattle.call_script.specs.declared.tasks.Task.{Task}
-use Rattle.call_script.specs.declared.tasks.Task.TheVariants.{Moves}
 use Rattle.run_record.specs.Runs.{replies_to, part_of}
 use Rattle.run_record.specs.declared.done.Done.{Done}
-use Rattle.tick_plane.specs.Planes.{next_due}
 use Rattle.interleave_core.specs.channels.Hops.{terms_at, ChannelAsked}
 use Rattle.interleave_core.specs.channels.Moves.{cancelled_with, cancelled_in, NoneIsLostInAMove}
 use Rattle.interleave_core.specs.channels.Paths.{HopAt}
-use Rattle.interleave_core.specs.runs.Runs.{plane_no, plane_at, IsNext, IsRun}
-use Rattle.interleave_core.proofs.Tasks.CallerFacts.{StandingFits, standing-more}
+use Rattle.interleave_core.specs.runs.Runs.{IsNext, IsRun}
 use Rattle.interleave_core.proofs.Moves.Emptied.{uncancelled, none-left-closing}
-use Rattle.interleave_core.proofs.Channels.FarHolds.{Frozen, NoRelease, IsLeaving, OwnKind, OwnOff, OwnAside, OwnSetup, OwnSend, OwnClose, own-kind}
-use Rattle.interleave_core.proofs.Moves.MoveLaw.{MoveTold, Was, Now, continued-told, move-own, no-moves, run-moved}
+use Rattle.interleave_core.proofs.Channels.FarHolds.{Frozen, NoRelease, IsLeaving, OwnKind, OwnOff, OwnAside, OwnSetup, OwnSend, OwnClose}
+use Rattle.interleave_core.proofs.Moves.MoveLaw.{MoveTold, Was, Now, move-own, no-moves, run-moved, move-told}
 use Rattle.interleave_core.proofs.Channels.RowsFollow.{held_at, hop-may}
-use Rattle.interleave_core.proofs.Replies.ClosingStands.{ClosesAt}
-use Rattle.interleave_core.proofs.Replies.ClosingSteps.{head-same}
-use Rattle.interleave_core.proofs.Replies.RunCloses.{owned-once, run-closes}
-use Rattle.interleave_core.proofs.Replies.RunGoes.{GoesAt, run-goes, owned-asked, tasks-off, plane-off-ask, off-standing}
-use Rattle.interleave_core.proofs.Runs.RunLegal.{plane-next, caller-next, replies-by, replies-off, run-stands, part-on, part-off, part-admissible}
+use Rattle.interleave_core.proofs.Replies.RunCloses.{owned-once, others-off}
+use Rattle.interleave_core.proofs.Replies.RunGoes.{owned-asked}
+use Rattle.interleave_core.proofs.Runs.RunLegal.{part-on, part-admissible, by-part}
 use Rattle.interleave_core.proofs.Moves.TotalLaw.{none-lost, release-cancels}
+use Rattle.interleave_core.proofs.Runs.EachRun.{head-same, KeptBySteps, KeptByOthers, each-run, OwnStep}
+use Rattle.interleave_core.proofs.Channels.OwnerEntries.{step-kind}
+use Rattle.interleave_core.proofs.Tasks.OwnTasks.{own-task}
 
 -- ---- what an entry cancels
 
@@ -94,11 +91,9 @@ entry-cancels network request first done past on = ap (cancelled_in (channel_num
 
 entry-same : (network : Network) (request : Request) (first : HopAt network request 0) (done : Done) (past : List Done) → ((m : ℕ) → link_number done.link ≡ link_number first.hop.link → cancelled_with (channel_number request.chan) m done.ask done.reply ≡ m)
     → cancelled_at network request first (done ∷ past) ≡ cancelled_at network request first past
+unfolding cancelled_in
 entry-same network request first done past same =
-    elim (cases_Bool (nat_eq (link_number done.link) (link_number first.hop.link))) [
-      | inl on ↦ (let e = eqb-true (link_number done.link) (link_number first.hop.link) on in entry-cancels network request first done past e ∙ same (cancelled_at network request first past) e)
-      | inr off ↦ ap (cancelled_in (channel_number request.chan)) (part-off (link_number first.hop.link) done past (eqb-false (link_number done.link) (link_number first.hop.link) off))
-    ]
+    by-part (λ h. cancelled_in (channel_number request.chan) h ≡ cancelled_at network request first past) (link_number first.hop.link) done past (λ on. same (cancelled_at network request first past) on) (λ off. refl)
 
 -- two hops at one place
 same-place : (network : Network) (request : Request) (k : ℕ) (first : HopAt network request 0) (here : HopAt network request k) → k ≡ 0 → link_number first.hop.link ≡ link_number here.hop.link
@@ -185,87 +180,56 @@ first-told-by [] told is = cc
 first-told-by (reply ∷ replies) told is = (reply, replies, refl, same_Some (told_by reply) told is)
 
 module _ (network : Network) (request : Request) (owner : ℕ) (first : HopAt network request 0) (fits : NetworkFits network) (sound : RequestFits network.links request) (full : OwnedFully network request owner) where
-  abbrev pub RunShifted : List Done → Type 0
-  RunShifted run = (tasks : List Task) → slice_get network.scripts owner ≡ Some tasks → ShiftedAt request (cancelled_at network request first run) (standing tasks (replies_to owner run))
+  asked : (run : List Done) → IsRun network run → ChannelAsked request run
+  asked run is = owned-asked network request owner fits sound (owned-once network request owner full) run is
+
+  abbrev ShiftedBy : List Done → Standing → Type 0
+  ShiftedBy run at = ShiftedAt request (cancelled_at network request first run) at
+
+  -- what is told of moves from the channel is what was cancelled
+  abbrev TellsShifted : List Done → List Learnt → Type 0
+  TellsShifted run outcomes = (told : Shifted) → moved_off request.chan outcomes ≡ Some told → cancelled_at network request first run ≡ told.shifted
 
   -- what the notes tell, with one reply more
-  own-told : (past : List Done) (done : Done) (tasks : List Task) (task : Task) (rest : List Task) (replies : List Reply) (outcomes : List Learnt) (told : Shifted) → IsRun network past → (next : IsNext network past done) → slice_get network.scripts owner ≡ Some tasks → standing tasks (replies_to owner past) ≡ record { tasks = task ∷ rest; replies = replies; outcomes = outcomes }
-      → ShiftedAt request (cancelled_at network request first past) (record { tasks = task ∷ rest; replies = replies; outcomes = outcomes }) → OwnKind network request done past task replies → MoveTold request task (replies ++ done.reply ∷ []) outcomes told → cancelled_at network request first (done ∷ past) ≡ told.shifted
-  own-told past done tasks task rest replies outcomes told run next found is was kind (Was before) =
-      let frozen = (run-moved network request owner first past fits sound full run).at tasks found told (ap (λ (s : Standing). moved_off request.chan s.outcomes) is ∙ before) in
-      told-same network request first done past task replies told.kept fits run next frozen kind ∙ was.told told before
-  own-told past done tasks task rest replies outcomes told run next found is was kind (Now old new gap size same chan tells) =
-      let closes = subst (ClosesAt network request past) is ((run-closes network request owner past fits sound full run).at tasks found) in
-      let leaving : IsLeaving request (Moves old new gap size) = move-own network request old new gap size rest past (record { tasks = task ∷ rest; replies = replies; outcomes = outcomes }) (ap (λ t. t ∷ rest) same) chan closes in
+  own-told : (script : List Task) (past : List Done) (done : Done) (task : Task) (rest : List Task) (replies : List Reply) (outcomes : List Learnt) → OwnStep network owner script past done task rest replies outcomes → ShiftedBy past (record { tasks = task ∷ rest; replies = replies; outcomes = outcomes })
+      → (told : Shifted) → MoveTold request task (replies ++ done.reply ∷ []) outcomes told → cancelled_at network request first (done ∷ past) ≡ told.shifted
+  own-told script past done task rest replies outcomes step was told (Was before) =
+      let kind = step-kind network request owner script past done task rest replies outcomes fits sound full step in
+      let frozen = run-moved network request owner first fits sound full past script step.run step.found told (ap (λ (s : Standing). moved_off request.chan s.outcomes) step.stands ∙ before) in
+      told-same network request first done past task replies told.kept fits step.run step.next frozen kind ∙ was.told told before
+  own-told script past done task rest replies outcomes step was told (Now old new gap size same chan tells) =
+      let kind = step-kind network request owner script past done task rest replies outcomes fits sound full step in
+      let leaving = move-own request old new gap size task (own-task network request owner script past done task rest replies outcomes full step) same chan in
       let by = first-told-by (replies ++ done.reply ∷ []) told tells in
-      way-now network request first done past task rest replies outcomes fits (owned-asked network request owner fits sound (owned-once network request owner full) past run) run next kind was (subst (IsLeaving request) (sym same) leaving) by.0 by.1 by.2 ∙ ap (λ (t : Shifted). t.shifted) by.3
+      way-now network request first done past task rest replies outcomes fits (asked past step.run) step.run step.next kind was leaving by.0 by.1 by.2 ∙ ap (λ (t : Shifted). t.shifted) by.3
 
-  own-continued : (past : List Done) (done : Done) (tasks : List Task) (task : Task) (rest : List Task) (replies : List Reply) (outcomes : List Learnt) (to : Option (LinkNo × Ask)) → IsRun network past → (next : IsNext network past done) → slice_get network.scripts owner ≡ Some tasks → standing tasks (replies_to owner past) ≡ record { tasks = task ∷ rest; replies = replies; outcomes = outcomes }
-      → ShiftedAt request (cancelled_at network request first past) (record { tasks = task ∷ rest; replies = replies; outcomes = outcomes }) → OwnKind network request done past task replies → ShiftedAt request (cancelled_at network request first (done ∷ past)) (continued outcomes task rest (replies ++ done.reply ∷ []) to)
-  own-continued past done tasks task rest replies outcomes (Some to) run next found is was kind = record {
-    told = λ told moved. own-told past done tasks task rest replies outcomes told run next found is was kind (Was moved);
-    way = λ own more reply others same leaving made. way-now network request first done past task rest replies outcomes fits (owned-asked network request owner fits sound (owned-once network request owner full) past run) run next kind was (subst (IsLeaving request) (sym (head-same task rest own more same)) leaving) reply others made;
-  }
-  own-continued past done tasks task rest replies outcomes None run next found is was kind = record {
-    told = λ told moved. own-told past done tasks task rest replies outcomes told run next found is was kind (continued-told request outcomes task rest (replies ++ done.reply ∷ []) None told moved);
-    way = λ own more reply others same leaving made. (let clash : [] ≡ reply ∷ others = made in cc);
-  }
+  off-shifted : KeptByOthers network owner ShiftedBy
+  off-shifted past done at run next other was =
+      let off = others-off network request owner past done full next other in
+      subst (λ n. ShiftedAt request n at) (sym (entry-same network request first done past (λ m on. off-cancelled (channel_number request.chan) m done.ask done.reply off))) was
 
-  own-resumed : (past : List Done) (done : Done) (tasks : List Task) (left : List Task) (replies : List Reply) (outcomes : List Learnt) → IsRun network past → (next : IsNext network past done) → slice_get network.scripts owner ≡ Some tasks → standing tasks (replies_to owner past) ≡ record { tasks = left; replies = replies; outcomes = outcomes } → first_ask left replies ≡ Some (done.link, done.ask)
-      → ShiftedAt request (cancelled_at network request first past) (record { tasks = left; replies = replies; outcomes = outcomes }) → ShiftedAt request (cancelled_at network request first (done ∷ past)) (resumed outcomes left (replies ++ done.reply ∷ []))
-  unfolding resumed
-  own-resumed past done tasks [] replies outcomes run next found is asks was = cc
-  own-resumed past done tasks (task ∷ rest) replies outcomes run next found is asks was =
-      let stands = subst (StandingFits network.links) is ((run-stands network past fits run).callers owner tasks found) in
-      let goes : GoesAt network request past (task ∷ rest) replies outcomes = subst (λ (s : Standing). GoesAt network request past s.tasks s.replies s.outcomes) is ((run-goes network request owner past fits sound (owned-once network request owner full) run).at tasks found) in
-      let closes = subst (ClosesAt network request past) is ((run-closes network request owner past fits sound full run).at tasks found) in
-      own-continued past done tasks task rest replies outcomes (task_ask task (replies ++ done.reply ∷ [])) run next found is was (own-kind network request done past outcomes task rest replies fits sound run next stands goes asks closes)
+  none-shifted : TellsShifted [] []
+  none-shifted told moved = absurd (no-moves request told moved)
 
-  shifted-next : (past : List Done) (done : Done) → IsRun network past → (next : IsNext network past done) → RunShifted past → RunShifted (done ∷ past)
-  unfolding standing
-  shifted-next past done run next was tasks found =
-      elim (cases_Bool (nat_eq (actor_number done.actor) (plane_no network))) [
-        | inl plane ↦
-            (let same = eqb-true (actor_number done.actor) (plane_no network) plane in
-            let asks = plane-next network past done next same in
-            let inside = full.inside in
-            away (plane-off-ask (channel_number request.chan) (next_due (plane_at network past)) (plane_at network past).ticked done.link done.ask asks.asks) (λ own. (let clash : owner ≡ length network.scripts = sym own ∙ same in absurd (omega (arith, clash, inside)))))
-        | inr caller ↦
-            (let asks = caller-next network past done next (eqb-false (actor_number done.actor) (plane_no network) caller) in
-            elim (cases_Bool (nat_eq (actor_number done.actor) owner)) [
-              | inl by ↦
-                  (let e : actor_number done.actor ≡ owner = eqb-true (actor_number done.actor) owner by in
-                  let own : asks.tasks ≡ tasks = same_Some asks.tasks tasks (sym asks.found ∙ ap (slice_get network.scripts) e ∙ found) in
-                  let asked : ask_at (standing tasks (replies_to owner past)) ≡ Some (done.link, done.ask) = subst (λ ts. ask_at (standing ts (replies_to owner past)) ≡ Some (done.link, done.ask)) own (subst (λ a. ask_at (standing asks.tasks (replies_to a past)) ≡ Some (done.link, done.ask)) e asks.asks) in
-                  subst (ShiftedAt request (cancelled_at network request first (done ∷ past))) (sym (ap (standing tasks) (replies-by owner done past e) ∙ standing-more tasks done.reply (replies_to owner past)))
-                  (own-resumed past done tasks (standing tasks (replies_to owner past)).tasks (standing tasks (replies_to owner past)).replies (standing tasks (replies_to owner past)).outcomes run next found refl asked (was tasks found)))
-              | inr off ↦
-                  (let other = eqb-false (actor_number done.actor) owner off in
-                  let others = off-standing (channel_number request.chan) asks.tasks (replies_to (actor_number done.actor) past) (full.others (actor_number done.actor) asks.tasks other asks.found) in
-                  away (tasks-off (channel_number request.chan) _ _ done.link done.ask others asks.asks) other)
-            ])
-      ] where
-        away : IsOff (channel_number request.chan) done.ask → actor_number done.actor ≢ owner → ShiftedAt request (cancelled_at network request first (done ∷ past)) (standing tasks (replies_to owner (done ∷ past)))
-        away off other =
-            (let same = entry-same network request first done past (λ m on. off-cancelled (channel_number request.chan) m done.ask done.reply off) in
-            subst (λ n. ShiftedAt request n (standing tasks (replies_to owner (done ∷ past)))) (sym same) (subst (λ rs. ShiftedAt request (cancelled_at network request first past) (standing tasks rs)) (sym (replies-off owner done past other)) (was tasks found)))
-
-  none-shifted : (tasks : List Task) → ShiftedAt request 0 (standing tasks [])
-  unfolding standing
-  none-shifted tasks = record {
-    told = λ told moved. absurd (no-moves request tasks told moved);
-    way = λ task rest reply replies same leaving made. (let clash : [] ≡ reply ∷ replies = made in cc);
+  shifted-keeps : (script : List Task) → KeptBySteps network owner script (λ run outcomes tasks. TellsShifted run outcomes) ShiftedBy
+  shifted-keeps script = record {
+    first = none-shifted;
+    begins = λ run outcomes tasks was. record { told = was; way = λ task rest reply replies same leaving made. (let clash : [] ≡ reply ∷ replies = made in cc) };
+    off = off-shifted;
+    goes = λ past done task rest replies outcomes to step more was. record {
+      told = λ told moved. own-told script past done task rest replies outcomes step was told (Was moved);
+      way = λ own others reply later same leaving made. way-now network request first done past task rest replies outcomes fits (asked past step.run) step.run step.next (step-kind network request owner script past done task rest replies outcomes fits sound full step) was (subst (IsLeaving request) (sym (head-same task rest own others same)) leaving) reply later made;
+    };
+    over = λ past done task rest replies outcomes step none was told moved. own-told script past done task rest replies outcomes step was told (move-told request task (replies ++ done.reply ∷ []) outcomes told moved);
   }
 
-  pub run-shifted : (run : List Done) → IsRun network run → RunShifted run
-  unfolding IsRun replies_to part_of cancelled_in
-  run-shifted [] is = λ tasks found. none-shifted tasks
-  run-shifted (done ∷ past) is = shifted-next past done is.0 is.1 (run-shifted past is.0)
+  pub run-shifted : (run : List Done) → IsRun network run → (script : List Task) → slice_get network.scripts owner ≡ Some script → ShiftedAt request (cancelled_at network request first run) (standing script (replies_to owner run))
+  run-shifted run is script found = each-run network owner script found (λ past outcomes tasks. TellsShifted past outcomes) ShiftedBy (shifted-keeps script) run is
 
 pub none-lost-in-moves : NoneIsLostInAMove
 none-lost-in-moves network request owner first run tasks told fits sound full is found moved =
     let legal = part-admissible network run (link_number first.hop.link) first.link fits is first.linked in
-    let frozen = (run-moved network request owner first run fits sound full is).at tasks found told moved in
+    let frozen = run-moved network request owner first fits sound full run tasks is found told moved in
     let all = none-lost first.link.shape (channel_number request.chan) (part_of (link_number first.hop.link) run) legal in
     let left = none-left-closing first.link.shape request.chan (part_of (link_number first.hop.link) run) legal frozen.closes in
     let cancelled = (run-shifted network request owner first fits sound full run is tasks found).told told moved in

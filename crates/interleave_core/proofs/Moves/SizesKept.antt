@@ -1,16 +1,14 @@
 -- In every run whose channels each have one owner, the packets that a move shifts are no larger than the contracts of both its
 -- channels allow.
-use Rattle.std.proofs.Common.{◌≡◌, ◌⊎◌, ℕ, suc, ◌≤◌, Bool, true, false, List, [], ◌∷◌, ◌++◌, length, Option, Some, None, refl, sym, ap, ◌∙◌, subst, inl, inr, arith}
-use Rattle.std.proofs.lemmas.Bool.{cases_Bool, cond_both, eqb-true, eqb-false, and_parts}
+use Rattle.std.proofs.Common.{◌≡◌, ◌⊎◌, ℕ, ◌≤◌, Bool, true, false, List, [], ◌∷◌, ◌++◌, length, Option, Some, None, refl, sym, ap, ◌∙◌, subst, inl, inr, arith}
+use Rattle.std.proofs.lemmas.Bool.{cases_Bool, eqb-true, eqb-false, and_parts}
 use Rattle.std.proofs.lemmas.Option.{same_Some, slice_get_within}
 use Rattle.std.specs.List.{slice_get}
 use Rattle.std.specs.Prelude.{find, nat_eq, not, ◌&&◌, if◌then◌else◌}
-use Rattle.net_units.specs.Numbers.{link_number, actor_number, channel_number}
-use Rattle.net_units.specs.declared.numbers.LinkNo.{LinkNo}
+use Rattle.net_units.specs.Numbers.{link_number, channel_number}
 use Rattle.hop_reservation.specs.Routes.{link_of}
 use Rattle.channel_move.specs.Moving.{first_told}
 use Rattle.channel_move.specs.declared.shifted.Shifted.{Shifted}
-use Rattle.link_steps.specs.declared.asks.Ask.{Ask}
 use Rattle.link_steps.specs.declared.asks.Ask.TheVariants.{Submit}
 use Rattle.link_steps.specs.declared.replies.Reply.{Reply}
 use Rattle.link_steps.specs.declared.replies.Reply.TheVariants as Is
@@ -27,12 +25,11 @@ use Rattle.setup_protocol.specs.Hops.{RequestFits}
 use Rattle.setup_protocol.specs.Setup.{Outcome, verdict_of}
 use Rattle.setup_protocol.specs.declared.request.Request.{Request}
 use Rattle.call_script.specs.Fits.{NetworkFits, TaskFits}
-use Rattle.call_script.specs.Owners.{IsSendOn, TaskOff, SendsOnce, UsedOnce, ClosesOnce, FullScript, OwnedFully, IsOwned, IsUnnamed, AllOwned}
-use Rattle.call_script.specs.Scripts.{Learnt, Settles, PlannedOn, MovedTo, Packets, Standing, is_that, newest, or_before, packets_by, packets_in, last_packets, task_ask, takes_step, ready, from_step, begun, settled_as, planned_as, moved_as, outcome_by, continued, resumed, standing, first_ask, ask_at}
+use Rattle.call_script.specs.Owners.{IsSendOn, TaskOff, OwnedFully, IsOwned, IsUnnamed, AllOwned}
+use Rattle.call_script.specs.Scripts.{Learnt, Settles, PlannedOn, MovedTo, Packets, Standing, is_that, newest, or_before, packets_by, packets_in, last_packets, task_ask, ready, from_step, begun, settled_as, planned_as, moved_as, outcome_by, standing}
 use Rattle.call_script.specs.Tasks.{Network}
 use Rattle.call_script.specs.declared.tasks.Task.{Task}
 use Rattle.call_script.specs.declared.tasks.Task.TheVariants.{Opens, Sends, Closes, Moves}
-use Rattle.call_script.proofs.ReadyFacts.{ready-keeps}
 use Rattle.run_record.specs.Runs.{part_of, replies_to}
 use Rattle.run_record.specs.declared.done.Done.{Done}
 use Rattle.interleave_core.specs.channels.Hops.{terms_at, ChannelAsked}
@@ -41,60 +38,18 @@ use Rattle.interleave_core.proofs.Channels.HopsAt.{hop-at}
 use Rattle.interleave_core.proofs.Tasks.OnceFacts.{once-asked}
 use Rattle.channel_laws.proofs.UnsentPlans.{row-at-hop}
 use Rattle.interleave_core.proofs.Channels.RowsFollow.{hop-reply}
-use Rattle.interleave_core.proofs.Replies.RunCloses.{owned-once}
+use Rattle.interleave_core.proofs.Replies.RunCloses.{owned-once, step-stands}
 use Rattle.interleave_core.proofs.Replies.RunGoes.{owned-asked}
-use Rattle.interleave_core.proofs.Runs.RunLegal.{caller-next, replies-by, replies-off, run-stands, part-admissible}
+use Rattle.interleave_core.proofs.Runs.RunLegal.{run-stands, part-admissible}
+use Rattle.interleave_core.proofs.Runs.EachRun.{each-left, from-step-by, KeptBySteps, each-run}
+use Rattle.interleave_core.proofs.Tasks.OwnTasks.{standing-is, send-is, script-own, move-is, OwnTask, own-task}
 
 -- ---- whom a script names
 
--- where the task names the request's channel it is the request's, and a send is at its first hop
-abbrev pub NamesIs : Request → Task → Type 0
-NamesIs request (Opens r) = Unit {0}
-NamesIs request (Sends link None count gap size) = Unit {0}
-NamesIs request (Sends link (Some chan) count gap size) = channel_number chan ≡ channel_number request.chan → IsSendOn request (Sends link (Some chan) count gap size)
-NamesIs request (Closes r) = Unit {0}
-NamesIs request (Moves old new gap size) = (channel_number old.chan ≡ channel_number request.chan → old ≡ request) × (channel_number new.chan ≡ channel_number request.chan → new ≡ request)
-
-off-names : (request : Request) (task : Task) → TaskOff (channel_number request.chan) task → NamesIs request task
-off-names request (Opens r) off = tt
-off-names request (Sends link None count gap size) off = tt
-off-names request (Sends link (Some chan) count gap size) off = λ same. absurd (off same)
-off-names request (Closes r) off = tt
-off-names request (Moves old new gap size) off = (λ same. absurd (off.0 same), λ same. absurd (off.1 same))
-
-offs-name : (request : Request) (tasks : List Task) → Each (TaskOff (channel_number request.chan)) tasks → Each (NamesIs request) tasks
-offs-name request [] each = tt
-offs-name request (task ∷ tasks) each = (off-names request task each.0, offs-name request tasks each.1)
-
-close-names : (request : Request) (tasks : List Task) → ClosesOnce request tasks → Each (NamesIs request) tasks
-close-names request [] closes = tt
-close-names request (task ∷ tasks) (inl off) = (off-names request task off.0, close-names request tasks off.1)
-close-names request (task ∷ tasks) (inr own) = (subst (NamesIs request) (sym own.0) tt, offs-name request tasks own.1)
-
-send-names : (request : Request) (tasks : List Task) → SendsOnce request tasks → Each (NamesIs request) tasks
-send-names request [] sends = tt
-send-names request (task ∷ tasks) (inl off) = (off-names request task off.0, send-names request tasks off.1)
-send-names request (task ∷ tasks) (inr (inl own)) = (subst (NamesIs request) (sym own.0.is) (λ same. record { hop = own.0.hop; count = own.0.count; gap = own.0.gap; size = own.0.size; stands = own.0.stands; is = refl }), send-names request tasks own.1)
-send-names request (task ∷ tasks) (inr (inr (inl own))) = (subst (NamesIs request) (sym own.0) tt, offs-name request tasks own.1)
-send-names request (task ∷ tasks) (inr (inr (inr own))) = (subst (NamesIs request) (sym own.0.is) (λ same. refl, λ same. absurd (own.0.other same)), close-names request tasks own.1)
-
-used-names : (request : Request) (tasks : List Task) → UsedOnce request tasks → Each (NamesIs request) tasks
-used-names request [] used = tt
-used-names request (task ∷ tasks) (inl off) = (off-names request task off.0, used-names request tasks off.1)
-used-names request (task ∷ tasks) (inr (inl own)) = (subst (NamesIs request) (sym own.0.is) (λ same. absurd (own.0.other same), λ same. refl), send-names request tasks own.1)
-used-names request (task ∷ tasks) (inr (inr own)) = send-names request (task ∷ tasks) (inr own)
-
-full-names : (request : Request) (tasks : List Task) → FullScript request tasks → Each (NamesIs request) tasks
-full-names request [] full = tt
-full-names request (task ∷ tasks) (inl off) = (off-names request task off.0, full-names request tasks off.1)
-full-names request (task ∷ tasks) (inr own) = (subst (NamesIs request) (sym own.0) tt, used-names request tasks own.1)
-
 -- the caller owns the channels that its moves name
 abbrev pub TaskOwned : Network → ℕ → Task → Type 0
-TaskOwned network actor (Opens r) = Unit {0}
-TaskOwned network actor (Sends link chan count gap size) = Unit {0}
-TaskOwned network actor (Closes r) = Unit {0}
 TaskOwned network actor (Moves old new gap size) = OwnedFully network old actor × OwnedFully network new actor
+TaskOwned network actor _ = Unit {0}
 
 owns : (network : Network) (actor : ℕ) (tasks : List Task) (r : Request) → AllOwned network → slice_get network.scripts actor ≡ Some tasks → (Each (TaskOff (channel_number r.chan)) tasks → ⊥) → ((request : Request) → OwnedFully network request actor → channel_number r.chan ≡ channel_number request.chan → r ≡ request) → OwnedFully network r actor
 owns network actor tasks r all found named same = by (all (channel_number r.chan)) where
@@ -108,17 +63,15 @@ owns network actor tasks r all found named same = by (all (channel_number r.chan
 
 script-owned : (network : Network) (actor : ℕ) (tasks : List Task) → AllOwned network → slice_get network.scripts actor ≡ Some tasks → Each (TaskOwned network actor) tasks
 script-owned network actor tasks all found = Each-from_among (TaskOwned network actor) tasks one where
-  named : (task : Task) → Among task tasks → (request : Request) → OwnedFully network request actor → NamesIs request task
-  named task among request full = Each-among (NamesIs request) task tasks (full-names request tasks (full.own tasks found)) among
+  own : (task : Task) → Among task tasks → (request : Request) → OwnedFully network request actor → OwnTask request task
+  own task among request full = Each-among (OwnTask request) task tasks (script-own request tasks (full.own tasks found)) among
 
   one : (task : Task) → Among task tasks → TaskOwned network actor task
-  one (Opens r) among = tt
-  one (Sends link chan count gap size) among = tt
-  one (Closes r) among = tt
   one (Moves old new gap size) among = (
-    owns network actor tasks old all found (λ off. (Each-among (TaskOff (channel_number old.chan)) (Moves old new gap size) tasks off among).0 refl) (λ request full. (named (Moves old new gap size) among request full).0),
-    owns network actor tasks new all found (λ off. (Each-among (TaskOff (channel_number new.chan)) (Moves old new gap size) tasks off among).1 refl) (λ request full. (named (Moves old new gap size) among request full).1),
+    owns network actor tasks old all found (λ off. (Each-among (TaskOff (channel_number old.chan)) (Moves old new gap size) tasks off among).0 refl) (λ request full same. ((move-is request old new gap size (own (Moves old new gap size) among request full)).leaves same).0),
+    owns network actor tasks new all found (λ off. (Each-among (TaskOff (channel_number new.chan)) (Moves old new gap size) tasks off among).1 refl) (λ request full. (move-is request old new gap size (own (Moves old new gap size) among request full)).joins),
   )
+  one _ among = tt
 
 -- ---- the packets that were planned last
 
@@ -152,37 +105,24 @@ on-small request false gap size fits = inl refl
 -- ---- where a caller stands
 
 abbrev pub FirstSmall : List Task → Type 0
-FirstSmall [] = Unit {0}
-FirstSmall (Opens r ∷ tasks) = Unit {0}
-FirstSmall (Sends link chan count gap size ∷ tasks) = Unit {0}
-FirstSmall (Closes r ∷ tasks) = Unit {0}
 FirstSmall (Moves old new gap size ∷ tasks) = size ≤ old.contract.smax
+FirstSmall _ = Unit {0}
 
 pub record SizedAt (network : Network) (actor : ℕ) (at : Standing) : Type 0 where
   pub owned : Each (TaskOwned network actor) at.tasks
-  pub names : (request : Request) → OwnedFully network request actor → Each (NamesIs request) at.tasks
   pub notes : (request : Request) → RequestFits network.links request → OwnedFully network request actor → IsSmall request at.outcomes
   pub first : FirstSmall at.tasks
 
-all-from : (P : Task → Type 0) → ((old new : Request) (gap size other_gap other_size : ℕ) → P (Moves old new gap size) → P (Moves old new other_gap other_size)) → (outcomes : List Learnt) (tasks : List Task) → Each P tasks → Each P (from_step outcomes tasks)
-unfolding from_step
-all-from P moves outcomes [] each = tt
-all-from P moves outcomes (task ∷ tasks) each = cond_both (takes_step outcomes task) (ready outcomes task ∷ tasks) (from_step outcomes tasks) (Each P) (λ _. (ready-keeps P moves outcomes task each.0, each.1)) (λ _. all-from P moves outcomes tasks each.1)
-
 first-from : (network : Network) (actor : ℕ) (outcomes : List Learnt) (tasks : List Task) → Each (TaskOwned network actor) tasks → Each (TaskFits network.links) tasks → ((request : Request) → RequestFits network.links request → OwnedFully network request actor → IsSmall request outcomes) → FirstSmall (from_step outcomes tasks)
-unfolding from_step
-first-from network actor outcomes [] owned fits notes = tt
-first-from network actor outcomes (task ∷ tasks) owned fits notes = cond_both (takes_step outcomes task) (ready outcomes task ∷ tasks) (from_step outcomes tasks) FirstSmall (λ _. one task owned.0 fits.0) (λ _. first-from network actor outcomes tasks owned.1 fits.1 notes) where
-  one : (t : Task) → TaskOwned network actor t → TaskFits network.links t → FirstSmall (ready outcomes t ∷ tasks)
-  one (Opens r) own fit = tt
-  one (Sends link chan count gap size) own fit = tt
-  one (Closes r) own fit = tt
-  one (Moves old new gap size) own fit = notes old fit.of_old own.0
+first-from network actor outcomes tasks owned fits notes =
+    from-step-by (λ ts. Each (TaskOwned network actor) ts × Each (TaskFits network.links) ts) FirstSmall outcomes (λ none. tt) (λ task rest takes both. one rest task both.0.0 both.1.0) (λ task rest over both. (both.0.1, both.1.1)) tasks (owned, fits) where
+      one : (rest : List Task) (t : Task) → TaskOwned network actor t → TaskFits network.links t → FirstSmall (ready outcomes t ∷ rest)
+      one rest (Moves old new gap size) own fit = notes old fit.of_old own.0
+      one rest _ own fit = tt
 
-sized-begun : (network : Network) (actor : ℕ) (outcomes : List Learnt) (tasks : List Task) → Each (TaskFits network.links) tasks → Each (TaskOwned network actor) tasks → ((request : Request) → OwnedFully network request actor → Each (NamesIs request) tasks) → ((request : Request) → RequestFits network.links request → OwnedFully network request actor → IsSmall request outcomes) → SizedAt network actor (begun outcomes tasks)
-sized-begun network actor outcomes tasks fits owned names notes = record {
-  owned = all-from (TaskOwned network actor) (λ old new gap size other_gap other_size own. own) outcomes tasks owned;
-  names = λ request full. all-from (NamesIs request) (λ old new gap size other_gap other_size is. is) outcomes tasks (names request full);
+sized-begun : (network : Network) (actor : ℕ) (outcomes : List Learnt) (tasks : List Task) → Each (TaskFits network.links) tasks → Each (TaskOwned network actor) tasks → ((request : Request) → RequestFits network.links request → OwnedFully network request actor → IsSmall request outcomes) → SizedAt network actor (begun outcomes tasks)
+sized-begun network actor outcomes tasks fits owned notes = record {
+  owned = each-left (TaskOwned network actor) (λ old new gap size other_gap other_size own. own) outcomes tasks owned;
   notes = notes;
   first = first-from network actor outcomes tasks owned fits notes;
 }
@@ -213,7 +153,7 @@ sent-small network r task send done past fits sound asked run next asks clock pl
           omega (arith, small, same)
 
 -- what is told of an owned channel is small
-told-small : (network : Network) (actor : ℕ) (task : Task) (tasks : List Task) (replies : List Reply) (outcomes : List Learnt) (done : Done) (past : List Done) (request : Request) → NetworkFits network → TaskFits network.links task → IsRun network past → (next : IsNext network past done) → RequestFits network.links request → OwnedFully network request actor → FirstSmall (task ∷ tasks) → NamesIs request task → task_ask task replies ≡ Some (done.link, done.ask) → IsSmall request outcomes → IsSmall request (outcome_by task (replies ++ done.reply ∷ []) ++ outcomes)
+told-small : (network : Network) (actor : ℕ) (task : Task) (tasks : List Task) (replies : List Reply) (outcomes : List Learnt) (done : Done) (past : List Done) (request : Request) → NetworkFits network → TaskFits network.links task → IsRun network past → (next : IsNext network past done) → RequestFits network.links request → OwnedFully network request actor → FirstSmall (task ∷ tasks) → OwnTask request task → task_ask task replies ≡ Some (done.link, done.ask) → IsSmall request outcomes → IsSmall request (outcome_by task (replies ++ done.reply ∷ []) ++ outcomes)
 told-small network actor (Opens r) tasks replies outcomes done past request fits fit run next sound full first names asks small = by (verdict_of r (replies ++ done.reply ∷ [])) where
   by : (verdict : Option Outcome) → IsSmall request (settled_as r verdict ++ outcomes)
   by None = small
@@ -225,14 +165,8 @@ told-small network actor (Sends link (Some chan) count gap size) tasks [] outcom
   sent send clock is = (let within = sent-small network request (Sends link (Some chan) count gap size) send done past fits sound (owned-asked network request actor fits sound (owned-once network request actor full) past run) run next asks clock is in let same : size ≡ send.size = ap size_of send.is in omega (arith, within, same))
 
   by : (reply : Reply) → done.reply ≡ reply → IsSmall request (planned_as (Some chan) gap size (reply ∷ []) ++ outcomes)
-  by (Is.Planned clock) is = note-small request (PlannedOn chan gap size) outcomes (on-small request (is_that request.chan chan) gap size (λ on. sent (names (eqb-true (channel_number chan) (channel_number request.chan) on)) clock is)) small
-  by (Is.Offer level reach) is = small
-  by (Is.Relaxed clock) is = small
-  by Is.Denied is = small
-  by (Is.Closing count' cancelled) is = small
-  by (Is.Taken clock eligible) is = small
-  by (Is.Ticked clock full sent' best_sent best_lost) is = small
-  by (Is.Refused refusal) is = small
+  by (Is.Planned clock) is = note-small request (PlannedOn chan gap size) outcomes (on-small request (is_that request.chan chan) gap size (λ on. sent (send-is request link chan count gap size names (eqb-true (channel_number chan) (channel_number request.chan) on)) clock is)) small
+  by _ is = small
 told-small network actor (Closes r) tasks replies outcomes done past request fits fit run next sound full first names asks small = small
 told-small network actor (Moves old new gap size) tasks replies outcomes done past request fits fit run next sound full first names asks small = by (first_told (replies ++ done.reply ∷ [])) where
   joined : new ≡ request → size ≤ request.contract.smax
@@ -241,53 +175,41 @@ told-small network actor (Moves old new gap size) tasks replies outcomes done pa
   by : (told : Option Shifted) → IsSmall request (moved_as old new gap size told ++ outcomes)
   by None = small
   by (Some told) = note-small request (MovedTo old.chan new.chan told gap size) outcomes
-      (on-small request (is_that request.chan new.chan && not (nat_eq told.shifted 0)) gap size (λ on. joined (names.1 (eqb-true (channel_number new.chan) (channel_number request.chan) (and_parts (is_that request.chan new.chan) (not (nat_eq told.shifted 0)) on).0)))) small
-
--- ---- one reply more
-
-sized-continued : (network : Network) (actor : ℕ) (outcomes : List Learnt) (task : Task) (tasks : List Task) (replies : List Reply) (to : Option (LinkNo × Ask)) → Each (TaskFits network.links) (task ∷ tasks) → SizedAt network actor (record { tasks = task ∷ tasks; replies = []; outcomes = outcomes }) → ((request : Request) → RequestFits network.links request → OwnedFully network request actor → IsSmall request (outcome_by task replies ++ outcomes)) → SizedAt network actor (continued outcomes task tasks replies to)
-sized-continued network actor outcomes task tasks replies (Some to) fits was told = record { owned = was.owned; names = was.names; notes = was.notes; first = was.first }
-sized-continued network actor outcomes task tasks replies None fits was told = sized-begun network actor (outcome_by task replies ++ outcomes) tasks fits.1 was.owned.1 (λ request full. (was.names request full).1) told
-
-sized-resumed : (network : Network) (actor : ℕ) (outcomes : List Learnt) (tasks : List Task) (replies : List Reply) (done : Done) (past : List Done) → NetworkFits network → IsRun network past → (next : IsNext network past done) → Each (TaskFits network.links) tasks → first_ask tasks replies ≡ Some (done.link, done.ask) → SizedAt network actor (record { tasks = tasks; replies = []; outcomes = outcomes }) → SizedAt network actor (resumed outcomes tasks (replies ++ done.reply ∷ []))
-unfolding resumed
-sized-resumed network actor outcomes [] replies done past fits run next fit asks was = cc
-sized-resumed network actor outcomes (task ∷ tasks) replies done past fits run next fit asks was =
-    sized-continued network actor outcomes task tasks (replies ++ done.reply ∷ []) (task_ask task (replies ++ done.reply ∷ [])) fit was
-    (λ request sound full. told-small network actor task tasks replies outcomes done past request fits fit.0 run next sound full was.first (was.names request full).0 asks (was.notes request sound full))
+      (on-small request (is_that request.chan new.chan && not (nat_eq told.shifted 0)) gap size (λ on. joined ((move-is request old new gap size names).joins (eqb-true (channel_number new.chan) (channel_number request.chan) (and_parts (is_that request.chan new.chan) (not (nat_eq told.shifted 0)) on).0)))) small
 
 -- ---- every run
 
 pub record RunSized (network : Network) (run : List Done) : Type 0 where
   pub at : (actor : ℕ) (tasks : List Task) → slice_get network.scripts actor ≡ Some tasks → SizedAt network actor (standing tasks (replies_to actor run))
 
-sized-next : (network : Network) (past : List Done) (done : Done) → NetworkFits network → IsRun network past → (next : IsNext network past done) → RunSized network past → RunSized network (done ∷ past)
-unfolding standing
-sized-next network past done fits run next was = record { at = each } where
-  each : (actor : ℕ) (tasks : List Task) → slice_get network.scripts actor ≡ Some tasks → SizedAt network actor (standing tasks (replies_to actor (done ∷ past)))
-  each actor tasks found =
-      elim (cases_Bool (nat_eq (actor_number done.actor) actor)) [
-        | inl by ↦
-            (let e : actor_number done.actor ≡ actor = eqb-true (actor_number done.actor) actor by in
-            let within : suc actor ≤ length network.scripts = slice_get_within network.scripts actor tasks found in
-            let asks = caller-next network past done next (λ is. (let clash : actor ≡ length network.scripts = sym e ∙ is in absurd (omega (arith, clash, within)))) in
-            let own : asks.tasks ≡ tasks = same_Some asks.tasks tasks (sym asks.found ∙ ap (slice_get network.scripts) e ∙ found) in
-            let asked : ask_at (standing tasks (replies_to actor past)) ≡ Some (done.link, done.ask) = subst (λ ts. ask_at (standing ts (replies_to actor past)) ≡ Some (done.link, done.ask)) own (subst (λ a. ask_at (standing asks.tasks (replies_to a past)) ≡ Some (done.link, done.ask)) e asks.asks) in
-            let before = was.at actor tasks found in
-            let stands = (run-stands network past fits run).callers actor tasks found in
-            subst (λ rs. SizedAt network actor (standing tasks rs)) (sym (replies-by actor done past e))
-            (sized-resumed network actor (standing tasks (replies_to actor past)).outcomes (standing tasks (replies_to actor past)).tasks (standing tasks (replies_to actor past)).replies done past fits run next stands.tasks asked
-            (record { owned = before.owned; names = before.names; notes = before.notes; first = before.first })))
-        | inr off ↦ subst (λ rs. SizedAt network actor (standing tasks rs)) (sym (replies-off actor done past (eqb-false (actor_number done.actor) actor off))) (was.at actor tasks found)
-      ]
+-- what is known of the tasks that are left, before one begins
+record SizedLeft (network : Network) (actor : ℕ) (outcomes : List Learnt) (tasks : List Task) : Type 0 where
+  fits : Each (TaskFits network.links) tasks
+  owned : Each (TaskOwned network actor) tasks
+  notes : (request : Request) → RequestFits network.links request → OwnedFully network request actor → IsSmall request outcomes
+
+sized-keeps : (network : Network) (actor : ℕ) (script : List Task) → NetworkFits network → AllOwned network → slice_get network.scripts actor ≡ Some script → KeptBySteps network actor script (λ run outcomes tasks. SizedLeft network actor outcomes tasks) (λ run at. SizedAt network actor at)
+sized-keeps network actor script fits all found = record {
+  first = record {
+    fits = Each-at (Each (TaskFits network.links)) network.scripts actor script fits.tasks found;
+    owned = script-owned network actor script all found;
+    notes = λ request sound full. one-small request sound.contract.smax_least;
+  };
+  begins = λ run outcomes tasks left. sized-begun network actor outcomes tasks left.fits left.owned left.notes;
+  off = λ past done at run next other was. was;
+  goes = λ past done task rest replies outcomes to step more was. record { owned = was.owned; notes = was.notes; first = was.first };
+  over = λ past done task rest replies outcomes step none was. (let fit = (step-stands network actor script past done task rest replies outcomes fits step).tasks in
+      record {
+        fits = fit.1;
+        owned = was.owned.1;
+        notes = λ request sound full. told-small network actor task rest replies outcomes done past request fits fit.0 step.run step.next sound full was.first (own-task network request actor script past done task rest replies outcomes full step) step.asks (was.notes request sound full);
+      });
+}
 
 pub run-sized : (network : Network) (run : List Done) → NetworkFits network → AllOwned network → IsRun network run → RunSized network run
-unfolding IsRun replies_to standing
-run-sized network [] fits all is = record {
-  at = λ actor tasks found. sized-begun network actor [] tasks (Each-at (Each (TaskFits network.links)) network.scripts actor tasks fits.tasks found) (script-owned network actor tasks all found)
-      (λ request full. full-names request tasks (full.own tasks found)) (λ request sound full. one-small request sound.contract.smax_least);
+run-sized network run fits all is = record {
+  at = λ actor tasks found. each-run network actor tasks found (λ past outcomes left. SizedLeft network actor outcomes left) (λ past at. SizedAt network actor at) (sized-keeps network actor tasks fits all found) run is;
 }
-run-sized network (done ∷ past) fits all is = sized-next network past done fits is.0 is.1 (run-sized network past fits all is.0)
 
 -- the packets of a move under way fit the contract of the channel that it joins
 pub first-small : (network : Network) (run : List Done) (actor : ℕ) (tasks : List Task) (old new : Request) (gap size : ℕ) (rest : List Task) (request : Request) → NetworkFits network → AllOwned network → IsRun network run → slice_get network.scripts actor ≡ Some tasks → OwnedFully network request actor → channel_number new.chan ≡ channel_number request.chan → (standing tasks (replies_to actor run)).tasks ≡ Moves old new gap size ∷ rest
@@ -297,7 +219,7 @@ first-small network run actor tasks old new gap size rest request fits all is fo
     let stands = (run-stands network run fits is).callers actor tasks found in
     let fit : Each (TaskFits network.links) (Moves old new gap size ∷ rest) = subst (Each (TaskFits network.links)) first stands.tasks in
     let small : size ≤ old.contract.smax = subst FirstSmall first at.first in
-    let names : Each (NamesIs request) (Moves old new gap size ∷ rest) = subst (Each (NamesIs request)) first (at.names request full) in
-    let e : new ≡ request = names.0.1 chan in
+    let own : Each (OwnTask request) (Moves old new gap size ∷ rest) = subst (Each (OwnTask request)) first (standing-is network request actor tasks (replies_to actor run) full found) in
+    let e : new ≡ request = (move-is request old new gap size own.0).joins chan in
     let same : old.contract.smax ≡ request.contract.smax = ap (λ k. k.smax) fit.0.same ∙ ap (λ q. q.contract.smax) e in
     omega (arith, small, same)

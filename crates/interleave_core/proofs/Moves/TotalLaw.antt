@@ -25,7 +25,7 @@ use Rattle.link_steps.specs.Reservation.{Reservation, is_of, is_phase, is_same, 
 use Rattle.link_steps.specs.Rows.{Row, SourcePacket, new_row, row_terms, left_at, made_by, offered_by, tick_of, planned_from}
 use Rattle.link_steps.specs.Scan.{Scan, plan_row, close_row, clock_of, scan_of, is_row_of, is_row_at_hop, names_first_hop, arrived_row, with_arrival, without_expired, with_sources, with_best, after_tick, after}
 use Rattle.link_steps.specs.Service.{Arrival, here_at}
-use Rattle.link_steps.specs.Sources.{SourceStep, Rests, Brings, Drops, row_after, rows_after, step_of, taken_by}
+use Rattle.link_steps.specs.Sources.{SourceStep, Rests, row_after, rows_after, step_of, taken_by}
 use Rattle.link_steps.proofs.ChangeFacts.{total-filter-both}
 use Rattle.link_steps.proofs.LegalOrder.{legal-order}
 use Rattle.link_steps.proofs.LegalRowFacts.{IsInOrder}
@@ -92,8 +92,7 @@ total-without-none f test (row ∷ rows) none =
 step-plan : (c t place : ℕ) (step : SourceStep) (row : Row) → plan_of c (row_after step t place row) ≡ plan_of c row
 unfolding plan_of
 step-plan c t place Rests row = refl
-step-plan c t place (Brings size) row = refl
-step-plan c t place Drops row = refl
+step-plan c t place _ row = refl
 
 sources-plans : (c : ℕ) (bounds : List ℕ) (here : List Arrival) (t taken : ℕ) (rows : List Row) → total (plan_of c) (rows_after bounds here t taken rows) ≡ total (plan_of c) rows
 unfolding rows_after plan_of

@@ -10,12 +10,9 @@ use Rattle.link_steps.specs.declared.replies.Reply.TheVariants as Is
 use Rattle.call_script.specs.Owners.{UsedOnce, ClosesOnce, IsSendOn, IsMoveFrom, IsMoveOnto}
 use Rattle.call_script.specs.Scripts.{Settles as Settled_as, newest, ready, planned_as, moved_as}
 use Rattle.channel_laws.specs.Unsent.{IsUnsent, NoneSent}
-use Rattle.interleave_core.proofs.Replies.RunGoes.{ready-off}
-use Rattle.interleave_core.proofs.Runs.RunLegal.{part-on, part-off}
-use Rattle.std.proofs.Common.{◌≡◌, ◌≢◌, ◌⊎◌, ℕ, ◌≤◌, Bool, true, false, cond, List, [], ◌∷◌, ◌++◌, length, Option, Some, None, refl, sym, ap, subst, inl, inr}
-use Rattle.std.proofs.lemmas.Bool.{cases_Bool, cond_both, eqb-true, eqb-false, eq-eqb, ne_eqb}
-use Rattle.std.specs.Prelude.{nat_eq}
-use Rattle.net_units.specs.Numbers.{link_number, channel_number}
+use Rattle.std.proofs.Common.{◌≡◌, ◌≢◌, ◌⊎◌, ℕ, ◌≤◌, Bool, true, false, cond, List, [], ◌∷◌, ◌++◌, length, Option, Some, None, refl, sym, ap, ◌∙◌, subst, inl, inr}
+use Rattle.std.proofs.lemmas.Bool.{cond_both, eq-eqb, ne_eqb}
+use Rattle.net_units.specs.Numbers.{channel_number, link_number}
 use Rattle.link_steps.specs.declared.asks.Ask.{Ask}
 use Rattle.link_steps.specs.declared.asks.Ask.TheVariants.{Submit}
 use Rattle.link_steps.specs.declared.replies.Reply.{Reply}
@@ -34,9 +31,14 @@ use Rattle.interleave_core.specs.runs.Runs.{IsRun}
 use Rattle.call_script.specs.Scripts.{Learnt, Standing, is_established, takes_step, from_step, settled_as, outcome_by}
 use Rattle.setup_protocol.proofs.HopHolds.{IsComm}
 use Rattle.interleave_core.proofs.Channels.RowsFollow.{held_at}
-use Rattle.interleave_core.proofs.Replies.RunGoes.{held-later, open-comm, off-from}
+use Rattle.interleave_core.proofs.Replies.RunGoes.{held-later, open-comm}
 use Rattle.channel_laws.specs.Asks.{IsOff}
 use Rattle.interleave_core.specs.channels.Paths.{HopAt}
+use Rattle.interleave_core.proofs.Tasks.TaskAsks.{ready-off, off-from}
+use Rattle.interleave_core.proofs.Runs.RunLegal.{by-part}
+use Rattle.link_steps.specs.Scan.{clock_of, scan_of, after}
+use Rattle.channel_laws.specs.Reservations.{held_by}
+use Rattle.channel_laws.proofs.TermsAfter.{held-submitted}
 
 -- ---- scripts
 
@@ -99,16 +101,20 @@ pub comm-later : (network : Network) (request : Request) (levels : List ℕ) (fr
 comm-later network request levels from done past fits run off comm i at upto =
     (let own = comm i at upto in subst (IsComm Some request levels i) (sym (held-later network request i at done past fits run off (open-comm request levels i (held_at network request i at past) own))) own)
 
+-- a submit on the channel leaves what is held
+pub send-later : (network : Network) (request : Request) (done : Done) (past : List Done) (count gap size : ℕ) (levels : List ℕ) → done.ask ≡ Submit request.chan count gap size → AllComm network request levels 0 past → AllComm network request levels 0 (done ∷ past)
+unfolding scan_of
+send-later network request done past count gap size levels is comm i at from =
+    by-part (λ h. IsComm Some request levels i (held_by request.chan (scan_of at.link.shape h).rows)) (link_number at.hop.link) done past
+    (λ on. subst (IsComm Some request levels i) (sym (ap (λ a. held_by request.chan (after at.link.shape (clock_of (part_of (link_number at.hop.link) past)) (scan_of at.link.shape (part_of (link_number at.hop.link) past)) a done.reply).rows) is ∙ held-submitted at.link.shape request.chan request.chan (clock_of (part_of (link_number at.hop.link) past)) (scan_of at.link.shape (part_of (link_number at.hop.link) past)) count gap size done.reply)) (comm i at from)) (λ off. comm i at from)
+
 pub off-unsent : (c : ℕ) (ask : Ask) → IsOff c ask → IsUnsent c ask
 off-unsent c (Submit chan count gap size) off = off
 off-unsent c _ off = tt
 
 pub unsent-more : (request : Request) (done : Done) (past : List Done) → IsUnsent (channel_number request.chan) done.ask → Unsent request past → Unsent request (done ∷ past)
 unsent-more request done past none before n =
-    elim (cases_Bool (nat_eq (link_number done.link) n)) [
-      | inl on ↦ subst (NoneSent (channel_number request.chan)) (sym (part-on n done past (eqb-true (link_number done.link) n on))) (none, before n)
-      | inr off ↦ subst (NoneSent (channel_number request.chan)) (sym (part-off n done past (eqb-false (link_number done.link) n off))) (before n)
-    ]
+    by-part (NoneSent (channel_number request.chan)) n done past (λ on. (none, before n)) (λ off. before n)
 
 pub unsent-later : (request : Request) (done : Done) (past : List Done) → IsOff (channel_number request.chan) done.ask → Unsent request past → Unsent request (done ∷ past)
 unsent-later request done past off before = unsent-more request done past (off-unsent (channel_number request.chan) done.ask off) before

@@ -20,7 +20,7 @@ use Rattle.channel_laws.proofs.UnsentPlans.{unsent-left, row-at-hop}
 use Rattle.channel_laws.proofs.UnsentSubmits.{unplanned-submit}
 use Rattle.interleave_core.proofs.Runs.RunLegal.{part-admissible}
 use Rattle.std.proofs.Common.{◌≡◌, ◌≢◌, suc, ℕ, ◌+◌, ◌≤◌, Bool, true, false, List, [], ◌∷◌, ◌++◌, length, Option, Some, None, refl, sym, ap, ◌∙◌, subst, inl, inr, arith}
-use Rattle.std.proofs.lemmas.Bool.{cases_Bool, eqb-true, eqb-false, ne_eqb}
+use Rattle.std.proofs.lemmas.Bool.{cases_Bool, ne_eqb}
 use Rattle.std.proofs.lemmas.List.{length_push}
 use Rattle.std.proofs.lemmas.Option.{same_Some, slice_get_within}
 use Rattle.std.specs.List.{slice_get}
@@ -34,7 +34,7 @@ use Rattle.link_steps.specs.declared.asks.Ask.TheVariants.{Submit, Release}
 use Rattle.link_steps.specs.declared.replies.Reply.{Reply}
 use Rattle.link_steps.specs.Lists.{Each}
 use Rattle.link_steps.specs.Replies.{reply_at}
-use Rattle.link_steps.specs.Scan.{clock_of, scan_of, after}
+use Rattle.link_steps.specs.Scan.{clock_of, scan_of}
 use Rattle.setup_protocol.specs.Hops.{RequestFits}
 use Rattle.setup_protocol.specs.Setup.{Denies, next_ask}
 use Rattle.setup_protocol.specs.Teardown.{first_count, next_release}
@@ -50,16 +50,14 @@ use Rattle.interleave_core.specs.runs.Runs.{IsNext, IsRun}
 use Rattle.call_script.specs.Scripts.{Learnt, Standing, once_next, task_ask, is_established, begun, settled_as, outcome_by, continued, resumed}
 use Rattle.interleave_core.proofs.Channels.HopsAt.{hop-at}
 use Rattle.setup_protocol.proofs.HopHolds.{IsComm}
-use Rattle.interleave_core.proofs.Channels.RowsFollow.{held-here, held-elsewhere, hop-reply, other-hop, SetupRows, Settles, setup-settles}
-use Rattle.interleave_core.proofs.Replies.RunGoes.{GoesAt, Before, Under, After, task-off, rows-none, off-from}
+use Rattle.interleave_core.proofs.Channels.RowsFollow.{held-elsewhere, hop-reply, other-hop, SetupRows, Settles, setup-settles}
 use Rattle.channel_laws.specs.Reservations.{IsSendReply, IsReleased}
 use Rattle.channel_laws.proofs.SendReplies.{submit-committed, release-committed}
 use Rattle.channel_laws.specs.Asks.{IsOff}
-use Rattle.channel_laws.specs.Reservations.{held_by}
-use Rattle.channel_laws.proofs.TermsAfter.{held-submitted}
 use Rattle.setup_protocol.proofs.HopAsks.{asked-at, first-named}
 use Rattle.interleave_core.proofs.Tasks.OnceFacts.{once-asked}
-use Rattle.interleave_core.proofs.Replies.ClosingStands.{closes-sends, sends-used, AllComm, Unsent, FreshFirst, left_in, left_by, IsUnjoined, ClosesAt, Early, Denied, Fresh, Open, Closing, MovingFrom, MovingOnto, Over, comm-later, unsent-later, established-own, left-established, off-established, denied-from, open-from, fresh-from}
+use Rattle.interleave_core.proofs.Replies.ClosingStands.{closes-sends, sends-used, AllComm, Unsent, FreshFirst, left_in, left_by, IsUnjoined, ClosesAt, Early, Denied, Fresh, Open, Closing, MovingFrom, MovingOnto, Over, comm-later, unsent-later, established-own, left-established, off-established, denied-from, open-from, fresh-from, send-later}
+use Rattle.interleave_core.proofs.Tasks.TaskAsks.{task-off, off-from}
 
 -- ---- one reply to the owner
 
@@ -129,12 +127,7 @@ send-step network request done past outcomes tasks [] levels hop count gap size 
     let on : link_number done.link ≡ link_number here.hop.link = ap link_number (sym once.at) ∙ ap link_of (same_Some hop here.hop (sym stands ∙ here.stands)) in
     let held = comm 0 here (omega arith) in
     let reply = hop-reply network request 0 here done past next on ∙ ap (reply_at here.link (clock_of (part_of (link_number here.hop.link) past)) (scan_of here.link.shape (part_of (link_number here.hop.link) past))) asked in
-    let later : AllComm network request levels 0 (done ∷ past) = λ i at from. elim (cases_Bool (nat_eq i 0)) [
-      | inl hit ↦ (let e = eqb-true i 0 hit in
-          let same : link_number at.hop.link ≡ link_number here.hop.link = ap link_of (same_Some at.hop here.hop (sym at.stands ∙ ap (slice_get request.route) e ∙ here.stands)) in
-          subst (IsComm Some request levels i) (sym (held-here network request i at done past (on ∙ sym same) ∙ ap (λ a. held_by request.chan (after at.link.shape (clock_of (part_of (link_number at.hop.link) past)) (scan_of at.link.shape (part_of (link_number at.hop.link) past)) a done.reply).rows) asked ∙ held-submitted at.link.shape request.chan request.chan (clock_of (part_of (link_number at.hop.link) past)) (scan_of at.link.shape (part_of (link_number at.hop.link) past)) count gap size done.reply)) (comm i at from))
-      | inr miss ↦ subst (IsComm Some request levels i) (sym (held-elsewhere network request i at done past (other-hop network request i 0 at here done sound.route on (eqb-false i 0 miss)))) (comm i at from)
-    ] in
+    let later = send-later network request done past count gap size levels asked comm in
     let more = open-from request (outcome_by (Sends hop.link (Some request.chan) count gap size) (done.reply ∷ []) ++ outcomes) tasks sends in
     record {
       usual = λ named. subst IsSendReply (sym reply) (submit-committed (clock_of (part_of (link_number here.hop.link) past)) size request.chan _ held.terms held.is held.first held.phase);
@@ -281,12 +274,7 @@ onto-step network request old gap size done past outcomes tasks replies levels f
       let planned : size ≤ request.contract.smax → IsPlanned done.reply = λ small. subst IsPlanned (sym reply)
       (unplanned-submit (clock_of (part_of (link_number here.hop.link) past)) size request.chan (scan_of here.link.shape (part_of (link_number here.hop.link) past)).rows held.terms held.is held.first held.phase
       (λ row found. unsent-left here.link.shape request.chan (part_of (link_number here.hop.link) past) row empty found) (omega (arith, small, smax))) in
-      let later : AllComm network request levels 0 (done ∷ past) = λ i at' from. elim (cases_Bool (nat_eq i 0)) [
-        | inl hit ↦ (let e = eqb-true i 0 hit in
-            let hop : link_number at'.hop.link ≡ link_number here.hop.link = ap link_of (same_Some at'.hop here.hop (sym at'.stands ∙ ap (slice_get request.route) e ∙ here.stands)) in
-            subst (IsComm Some request levels i) (sym (held-here network request i at' done past (on ∙ sym hop) ∙ ap (λ a. held_by request.chan (after at'.link.shape (clock_of (part_of (link_number at'.hop.link) past)) (scan_of at'.link.shape (part_of (link_number at'.hop.link) past)) a done.reply).rows) is ∙ held-submitted at'.link.shape request.chan request.chan (clock_of (part_of (link_number at'.hop.link) past)) (scan_of at'.link.shape (part_of (link_number at'.hop.link) past)) (shifted_in first) gap size done.reply)) (comm i at' from))
-        | inr miss ↦ subst (IsComm Some request levels i) (sym (held-elsewhere network request i at' done past (other-hop network request i 0 at' here done sound.route on (eqb-false i 0 miss)))) (comm i at' from)
-      ] in
+      let later = send-later network request done past (shifted_in first) gap size levels is comm in
       record {
         usual = (λ same. absurd (other same), λ same small. subst (λ a. IfPlanned a done.reply) (sym is) (planned small));
         closes = onto-continued network request old gap size (done ∷ past) outcomes tasks (replies ++ done.reply ∷ []) levels (task_ask (Moves old request gap size) (replies ++ done.reply ∷ [])) other sends later
@@ -312,20 +300,9 @@ open-continued : (network : Network) (request : Request) (run : List Done) (outc
 open-continued network request run outcomes tasks replies (Some to) is used none unsent rows = Early (inr (refl, used)) none unsent
 open-continued network request run outcomes tasks replies None is used none unsent rows = open-settled network request run outcomes tasks replies used none unsent (setup-settles network request replies run rows is)
 
-pub goes-rows : (network : Network) (request : Request) (run : List Done) (tasks : List Task) (replies : List Reply) (outcomes : List Learnt) → 1 ≤ length request.route → GoesAt network request run (Opens request ∷ tasks) replies outcomes → SetupRows network request replies run
-goes-rows network request run tasks replies outcomes some (Before is quiet) = subst (λ rs. SetupRows network request rs run) (sym (is.begun refl)) (rows-none network request run some is.none)
-goes-rows network request run tasks replies outcomes some (Under is quiet) = is.rows
-goes-rows network request run tasks replies outcomes some (After levels accepted others rows packets recorded) = absurd (others.0 refl)
-
 pub open-next : (network : Network) (request : Request) (done : Done) (past : List Done) (outcomes : List Learnt) (tasks : List Task) (replies : List Reply) → UsedOnce request tasks → is_established request.chan outcomes ≡ false → Unsent request (done ∷ past) → SetupRows network request (replies ++ done.reply ∷ []) (done ∷ past) → ClosesNext network request (done ∷ past) (Opens request ∷ tasks) done.ask done.reply (resumed outcomes (Opens request ∷ tasks) (replies ++ done.reply ∷ []))
 unfolding resumed
 open-next network request done past outcomes tasks replies used none unsent rows = record {
   usual = tt;
   closes = open-continued network request (done ∷ past) outcomes tasks (replies ++ done.reply ∷ []) (next_ask request (replies ++ done.reply ∷ [])) refl used none unsent rows;
 }
-
-pub head-same : (a : Task) (xs : List Task) (b : Task) (ys : List Task) → a ∷ xs ≡ b ∷ ys → a ≡ b
-head-same a xs b ys same = cc
-
-pub tail-same : (a : Task) (xs : List Task) (b : Task) (ys : List Task) → a ∷ xs ≡ b ∷ ys → xs ≡ ys
-tail-same a xs b ys same = cc

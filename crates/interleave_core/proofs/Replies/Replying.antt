@@ -35,7 +35,6 @@ use Rattle.std.proofs.lemmas.Option.{same_Some}
 use Rattle.std.specs.List.{slice_get}
 use Rattle.std.specs.Prelude.{nat_eq}
 use Rattle.net_units.specs.Numbers.{link_number, actor_number, channel_number}
-use Rattle.net_units.specs.declared.numbers.ChanNo.{ChanNo}
 use Rattle.net_units.specs.declared.numbers.LinkNo.{LinkNo}
 use Rattle.hop_reservation.specs.Offers.{next_levels}
 use Rattle.link_steps.specs.declared.asks.Ask.{Ask}
@@ -69,13 +68,16 @@ use Rattle.run_record.specs.declared.done.Done.{Done}
 use Rattle.tick_plane.specs.Planes.{next_due, ask_due, answers_arrive, answers_tick, plane_expects}
 use Rattle.tick_plane.specs.declared.flight.Flight.{Flight}
 use Rattle.interleave_core.proofs.Replies.ClosingStands.{ClosesAt, Early, Denied, Fresh, Open, Closing, MovingFrom, MovingOnto, Over, FirstOff}
-use Rattle.interleave_core.proofs.Replies.ClosingSteps.{IsUsualReply, FirstUsual, IfReleased, IfPlanned, head-same}
+use Rattle.interleave_core.proofs.Replies.ClosingSteps.{IsUsualReply, FirstUsual, IfReleased, IfPlanned}
 use Rattle.interleave_core.proofs.Replies.RunCloses.{owned-once, run-closes, replies-usual}
-use Rattle.interleave_core.proofs.Replies.RunGoes.{off-standing, setup-expected}
+use Rattle.interleave_core.proofs.Replies.RunGoes.{setup-expected}
 use Rattle.interleave_core.proofs.Runs.RunLegal.{AsksOf, plane-next, caller-next}
 use Rattle.setup_protocol.proofs.HopAsks.{of-hop}
 use Rattle.channel_laws.proofs.SentFacts.{tick-answer}
 use Rattle.interleave_core.proofs.Tasks.OnceFacts.{once-asked, packets-hold}
+use Rattle.interleave_core.proofs.Runs.EachRun.{head-same}
+use Rattle.interleave_core.proofs.Tasks.TaskAsks.{off-standing}
+use Rattle.interleave_core.proofs.Tasks.OwnTasks.{opens-own, OwnTask, standing-is}
 
 -- ---- the tests and the facts say the same
 
@@ -142,37 +144,7 @@ moves-expected old new gap size rest replies to ask reply same released planned 
   answered = move-ask-is (λ a. IfReleased a reply → IfPlanned a reply → IsReplyOf a reply) (move_between old new gap size) replies to ask (λ upstream is none. is) (λ count none is. planned-send reply is) same released planned;
 }
 
--- ---- the owner of a channel opens it by its own request
-
-own-open : (network : Network) (request own : Request) (rest : List Task) (run : List Done) (at : Standing) → at.tasks ≡ Opens request ∷ rest → channel_number request.chan ≡ channel_number own.chan → ClosesAt network own run at → request ≡ own
-own-open network request own rest run at first same closes = by-state closes where
-  opened : (a b : Request) → Opens a ≡ Opens b → a ≡ b
-  opened a b is = cc
-
-  by-script : FullScript own (Opens request ∷ rest) → request ≡ own
-  by-script (inl off) = absurd (off.0 same)
-  by-script (inr open') = opened request own open'.0
-
-  by-sends : SendsOnce own (Opens request ∷ rest) → request ≡ own
-  by-sends (inl off) = absurd (off.0 same)
-  by-sends (inr (inl send)) = absurd (let clash : Opens request ≡ Sends send.0.hop.link (Some own.chan) send.0.count send.0.gap send.0.size = send.0.is in cc)
-  by-sends (inr (inr (inl close))) = absurd (let clash : Opens request ≡ Closes own = close.0 in cc)
-  by-sends (inr (inr (inr move))) = absurd (let clash : Opens request ≡ Moves own move.0.new move.0.gap move.0.size = move.0.is in cc)
-
-  by-used : UsedOnce own (Opens request ∷ rest) → request ≡ own
-  by-used (inl off) = absurd (off.0 same)
-  by-used (inr (inl onto)) = absurd (let clash : Opens request ≡ Moves onto.0.old own onto.0.gap onto.0.size = onto.0.is in cc)
-  by-used (inr (inr used)) = by-sends (inr used)
-
-  by-state : ClosesAt network own run at → request ≡ own
-  by-state (Early script none unsent) = by-script (subst (FullScript own) first script)
-  by-state (Denied sends off none) = absurd (let one : FirstOff (channel_number own.chan) (Opens request ∷ rest) = subst (FirstOff (channel_number own.chan)) first off in one same)
-  by-state (Fresh levels used fresh comm unsent) = by-used (subst (UsedOnce own) first used)
-  by-state (Open levels sends fresh comm) = by-sends (subst (SendsOnce own) first sends)
-  by-state (Closing levels more is others comm) = absurd (let clash : Opens request ≡ Closes own = head-same (Opens request) rest (Closes own) more (sym first ∙ is) in cc)
-  by-state (MovingFrom levels new gap size more is other closes comm) = absurd (let clash : Opens request ≡ Moves own new gap size = head-same (Opens request) rest (Moves own new gap size) more (sym first ∙ is) in cc)
-  by-state (MovingOnto levels old gap size more is other sends comm unsent) = absurd (let clash : Opens request ≡ Moves old own gap size = head-same (Opens request) rest (Moves old own gap size) more (sym first ∙ is) in cc)
-  by-state (Over others) = absurd (let each : Each (TaskOff (channel_number own.chan)) (Opens request ∷ rest) = subst (Each (TaskOff (channel_number own.chan))) first others in each.0 same)
+-- ---- the owner of a channel
 
 record OwnerIs (network : Network) (c actor : ℕ) : Type 0 where
   own : IsOwned network c
@@ -218,8 +190,8 @@ open-reply network past done tasks rest request step first =
     let is = named-own network past done tasks rest (Opens request) (channel_number request.chan) step first (λ off. off refl) in
     let own : slice_get network.scripts is.own.owner ≡ Some tasks = ap (slice_get network.scripts) (sym is.same) ∙ step.found in
     let first' : (standing tasks (replies_to is.own.owner past)).tasks ≡ Opens request ∷ rest = ap (λ a. (standing tasks (replies_to a past)).tasks) (sym is.same) ∙ first in
-    let closes = (run-closes network is.own.request is.own.owner past step.fits is.own.sound is.own.full step.run).at tasks own in
-    let same : request ≡ is.own.request = own-open network request is.own.request rest past (standing tasks (replies_to is.own.owner past)) first' (sym is.own.chan) closes in
+    let opens : Each (OwnTask is.own.request) (Opens request ∷ rest) = subst (Each (OwnTask is.own.request)) first' (standing-is network is.own.request is.own.owner tasks (replies_to is.own.owner past) is.own.full own) in
+    let same : request ≡ is.own.request = opens-own is.own.request request opens.0 (sym is.own.chan) in
     let told = setup-expected network is.own.request is.own.owner past done tasks rest step.fits is.own.sound (owned-once network is.own.request is.own.owner is.own.full) step.run step.next is.same own (first' ∙ ap (λ r. Opens r ∷ rest) same) in
     let mine : is_expected request (progress_of request (standing tasks (replies_to is.own.owner past)).replies) done.reply ≡ true = subst (λ r. is_expected r (progress_of r (standing tasks (replies_to is.own.owner past)).replies) done.reply ≡ true) (sym same) told in
     ap (λ a. is_expected request (progress_of request (standing tasks (replies_to a past)).replies) done.reply) is.same ∙ mine

@@ -5,12 +5,9 @@ use Rattle.call_script.specs.Owners.{UsedOnce, ClosesOnce, IsSendOn, IsMoveFrom}
 use Rattle.call_script.specs.Scripts.{newest}
 use Rattle.interleave_core.specs.channels.Hops.{ChannelAsked}
 use Rattle.channel_laws.specs.Unsent.{IsUnsent}
-use Rattle.interleave_core.proofs.Replies.RunGoes.{off-other, owned-asked}
+use Rattle.interleave_core.proofs.Runs.EachRun.{head-same, tail-same, OwnStep, each-run-resumed, owner-asks}
 use Rattle.std.proofs.Common.{◌≡◌, ◌≢◌, ◌⊎◌, ℕ, false, List, [], ◌∷◌, ◌++◌, length, Some, refl, sym, ap, ◌∙◌, subst, inl, inr, arith}
-use Rattle.std.proofs.lemmas.Bool.{cases_Bool, eqb-true, eqb-false}
-use Rattle.std.proofs.lemmas.Option.{same_Some}
 use Rattle.std.specs.List.{slice_get}
-use Rattle.std.specs.Prelude.{nat_eq}
 use Rattle.net_units.specs.Numbers.{actor_number, channel_number}
 use Rattle.net_units.specs.declared.numbers.LinkNo.{LinkNo}
 use Rattle.link_steps.specs.declared.asks.Ask.{Ask}
@@ -23,20 +20,20 @@ use Rattle.run_record.specs.declared.done.Done.{Done}
 use Rattle.call_script.specs.Owners.{TaskOff, SendsOnce, FullScript, OwnedFully}
 use Rattle.call_script.specs.Fits.{NetworkFits}
 use Rattle.call_script.specs.declared.tasks.Task.{Task}
-use Rattle.call_script.specs.declared.tasks.Task.TheVariants.{Opens, Sends, Closes, Moves}
+use Rattle.call_script.specs.declared.tasks.Task.TheVariants.{Opens, Closes, Moves}
 use Rattle.call_script.specs.Tasks.{Network}
 use Rattle.run_record.specs.Runs.{part_of, replies_to}
-use Rattle.interleave_core.specs.runs.Runs.{plane_no, plane_at, IsNext, IsRun}
-use Rattle.call_script.specs.Scripts.{Learnt, is_established, resumed, standing, first_ask, ask_at}
-use Rattle.tick_plane.specs.Planes.{next_due}
+use Rattle.interleave_core.specs.runs.Runs.{IsNext, IsRun}
+use Rattle.call_script.specs.Scripts.{Learnt, Standing, begun, is_established, resumed, standing, first_ask}
 use Rattle.interleave_core.proofs.Tasks.CallerFacts.{StandingFits}
 use Rattle.interleave_core.proofs.Channels.RowsFollow.{setup-goes}
-use Rattle.interleave_core.proofs.Replies.RunGoes.{ScriptOnce, OwnedOnce, GoesAt, run-goes, task-off, tasks-off, plane-off-ask, off-standing, off-from}
-use Rattle.interleave_core.proofs.Runs.RunLegal.{plane-next, caller-next, replies-by, replies-off, run-stands}
-use Rattle.interleave_core.proofs.Tasks.SetupOnce.{IsOther}
+use Rattle.interleave_core.proofs.Replies.RunGoes.{OwnedOnce, owned-asked, GoesAt, goes-rows, run-goes}
+use Rattle.interleave_core.proofs.Runs.RunLegal.{run-stands}
 use Rattle.channel_laws.specs.Asks.{IsOff}
 use Rattle.interleave_core.proofs.Replies.ClosingStands.{FirstOff, closes-sends, AllComm, FreshFirst, ClosesAt, Early, Denied, Fresh, Open, Closing, MovingFrom, MovingOnto, Over, comm-later, unsent-more, unsent-later, closes-later, each-sends, early-from, denied-from, open-from, fresh-from}
-use Rattle.interleave_core.proofs.Replies.ClosingSteps.{FirstUsual, ClosesNext, not-own, fresh-off, off-step, send-step, close-step, from-step, onto-step, goes-rows, open-next, head-same, tail-same}
+use Rattle.interleave_core.proofs.Replies.ClosingSteps.{FirstUsual, ClosesNext, not-own, fresh-off, off-step, send-step, close-step, from-step, onto-step, open-next}
+use Rattle.interleave_core.proofs.Tasks.EachSetup.{OpenedOnce}
+use Rattle.interleave_core.proofs.Tasks.TaskAsks.{IsOther, off-other, task-off, off-from, entry-off}
 
 -- ---- every reply to the owner
 
@@ -129,12 +126,7 @@ none-established request = refl
 
 sends-other : (request : Request) (tasks : List Task) → SendsOnce request tasks → Each (IsOther (channel_number request.chan)) tasks
 sends-other request [] sends = tt
-sends-other request (task ∷ tasks) (inl off) = (one task off.0, sends-other request tasks off.1) where
-  one : (t : Task) → TaskOff (channel_number request.chan) t → IsOther (channel_number request.chan) t
-  one (Opens r) off = off
-  one (Sends link chan count gap size) off = tt
-  one (Closes r) off = tt
-  one (Moves old new gap size) off = tt
+sends-other request (task ∷ tasks) (inl off) = (off-other (channel_number request.chan) task off.0, sends-other request tasks off.1)
 sends-other request (task ∷ tasks) (inr (inl own)) = (subst (IsOther (channel_number request.chan)) (sym own.0.is) tt, sends-other request tasks own.1)
 sends-other request (task ∷ tasks) (inr (inr (inl own))) = (subst (IsOther (channel_number request.chan)) (sym own.0) tt, sends-other request tasks (each-sends request tasks own.1))
 sends-other request (task ∷ tasks) (inr (inr (inr own))) = (subst (IsOther (channel_number request.chan)) (sym own.0.is) tt, sends-other request tasks (closes-sends request tasks own.1))
@@ -145,61 +137,65 @@ used-other request (task ∷ tasks) (inl off) = (off-other (channel_number reque
 used-other request (task ∷ tasks) (inr (inl own)) = (subst (IsOther (channel_number request.chan)) (sym own.0.is) tt, sends-other request tasks own.1)
 used-other request (task ∷ tasks) (inr (inr own)) = sends-other request (task ∷ tasks) (inr own)
 
-full-once : (request : Request) (tasks : List Task) → FullScript request tasks → ScriptOnce request tasks
+full-once : (request : Request) (tasks : List Task) → FullScript request tasks → OpenedOnce request tasks
 full-once request [] full = tt
-full-once request (task ∷ tasks) (inl off) = inl (off.0, full-once request tasks off.1)
+full-once request (task ∷ tasks) (inl off) = inl (off-other (channel_number request.chan) task off.0, full-once request tasks off.1)
 full-once request (task ∷ tasks) (inr own) = inr (own.0, used-other request tasks own.1)
 
 pub owned-once : (network : Network) (request : Request) (owner : ℕ) → OwnedFully network request owner → OwnedOnce network request owner
 owned-once network request owner full = record { inside = full.inside; own = λ tasks found. full-once request tasks (full.own tasks found); others = full.others }
 
+-- what stands as the owner makes a step
+pub step-stands : (network : Network) (owner : ℕ) (script : List Task) (past : List Done) (done : Done) (task : Task) (rest : List Task) (replies : List Reply) (outcomes : List Learnt) → NetworkFits network → OwnStep network owner script past done task rest replies outcomes → StandingFits network.links (record { tasks = task ∷ rest; replies = replies; outcomes = outcomes })
+step-stands network owner script past done task rest replies outcomes fits step = subst (StandingFits network.links) step.stands ((run-stands network past fits step.run).callers owner script step.found)
+
+pub step-goes : (network : Network) (request : Request) (owner : ℕ) (script : List Task) (past : List Done) (done : Done) (task : Task) (rest : List Task) (replies : List Reply) (outcomes : List Learnt) → NetworkFits network → RequestFits network.links request → OwnedOnce network request owner → OwnStep network owner script past done task rest replies outcomes → GoesAt network request past (task ∷ rest) replies outcomes
+step-goes network request owner script past done task rest replies outcomes fits sound once step =
+    subst (λ (s : Standing). GoesAt network request past s.tasks s.replies s.outcomes) step.stands ((run-goes network request owner past fits sound once step.run).at script step.found)
+
+-- an entry of another actor names another channel
+pub others-off : (network : Network) (request : Request) (owner : ℕ) (past : List Done) (done : Done) → OwnedFully network request owner → IsNext network past done → actor_number done.actor ≢ owner → IsOff (channel_number request.chan) done.ask
+others-off network request owner past done full next other = entry-off network (channel_number request.chan) past done next (λ tasks. full.others (actor_number done.actor) tasks other)
+
+module _ (network : Network) (request : Request) (owner : ℕ) (fits : NetworkFits network) (sound : RequestFits network.links request) (full : OwnedFully network request owner) where
+  -- an entry of the owner
+  own-closes : (script : List Task) (past : List Done) (done : Done) (task : Task) (rest : List Task) (replies : List Reply) (outcomes : List Learnt) → OwnStep network owner script past done task rest replies outcomes → ClosesAt network request past (record { tasks = task ∷ rest; replies = replies; outcomes = outcomes })
+      → ClosesNext network request (done ∷ past) (task ∷ rest) done.ask done.reply (resumed outcomes (task ∷ rest) (replies ++ done.reply ∷ []))
+  own-closes script past done task rest replies outcomes step was =
+      let once = owned-once network request owner full in
+      closes-step network request done past outcomes (task ∷ rest) replies fits sound (owned-asked network request owner fits sound once past step.run) step.run step.next
+      (step-stands network owner script past done task rest replies outcomes fits step) (step-goes network request owner script past done task rest replies outcomes fits sound once step) step.asks was
+
+  none-closes : (script : List Task) → FullScript request script → ClosesAt network request [] (begun [] script)
+  unfolding part_of
+  none-closes script own = Early (early-from request [] script (none-established request) own) (none-established request) (λ n. tt)
+
+  closes-run : (run : List Done) (script : List Task) → IsRun network run → slice_get network.scripts owner ≡ Some script → ClosesAt network request run (standing script (replies_to owner run))
+  closes-run run script is found =
+      each-run-resumed network owner script found (ClosesAt network request) (none-closes script (full.own script found))
+      (λ past done at before next other was. closes-later network request done past at fits before (others-off network request owner past done full next other) was)
+      (λ past done task rest replies outcomes step was. (own-closes script past done task rest replies outcomes step was).closes) run is
+
+  usual-reply : (past : List Done) (done : Done) (script left : List Task) (replies : List Reply) (outcomes : List Learnt) → IsRun network past → IsNext network past done → actor_number done.actor ≡ owner → slice_get network.scripts owner ≡ Some script → standing script (replies_to owner past) ≡ record { tasks = left; replies = replies; outcomes = outcomes }
+      → first_ask left replies ≡ Some (done.link, done.ask) → FirstUsual request left done.ask done.reply
+  usual-reply past done script [] replies outcomes run next by found is asks = cc
+  usual-reply past done script (task ∷ rest) replies outcomes run next by found is asks =
+      (own-closes script past done task rest replies outcomes (record { run = run; next = next; by = by; found = found; stands = is; asks = asks }) (subst (ClosesAt network request past) is (closes-run past script run found))).usual
+
 pub record RunCloses (network : Network) (request : Request) (owner : ℕ) (run : List Done) : Type 0 where
   pub at : (tasks : List Task) → slice_get network.scripts owner ≡ Some tasks → ClosesAt network request run (standing tasks (replies_to owner run))
 
-away : (network : Network) (request : Request) (owner : ℕ) (done : Done) (past : List Done) → NetworkFits network → IsRun network past → actor_number done.actor ≢ owner → IsOff (channel_number request.chan) done.ask → RunCloses network request owner past → RunCloses network request owner (done ∷ past)
-away network request owner done past fits run other off was = record {
-  at = λ tasks found. subst (λ rs. ClosesAt network request (done ∷ past) (standing tasks rs)) (sym (replies-off owner done past other)) (closes-later network request done past (standing tasks (replies_to owner past)) fits run off (was.at tasks found));
-}
-
--- an entry of the owner
-own-closes : (network : Network) (request : Request) (owner : ℕ) (past : List Done) (done : Done) (tasks : List Task) → NetworkFits network → RequestFits network.links request → OwnedFully network request owner → IsRun network past → (next : IsNext network past done) → RunCloses network request owner past → actor_number done.actor ≡ owner → slice_get network.scripts owner ≡ Some tasks
-    → ClosesNext network request (done ∷ past) (standing tasks (replies_to owner past)).tasks done.ask done.reply (resumed (standing tasks (replies_to owner past)).outcomes (standing tasks (replies_to owner past)).tasks ((standing tasks (replies_to owner past)).replies ++ done.reply ∷ []))
-own-closes network request owner past done tasks fits sound full run next was by found =
-    let inside = full.inside in
-    let asks = caller-next network past done next (λ is. (let clash : owner ≡ length network.scripts = sym by ∙ is in absurd (omega (arith, clash, inside)))) in
-    let own : asks.tasks ≡ tasks = same_Some asks.tasks tasks (sym asks.found ∙ ap (slice_get network.scripts) by ∙ found) in
-    let asked' : ask_at (standing tasks (replies_to owner past)) ≡ Some (done.link, done.ask) = subst (λ ts. ask_at (standing ts (replies_to owner past)) ≡ Some (done.link, done.ask)) own (subst (λ a. ask_at (standing asks.tasks (replies_to a past)) ≡ Some (done.link, done.ask)) by asks.asks) in
-    closes-step network request done past (standing tasks (replies_to owner past)).outcomes (standing tasks (replies_to owner past)).tasks (standing tasks (replies_to owner past)).replies fits sound (owned-asked network request owner fits sound (owned-once network request owner full) past run) run next ((run-stands network past fits run).callers owner tasks found) ((run-goes network request owner past fits sound (owned-once network request owner full) run).at tasks found) asked' (was.at tasks found)
-
-closes-next : (network : Network) (request : Request) (owner : ℕ) (past : List Done) (done : Done) → NetworkFits network → RequestFits network.links request → OwnedFully network request owner → IsRun network past → (next : IsNext network past done) → RunCloses network request owner past → RunCloses network request owner (done ∷ past)
-unfolding standing
-closes-next network request owner past done fits sound full run next was =
-    elim (cases_Bool (nat_eq (actor_number done.actor) (plane_no network))) [
-      | inl plane ↦
-          (let same = eqb-true (actor_number done.actor) (plane_no network) plane in
-          let asks = plane-next network past done next same in
-          let inside = full.inside in
-          away network request owner done past fits run (λ own. (let clash : owner ≡ length network.scripts = sym own ∙ same in absurd (omega (arith, clash, inside))))
-          (plane-off-ask (channel_number request.chan) (next_due (plane_at network past)) (plane_at network past).ticked done.link done.ask asks.asks) was)
-      | inr caller ↦
-          elim (cases_Bool (nat_eq (actor_number done.actor) owner)) [
-            | inl by ↦
-                (let e : actor_number done.actor ≡ owner = eqb-true (actor_number done.actor) owner by in
-                record { at = λ tasks found. subst (λ rs. ClosesAt network request (done ∷ past) (standing tasks rs)) (sym (replies-by owner done past e)) (own-closes network request owner past done tasks fits sound full run next was e found).closes })
-            | inr off ↦
-                (let other = eqb-false (actor_number done.actor) owner off in
-                let asks = caller-next network past done next (eqb-false (actor_number done.actor) (plane_no network) caller) in
-                let others = off-standing (channel_number request.chan) asks.tasks (replies_to (actor_number done.actor) past) (full.others (actor_number done.actor) asks.tasks other asks.found) in
-                away network request owner done past fits run other (tasks-off (channel_number request.chan) _ _ done.link done.ask others asks.asks) was)
-          ]
-    ]
-
 pub run-closes : (network : Network) (request : Request) (owner : ℕ) (run : List Done) → NetworkFits network → RequestFits network.links request → OwnedFully network request owner → IsRun network run → RunCloses network request owner run
-unfolding IsRun replies_to standing part_of
-run-closes network request owner [] fits sound full is = record { at = λ tasks found. Early (early-from request [] tasks (none-established request) (full.own tasks found)) (none-established request) (λ n. tt) }
-run-closes network request owner (done ∷ past) fits sound full is = closes-next network request owner past done fits sound full is.0 is.1 (run-closes network request owner past fits sound full is.0)
+run-closes network request owner run fits sound full is = record { at = λ tasks found. closes-run network request owner fits sound full run tasks is found }
+
+-- where the owner stands as it makes a step
+pub step-closes : (network : Network) (request : Request) (owner : ℕ) (script : List Task) (past : List Done) (done : Done) (task : Task) (rest : List Task) (replies : List Reply) (outcomes : List Learnt) → NetworkFits network → RequestFits network.links request → OwnedFully network request owner → OwnStep network owner script past done task rest replies outcomes
+    → ClosesAt network request past (record { tasks = task ∷ rest; replies = replies; outcomes = outcomes })
+step-closes network request owner script past done task rest replies outcomes fits sound full step = subst (ClosesAt network request past) step.stands (closes-run network request owner fits sound full past script step.run step.found)
 
 -- in every run each reply to a submit or a release is one of its ask's
 pub replies-usual : (network : Network) (request : Request) (owner : ℕ) (past : List Done) (done : Done) (tasks : List Task) → NetworkFits network → RequestFits network.links request → OwnedFully network request owner → IsRun network past → (next : IsNext network past done) → actor_number done.actor ≡ owner → slice_get network.scripts owner ≡ Some tasks
     → FirstUsual request (standing tasks (replies_to owner past)).tasks done.ask done.reply
-replies-usual network request owner past done tasks fits sound full run next by found = (own-closes network request owner past done tasks fits sound full run next (run-closes network request owner past fits sound full run) by found).usual
+replies-usual network request owner past done tasks fits sound full run next by found =
+    let at = standing tasks (replies_to owner past) in
+    usual-reply network request owner fits sound full past done tasks at.tasks at.replies at.outcomes run next by found refl (owner-asks network past done owner tasks next by found)

@@ -92,6 +92,14 @@ pub part-off : (n : ℕ) (done : Done) (past : List Done) → link_number done.l
 unfolding part_of
 part-off n done past other = rw (ne_eqb (link_number done.link) n other) refl
 
+-- what is so of a link's part of a run, by whether the newest entry is on the link
+pub by-part : (P : List Entry → Type 0) (n : ℕ) (done : Done) (past : List Done) → (link_number done.link ≡ n → P (entry_of done ∷ part_of n past)) → (link_number done.link ≢ n → P (part_of n past)) → P (part_of n (done ∷ past))
+by-part P n done past on off =
+    elim (cases_Bool (nat_eq (link_number done.link) n)) [
+      | inl same ↦ (let e = eqb-true (link_number done.link) n same in subst P (sym (part-on n done past e)) (on e))
+      | inr other ↦ (let apart = eqb-false (link_number done.link) n other in subst P (sym (part-off n done past apart)) (off apart))
+    ]
+
 pub replies-by : (actor : ℕ) (done : Done) (past : List Done) → actor_number done.actor ≡ actor → replies_to actor (done ∷ past) ≡ done.reply ∷ replies_to actor past
 unfolding replies_to
 replies-by actor done past same = rw (eq-eqb (actor_number done.actor) actor same) refl
@@ -141,15 +149,13 @@ next-fits network past done stands next =
 legal-next : (network : Network) (past : List Done) (done : Done) → RunStands network past → (next : IsNext network past done) → (n : ℕ) (link : Link) → slice_get network.links n ≡ Some link → IsLegal link (part_of n (done ∷ past))
 unfolding IsLegal
 legal-next network past done stands next n link found =
-    elim (cases_Bool (nat_eq (link_number done.link) n)) [
-      | inl on ↦
-          (let e : link_number done.link ≡ n = eqb-true (link_number done.link) n on in
-          let is : next.link ≡ link = same_Some next.link link (sym next.linked ∙ ap (slice_get network.links) e ∙ found) in
-          let answered : done.reply ≡ reply_to link (part_of n past) done.ask = next.answered ∙ ap (λ l. reply_to l (part_of (link_number done.link) past) done.ask) is ∙ ap (λ m. reply_to link (part_of m past) done.ask) e in
-          let fits : AskFits link.shape done.ask = subst (λ l. AskFits l.shape done.ask) is (next-fits network past done stands next) in
-          subst (IsLegal link) (sym (part-on n done past e)) (stands.legal n link found, record { fits = fits; answered = answered }))
-      | inr off ↦ subst (IsLegal link) (sym (part-off n done past (eqb-false (link_number done.link) n off))) (stands.legal n link found)
-    ]
+    by-part (IsLegal link) n done past
+    (λ on.
+    let is : next.link ≡ link = same_Some next.link link (sym next.linked ∙ ap (slice_get network.links) on ∙ found) in
+    let answered : done.reply ≡ reply_to link (part_of n past) done.ask = next.answered ∙ ap (λ l. reply_to l (part_of (link_number done.link) past) done.ask) is ∙ ap (λ m. reply_to link (part_of m past) done.ask) on in
+    let fits : AskFits link.shape done.ask = subst (λ l. AskFits l.shape done.ask) is (next-fits network past done stands next) in
+    (stands.legal n link found, record { fits = fits; answered = answered }))
+    (λ off. stands.legal n link found)
 
 -- ---- the clocks
 
@@ -161,11 +167,7 @@ callers-clock _ t is = refl
 -- an ask that is no tick
 clock-still : (n : ℕ) (done : Done) (past : List Done) → ((t : ℕ) → clock_with done.ask t ≡ t) → clock_of (part_of n (done ∷ past)) ≡ clock_of (part_of n past)
 unfolding clock_of
-clock-still n done past still =
-    elim (cases_Bool (nat_eq (link_number done.link) n)) [
-      | inl on ↦ ap clock_of (part-on n done past (eqb-true (link_number done.link) n on)) ∙ still (clock_of (part_of n past))
-      | inr off ↦ ap clock_of (part-off n done past (eqb-false (link_number done.link) n off))
-    ]
+clock-still n done past still = by-part (λ h. clock_of h ≡ clock_of (part_of n past)) n done past (λ on. still (clock_of (part_of n past))) (λ off. refl)
 
 -- a tick of the link of this number
 clock-ticks : (n : ℕ) (done : Done) (past : List Done) → done.ask ≡ Tick → link_number done.link ≡ n → clock_of (part_of n (done ∷ past)) ≡ suc (clock_of (part_of n past))

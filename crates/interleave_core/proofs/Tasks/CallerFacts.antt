@@ -26,7 +26,7 @@ use Rattle.link_steps.specs.Split.{Link}
 use Rattle.link_steps.specs.Legal.{AskFits, SubmitFits}
 use Rattle.link_steps.specs.Lists.{Each}
 use Rattle.relaxation.specs.declared.EndDenial.{EndDenial}
-use Rattle.setup_protocol.specs.Setup.{Progress, Reserving, Undoing, Relaxing, Settled, is_offer, level_in, offers_in, after_offers, reach_after, undoing, relaxing, on_the_way, after_test, at_destination, asked, asked_of, reserve_of, next_ask, progress_of, verdict_of, Outcome}
+use Rattle.setup_protocol.specs.Setup.{Progress, Reserving, Settled, is_offer, level_in, offers_in, after_offers, reach_after, undoing, relaxing, on_the_way, after_test, at_destination, asked, asked_of, reserve_of, next_ask, progress_of, verdict_of, Outcome}
 use Rattle.setup_protocol.specs.Teardown.{first_count}
 use Rattle.setup_protocol.specs.declared.request.Request.{Request}
 use Rattle.setup_protocol.specs.declared.verdict.Deny.{Deny as Denial}
@@ -55,10 +55,8 @@ asked-of None to ask own is same = cc
 asked-of (Some hop) to ask own is same = subst IsCallers (ap (λ pair. pair.1) (same_Some (hop.link, own hop) (to, ask) same)) (is hop)
 
 caller-asked : (request : Request) (p : Progress) (to : LinkNo) (ask : Ask) → asked request p ≡ Some (to, ask) → IsCallers ask
-caller-asked request (Reserving offers reach) to ask same = asked-of _ to ask _ (λ hop. tt) same
-caller-asked request (Undoing left deny) to ask same = asked-of _ to ask _ (λ hop. tt) same
-caller-asked request (Relaxing left levels) to ask same = asked-of _ to ask _ (λ hop. tt) same
 caller-asked request (Settled outcome) to ask same = cc
+caller-asked request _ to ask same = asked-of _ to ask _ (λ hop. tt) same
 
 -- an ask of a link of the network that meets its conditions there
 pub record AsksLink (links : List Link) (to : LinkNo) (ask : Ask) : Type 0 where
@@ -167,10 +165,8 @@ last-packets chan notes each = by (newest (packets_by chan) notes) (newest-packe
 
 -- a task that begins fits
 ready-fits : (links : List Link) (outcomes : List Learnt) (task : Task) → Each NoteFits outcomes → TaskFits links task → TaskFits links (ready outcomes task)
-ready-fits links outcomes (Opens request) notes fits = fits
-ready-fits links outcomes (Sends link chan count gap size) notes fits = fits
-ready-fits links outcomes (Closes request) notes fits = fits
 ready-fits links outcomes (Moves old new gap size) notes fits = record { of_old = fits.of_old; of_new = fits.of_new; same = fits.same; apart = fits.apart; packets = last-packets old.chan outcomes notes }
+ready-fits links outcomes _ notes fits = fits
 
 -- what a task tells fits
 one-of : (count gap size : ℕ) → SubmitFits count gap size → SubmitFits 1 gap size
@@ -186,13 +182,7 @@ notes-by links (Sends link (Some chan) count gap size) replies fits = by replies
   by : (rs : List Reply) → Each NoteFits (planned_as (Some chan) gap size rs)
   by [] = tt
   by (Is.Planned clock ∷ rs) = (one-of count gap size fits.packets, tt)
-  by (Is.Offer level reach ∷ rs) = tt
-  by (Is.Relaxed clock ∷ rs) = tt
-  by (Is.Denied ∷ rs) = tt
-  by (Is.Closing count' cancelled ∷ rs) = tt
-  by (Is.Taken clock eligible ∷ rs) = tt
-  by (Is.Ticked clock full sent best_sent best_lost ∷ rs) = tt
-  by (Is.Refused refusal ∷ rs) = tt
+  by _ = tt
 notes-by links (Closes request) replies fits = tt
 notes-by links (Moves old new gap size) replies fits = by (first_told replies) where
   by : (told : Option Shifted) → Each NoteFits (moved_as old new gap size told)
@@ -207,15 +197,11 @@ pub record StandingFits (links : List Link) (at : Standing) : Type 0 where
 -- the first task alone
 pub first-fits : (task : Task) (tasks : List Task) (replies : List Reply) → OffersFit (task ∷ tasks) replies → OffersFit (task ∷ []) replies
 first-fits (Opens request) tasks replies are = are
-first-fits (Sends link chan count gap size) tasks replies are = are
-first-fits (Closes request) tasks replies are = are
-first-fits (Moves old new gap size) tasks replies are = are
+first-fits _ tasks replies are = are
 
 with-rest : (task : Task) (tasks : List Task) (replies : List Reply) → OffersFit (task ∷ []) replies → OffersFit (task ∷ tasks) replies
 with-rest (Opens request) tasks replies are = are
-with-rest (Sends link chan count gap size) tasks replies are = are
-with-rest (Closes request) tasks replies are = are
-with-rest (Moves old new gap size) tasks replies are = are
+with-rest _ tasks replies are = are
 
 asks-first : (links : List Link) (tasks : List Task) (replies : List Reply) (to : LinkNo) (ask : Ask) → Each (TaskFits links) tasks → OffersFit tasks replies → first_ask tasks replies ≡ Some (to, ask) → AsksLink links to ask
 asks-first links [] replies to ask fits are same = cc
@@ -262,12 +248,7 @@ offered-level links hop to link h ask (Is.Offer level reach) is same found answe
     let bounds : hop.bounds ≡ link.shape.bounds = is.bounds ∙ ap (λ l. l.shape.bounds) (sym (same-link links hop to link is same found)) in
     (record { least = level.least; most = subst (λ bs. level_number level ≤ length bs) (sym bounds) tells.most }, tells.reserve)
 offered-level links hop to link h ask (Is.Relaxed clock) is same found answered offer = cc
-offered-level links hop to link h ask Is.Denied is same found answered offer = cc
-offered-level links hop to link h ask (Is.Planned clock) is same found answered offer = cc
-offered-level links hop to link h ask (Is.Closing count cancelled) is same found answered offer = cc
-offered-level links hop to link h ask (Is.Taken clock eligible) is same found answered offer = cc
-offered-level links hop to link h ask (Is.Ticked clock full sent best_sent best_lost) is same found answered offer = cc
-offered-level links hop to link h ask (Is.Refused refusal) is same found answered offer = cc
+offered-level links hop to link h ask _ is same found answered offer = cc
 
 reserve-asks : (found : Option Hop) (to : LinkNo) (ask : Ask) (own : Hop → Ask) → asked_of found own ≡ Some (to, ask) → (hop : Hop) × (found ≡ Some hop) × (to ≡ hop.link)
 reserve-asks None to ask own same = cc
@@ -290,13 +271,7 @@ one-offer links request replies reply to ask link h fits are same found answered
     ] where
       is-reserve : (r : Reply) → MayReplyTo link.shape h ask r → is_offer r ≡ true → IsReserve ask
       is-reserve (Is.Offer level reach) is some = (offer-answers link.shape h ask level reach is).reserve
-      is-reserve (Is.Relaxed clock) is some = cc
-      is-reserve Is.Denied is some = cc
-      is-reserve (Is.Planned clock) is some = cc
-      is-reserve (Is.Closing count cancelled) is some = cc
-      is-reserve (Is.Taken clock eligible) is some = cc
-      is-reserve (Is.Ticked clock full sent best_sent best_lost) is some = cc
-      is-reserve (Is.Refused refusal) is some = cc
+      is-reserve _ is some = cc
 
 pub offers-go-on : (links : List Link) (request : Request) (replies : List Reply) (reply : Reply) (to : LinkNo) (ask : Ask) (link : Link) (h : List Entry) → RequestFits links request → AreLevels request.route (offers_in replies) → next_ask request replies ≡ Some (to, ask) → slice_get links (link_number to) ≡ Some link → MayReplyTo link.shape h ask reply
     → AreLevels request.route (offers_in (replies ++ reply ∷ []))
@@ -312,11 +287,8 @@ offers-go-on links request replies reply to ask link h fits are same found answe
 -- no replies to the task that begins
 none-yet : (tasks : List Task) → OffersFit tasks []
 unfolding offers_in AreLevels
-none-yet [] = tt
 none-yet (Opens request ∷ tasks) = tt
-none-yet (Sends link chan count gap size ∷ tasks) = tt
-none-yet (Closes request ∷ tasks) = tt
-none-yet (Moves old new gap size ∷ tasks) = tt
+none-yet _ = tt
 
 from-step-fits : (links : List Link) (outcomes : List Learnt) (tasks : List Task) → Each NoteFits outcomes → Each (TaskFits links) tasks → Each (TaskFits links) (from_step outcomes tasks)
 unfolding from_step

@@ -35,7 +35,7 @@ use Rattle.run_record.specs.declared.done.Done.{Done}
 use Rattle.interleave_core.specs.runs.Linked.{IsLinkThere, EveryAskGoesToALink}
 use Rattle.interleave_core.specs.runs.Runs.{plane_no, plane_at, IsNext, IsRun}
 use Rattle.link_steps.proofs.ListParts.{Each-at}
-use Rattle.interleave_core.proofs.Runs.RunLegal.{asked-plane, asked-caller, caller-next, plane-next, plane-off, plane-by, part-on, part-off, link_at-number, run-stands}
+use Rattle.interleave_core.proofs.Runs.RunLegal.{asked-plane, asked-caller, caller-next, plane-next, plane-off, plane-by, link_at-number, run-stands, by-part}
 use Rattle.channel_laws.proofs.NextLinks.{NamesNext, NextsAre, after-nexts, sent-next}
 use Rattle.setup_protocol.proofs.HopAsks.{asked-at}
 use Rattle.tick_plane.proofs.FlightFacts.{asks-due, flight-in, flights-with}
@@ -152,12 +152,9 @@ next-there network past done fits run was next =
 parts-there : (network : Network) (past : List Done) (done : Done) → RunLinked network past → (next : IsNext network past done) → NamesNext (NextLinked network.links) done.ask → (n : ℕ) (link : Link) → slice_get network.links n ≡ Some link → NextsAre (NextLinked network.links) (scan_of link.shape (part_of n (done ∷ past)))
 unfolding scan_of
 parts-there network past done was next own n link found =
-    elim (cases_Bool (nat_eq (link_number done.link) n)) [
-      | inl on ↦
-          subst (λ h. NextsAre (NextLinked network.links) (scan_of link.shape h)) (sym (part-on n done past (eqb-true (link_number done.link) n on)))
-          (after-nexts (NextLinked network.links) tt link.shape (clock_of (part_of n past)) (scan_of link.shape (part_of n past)) done.ask done.reply own (was.parts n link found))
-      | inr off ↦ subst (λ h. NextsAre (NextLinked network.links) (scan_of link.shape h)) (sym (part-off n done past (eqb-false (link_number done.link) n off))) (was.parts n link found)
-    ]
+    by-part (λ h. NextsAre (NextLinked network.links) (scan_of link.shape h)) n done past
+    (λ on. after-nexts (NextLinked network.links) tt link.shape (clock_of (part_of n past)) (scan_of link.shape (part_of n past)) done.ask done.reply own (was.parts n link found))
+    (λ off. was.parts n link found)
 
 -- the flights after the plane's step
 flights-there : (network : Network) (past : List Done) (done : Done) → RunLinked network past → (next : IsNext network past done) → ask_due (plane_at network past).ticked (next_due (plane_at network past)) ≡ (done.link, done.ask)

@@ -101,10 +101,8 @@ moves-most : (old new : Request) (gap size other_gap other_size : ℕ) → most_
 moves-most old new gap size other_gap other_size = refl
 
 ready-most : (outcomes : List Learnt) (task : Task) → most_steps (ready outcomes task) ≡ most_steps task
-ready-most outcomes (Opens request) = refl
-ready-most outcomes (Sends link chan count gap size) = refl
-ready-most outcomes (Closes request) = refl
 ready-most outcomes (Moves old new gap size) = moves-most old new (last_packets old.chan outcomes).gap (last_packets old.chan outcomes).size gap size
+ready-most outcomes _ = refl
 
 pub from-step-most : (outcomes : List Learnt) (tasks : List Task) → most_over (from_step outcomes tasks) ≤ most_over tasks
 unfolding from_step most_over
@@ -149,13 +147,7 @@ flight_to-few sent (Some to) = omega arith
 flight_in-few : (reply : Reply) → length (flight_in reply) ≤ 1
 flight_in-few (Is.Ticked clock full None best_sent best_lost) = omega arith
 flight_in-few (Is.Ticked clock full (Some sent) best_sent best_lost) = flight_to-few sent sent.next
-flight_in-few (Is.Offer level reach) = omega arith
-flight_in-few (Is.Relaxed clock) = omega arith
-flight_in-few Is.Denied = omega arith
-flight_in-few (Is.Planned clock) = omega arith
-flight_in-few (Is.Closing count cancelled) = omega arith
-flight_in-few (Is.Taken clock eligible) = omega arith
-flight_in-few (Is.Refused refusal) = omega arith
+flight_in-few _ = omega arith
 
 -- a round more has a tick of each link more
 round-more : (rounds round links : ℕ) → round < rounds → (rounds - round) * links ≡ (rounds - suc round) * links + links
