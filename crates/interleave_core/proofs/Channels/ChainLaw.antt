@@ -36,18 +36,17 @@ use Rattle.setup_protocol.proofs.HopHolds.{IsComm, IsTail, HopStands, reserved_o
 use Rattle.interleave_core.proofs.Channels.RowsFollow.{held_at, held-here, hop-reply, same-held}
 use Rattle.call_script.specs.Owners.{OwnedFully}
 use Rattle.interleave_core.proofs.Replies.ClosingStands.{AllComm, comm-later, send-later}
-use Rattle.interleave_core.proofs.Replies.RunCloses.{owned-once, others-off}
+use Rattle.interleave_core.proofs.Replies.RunCloses.{owned-once, others-off, step-kind}
 use Rattle.interleave_core.proofs.Replies.RunGoes.{owned-asked, hop-comes}
 use Rattle.interleave_core.proofs.Runs.EachRun.{head-same, OwnStep, KeptByOthers, KeptBySteps, each-run}
-use Rattle.interleave_core.proofs.Channels.OwnerEntries.{step-kind}
 use Rattle.interleave_core.proofs.Keeping.Lookups.{held}
-use Rattle.channel_laws.specs.Reservations.{IsReleased}
+use Rattle.channel_laws.specs.Reservations.{IsReleased, held_by}
 use Rattle.channel_laws.proofs.SendReplies.{release-committed}
 use Rattle.channel_laws.specs.Asks.{IsOff, IsMild}
-use Rattle.channel_laws.specs.Reservations.{held_by}
-use Rattle.interleave_core.proofs.Channels.FarHolds.{hop-tells, hop-fate, first-same, committed-comes, Frozen, frozen-later, NoRelease, IsLeaving, OwnKind, OwnOff, OwnAside, OwnSetup, OwnSend, OwnClose}
+use Rattle.interleave_core.proofs.Channels.FarHolds.{hop-tells, hop-fate, first-same, committed-comes, Frozen, frozen-later}
 use Rattle.interleave_core.specs.channels.Paths.{HopAt, count_at}
 use Rattle.interleave_core.proofs.Tasks.TaskAsks.{off-mild}
+use Rattle.interleave_core.proofs.Replies.OwnerKinds.{NoRelease, IsLeaving, OwnKind, OwnOff, OwnAside, OwnSetup, OwnSend, OwnClose}
 
 pub record Chain (network : Network) (request : Request) (first : HopAt network request 0) (run : List Done) : Type 0 where
   pub fates : 1 ≤ count_at network request 0 first run → (i : ℕ) (at : HopAt network request i) → Fate (count_at network request 0 first run) (count_at network request i at run) (held_at network request i at run)

@@ -49,7 +49,7 @@ use Rattle.interleave_core.proofs.Delays.HopLaw.{arrive-comes}
 use Rattle.link_steps.proofs.PacketRows.{Among-passes}
 use Rattle.interleave_core.proofs.Delays.PathDelays.{passed, close-delays}
 use Rattle.interleave_core.proofs.Channels.AcceptedOnly.{taken-accepted}
-use Rattle.interleave_core.proofs.Flights.ReadyRun.{arrives-taken}
+use Rattle.interleave_core.proofs.Flights.ReadyRun.{arrives-taken, counts-first}
 use Rattle.call_script.specs.Owners.{OwnedFully, IsOwned, IsUnnamed, AllOwned}
 use Rattle.interleave_core.proofs.Replies.RunCloses.{owned-once}
 use Rattle.interleave_core.proofs.Replies.RunGoes.{owned-asked, accepted-levels}
@@ -61,7 +61,6 @@ use Rattle.interleave_core.specs.channels.Guarantee.{LeavesWithinBound, TakesArr
 use Rattle.interleave_core.specs.channels.Kept.{VerdictSums}
 use Rattle.interleave_core.specs.runs.Laws.{EveryRunIsGuaranteed}
 use Rattle.interleave_core.proofs.Channels.HopsAt.{hop-at, HaveLevelsAt}
-use Rattle.interleave_core.proofs.Flights.ReadyRun.{counts-first}
 use Rattle.interleave_core.proofs.Channels.ChannelsAt.{packets-numbered, packet-offered}
 use Rattle.link_steps.proofs.ChangeFacts.{Each-from_among}
 use Rattle.hop_reservation.specs.Offers.{delay_over}

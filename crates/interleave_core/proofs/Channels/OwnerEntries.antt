@@ -1,7 +1,6 @@
 -- What an entry of a run is to a channel: one of another actor, which doesn't name it, or one of the kinds that its owner makes.
-use Rattle.std.proofs.Common.{◌≡◌, ◌≢◌, ℕ, List, [], ◌∷◌, Some, refl, sym, subst, inl, inr}
+use Rattle.std.proofs.Common.{◌≢◌, ℕ, List, ◌∷◌, sym, subst, inl, inr}
 use Rattle.std.proofs.lemmas.Bool.{cases_Bool, eqb-true, eqb-false}
-use Rattle.std.specs.List.{slice_get}
 use Rattle.std.specs.Prelude.{nat_eq}
 use Rattle.net_units.specs.Numbers.{actor_number, channel_number}
 use Rattle.link_steps.specs.declared.replies.Reply.{Reply}
@@ -10,44 +9,31 @@ use Rattle.setup_protocol.specs.Hops.{RequestFits}
 use Rattle.setup_protocol.specs.declared.request.Request.{Request}
 use Rattle.call_script.specs.Fits.{NetworkFits}
 use Rattle.call_script.specs.Owners.{OwnedFully}
-use Rattle.call_script.specs.Scripts.{Learnt, standing, first_ask}
+use Rattle.call_script.specs.Scripts.{Learnt}
 use Rattle.call_script.specs.Tasks.{Network}
 use Rattle.call_script.specs.declared.tasks.Task.{Task}
-use Rattle.run_record.specs.Runs.{replies_to}
 use Rattle.run_record.specs.declared.done.Done.{Done}
 use Rattle.interleave_core.specs.runs.Runs.{IsNext, IsRun}
-use Rattle.interleave_core.proofs.Channels.FarHolds.{OwnKind, OwnOff, OwnAside, OwnSetup, OwnSend, OwnClose, own-kind}
 use Rattle.interleave_core.proofs.Channels.RowsFollow.{SetupRows}
 use Rattle.interleave_core.proofs.Keeping.Lookups.{held}
-use Rattle.interleave_core.proofs.Replies.RunCloses.{owned-once, step-stands, step-goes, step-closes, others-off}
-use Rattle.interleave_core.proofs.Runs.EachRun.{OwnStep, owner-asks}
+use Rattle.interleave_core.proofs.Replies.RunCloses.{others-off, step-kind}
+use Rattle.interleave_core.proofs.Runs.EachRun.{OwnStep, at-step}
 use Rattle.interleave_core.proofs.Tasks.TaskAsks.{off-mild}
+use Rattle.interleave_core.proofs.Replies.OwnerKinds.{OwnKind, OwnOff, OwnAside, OwnSetup, OwnSend, OwnClose}
 
 pub data EntryOf (network : Network) (request : Request) (owner : ℕ) (past : List Done) (done : Done) : Type 0 where
   ByOther : actor_number done.actor ≢ owner → IsOff (channel_number request.chan) done.ask → EntryOf network request owner past done
   ByOwner : (script : List Task) (task : Task) (rest : List Task) (replies : List Reply) (outcomes : List Learnt) → OwnStep network owner script past done task rest replies outcomes → OwnKind network request done past task replies → EntryOf network request owner past done
 
-pub step-kind : (network : Network) (request : Request) (owner : ℕ) (script : List Task) (past : List Done) (done : Done) (task : Task) (rest : List Task) (replies : List Reply) (outcomes : List Learnt) → NetworkFits network → RequestFits network.links request → OwnedFully network request owner → OwnStep network owner script past done task rest replies outcomes → OwnKind network request done past task replies
-step-kind network request owner script past done task rest replies outcomes fits sound full step =
-    own-kind network request done past outcomes task rest replies fits sound step.run step.next (step-stands network owner script past done task rest replies outcomes fits step)
-    (step-goes network request owner script past done task rest replies outcomes fits sound (owned-once network request owner full) step) step.asks (step-closes network request owner script past done task rest replies outcomes fits sound full step)
-
 pub entry-of : (network : Network) (request : Request) (owner : ℕ) (past : List Done) (done : Done) → NetworkFits network → RequestFits network.links request → OwnedFully network request owner → IsRun network past → IsNext network past done → EntryOf network request owner past done
 entry-of network request owner past done fits sound full run next =
     elim (cases_Bool (nat_eq (actor_number done.actor) owner)) [
       | inl own ↦
-          (let by = eqb-true (actor_number done.actor) owner own in
-          let script = held network.scripts owner full.inside in
-          let at = standing script.item (replies_to owner past) in
-          by-left by script.item script.found at.tasks at.replies at.outcomes refl (owner-asks network past done owner script.item next by script.found))
+          (let script = held network.scripts owner full.inside in
+          at-step network owner script.item past done run next (eqb-true (actor_number done.actor) owner own) script.found (λ at. EntryOf network request owner past done)
+          (λ task rest replies outcomes step. ByOwner script.item task rest replies outcomes step (step-kind network request owner script.item past done task rest replies outcomes fits sound full step)))
       | inr others ↦ (let other = eqb-false (actor_number done.actor) owner others in ByOther other (others-off network request owner past done full next other))
-    ] where
-      by-left : actor_number done.actor ≡ owner → (script : List Task) → slice_get network.scripts owner ≡ Some script → (left : List Task) (replies : List Reply) (outcomes : List Learnt) → standing script (replies_to owner past) ≡ record { tasks = left; replies = replies; outcomes = outcomes } → first_ask left replies ≡ Some (done.link, done.ask)
-          → EntryOf network request owner past done
-      by-left by script found [] replies outcomes is asks = cc
-      by-left by script found (task ∷ rest) replies outcomes is asks =
-          (let step : OwnStep network owner script past done task rest replies outcomes = record { run = run; next = next; by = by; found = found; stands = is; asks = asks } in
-          ByOwner script task rest replies outcomes step (step-kind network request owner script past done task rest replies outcomes fits sound full step))
+    ]
 
 -- so it neither reserves, relaxes nor denies the channel, or it is one of its setup, and leaves the rows that the replies say
 pub data EntryIs (network : Network) (request : Request) (owner : ℕ) (past : List Done) (done : Done) : Type 0 where

@@ -1,10 +1,9 @@
 -- One hop further on: a packet is eligible there at the latest when it is due.
 use Rattle.std.proofs.Common.{◌≡◌, ℕ, ◌+◌, ◌<◌, ◌≤◌, List, [], ◌∷◌, ◌++◌, length, get_or, ap, inl, inr, arith}
 use Rattle.std.proofs.lemmas.Bool.{cases_lt}
-use Rattle.std.proofs.lemmas.List.{get_or_append_left, get_or_push, length_push}
+use Rattle.std.proofs.lemmas.List.{get_or_append_left, get_or_push, length_push, length-append}
 use Rattle.net_units.specs.declared.Kind.{Kind}
 use Rattle.net_units.specs.declared.Kind.TheVariants.{Jitter}
-use Rattle.std.proofs.lemmas.List.{length-append}
 use Rattle.traffic_contract.specs.Contract.{Traffic, burst_of}
 use Rattle.traffic_contract.specs.Eligible.{IsEligible}
 use Rattle.traffic_contract.specs.Keeping.{Keeps, Spaced}

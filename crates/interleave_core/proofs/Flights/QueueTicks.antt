@@ -21,9 +21,8 @@ use Rattle.tick_plane.specs.declared.flight.Flight.{Flight}
 use Rattle.tick_plane.specs.Planes.{flight_to, flight_in}
 use Rattle.interleave_core.proofs.Flights.FlightQueue.{IsQueue, queue-waits, queue-other, queue-more}
 use Rattle.link_steps.proofs.PacketRows.{Among-passes}
-use Rattle.channel_laws.proofs.DepartedCount.{tick-sends, start-among}
+use Rattle.channel_laws.proofs.DepartedCount.{tick-sends, start-among, more-legal, level-channel}
 use Rattle.channel_laws.proofs.NumberedPackets.{HasNumber, packets-have_numbers}
-use Rattle.channel_laws.proofs.DepartedCount.{more-legal, level-channel}
 use Rattle.channel_laws.specs.Departing.{ticked, IsSent, gone_of, TickSends, SendsOwn, SendsOther}
 
 -- the flights of a channel to the link of a number

@@ -38,10 +38,10 @@ use Rattle.interleave_core.proofs.Moves.MoveTotal.{begins-not, run-shifted}
 use Rattle.interleave_core.proofs.Moves.TotalLaw.{none-lost}
 use Rattle.interleave_core.proofs.Replies.Replying.{moves-plan}
 use Rattle.interleave_core.proofs.Runs.RunLegal.{part-admissible}
-use Rattle.interleave_core.proofs.Runs.EachRun.{not-plane, head-same, each-run-resumed, OwnStep}
+use Rattle.interleave_core.proofs.Runs.EachRun.{head-same, each-run-resumed, OwnStep}
 use Rattle.interleave_core.proofs.Tasks.TaskAsks.{off-standing}
-use Rattle.interleave_core.proofs.Channels.OwnerEntries.{step-kind}
 use Rattle.interleave_core.proofs.Tasks.OwnTasks.{own-task}
+use Rattle.interleave_core.proofs.Replies.RunCloses.{step-kind}
 
 -- ---- what the move under way has given
 
@@ -202,9 +202,8 @@ module _ (network : Network) (request : Request) (owner : ℕ) (first : HopAt ne
       let fit = move-fits network past owner gap size script rest old new fits step.run step.found at_tasks in
       let quiet = first-move script past done old new gap size rest replies outcomes step chan was in
       let before : given_in network (channel_number request.chan) past ≡ given_by replies = was.none quiet ∙ rw (eq-eqb (channel_number old.chan) (channel_number request.chan) chan) refl in
-      let other = not-plane network (actor_number done.actor) owner script step.by step.found in
       let now = step-gives (channel_number request.chan) (given_in network (channel_number request.chan) past) old new gap size rest replies done.link done.ask done.reply chan before
-      (λ count submit. (_, (moves-plan network past done script rest old new gap size count fits all step.run step.next other (ap (slice_get network.scripts) step.by ∙ step.found) (ap (λ a. (standing script (replies_to a past)).tasks) step.by ∙ at_tasks) submit).0))
+      (λ count submit. (_, (moves-plan network owner script past done old new gap size rest replies outcomes count fits all step submit).0))
       (move-asks (move_between old new gap size) replies done.link done.ask step.asks) in
       more replies fit.of_new.route.least quiet now where
         more : (rs : List Reply) → 1 ≤ length new.route → moved_off request.chan outcomes ≡ None → given_with (channel_number request.chan) (given_in network (channel_number request.chan) past) (Moves old new gap size ∷ rest) done.ask done.reply ≡ given_by (rs ++ done.reply ∷ [])

@@ -5,7 +5,7 @@ use Rattle.std.proofs.lemmas.Bool.{cases_Bool, eqb-true, eqb-false, ne_eqb}
 use Rattle.std.proofs.lemmas.Option.{same_Some}
 use Rattle.std.specs.List.{slice_get}
 use Rattle.std.specs.Prelude.{nat_eq, not, ◌&&◌, if◌then◌else◌}
-use Rattle.net_units.specs.Numbers.{link_number, actor_number, channel_number}
+use Rattle.net_units.specs.Numbers.{link_number, channel_number}
 use Rattle.net_units.specs.declared.numbers.ChanNo.{ChanNo}
 use Rattle.net_units.specs.declared.numbers.LinkNo.{LinkNo}
 use Rattle.hop_reservation.specs.Routes.{link_of}
@@ -39,10 +39,11 @@ use Rattle.interleave_core.specs.runs.Runs.{IsRun}
 use Rattle.interleave_core.proofs.Tasks.OnceFacts.{once-asked}
 use Rattle.interleave_core.proofs.Replies.Replying.{moves-plan}
 use Rattle.interleave_core.proofs.Replies.ClosingStands.{off-unsent}
-use Rattle.interleave_core.proofs.Replies.RunCloses.{setup-unsent, others-off, step-stands}
+use Rattle.interleave_core.proofs.Replies.RunCloses.{setup-unsent, others-off}
 use Rattle.interleave_core.proofs.Runs.RunLegal.{run-stands, part-on, by-part}
-use Rattle.interleave_core.proofs.Runs.EachRun.{from-step-by, not-plane, KeptBySteps, each-run, OwnStep}
+use Rattle.interleave_core.proofs.Runs.EachRun.{from-step-by, KeptBySteps, each-run, OwnStep}
 use Rattle.interleave_core.proofs.Tasks.OwnTasks.{send-is, move-is, OwnTask, own-task}
+use Rattle.interleave_core.proofs.Replies.RunGoes.{step-stands}
 
 -- ---- what an entry plans
 
@@ -244,9 +245,7 @@ module _ (network : Network) (request : Request) (owner : ℕ) (first : HopAt ne
     by-ask (AsksFirst none at release) = still past done (Moves old new gap size) tasks replies outcomes (subst (IsUnsent (channel_number request.chan)) (sym release) tt) (ap (λ rs. learnt_by request.chan (Moves old new gap size ∷ tasks) (rs ++ done.reply ∷ [])) none ∙ sym (ap (learnt_by request.chan (Moves old new gap size ∷ tasks)) none))
     by-ask (AsksRest told made stage at release) = still past done (Moves old new gap size) tasks replies outcomes (subst (IsUnsent (channel_number request.chan)) (sym release) tt) (rest-learnt request.chan old new gap size tasks replies done.reply told made stage)
     by-ask (AsksSubmit reply one some at submit) =
-        (let at-script : slice_get network.scripts (actor_number done.actor) ≡ Some script = ap (slice_get network.scripts) step.by ∙ step.found in
-        let at-tasks : (standing script (replies_to (actor_number done.actor) past)).tasks ≡ Moves old new gap size ∷ tasks = ap (λ a. (standing script (replies_to a past)).tasks) step.by ∙ ap (λ (s : Standing). s.tasks) step.stands in
-        let plans = moves-plan network past done script tasks old new gap size (shifted_in reply) fits all step.run step.next (not-plane network (actor_number done.actor) owner script step.by step.found) at-script at-tasks submit in
+        (let plans = moves-plan network owner script past done old new gap size tasks replies outcomes (shifted_in reply) fits all step submit in
         subst (λ rs. GoesOn past done (Moves old new gap size) tasks rs outcomes) (sym one) (join-goes past done old new gap size tasks outcomes reply some names at submit (_, plans.0)))
 
   own-goes : (script : List Task) (past : List Done) (done : Done) (task : Task) (tasks : List Task) (replies : List Reply) (outcomes : List Learnt) → OwnStep network owner script past done task tasks replies outcomes → GoesOn past done task tasks replies outcomes

@@ -6,10 +6,8 @@ use Rattle.std.specs.List.{slice_get}
 use Rattle.std.specs.Prelude.{nat_eq, if◌then◌else◌}
 use Rattle.net_units.specs.Numbers.{channel_number}
 use Rattle.net_units.specs.declared.numbers.ChanNo.{ChanNo}
-use Rattle.net_units.specs.declared.numbers.LinkNo.{LinkNo}
 use Rattle.channel_move.specs.Moving.{told_by, first_told}
 use Rattle.channel_move.specs.declared.shifted.Shifted.{Shifted}
-use Rattle.link_steps.specs.declared.asks.Ask.{Ask}
 use Rattle.link_steps.specs.declared.replies.Reply.{Reply}
 use Rattle.link_steps.specs.declared.replies.Reply.TheVariants as Is
 use Rattle.setup_protocol.specs.Hops.{RequestFits}
@@ -18,7 +16,7 @@ use Rattle.setup_protocol.specs.Teardown.{first_count}
 use Rattle.setup_protocol.specs.declared.request.Request.{Request}
 use Rattle.call_script.specs.Fits.{NetworkFits}
 use Rattle.call_script.specs.Owners.{OwnedFully}
-use Rattle.call_script.specs.Scripts.{Learnt, Settles, PlannedOn, MovedTo, Standing, is_that, newest, is_established, outcome_in, task_ask, takes_step, ready, from_step, begun, settled_as, planned_as, moved_as, outcome_by, continued, resumed, standing, first_ask, moved_by, moved_off}
+use Rattle.call_script.specs.Scripts.{Learnt, Settles, PlannedOn, MovedTo, Standing, is_that, newest, is_established, outcome_in, takes_step, ready, from_step, begun, settled_as, planned_as, moved_as, outcome_by, standing, first_ask, moved_by, moved_off}
 use Rattle.call_script.specs.Tasks.{Network}
 use Rattle.call_script.specs.declared.tasks.Task.{Task}
 use Rattle.call_script.specs.declared.tasks.Task.TheVariants.{Opens, Sends, Closes, Moves}
@@ -30,14 +28,15 @@ use Rattle.interleave_core.specs.channels.Paths.{HopAt}
 use Rattle.interleave_core.specs.runs.Runs.{IsRun}
 use Rattle.interleave_core.proofs.Channels.ChainLaw.{leaves-frozen}
 use Rattle.interleave_core.proofs.Channels.ChannelsAt.{packets-numbered}
-use Rattle.interleave_core.proofs.Channels.FarHolds.{Frozen, frozen-later, IsLeaving, told-kept}
-use Rattle.interleave_core.proofs.Replies.RunCloses.{owned-once, others-off, step-goes}
-use Rattle.interleave_core.proofs.Replies.RunGoes.{GoesAt, owned-asked}
-use Rattle.interleave_core.proofs.Runs.EachRun.{head-same, KeptBySteps, each-run, OwnStep}
+use Rattle.interleave_core.proofs.Channels.FarHolds.{Frozen, frozen-later}
+use Rattle.interleave_core.proofs.Replies.RunCloses.{owned-once, others-off}
+use Rattle.interleave_core.proofs.Replies.RunGoes.{GoesAt, owned-asked, step-goes}
+use Rattle.interleave_core.proofs.Runs.EachRun.{head-same, KeptBySteps, each-run, OwnStep, from-step-by}
 use Rattle.interleave_core.proofs.Tasks.EachSetup.{Before, Under, After}
 use Rattle.interleave_core.proofs.Tasks.TaskAsks.{off-mild, mild-tasks}
 use Rattle.interleave_core.specs.channels.Hops.{ChannelAsked}
 use Rattle.interleave_core.proofs.Tasks.OwnTasks.{move-is, OwnTask, own-task}
+use Rattle.interleave_core.proofs.Replies.OwnerKinds.{IsLeaving, told-kept}
 
 -- ---- notes: a channel that was left was accepted
 
@@ -60,13 +59,8 @@ ready-takes outcomes (Opens request) = refl
 ready-takes outcomes _ = refl
 
 from-takes : (outcomes : List Learnt) (tasks : List Task) (task : Task) (rest : List Task) → from_step outcomes tasks ≡ task ∷ rest → takes_step outcomes task ≡ true
-unfolding from_step
-from-takes outcomes [] task rest same = cc
-from-takes outcomes (t ∷ tasks) task rest same =
-    elim (cases_Bool (takes_step outcomes t)) [
-      | inl takes ↦ (let is : ready outcomes t ∷ tasks ≡ task ∷ rest = rw takes at same in ap (takes_step outcomes) (sym (head-same (ready outcomes t) tasks task rest is)) ∙ ready-takes outcomes t ∙ takes)
-      | inr passes ↦ from-takes outcomes tasks task rest (rw passes at same)
-    ]
+from-takes outcomes tasks = from-step-by (λ left. Unit {0}) (λ ts. (task : Task) (rest : List Task) → ts ≡ task ∷ rest → takes_step outcomes task ≡ true) outcomes (λ none task rest same. absurd (let clash : [] ≡ task ∷ rest = same in cc))
+    (λ t left takes none task rest same. ap (takes_step outcomes) (sym (head-same (ready outcomes t) left task rest same)) ∙ ready-takes outcomes t ∙ takes) (λ t left over none. tt) tasks tt
 
 -- an established channel has an outcome
 established-known : (chan : ChanNo) (outcomes : List Learnt) → is_established chan outcomes ≡ true → IsKnown chan outcomes
@@ -132,25 +126,21 @@ told-sound (Moves old new gap size) replies outcomes takes sound = by (first_tol
 begun-sound : (outcomes : List Learnt) (tasks : List Task) → NotesSound outcomes → IsSound (begun outcomes tasks)
 begun-sound outcomes tasks sound = record { notes = sound; takes = λ task rest same. from-takes outcomes tasks task rest same }
 
-continued-sound : (outcomes : List Learnt) (task : Task) (tasks : List Task) (replies : List Reply) (next : Option (LinkNo × Ask)) → takes_step outcomes task ≡ true → NotesSound outcomes → IsSound (continued outcomes task tasks replies next)
-continued-sound outcomes task tasks replies (Some to) takes sound = record { notes = sound; takes = λ t rest same. ap (takes_step outcomes) (sym (head-same task tasks t rest same)) ∙ takes }
-continued-sound outcomes task tasks replies None takes sound = begun-sound (outcome_by task replies ++ outcomes) tasks (told-sound task replies outcomes takes sound)
-
-resumed-sound : (at : Standing) (replies : List Reply) → IsSound at → IsSound (resumed at.outcomes at.tasks replies)
-unfolding resumed
-resumed-sound at replies sound = by at.tasks refl where
-  by : (tasks : List Task) → at.tasks ≡ tasks → IsSound (resumed at.outcomes tasks replies)
-  by [] is = record { notes = sound.notes; takes = λ t rest same. cc }
-  by (task ∷ tasks) is = continued-sound at.outcomes task tasks replies (task_ask task replies) (sound.takes task tasks is) sound.notes
-
 none-moved : NotesSound []
 unfolding moved_off newest
 none-moved chan told moved = cc
 
-standing-sound : (tasks : List Task) (replies : List Reply) → IsSound (standing tasks replies)
-unfolding standing
-standing-sound tasks [] = begun-sound [] tasks none-moved
-standing-sound tasks (reply ∷ before) = resumed-sound (standing tasks before) ((standing tasks before).replies ++ reply ∷ []) (standing-sound tasks before)
+sound-keeps : (network : Network) (owner : ℕ) (script : List Task) → KeptBySteps network owner script (λ run outcomes tasks. NotesSound outcomes) (λ run at. IsSound at)
+sound-keeps network owner script = record {
+  first = none-moved;
+  begins = λ run outcomes tasks sound. begun-sound outcomes tasks sound;
+  off = λ past done at run next other sound. sound;
+  goes = λ past done task rest replies outcomes to step more sound. record { notes = sound.notes; takes = sound.takes };
+  over = λ past done task rest replies outcomes step none sound. told-sound task (replies ++ done.reply ∷ []) outcomes (sound.takes task rest refl) sound.notes;
+}
+
+standing-sound : (network : Network) (owner : ℕ) (script : List Task) (run : List Done) → slice_get network.scripts owner ≡ Some script → IsRun network run → IsSound (standing script (replies_to owner run))
+standing-sound network owner script run found is = each-run network owner script found (λ past outcomes tasks. NotesSound outcomes) (λ past at. IsSound at) (sound-keeps network owner script) run is
 
 -- ---- which move leaves the channel
 
@@ -214,7 +204,7 @@ module _ (network : Network) (request : Request) (owner : ℕ) (first : HopAt ne
   -- a move that was told of before
   was-moved : (script : List Task) (past : List Done) (done : Done) (task : Task) (rest : List Task) (replies : List Reply) (outcomes : List Learnt) → OwnStep network owner script past done task rest replies outcomes → MovesKept past outcomes → MovesKept (done ∷ past) outcomes
   was-moved script past done task rest replies outcomes step was told moved =
-      let notes = subst (λ (s : Standing). NotesSound s.outcomes) step.stands (standing-sound script (replies_to owner past)).notes in
+      let notes = subst (λ (s : Standing). NotesSound s.outcomes) step.stands (standing-sound network owner script past step.found step.run).notes in
       let goes = step-goes network request owner script past done task rest replies outcomes fits sound (owned-once network request owner full) step in
       frozen-later network request first done past told.kept fits (asked past step.run) step.run step.next (asks-mild network request done past (task ∷ rest) replies outcomes told notes moved step.asks goes) (was told moved)
 

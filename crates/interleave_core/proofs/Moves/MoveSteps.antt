@@ -4,7 +4,7 @@ use Rattle.std.proofs.lemmas.Bool.{eqb-false}
 use Rattle.std.proofs.lemmas.Option.{same_Some, slice_get_within}
 use Rattle.std.specs.List.{slice_get}
 use Rattle.std.specs.Prelude.{nat_eq}
-use Rattle.net_units.specs.Numbers.{link_number, actor_number, channel_number}
+use Rattle.net_units.specs.Numbers.{link_number, channel_number}
 use Rattle.hop_reservation.specs.Routes.{link_of}
 use Rattle.channel_move.specs.Moving.{shifted_in}
 use Rattle.channel_move.specs.Stages.{stage_after}
@@ -29,16 +29,15 @@ use Rattle.interleave_core.specs.channels.Paths.{HopAt}
 use Rattle.interleave_core.specs.channels.Shifting.{MoveStep, Leaves, Joins, Frees, EveryMovePlansTheShifted}
 use Rattle.interleave_core.specs.runs.Runs.{IsRun}
 use Rattle.interleave_core.proofs.Channels.ChainLaw.{leaves-frozen}
-use Rattle.interleave_core.proofs.Channels.FarHolds.{IsLeaving, stage-told}
 use Rattle.interleave_core.proofs.Channels.HopsAt.{hop-at}
 use Rattle.interleave_core.proofs.Moves.LastPackets.{moves-take-last}
 use Rattle.interleave_core.proofs.Moves.MoveTotal.{cancelled_at, own-release, entry-cancels, first-cancels, run-shifted}
 use Rattle.interleave_core.proofs.Replies.Replying.{moves-plan}
-use Rattle.interleave_core.proofs.Replies.RunCloses.{owned-once}
+use Rattle.interleave_core.proofs.Replies.RunCloses.{owned-once, step-kind}
 use Rattle.interleave_core.proofs.Replies.RunGoes.{owned-asked}
 use Rattle.interleave_core.proofs.Runs.RunLegal.{run-stands}
-use Rattle.interleave_core.proofs.Runs.EachRun.{owner-asks, not-plane, OwnStep}
-use Rattle.interleave_core.proofs.Channels.OwnerEntries.{step-kind}
+use Rattle.interleave_core.proofs.Runs.EachRun.{owner-asks, OwnStep}
+use Rattle.interleave_core.proofs.Replies.OwnerKinds.{IsLeaving, stage-told}
 
 -- two hops at one place
 hop-link : (network : Network) (request : Request) (k : ℕ) (at : HopAt network request k) (to : _) → HopAsked request.route k to → link_number to ≡ link_number at.hop.link
@@ -92,7 +91,7 @@ module _ (network : Network) (past : List Done) (done : Done) (owner gap size : 
       Leaves on release (none-before network old first done past on release now)
   step-of (AsksSubmit reply one some own submit) =
       let to = hop-at network new 0 fit.of_new (slice_get_within new.route 0 own.hop own.stands) in
-      let plans = moves-plan network past done script rest old new gap size (shifted_in reply) fits all step.run step.next (not-plane network (actor_number done.actor) owner script step.by step.found) (ap (slice_get network.scripts) step.by ∙ step.found) (ap (λ a. (standing script (replies_to a past)).tasks) step.by ∙ at-tasks) submit in
+      let plans = moves-plan network owner script past done old new gap size rest replies outcomes (shifted_in reply) fits all step submit in
       Joins (shifted_in reply) gap size (record {
         to = to;
         on = hop-link network new 0 to done.link own;

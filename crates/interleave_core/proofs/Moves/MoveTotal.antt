@@ -39,16 +39,16 @@ use Rattle.interleave_core.specs.channels.Moves.{cancelled_with, cancelled_in, N
 use Rattle.interleave_core.specs.channels.Paths.{HopAt}
 use Rattle.interleave_core.specs.runs.Runs.{IsNext, IsRun}
 use Rattle.interleave_core.proofs.Moves.Emptied.{uncancelled, none-left-closing}
-use Rattle.interleave_core.proofs.Channels.FarHolds.{Frozen, NoRelease, IsLeaving, OwnKind, OwnOff, OwnAside, OwnSetup, OwnSend, OwnClose}
+use Rattle.interleave_core.proofs.Channels.FarHolds.{Frozen}
 use Rattle.interleave_core.proofs.Moves.MoveLaw.{MoveTold, Was, Now, move-own, no-moves, run-moved, move-told}
 use Rattle.interleave_core.proofs.Channels.RowsFollow.{held_at, hop-may}
-use Rattle.interleave_core.proofs.Replies.RunCloses.{owned-once, others-off}
+use Rattle.interleave_core.proofs.Replies.RunCloses.{owned-once, others-off, step-kind}
 use Rattle.interleave_core.proofs.Replies.RunGoes.{owned-asked}
 use Rattle.interleave_core.proofs.Runs.RunLegal.{part-on, part-admissible, by-part}
 use Rattle.interleave_core.proofs.Moves.TotalLaw.{none-lost, release-cancels}
 use Rattle.interleave_core.proofs.Runs.EachRun.{head-same, KeptBySteps, KeptByOthers, each-run, OwnStep}
-use Rattle.interleave_core.proofs.Channels.OwnerEntries.{step-kind}
 use Rattle.interleave_core.proofs.Tasks.OwnTasks.{own-task}
+use Rattle.interleave_core.proofs.Replies.OwnerKinds.{NoRelease, IsLeaving, OwnKind, OwnOff, OwnAside, OwnSetup, OwnSend, OwnClose}
 
 -- ---- what an entry cancels
 

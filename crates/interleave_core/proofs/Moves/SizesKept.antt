@@ -38,8 +38,8 @@ use Rattle.interleave_core.proofs.Channels.HopsAt.{hop-at}
 use Rattle.interleave_core.proofs.Tasks.OnceFacts.{once-asked}
 use Rattle.channel_laws.proofs.UnsentPlans.{row-at-hop}
 use Rattle.interleave_core.proofs.Channels.RowsFollow.{hop-reply}
-use Rattle.interleave_core.proofs.Replies.RunCloses.{owned-once, step-stands}
-use Rattle.interleave_core.proofs.Replies.RunGoes.{owned-asked}
+use Rattle.interleave_core.proofs.Replies.RunCloses.{owned-once}
+use Rattle.interleave_core.proofs.Replies.RunGoes.{owned-asked, step-stands}
 use Rattle.interleave_core.proofs.Runs.RunLegal.{run-stands, part-admissible}
 use Rattle.interleave_core.proofs.Runs.EachRun.{each-left, from-step-by, KeptBySteps, each-run}
 use Rattle.interleave_core.proofs.Tasks.OwnTasks.{standing-is, send-is, script-own, move-is, OwnTask, own-task}

@@ -1,4 +1,5 @@
 -- Where the owner of a request stands on its way from setting it up to closing it, and what an entry of another channel leaves of that.
+use Rattle.call_script.proofs.OwnerFacts.{closes-sends, sends-used}
 use Rattle.std.specs.Prelude.{◌&&◌}
 use Rattle.net_units.specs.declared.numbers.ChanNo.{ChanNo}
 use Rattle.channel_move.specs.Moving.{first_told}
@@ -7,11 +8,11 @@ use Rattle.channel_move.specs.declared.mover.Stage.{Stage}
 use Rattle.channel_move.specs.declared.mover.Stage.TheVariants.{Leaving, Joining, Releasing}
 use Rattle.channel_move.specs.declared.shifted.Shifted.{Shifted}
 use Rattle.link_steps.specs.declared.replies.Reply.TheVariants as Is
-use Rattle.call_script.specs.Owners.{UsedOnce, ClosesOnce, IsSendOn, IsMoveFrom, IsMoveOnto}
-use Rattle.call_script.specs.Scripts.{Settles as Settled_as, newest, ready, planned_as, moved_as}
+use Rattle.call_script.specs.Owners.{UsedOnce, ClosesOnce, IsSendOn, IsMoveFrom, IsMoveOnto, TaskOff, SendsOnce, FullScript}
+use Rattle.call_script.specs.Scripts.{Settles as Settled_as, newest, ready, planned_as, moved_as, Learnt, Standing, is_established, takes_step, from_step, settled_as, outcome_by}
 use Rattle.channel_laws.specs.Unsent.{IsUnsent, NoneSent}
-use Rattle.std.proofs.Common.{◌≡◌, ◌≢◌, ◌⊎◌, ℕ, ◌≤◌, Bool, true, false, cond, List, [], ◌∷◌, ◌++◌, length, Option, Some, None, refl, sym, ap, ◌∙◌, subst, inl, inr}
-use Rattle.std.proofs.lemmas.Bool.{cond_both, eq-eqb, ne_eqb}
+use Rattle.std.proofs.Common.{◌≡◌, ◌≢◌, ◌⊎◌, ℕ, ◌≤◌, Bool, true, false, List, [], ◌∷◌, ◌++◌, length, Option, Some, None, refl, sym, ap, ◌∙◌, subst, inl, inr}
+use Rattle.std.proofs.lemmas.Bool.{eq-eqb, ne_eqb}
 use Rattle.net_units.specs.Numbers.{channel_number, link_number}
 use Rattle.link_steps.specs.declared.asks.Ask.{Ask}
 use Rattle.link_steps.specs.declared.asks.Ask.TheVariants.{Submit}
@@ -21,24 +22,23 @@ use Rattle.setup_protocol.specs.Laws.{is_accepted}
 use Rattle.setup_protocol.specs.Setup.{Outcome, verdict_of}
 use Rattle.setup_protocol.specs.declared.request.Request.{Request}
 use Rattle.run_record.specs.declared.done.Done.{Done}
-use Rattle.call_script.specs.Owners.{TaskOff, SendsOnce, FullScript}
 use Rattle.call_script.specs.Fits.{NetworkFits}
 use Rattle.call_script.specs.declared.tasks.Task.{Task}
 use Rattle.call_script.specs.declared.tasks.Task.TheVariants.{Opens, Sends, Closes, Moves}
 use Rattle.call_script.specs.Tasks.{Network}
 use Rattle.run_record.specs.Runs.{part_of}
 use Rattle.interleave_core.specs.runs.Runs.{IsRun}
-use Rattle.call_script.specs.Scripts.{Learnt, Standing, is_established, takes_step, from_step, settled_as, outcome_by}
 use Rattle.setup_protocol.proofs.HopHolds.{IsComm}
 use Rattle.interleave_core.proofs.Channels.RowsFollow.{held_at}
 use Rattle.interleave_core.proofs.Replies.RunGoes.{held-later, open-comm}
 use Rattle.channel_laws.specs.Asks.{IsOff}
 use Rattle.interleave_core.specs.channels.Paths.{HopAt}
-use Rattle.interleave_core.proofs.Tasks.TaskAsks.{ready-off, off-from}
+use Rattle.interleave_core.proofs.Tasks.TaskAsks.{ready-off}
 use Rattle.interleave_core.proofs.Runs.RunLegal.{by-part}
 use Rattle.link_steps.specs.Scan.{clock_of, scan_of, after}
 use Rattle.channel_laws.specs.Reservations.{held_by}
 use Rattle.channel_laws.proofs.TermsAfter.{held-submitted}
+use Rattle.interleave_core.proofs.Runs.EachRun.{from-step-by}
 
 -- ---- scripts
 
@@ -46,17 +46,6 @@ use Rattle.channel_laws.proofs.TermsAfter.{held-submitted}
 abbrev pub FirstOff : ℕ → List Task → Type 0
 FirstOff c [] = Unit {0}
 FirstOff c (task ∷ tasks) = TaskOff c task
-
--- where a request was left by a move, its closing alone is left; and where it may be moved onto, it may be sent on
-pub closes-sends : (request : Request) (tasks : List Task) → ClosesOnce request tasks → SendsOnce request tasks
-closes-sends request [] closes = tt
-closes-sends request (task ∷ tasks) (inl off) = inl (off.0, closes-sends request tasks off.1)
-closes-sends request (task ∷ tasks) (inr own) = inr (inr (inl own))
-
-pub sends-used : (request : Request) (tasks : List Task) → SendsOnce request tasks → UsedOnce request tasks
-sends-used request [] sends = tt
-sends-used request (task ∷ tasks) (inl off) = inl (off.0, sends-used request tasks off.1)
-sends-used request (task ∷ tasks) (inr own) = inr (inr own)
 
 -- ---- where the owner stands
 
@@ -143,15 +132,8 @@ established-own request outcome outcomes = rw (eq-eqb (channel_number request.ch
 pub planned-established : (chan : ChanNo) (own : Option ChanNo) (gap size : ℕ) (replies : List Reply) (outcomes : List Learnt) → is_established chan (planned_as own gap size replies ++ outcomes) ≡ is_established chan outcomes
 unfolding is_established newest
 planned-established chan None gap size replies outcomes = refl
-planned-established chan (Some own) gap size [] outcomes = refl
 planned-established chan (Some own) gap size (Is.Planned clock ∷ replies) outcomes = refl
-planned-established chan (Some own) gap size (Is.Offer level reach ∷ replies) outcomes = refl
-planned-established chan (Some own) gap size (Is.Relaxed clock ∷ replies) outcomes = refl
-planned-established chan (Some own) gap size (Is.Denied ∷ replies) outcomes = refl
-planned-established chan (Some own) gap size (Is.Closing count cancelled ∷ replies) outcomes = refl
-planned-established chan (Some own) gap size (Is.Taken clock eligible ∷ replies) outcomes = refl
-planned-established chan (Some own) gap size (Is.Ticked clock full sent best_sent best_lost ∷ replies) outcomes = refl
-planned-established chan (Some own) gap size (Is.Refused refusal ∷ replies) outcomes = refl
+planned-established chan (Some own) gap size _ outcomes = refl
 
 -- a move from another channel changes nothing, and one from the channel leaves it
 pub moved-established : (request old new : Request) (gap size : ℕ) (told : Option Shifted) (outcomes : List Learnt) → channel_number old.chan ≢ channel_number request.chan → is_established request.chan (moved_as old new gap size told ++ outcomes) ≡ is_established request.chan outcomes
@@ -174,40 +156,19 @@ off-established request (Moves old new gap size) replies outcomes off = moved-es
 
 -- ---- the next task that takes a step
 
-each-first : (c : ℕ) (tasks : List Task) → Each (TaskOff c) tasks → FirstOff c tasks
-each-first c [] each = tt
-each-first c (task ∷ tasks) each = each.0
-
 pub each-sends : (request : Request) (tasks : List Task) → Each (TaskOff (channel_number request.chan)) tasks → SendsOnce request tasks
 each-sends request [] each = tt
 each-sends request (task ∷ tasks) each = inl (each.0, each-sends request tasks each.1)
 
 pub early-from : (request : Request) (outcomes : List Learnt) (tasks : List Task) → is_established request.chan outcomes ≡ false → FullScript request tasks → FullScript request (from_step outcomes tasks)
-unfolding from_step
-early-from request outcomes [] none script = tt
-early-from request outcomes (task ∷ tasks) none (inl off) = cond_both (takes_step outcomes task) (ready outcomes task ∷ tasks) (from_step outcomes tasks) (FullScript request) (λ _. inl (ready-off (channel_number request.chan) outcomes task off.0, off.1)) (λ _. early-from request outcomes tasks none off.1)
-early-from request outcomes (task ∷ tasks) none (inr own) = subst (λ t. FullScript request (cond (takes_step outcomes t) (ready outcomes t ∷ tasks) (from_step outcomes tasks))) (sym own.0) (inr (refl, own.1))
+early-from request outcomes tasks none script = from-step-by (FullScript request) (FullScript request) outcomes (λ over. over) begins passes tasks script where
+  begins : (task : Task) (rest : List Task) → takes_step outcomes task ≡ true → FullScript request (task ∷ rest) → FullScript request (ready outcomes task ∷ rest)
+  begins task rest takes (inl off) = inl (ready-off (channel_number request.chan) outcomes task off.0, off.1)
+  begins task rest takes (inr own) = inr (ap (ready outcomes) own.0, own.1)
 
--- where the channel isn't established, its tasks take no step
-abbrev Passed : Request → List Task → Type 0
-Passed request tasks = UsedOnce request tasks × FirstOff (channel_number request.chan) tasks
-
-pub denied-from : (request : Request) (outcomes : List Learnt) (tasks : List Task) → is_established request.chan outcomes ≡ false → UsedOnce request tasks → Passed request (from_step outcomes tasks)
-unfolding from_step
-denied-from request outcomes [] none used = (tt, tt)
-denied-from request outcomes (task ∷ tasks) none (inl off) = cond_both (takes_step outcomes task) (ready outcomes task ∷ tasks) (from_step outcomes tasks) (Passed request) (λ _. (let other = ready-off (channel_number request.chan) outcomes task off.0 in (inl (other, off.1), other))) (λ _. denied-from request outcomes tasks none off.1)
-denied-from request outcomes (task ∷ tasks) none (inr (inl own)) =
-    subst (λ t. Passed request (cond (takes_step outcomes t) (ready outcomes t ∷ tasks) (from_step outcomes tasks))) (sym own.0.is) (rw (none, and-none (is_established own.0.old.chan outcomes)) (denied-from request outcomes tasks none (sends-used request tasks own.1))) where
-      and-none : (b : Bool) → (b && false) ≡ false
-      and-none true = refl
-      and-none false = refl
-denied-from request outcomes (task ∷ tasks) none (inr (inr (inl own))) =
-    subst (λ t. Passed request (cond (takes_step outcomes t) (ready outcomes t ∷ tasks) (from_step outcomes tasks))) (sym own.0.is) (rw none (denied-from request outcomes tasks none (sends-used request tasks own.1)))
-denied-from request outcomes (task ∷ tasks) none (inr (inr (inr (inl own)))) =
-    subst (λ t. Passed request (cond (takes_step outcomes t) (ready outcomes t ∷ tasks) (from_step outcomes tasks))) (sym own.0)
-    (rw none (sends-used request (from_step outcomes tasks) (each-sends request (from_step outcomes tasks) (off-from (channel_number request.chan) outcomes tasks own.1)), each-first (channel_number request.chan) (from_step outcomes tasks) (off-from (channel_number request.chan) outcomes tasks own.1)))
-denied-from request outcomes (task ∷ tasks) none (inr (inr (inr (inr own)))) =
-    subst (λ t. Passed request (cond (takes_step outcomes t) (ready outcomes t ∷ tasks) (from_step outcomes tasks))) (sym own.0.is) (rw none (denied-from request outcomes tasks none (sends-used request tasks (closes-sends request tasks own.1))))
+  passes : (task : Task) (rest : List Task) → takes_step outcomes task ≡ false → FullScript request (task ∷ rest) → FullScript request rest
+  passes task rest over (inl off) = off.1
+  passes task rest over (inr own) = absurd (let clash : true ≡ false = sym (ap (takes_step outcomes) own.0) ∙ over in cc)
 
 -- a task as it begins has the same place in a script
 ready-from : (request : Request) (outcomes : List Learnt) (task : Task) → IsMoveFrom request task → IsMoveFrom request (ready outcomes task)
@@ -219,40 +180,58 @@ ready-onto request outcomes task own = record { old = own.old; gap = _; size = _
 ready-send : (request : Request) (outcomes : List Learnt) (task : Task) → IsSendOn request task → IsSendOn request (ready outcomes task)
 ready-send request outcomes task own = record { hop = own.hop; count = own.count; gap = own.gap; size = own.size; stands = own.stands; is = ap (ready outcomes) own.is }
 
-pub open-from : (request : Request) (outcomes : List Learnt) (tasks : List Task) → SendsOnce request tasks → SendsOnce request (from_step outcomes tasks) × FreshFirst request (from_step outcomes tasks) []
-unfolding from_step
-open-from request outcomes [] sends = (tt, tt)
-open-from request outcomes (task ∷ tasks) sends =
-    cond_both (takes_step outcomes task) (ready outcomes task ∷ tasks) (from_step outcomes tasks) (λ ts. SendsOnce request ts × FreshFirst request ts [])
-    (λ _. (first sends, λ named. refl)) (λ _. open-from request outcomes tasks (rest sends)) where
-      first : SendsOnce request (task ∷ tasks) → SendsOnce request (ready outcomes task ∷ tasks)
-      first (inl off) = inl (ready-off (channel_number request.chan) outcomes task off.0, off.1)
-      first (inr (inl own)) = inr (inl (ready-send request outcomes task own.0, own.1))
-      first (inr (inr (inl own))) = inr (inr (inl (ap (ready outcomes) own.0, own.1)))
-      first (inr (inr (inr own))) = inr (inr (inr (ready-from request outcomes task own.0, own.1)))
+sends-ready : (request : Request) (outcomes : List Learnt) (task : Task) (tasks : List Task) → SendsOnce request (task ∷ tasks) → SendsOnce request (ready outcomes task ∷ tasks)
+sends-ready request outcomes task tasks (inl off) = inl (ready-off (channel_number request.chan) outcomes task off.0, off.1)
+sends-ready request outcomes task tasks (inr (inl own)) = inr (inl (ready-send request outcomes task own.0, own.1))
+sends-ready request outcomes task tasks (inr (inr (inl own))) = inr (inr (inl (ap (ready outcomes) own.0, own.1)))
+sends-ready request outcomes task tasks (inr (inr (inr own))) = inr (inr (inr (ready-from request outcomes task own.0, own.1)))
 
-      rest : SendsOnce request (task ∷ tasks) → SendsOnce request tasks
-      rest (inl off) = off.1
-      rest (inr (inl own)) = own.1
-      rest (inr (inr (inl own))) = each-sends request tasks own.1
-      rest (inr (inr (inr own))) = closes-sends request tasks own.1
+used-ready : (request : Request) (outcomes : List Learnt) (task : Task) (tasks : List Task) → UsedOnce request (task ∷ tasks) → UsedOnce request (ready outcomes task ∷ tasks)
+used-ready request outcomes task tasks (inl off) = inl (ready-off (channel_number request.chan) outcomes task off.0, off.1)
+used-ready request outcomes task tasks (inr (inl own)) = inr (inl (ready-onto request outcomes task own.0, own.1))
+used-ready request outcomes task tasks (inr (inr (inl own))) = inr (inr (inl (ready-send request outcomes task own.0, own.1)))
+used-ready request outcomes task tasks (inr (inr (inr (inl own)))) = inr (inr (inr (inl (ap (ready outcomes) own.0, own.1))))
+used-ready request outcomes task tasks (inr (inr (inr (inr own)))) = inr (inr (inr (inr (ready-from request outcomes task own.0, own.1))))
+
+-- and what follows one that is passed over is less of a script
+sends-rest : (request : Request) (task : Task) (tasks : List Task) → SendsOnce request (task ∷ tasks) → SendsOnce request tasks
+sends-rest request task tasks (inl off) = off.1
+sends-rest request task tasks (inr (inl own)) = own.1
+sends-rest request task tasks (inr (inr (inl own))) = each-sends request tasks own.1
+sends-rest request task tasks (inr (inr (inr own))) = closes-sends request tasks own.1
+
+used-rest : (request : Request) (task : Task) (tasks : List Task) → UsedOnce request (task ∷ tasks) → UsedOnce request tasks
+used-rest request task tasks (inl off) = off.1
+used-rest request task tasks (inr (inl own)) = sends-used request tasks own.1
+used-rest request task tasks (inr (inr used)) = sends-used request tasks (sends-rest request task tasks (inr used))
+
+-- where the channel isn't established, its tasks take no step
+abbrev Passed : Request → List Task → Type 0
+Passed request tasks = UsedOnce request tasks × FirstOff (channel_number request.chan) tasks
+
+pub denied-from : (request : Request) (outcomes : List Learnt) (tasks : List Task) → is_established request.chan outcomes ≡ false → UsedOnce request tasks → Passed request (from_step outcomes tasks)
+denied-from request outcomes tasks none used =
+    from-step-by (UsedOnce request) (Passed request) outcomes (λ over. (over, tt)) begins (λ task rest over left. used-rest request task rest left) tasks used where
+      -- so a task that takes one is no task of the channel
+      silent : (task own : Task) → takes_step outcomes task ≡ true → task ≡ own → takes_step outcomes own ≡ false → ⊥
+      silent task own takes is passed = (let clash : true ≡ false = sym takes ∙ ap (takes_step outcomes) is ∙ passed in cc)
+
+      and-none : (b : Bool) → (b && false) ≡ false
+      and-none true = refl
+      and-none false = refl
+
+      begins : (task : Task) (rest : List Task) → takes_step outcomes task ≡ true → UsedOnce request (task ∷ rest) → Passed request (ready outcomes task ∷ rest)
+      begins task rest takes (inl off) = (let other = ready-off (channel_number request.chan) outcomes task off.0 in (inl (other, off.1), other))
+      begins task rest takes (inr (inl own)) = absurd (silent task (Moves own.0.old request own.0.gap own.0.size) takes own.0.is (rw none (and-none (is_established own.0.old.chan outcomes))))
+      begins task rest takes (inr (inr (inl own))) = absurd (silent task (Sends own.0.hop.link (Some request.chan) own.0.count own.0.gap own.0.size) takes own.0.is none)
+      begins task rest takes (inr (inr (inr (inl own)))) = absurd (silent task (Closes request) takes own.0 none)
+      begins task rest takes (inr (inr (inr (inr own)))) = absurd (silent task (Moves request own.0.new own.0.gap own.0.size) takes own.0.is (rw none refl))
+
+-- where it is, it may be sent on
+pub open-from : (request : Request) (outcomes : List Learnt) (tasks : List Task) → SendsOnce request tasks → SendsOnce request (from_step outcomes tasks) × FreshFirst request (from_step outcomes tasks) []
+open-from request outcomes tasks sends =
+    from-step-by (SendsOnce request) (λ ts. SendsOnce request ts × FreshFirst request ts []) outcomes (λ over. (over, tt)) (λ task rest takes left. (sends-ready request outcomes task rest left, λ named. refl)) (λ task rest over left. sends-rest request task rest left) tasks sends
 
 pub fresh-from : (request : Request) (outcomes : List Learnt) (tasks : List Task) → UsedOnce request tasks → UsedOnce request (from_step outcomes tasks) × FreshFirst request (from_step outcomes tasks) []
-unfolding from_step
-fresh-from request outcomes [] used = (tt, tt)
-fresh-from request outcomes (task ∷ tasks) used =
-    cond_both (takes_step outcomes task) (ready outcomes task ∷ tasks) (from_step outcomes tasks) (λ ts. UsedOnce request ts × FreshFirst request ts [])
-    (λ _. (first used, λ named. refl)) (λ _. fresh-from request outcomes tasks (rest used)) where
-      first : UsedOnce request (task ∷ tasks) → UsedOnce request (ready outcomes task ∷ tasks)
-      first (inl off) = inl (ready-off (channel_number request.chan) outcomes task off.0, off.1)
-      first (inr (inl own)) = inr (inl (ready-onto request outcomes task own.0, own.1))
-      first (inr (inr (inl own))) = inr (inr (inl (ready-send request outcomes task own.0, own.1)))
-      first (inr (inr (inr (inl own)))) = inr (inr (inr (inl (ap (ready outcomes) own.0, own.1))))
-      first (inr (inr (inr (inr own)))) = inr (inr (inr (inr (ready-from request outcomes task own.0, own.1))))
-
-      rest : UsedOnce request (task ∷ tasks) → UsedOnce request tasks
-      rest (inl off) = off.1
-      rest (inr (inl own)) = sends-used request tasks own.1
-      rest (inr (inr (inl own))) = sends-used request tasks own.1
-      rest (inr (inr (inr (inl own)))) = sends-used request tasks (each-sends request tasks own.1)
-      rest (inr (inr (inr (inr own)))) = sends-used request tasks (closes-sends request tasks own.1)
+fresh-from request outcomes tasks used =
+    from-step-by (UsedOnce request) (λ ts. UsedOnce request ts × FreshFirst request ts []) outcomes (λ over. (over, tt)) (λ task rest takes left. (used-ready request outcomes task rest left, λ named. refl)) (λ task rest over left. used-rest request task rest left) tasks used

@@ -1,5 +1,5 @@
 -- One reply to the owner of a request: where it stands after it, be it to a task of another channel, a submit, a release or a move.
-use Rattle.std.specs.Prelude.{find}
+use Rattle.std.specs.Prelude.{find, nat_eq}
 use Rattle.channel_move.specs.Moving.{shifted_in, told_by, first_told, next_of_move}
 use Rattle.channel_move.specs.Stages.{stage_after, joining_after}
 use Rattle.channel_move.specs.declared.mover.Stage.{Stage}
@@ -7,13 +7,13 @@ use Rattle.channel_move.specs.declared.mover.Stage.TheVariants.{Releasing}
 use Rattle.channel_move.specs.declared.shifted.Shifted.{Shifted}
 use Rattle.channel_move.proofs.MoveFacts.{HopAsked, MoveAsks, AsksFirst, AsksSubmit, AsksRest, move-asks, rest-length}
 use Rattle.link_steps.specs.Rows.{Row}
-use Rattle.link_steps.specs.Scan.{is_row_at_hop, names_first_hop}
+use Rattle.link_steps.specs.Scan.{is_row_at_hop, names_first_hop, clock_of, scan_of}
 use Rattle.link_steps.proofs.ListFacts.{Each-find}
 use Rattle.channel_laws.specs.Channels.{channel_of}
 use Rattle.channel_laws.proofs.SizeLaw.{NamesContract, legal-sizes}
-use Rattle.channel_laws.proofs.SendReplies.{found-at-hop}
-use Rattle.call_script.specs.Owners.{UsedOnce, ClosesOnce}
-use Rattle.call_script.specs.Scripts.{moved_as, move_between}
+use Rattle.channel_laws.proofs.SendReplies.{found-at-hop, submit-committed, release-committed}
+use Rattle.call_script.specs.Owners.{UsedOnce, ClosesOnce, PacketsOff, TaskOff, SendsOnce}
+use Rattle.call_script.specs.Scripts.{moved_as, move_between, Learnt, Standing, once_next, task_ask, is_established, begun, settled_as, outcome_by, continued, resumed}
 use Rattle.interleave_core.specs.channels.Hops.{terms_at, ChannelAsked}
 use Rattle.channel_laws.specs.Unsent.{IsPlanned}
 use Rattle.channel_laws.proofs.UnsentPlans.{unsent-left, row-at-hop}
@@ -24,7 +24,6 @@ use Rattle.std.proofs.lemmas.Bool.{cases_Bool, ne_eqb}
 use Rattle.std.proofs.lemmas.List.{length_push}
 use Rattle.std.proofs.lemmas.Option.{same_Some, slice_get_within}
 use Rattle.std.specs.List.{slice_get}
-use Rattle.std.specs.Prelude.{nat_eq}
 use Rattle.net_units.specs.Numbers.{link_number, channel_number}
 use Rattle.net_units.specs.declared.numbers.LinkNo.{LinkNo}
 use Rattle.hop_reservation.specs.Routes.{link_of}
@@ -34,30 +33,28 @@ use Rattle.link_steps.specs.declared.asks.Ask.TheVariants.{Submit, Release}
 use Rattle.link_steps.specs.declared.replies.Reply.{Reply}
 use Rattle.link_steps.specs.Lists.{Each}
 use Rattle.link_steps.specs.Replies.{reply_at}
-use Rattle.link_steps.specs.Scan.{clock_of, scan_of}
 use Rattle.setup_protocol.specs.Hops.{RequestFits}
 use Rattle.setup_protocol.specs.Setup.{Denies, next_ask}
 use Rattle.setup_protocol.specs.Teardown.{first_count, next_release}
 use Rattle.setup_protocol.specs.declared.request.Request.{Request}
 use Rattle.run_record.specs.declared.done.Done.{Done}
-use Rattle.call_script.specs.Owners.{PacketsOff, TaskOff, SendsOnce}
 use Rattle.call_script.specs.Fits.{NetworkFits}
 use Rattle.call_script.specs.declared.tasks.Task.{Task}
 use Rattle.call_script.specs.declared.tasks.Task.TheVariants.{Opens, Sends, Closes, Moves}
 use Rattle.call_script.specs.Tasks.{Network}
 use Rattle.run_record.specs.Runs.{part_of}
 use Rattle.interleave_core.specs.runs.Runs.{IsNext, IsRun}
-use Rattle.call_script.specs.Scripts.{Learnt, Standing, once_next, task_ask, is_established, begun, settled_as, outcome_by, continued, resumed}
 use Rattle.interleave_core.proofs.Channels.HopsAt.{hop-at}
 use Rattle.setup_protocol.proofs.HopHolds.{IsComm}
 use Rattle.interleave_core.proofs.Channels.RowsFollow.{held-elsewhere, hop-reply, other-hop, SetupRows, Settles, setup-settles}
 use Rattle.channel_laws.specs.Reservations.{IsSendReply, IsReleased}
-use Rattle.channel_laws.proofs.SendReplies.{submit-committed, release-committed}
 use Rattle.channel_laws.specs.Asks.{IsOff}
 use Rattle.setup_protocol.proofs.HopAsks.{asked-at, first-named}
 use Rattle.interleave_core.proofs.Tasks.OnceFacts.{once-asked}
-use Rattle.interleave_core.proofs.Replies.ClosingStands.{closes-sends, sends-used, AllComm, Unsent, FreshFirst, left_in, left_by, IsUnjoined, ClosesAt, Early, Denied, Fresh, Open, Closing, MovingFrom, MovingOnto, Over, comm-later, unsent-later, established-own, left-established, off-established, denied-from, open-from, fresh-from, send-later}
+use Rattle.interleave_core.proofs.Replies.ClosingStands.{AllComm, Unsent, FreshFirst, left_in, left_by, IsUnjoined, ClosesAt, Early, Denied, Fresh, Open, Closing, MovingFrom, MovingOnto, Over, comm-later, unsent-later, established-own, left-established, off-established, denied-from, open-from, fresh-from, send-later}
+use Rattle.call_script.proofs.OwnerFacts.{closes-sends, sends-used}
 use Rattle.interleave_core.proofs.Tasks.TaskAsks.{task-off, off-from}
+use Rattle.interleave_core.proofs.Replies.OwnerKinds.{OwnKind, NoRelease, off-leaving, stage-told, onto-stays, send-stays, stage-some, OwnSend, OwnSetup, OwnAside, OwnOff, OwnClose}
 
 -- ---- one reply to the owner
 
@@ -78,19 +75,20 @@ IsUsualReply request (Sends link chan count gap size) ask reply = (PacketsOff (c
 IsUsualReply request (Closes r) ask reply = channel_number r.chan ≡ channel_number request.chan → IsReleased reply
 IsUsualReply request (Moves old new gap size) ask reply = (channel_number old.chan ≡ channel_number request.chan → IfReleased ask reply) × (channel_number new.chan ≡ channel_number request.chan → size ≤ request.contract.smax → IfPlanned ask reply)
 
-abbrev pub FirstUsual : Request → List Task → Ask → Reply → Type 0
-FirstUsual request [] ask reply = Unit {0}
-FirstUsual request (task ∷ tasks) ask reply = IsUsualReply request task ask reply
-
 off-usual : (request : Request) (task : Task) (ask : Ask) (reply : Reply) → TaskOff (channel_number request.chan) task → IsUsualReply request task ask reply
 off-usual request (Opens r) ask reply off = tt
 off-usual request (Sends link chan count gap size) ask reply off = λ named. absurd (named off)
 off-usual request (Closes r) ask reply off = λ same. absurd (off same)
 off-usual request (Moves old new gap size) ask reply off = (λ same. absurd (off.0 same), λ same. absurd (off.1 same))
 
-pub record ClosesNext (network : Network) (request : Request) (run : List Done) (tasks : List Task) (ask : Ask) (reply : Reply) (at : Standing) : Type 0 where
-  pub usual : FirstUsual request tasks ask reply
-  pub closes : ClosesAt network request run at
+pub record ClosesNext (network : Network) (request : Request) (done : Done) (past : List Done) (task : Task) (replies : List Reply) (at : Standing) : Type 0 where
+  pub usual : IsUsualReply request task done.ask done.reply
+  pub kind : OwnKind network request done past task replies
+  pub closes : ClosesAt network request (done ∷ past) at
+
+-- after a step of this task
+abbrev pub StepNext : Network → Request → Done → List Done → List Learnt → Task → List Task → List Reply → Type 0
+StepNext network request done past outcomes task tasks replies = ClosesNext network request done past task replies (resumed outcomes (task ∷ tasks) (replies ++ done.reply ∷ []))
 
 -- ---- a task of another channel
 
@@ -99,17 +97,15 @@ off-continued : (network : Network) (request : Request) (done : Done) (past : Li
 off-continued network request done past outcomes task tasks replies (Some to) fits run off other goes-on over = goes-on (record { tasks = task ∷ tasks; replies = replies; outcomes = outcomes }) refl refl
 off-continued network request done past outcomes task tasks replies None fits run off other goes-on over = over (outcome_by task replies) (off-established request task replies outcomes other)
 
-pub not-own : (request : Request) (task own : Task) → TaskOff (channel_number request.chan) task → task ≡ own → (TaskOff (channel_number request.chan) own → ⊥) → ⊥
-not-own request task own off same none = none (subst (TaskOff (channel_number request.chan)) same off)
-
 pub fresh-off : (request : Request) (task : Task) (tasks : List Task) (replies : List Reply) → TaskOff (channel_number request.chan) task → FreshFirst request (task ∷ tasks) replies
 fresh-off request task tasks replies off = λ named. absurd (named off)
 
 pub off-step : (network : Network) (request : Request) (done : Done) (past : List Done) (outcomes : List Learnt) (task : Task) (tasks : List Task) (replies : List Reply) → NetworkFits network → IsRun network past → task_ask task replies ≡ Some (done.link, done.ask) → TaskOff (channel_number request.chan) task
-    → ((at : Standing) → at.tasks ≡ task ∷ tasks → at.outcomes ≡ outcomes → ClosesAt network request (done ∷ past) at) → ((more : List Learnt) → is_established request.chan (more ++ outcomes) ≡ is_established request.chan outcomes → ClosesAt network request (done ∷ past) (begun (more ++ outcomes) tasks)) → ClosesNext network request (done ∷ past) (task ∷ tasks) done.ask done.reply (resumed outcomes (task ∷ tasks) (replies ++ done.reply ∷ []))
+    → ((at : Standing) → at.tasks ≡ task ∷ tasks → at.outcomes ≡ outcomes → ClosesAt network request (done ∷ past) at) → ((more : List Learnt) → is_established request.chan (more ++ outcomes) ≡ is_established request.chan outcomes → ClosesAt network request (done ∷ past) (begun (more ++ outcomes) tasks)) → StepNext network request done past outcomes task tasks replies
 unfolding resumed
 off-step network request done past outcomes task tasks replies fits run asks other goes-on over = record {
   usual = off-usual request task done.ask done.reply other;
+  kind = OwnOff (off-leaving request task other) (task-off (channel_number request.chan) task replies done.link done.ask other asks);
   closes = off-continued network request done past outcomes task tasks (replies ++ done.reply ∷ []) (task_ask task (replies ++ done.reply ∷ [])) fits run (task-off (channel_number request.chan) task replies done.link done.ask other asks) other goes-on over;
 }
 
@@ -117,7 +113,7 @@ off-step network request done past outcomes task tasks replies fits run asks oth
 
 -- a submit
 pub send-step : (network : Network) (request : Request) (done : Done) (past : List Done) (outcomes : List Learnt) (tasks : List Task) (replies : List Reply) (levels : List ℕ) (hop : Hop) (count gap size : ℕ) → NetworkFits network → RequestFits network.links request → IsRun network past → (next : IsNext network past done) → SendsOnce request tasks → AllComm network request levels 0 past → slice_get request.route 0 ≡ Some hop → once_next hop.link (Submit request.chan count gap size) replies ≡ Some (done.link, done.ask)
-    → ClosesNext network request (done ∷ past) (Sends hop.link (Some request.chan) count gap size ∷ tasks) done.ask done.reply (resumed outcomes (Sends hop.link (Some request.chan) count gap size ∷ tasks) (replies ++ done.reply ∷ []))
+    → StepNext network request done past outcomes (Sends hop.link (Some request.chan) count gap size) tasks replies
 unfolding resumed reply_at
 send-step network request done past outcomes tasks (reply ∷ replies) levels hop count gap size fits sound run next sends comm stands asks = cc
 send-step network request done past outcomes tasks [] levels hop count gap size fits sound run next sends comm stands asks =
@@ -131,6 +127,7 @@ send-step network request done past outcomes tasks [] levels hop count gap size 
     let more = open-from request (outcome_by (Sends hop.link (Some request.chan) count gap size) (done.reply ∷ []) ++ outcomes) tasks sends in
     record {
       usual = λ named. subst IsSendReply (sym reply) (submit-committed (clock_of (part_of (link_number here.hop.link) past)) size request.chan _ held.terms held.is held.first held.phase);
+      kind = OwnSend count gap size (send-stays request hop.link request.chan count gap size) asked;
       closes = Open levels more.0 more.1 later;
     }
 
@@ -140,7 +137,7 @@ close-continued network request run outcomes tasks replies levels (Some to) othe
 close-continued network request run outcomes tasks replies levels None others comm = Over (off-from (channel_number request.chan) outcomes tasks others)
 
 pub close-step : (network : Network) (request : Request) (done : Done) (past : List Done) (outcomes : List Learnt) (tasks : List Task) (replies : List Reply) (levels : List ℕ) → NetworkFits network → RequestFits network.links request → IsRun network past → (next : IsNext network past done) → Each (TaskOff (channel_number request.chan)) tasks → AllComm network request levels (length replies) past → next_release request.chan request.route replies ≡ Some (done.link, done.ask)
-    → ClosesNext network request (done ∷ past) (Closes request ∷ tasks) done.ask done.reply (resumed outcomes (Closes request ∷ tasks) (replies ++ done.reply ∷ []))
+    → StepNext network request done past outcomes (Closes request) tasks replies
 unfolding resumed reply_at
 close-step network request done past outcomes tasks replies levels fits sound run next others comm asks =
     let own = asked-at request.route (length replies) (λ hop. Release request.chan (first_count replies)) done.link done.ask asks in
@@ -152,6 +149,7 @@ close-step network request done past outcomes tasks replies levels fits sound ru
     let later : AllComm network request levels (length (replies ++ done.reply ∷ [])) (done ∷ past) = λ i at from. subst (IsComm Some request levels i) (sym (held-elsewhere network request i at done past (other-hop network request i (length replies) at here done sound.route on (λ e. omega (arith, e, from, count))))) (comm i at (omega (arith, from, count))) in
     record {
       usual = λ same. subst IsReleased (sym reply) (release-committed (clock_of (part_of (link_number here.hop.link) past)) (first_count replies) request.chan _ held.terms held.is (held.first ∙ first-named replies) held.phase);
+      kind = OwnClose levels (inl refl) (length replies) here on own.is (λ none. ap length none) held;
       closes = close-continued network request (done ∷ past) outcomes tasks (replies ++ done.reply ∷ []) levels (task_ask (Closes request) (replies ++ done.reply ∷ [])) others later;
     }
 
@@ -201,12 +199,12 @@ from-continued network request new gap size run outcomes tasks replies levels No
     Denied from.0 from.1 none
 
 pub from-step : (network : Network) (request new : Request) (gap size : ℕ) (done : Done) (past : List Done) (outcomes : List Learnt) (tasks : List Task) (replies : List Reply) (levels : List ℕ) → NetworkFits network → RequestFits network.links request → IsRun network past → (next : IsNext network past done) → channel_number new.chan ≢ channel_number request.chan → ClosesOnce request tasks → AllComm network request levels (left_by replies) past → next_of_move (move_between request new gap size) replies ≡ Some (done.link, done.ask)
-    → ClosesNext network request (done ∷ past) (Moves request new gap size ∷ tasks) done.ask done.reply (resumed outcomes (Moves request new gap size ∷ tasks) (replies ++ done.reply ∷ []))
+    → StepNext network request done past outcomes (Moves request new gap size) tasks replies
 unfolding resumed reply_at
 from-step network request new gap size done past outcomes tasks replies levels fits sound run next other closes comm asks = by (move-asks (move_between request new gap size) replies done.link done.ask asks) where
-  released : (i : ℕ) (upstream : Option ℕ) → nat_eq i 0 ≡ names_first_hop upstream → left_by replies ≡ i → left_by (replies ++ done.reply ∷ []) ≡ suc i → HopAsked request.route i done.link → done.ask ≡ Release request.chan upstream
-      → ClosesNext network request (done ∷ past) (Moves request new gap size ∷ tasks) done.ask done.reply (resumed outcomes (Moves request new gap size ∷ tasks) (replies ++ done.reply ∷ []))
-  released i upstream named here-left more-left own is =
+  released : (i : ℕ) (upstream : Option ℕ) → nat_eq i 0 ≡ names_first_hop upstream → first_count replies ≡ upstream → (replies ≡ [] → i ≡ 0) → left_by replies ≡ i → left_by (replies ++ done.reply ∷ []) ≡ suc i → HopAsked request.route i done.link → done.ask ≡ Release request.chan upstream
+      → StepNext network request done past outcomes (Moves request new gap size) tasks replies
+  released i upstream named count zeroth here-left more-left own is =
       let here = hop-at network request i sound (slice_get_within request.route i own.hop own.stands) in
       let on : link_number done.link ≡ link_number here.hop.link = ap link_number own.at ∙ ap link_of (same_Some own.hop here.hop (sym own.stands ∙ here.stands)) in
       let held = comm i here (omega (arith, here-left)) in
@@ -215,12 +213,13 @@ from-step network request new gap size done past outcomes tasks replies levels f
       let later : AllComm network request levels (left_by (replies ++ done.reply ∷ [])) (done ∷ past) = λ k at from. subst (IsComm Some request levels k) (sym (held-elsewhere network request k at done past (other-hop network request k i at here done sound.route on (λ e. omega (arith, e, from, more-left))))) (comm k at (omega (arith, from, more-left, here-left))) in
       record {
         usual = (λ same. subst (λ a. IfReleased a done.reply) (sym is) told, λ same. absurd (other same));
+        kind = OwnClose levels (inr (record { new = new; gap = gap; size = size; is = refl; other = other })) i here on (is ∙ ap (λ c. Release request.chan c) (sym count)) zeroth held;
         closes = from-continued network request new gap size (done ∷ past) outcomes tasks (replies ++ done.reply ∷ []) levels (task_ask (Moves request new gap size) (replies ++ done.reply ∷ [])) (told-first replies done.reply) other closes later;
       }
 
-  by : MoveAsks (move_between request new gap size) replies done.link done.ask → ClosesNext network request (done ∷ past) (Moves request new gap size ∷ tasks) done.ask done.reply (resumed outcomes (Moves request new gap size ∷ tasks) (replies ++ done.reply ∷ []))
-  by (AsksFirst none at is) = released 0 None refl (ap left_by none) (ap (λ rs. left_by (rs ++ done.reply ∷ [])) none ∙ first-left done.reply) at is
-  by (AsksRest told made stage at is) = (let some = rest-length replies told made stage in released made (Some told.kept) (ne_eqb made 0 (λ zero'. (let least = some.1 in omega (arith, zero', least)))) (ap left_in stage) (ap left_in (rest-more replies done.reply told made stage)) at is)
+  by : MoveAsks (move_between request new gap size) replies done.link done.ask → StepNext network request done past outcomes (Moves request new gap size) tasks replies
+  by (AsksFirst none at is) = released 0 None refl (ap first_count none) (λ _. refl) (ap left_by none) (ap (λ rs. left_by (rs ++ done.reply ∷ [])) none ∙ first-left done.reply) at is
+  by (AsksRest told made stage at is) = (let some = rest-length replies told made stage in released made (Some told.kept) (ne_eqb made 0 (λ zero'. (let least = some.1 in omega (arith, zero', least)))) (stage-told replies told made stage) (λ none. absurd (stage-some told made (sym (ap stage_after none) ∙ stage))) (ap left_in stage) (ap left_in (rest-more replies done.reply told made stage)) at is)
   by (AsksSubmit first one some at is) =
       (let off : IsOff (channel_number request.chan) done.ask = subst (IsOff (channel_number request.chan)) (sym is) other in
       let was : left_by replies ≡ 1 = ap left_by one ∙ first-left first in
@@ -228,6 +227,7 @@ from-step network request new gap size done past outcomes tasks replies levels f
       let later : AllComm network request levels (left_by (replies ++ done.reply ∷ [])) (done ∷ past) = subst (λ n. AllComm network request levels n (done ∷ past)) (was ∙ sym now) (comm-later network request levels (left_by replies) done past fits run off comm) in
       record {
         usual = (λ same. subst (λ a. IfReleased a done.reply) (sym is) tt, λ same. absurd (other same));
+        kind = OwnAside first one off;
         closes = from-continued network request new gap size (done ∷ past) outcomes tasks (replies ++ done.reply ∷ []) levels (task_ask (Moves request new gap size) (replies ++ done.reply ∷ [])) (told-first replies done.reply) other closes later;
       })
 
@@ -247,19 +247,20 @@ unjoined-before (first ∷ second ∷ replies) reply (inl none) = cc
 unjoined-before (first ∷ second ∷ replies) reply (inr one) = (let same : first ∷ second ∷ (replies ++ reply ∷ []) ≡ one.0 ∷ [] = one.1 in cc)
 
 pub onto-step : (network : Network) (request old : Request) (gap size : ℕ) (done : Done) (past : List Done) (outcomes : List Learnt) (tasks : List Task) (replies : List Reply) (levels : List ℕ) → NetworkFits network → RequestFits network.links request → ChannelAsked request past → IsRun network past → (next : IsNext network past done) → channel_number old.chan ≢ channel_number request.chan → SendsOnce request tasks → AllComm network request levels 0 past → (IsUnjoined replies → Unsent request past) → next_of_move (move_between old request gap size) replies ≡ Some (done.link, done.ask)
-    → ClosesNext network request (done ∷ past) (Moves old request gap size ∷ tasks) done.ask done.reply (resumed outcomes (Moves old request gap size ∷ tasks) (replies ++ done.reply ∷ []))
+    → StepNext network request done past outcomes (Moves old request gap size) tasks replies
 unfolding resumed reply_at
 onto-step network request old gap size done past outcomes tasks replies levels fits sound asked run next other sends comm unsent asks = by (move-asks (move_between old request gap size) replies done.link done.ask asks) where
-  released : (upstream : Option ℕ) → done.ask ≡ Release old.chan upstream → ClosesNext network request (done ∷ past) (Moves old request gap size ∷ tasks) done.ask done.reply (resumed outcomes (Moves old request gap size ∷ tasks) (replies ++ done.reply ∷ []))
+  released : (upstream : Option ℕ) → done.ask ≡ Release old.chan upstream → StepNext network request done past outcomes (Moves old request gap size) tasks replies
   released upstream is =
       let off : IsOff (channel_number request.chan) done.ask = subst (IsOff (channel_number request.chan)) (sym is) other in
       record {
         usual = (λ same. absurd (other same), λ same small. subst (λ a. IfPlanned a done.reply) (sym is) tt);
+        kind = OwnOff (onto-stays request old gap size other) off;
         closes = onto-continued network request old gap size (done ∷ past) outcomes tasks (replies ++ done.reply ∷ []) levels (task_ask (Moves old request gap size) (replies ++ done.reply ∷ [])) other sends (comm-later network request levels 0 done past fits run off comm)
             (λ early. unsent-later request done past off (unsent (inl (unjoined-before replies done.reply early))));
       }
 
-  by : MoveAsks (move_between old request gap size) replies done.link done.ask → ClosesNext network request (done ∷ past) (Moves old request gap size ∷ tasks) done.ask done.reply (resumed outcomes (Moves old request gap size ∷ tasks) (replies ++ done.reply ∷ []))
+  by : MoveAsks (move_between old request gap size) replies done.link done.ask → StepNext network request done past outcomes (Moves old request gap size) tasks replies
   by (AsksFirst none at is) = released None is
   by (AsksRest told made stage at is) = released (Some told.kept) is
   by (AsksSubmit first one some at is) =
@@ -277,6 +278,7 @@ onto-step network request old gap size done past outcomes tasks replies levels f
       let later = send-later network request done past (shifted_in first) gap size levels is comm in
       record {
         usual = (λ same. absurd (other same), λ same small. subst (λ a. IfPlanned a done.reply) (sym is) (planned small));
+        kind = OwnSend (shifted_in first) gap size (onto-stays request old gap size other) is;
         closes = onto-continued network request old gap size (done ∷ past) outcomes tasks (replies ++ done.reply ∷ []) levels (task_ask (Moves old request gap size) (replies ++ done.reply ∷ [])) other sends later
             (λ early. absurd (let none : replies ≡ [] = unjoined-before replies done.reply early in let clash : [] ≡ first ∷ [] = sym none ∙ one in cc));
       }) where
@@ -300,9 +302,10 @@ open-continued : (network : Network) (request : Request) (run : List Done) (outc
 open-continued network request run outcomes tasks replies (Some to) is used none unsent rows = Early (inr (refl, used)) none unsent
 open-continued network request run outcomes tasks replies None is used none unsent rows = open-settled network request run outcomes tasks replies used none unsent (setup-settles network request replies run rows is)
 
-pub open-next : (network : Network) (request : Request) (done : Done) (past : List Done) (outcomes : List Learnt) (tasks : List Task) (replies : List Reply) → UsedOnce request tasks → is_established request.chan outcomes ≡ false → Unsent request (done ∷ past) → SetupRows network request (replies ++ done.reply ∷ []) (done ∷ past) → ClosesNext network request (done ∷ past) (Opens request ∷ tasks) done.ask done.reply (resumed outcomes (Opens request ∷ tasks) (replies ++ done.reply ∷ []))
+pub open-next : (network : Network) (request : Request) (done : Done) (past : List Done) (outcomes : List Learnt) (tasks : List Task) (replies : List Reply) → UsedOnce request tasks → is_established request.chan outcomes ≡ false → Unsent request (done ∷ past) → SetupRows network request (replies ++ done.reply ∷ []) (done ∷ past) → NoRelease done.ask → StepNext network request done past outcomes (Opens request) tasks replies
 unfolding resumed
-open-next network request done past outcomes tasks replies used none unsent rows = record {
+open-next network request done past outcomes tasks replies used none unsent rows setup = record {
   usual = tt;
+  kind = OwnSetup (replies ++ done.reply ∷ []) refl refl rows setup;
   closes = open-continued network request (done ∷ past) outcomes tasks (replies ++ done.reply ∷ []) (next_ask request (replies ++ done.reply ∷ [])) refl used none unsent rows;
 }

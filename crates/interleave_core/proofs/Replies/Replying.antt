@@ -1,39 +1,34 @@
 -- In every run of a network whose channels each have one owner, each reply is one that its actor expects.
-use Rattle.std.proofs.Common.{◌++◌, Bool, arith}
-use Rattle.std.proofs.lemmas.Option.{slice_get_within}
-use Rattle.std.specs.Prelude.{find, nat_le}
+use Rattle.std.proofs.Common.{◌++◌, Bool, arith, ◌≡◌, ℕ, ◌⊎◌, true, List, [], ◌∷◌, length, Option, Some, None, refl, sym, ap, ◌∙◌, subst, inl, inr}
+use Rattle.std.proofs.lemmas.Option.{slice_get_within, same_Some}
+use Rattle.std.specs.Prelude.{find, nat_le, ◌≤◌, nat_eq}
 use Rattle.hop_reservation.specs.Routes.{link_of}
-use Rattle.channel_move.proofs.MoveFacts.{HopAsked, MoveAsks, AsksFirst, AsksSubmit, AsksRest, move-asks}
+use Rattle.channel_move.proofs.MoveFacts.{HopAsked, MoveAsks, AsksFirst, AsksSubmit, AsksRest, move-asks, move-ask-is}
 use Rattle.channel_laws.proofs.ChannelRows.{find-passes}
-use Rattle.channel_laws.proofs.SendReplies.{found-at-hop}
-use Rattle.channel_laws.specs.Reservations.{held_by}
+use Rattle.channel_laws.proofs.SendReplies.{found-at-hop, best-answered, of-released}
+use Rattle.channel_laws.specs.Reservations.{held_by, IsSendReply, IsReleased, IsArriveReply}
 use Rattle.link_steps.specs.declared.replies.Phase.TheVariants.{Committed}
 use Rattle.link_steps.specs.declared.shape.LinkShape.{LinkShape}
-use Rattle.link_steps.specs.Lists.{change_first}
-use Rattle.link_steps.specs.Replies.{submit_reply, submit_to}
+use Rattle.link_steps.specs.Lists.{change_first, Each}
+use Rattle.link_steps.specs.Replies.{submit_reply, submit_to, tick_reply, reply_at, reply_to}
 use Rattle.link_steps.specs.Reservation.{Reservation, is_phase}
 use Rattle.link_steps.specs.Rows.{Row, left_at, planned_from}
-use Rattle.link_steps.specs.Scan.{Scan, plan_row, after, is_row_at_hop}
+use Rattle.link_steps.specs.Scan.{Scan, plan_row, after, is_row_at_hop, clock_of, scan_of}
 use Rattle.setup_protocol.specs.Hops.{RequestFits}
 use Rattle.setup_protocol.proofs.HopHolds.{IsComm}
 use Rattle.interleave_core.specs.channels.Moves.{plan_in, plan_at}
 use Rattle.interleave_core.proofs.Channels.HopsAt.{hop-at}
 use Rattle.channel_laws.specs.Unsent.{IsPlanned}
 use Rattle.channel_laws.proofs.UnsentPlans.{unsent-left}
-use Rattle.interleave_core.proofs.Replies.ClosingStands.{AllComm, Unsent, IsUnjoined}
-use Rattle.interleave_core.proofs.Runs.RunLegal.{part-on}
-use Rattle.std.specs.Prelude.{◌≤◌}
+use Rattle.interleave_core.proofs.Replies.ClosingStands.{AllComm, Unsent, IsUnjoined, ClosesAt, Early, Denied, Fresh, Open, Closing, MovingFrom, MovingOnto, Over, FirstOff}
+use Rattle.interleave_core.proofs.Runs.RunLegal.{part-on, plane-next, caller-next}
 use Rattle.net_units.specs.declared.numbers.ChanNo.{ChanNo}
 use Rattle.channel_move.specs.Moving.{answers, answers_next, next_of_move}
-use Rattle.channel_move.proofs.MoveFacts.{move-ask-is}
-use Rattle.call_script.specs.Owners.{UsedOnce, OwnedFully}
-use Rattle.call_script.specs.Scripts.{move_between}
+use Rattle.call_script.specs.Owners.{UsedOnce, OwnedFully, TaskOff, SendsOnce, FullScript, IsOwned, IsUnnamed, AllOwned}
+use Rattle.call_script.specs.Scripts.{move_between, Standing, packets_ask, once_next, standing, answers_submit, first_expects, Learnt}
 use Rattle.interleave_core.proofs.Moves.SizesKept.{first-small}
-use Rattle.std.proofs.Common.{◌≡◌, ◌≢◌, ℕ, ◌⊎◌, true, List, [], ◌∷◌, length, Option, Some, None, refl, sym, ap, ◌∙◌, subst, inl, inr}
 use Rattle.std.proofs.lemmas.Bool.{cases_Bool, eqb-true, eqb-false}
-use Rattle.std.proofs.lemmas.Option.{same_Some}
 use Rattle.std.specs.List.{slice_get}
-use Rattle.std.specs.Prelude.{nat_eq}
 use Rattle.net_units.specs.Numbers.{link_number, actor_number, channel_number}
 use Rattle.net_units.specs.declared.numbers.LinkNo.{LinkNo}
 use Rattle.hop_reservation.specs.Offers.{next_levels}
@@ -44,22 +39,15 @@ use Rattle.link_steps.specs.declared.replies.Refusal.TheVariants as Why
 use Rattle.link_steps.specs.declared.replies.Reply.{Reply}
 use Rattle.link_steps.specs.declared.replies.Reply.TheVariants as Is
 use Rattle.link_steps.specs.Effects.{effect_of}
-use Rattle.link_steps.specs.Lists.{Each}
-use Rattle.link_steps.specs.Replies.{tick_reply, reply_at, reply_to}
-use Rattle.link_steps.specs.Scan.{clock_of, scan_of}
 use Rattle.link_steps.specs.Split.{Link}
 use Rattle.setup_protocol.specs.Setup.{Progress, Reserving, Undoing, Relaxing, Settled, answers_reserve, answers_deny, answers_relax, is_expected, asked, next_ask, progress_of}
 use Rattle.setup_protocol.specs.Teardown.{is_closing, next_release}
 use Rattle.setup_protocol.specs.declared.request.Request.{Request}
 use Rattle.call_script.specs.Fits.{NetworkFits}
-use Rattle.call_script.specs.Owners.{TaskOff, SendsOnce, FullScript, IsOwned, IsUnnamed, AllOwned}
-use Rattle.call_script.specs.Scripts.{Standing, packets_ask, once_next, standing, first_ask, ask_at, answers_submit, first_expects}
 use Rattle.call_script.specs.Tasks.{Network}
 use Rattle.call_script.specs.declared.tasks.Task.{Task}
 use Rattle.call_script.specs.declared.tasks.Task.TheVariants.{Opens, Sends, Closes, Moves}
-use Rattle.channel_laws.specs.Reservations.{IsSendReply, IsReleased, IsArriveReply}
 use Rattle.channel_laws.proofs.ArriveReplies.{arrive-told, of-arrive}
-use Rattle.channel_laws.proofs.SendReplies.{best-answered, of-released}
 use Rattle.interleave_core.specs.replies.Answers.{IsReserveReply, IsRelaxed, IsTicked, IsReplyOf}
 use Rattle.interleave_core.specs.runs.Laws.{EveryReplyIsExpected, EveryAskIsAnswered}
 use Rattle.interleave_core.specs.runs.Runs.{plane_no, plane_at, IsNext, IsRun}
@@ -67,17 +55,15 @@ use Rattle.run_record.specs.Runs.{replies_to, part_of}
 use Rattle.run_record.specs.declared.done.Done.{Done}
 use Rattle.tick_plane.specs.Planes.{next_due, ask_due, answers_arrive, answers_tick, plane_expects}
 use Rattle.tick_plane.specs.declared.flight.Flight.{Flight}
-use Rattle.interleave_core.proofs.Replies.ClosingStands.{ClosesAt, Early, Denied, Fresh, Open, Closing, MovingFrom, MovingOnto, Over, FirstOff}
-use Rattle.interleave_core.proofs.Replies.ClosingSteps.{IsUsualReply, FirstUsual, IfReleased, IfPlanned}
-use Rattle.interleave_core.proofs.Replies.RunCloses.{owned-once, run-closes, replies-usual}
+use Rattle.interleave_core.proofs.Replies.ClosingSteps.{IsUsualReply, IfReleased, IfPlanned}
+use Rattle.interleave_core.proofs.Replies.RunCloses.{owned-once, step-usual, step-closes}
 use Rattle.interleave_core.proofs.Replies.RunGoes.{setup-expected}
-use Rattle.interleave_core.proofs.Runs.RunLegal.{AsksOf, plane-next, caller-next}
 use Rattle.setup_protocol.proofs.HopAsks.{of-hop}
 use Rattle.channel_laws.proofs.SentFacts.{tick-answer}
 use Rattle.interleave_core.proofs.Tasks.OnceFacts.{once-asked, packets-hold}
-use Rattle.interleave_core.proofs.Runs.EachRun.{head-same}
+use Rattle.interleave_core.proofs.Runs.EachRun.{head-same, OwnStep, at-step}
 use Rattle.interleave_core.proofs.Tasks.TaskAsks.{off-standing}
-use Rattle.interleave_core.proofs.Tasks.OwnTasks.{opens-own, OwnTask, standing-is}
+use Rattle.interleave_core.proofs.Tasks.OwnTasks.{opens-own, own-task}
 
 -- ---- the tests and the facts say the same
 
@@ -162,73 +148,57 @@ owner-is network c actor tasks all found named = by-owner (all c) where
 
 -- ---- each reply to a caller
 
--- what is known where a caller made the step
-record CallerStep (network : Network) (past : List Done) (done : Done) (tasks : List Task) : Type 0 where
-  fits : NetworkFits network
-  all : AllOwned network
-  run : IsRun network past
-  next : IsNext network past done
-  found : slice_get network.scripts (actor_number done.actor) ≡ Some tasks
+module _ (network : Network) (owner : ℕ) (script : List Task) (past : List Done) (done : Done) (task : Task) (rest : List Task) (replies : List Reply) (outcomes : List Learnt) (fits : NetworkFits network) (all : AllOwned network) (step : OwnStep network owner script past done task rest replies outcomes) where
+  -- where its task names a channel, the caller owns it
+  named-own : (c : ℕ) → (TaskOff c task → ⊥) → OwnerIs network c owner
+  named-own c named = owner-is network c owner script all step.found (λ off. named (head (subst (λ (s : Standing). Each (TaskOff c) s.tasks) step.stands (off-standing c script (replies_to owner past) off)))) where
+    head : Each (TaskOff c) (task ∷ rest) → TaskOff c task
+    head each = each.0
 
-abbrev stand : List Done → Done → List Task → Standing
-stand past done tasks = standing tasks (replies_to (actor_number done.actor) past)
+  own-step : (c : ℕ) → (is : OwnerIs network c owner) → OwnStep network is.own.owner script past done task rest replies outcomes
+  own-step c is = subst (λ o. OwnStep network o script past done task rest replies outcomes) is.same step
 
--- its first task names a channel of its own
-named-own : (network : Network) (past : List Done) (done : Done) (tasks rest : List Task) (task : Task) (c : ℕ) → (step : CallerStep network past done tasks) → (stand past done tasks).tasks ≡ task ∷ rest → (TaskOff c task → ⊥) → OwnerIs network c (actor_number done.actor)
-named-own network past done tasks rest task c step first named =
-    owner-is network c (actor_number done.actor) tasks step.all step.found
-    (λ off. named (let each : Each (TaskOff c) (task ∷ rest) = subst (Each (TaskOff c)) first (off-standing c tasks (replies_to (actor_number done.actor) past) off) in each.0))
+  usual-reply : (c : ℕ) → (is : OwnerIs network c owner) → IsUsualReply is.own.request task done.ask done.reply
+  usual-reply c is = step-usual network is.own.request is.own.owner script past done task rest replies outcomes fits is.own.sound is.own.full (own-step c is)
 
-usual-reply : (network : Network) (past : List Done) (done : Done) (tasks rest : List Task) (task : Task) (c : ℕ) → (step : CallerStep network past done tasks) → (is : OwnerIs network c (actor_number done.actor)) → (stand past done tasks).tasks ≡ task ∷ rest → IsUsualReply is.own.request task done.ask done.reply
-usual-reply network past done tasks rest task c step is first =
-    let own : slice_get network.scripts is.own.owner ≡ Some tasks = ap (slice_get network.scripts) (sym is.same) ∙ step.found in
-    let usual = replies-usual network is.own.request is.own.owner past done tasks step.fits is.own.sound is.own.full step.run step.next is.same own in
-    subst (λ ts. FirstUsual is.own.request ts done.ask done.reply) (ap (λ a. (standing tasks (replies_to a past)).tasks) (sym is.same) ∙ first) usual
+open-reply : (network : Network) (owner : ℕ) (script : List Task) (past : List Done) (done : Done) (request : Request) (rest : List Task) (replies : List Reply) (outcomes : List Learnt) → NetworkFits network → AllOwned network → OwnStep network owner script past done (Opens request) rest replies outcomes → is_expected request (progress_of request replies) done.reply ≡ true
+open-reply network owner script past done request rest replies outcomes fits all step =
+    let is = named-own network owner script past done (Opens request) rest replies outcomes fits all step (channel_number request.chan) (λ off. off refl) in
+    let own = own-step network owner script past done (Opens request) rest replies outcomes fits all step (channel_number request.chan) is in
+    let same : request ≡ is.own.request = opens-own is.own.request request (own-task network is.own.request is.own.owner script past done (Opens request) rest replies outcomes is.own.full own) (sym is.own.chan) in
+    subst (λ r. is_expected r (progress_of r replies) done.reply ≡ true) (sym same)
+    (setup-expected network is.own.request is.own.owner script past done rest replies outcomes fits is.own.sound (owned-once network is.own.request is.own.owner is.own.full) (subst (λ r. OwnStep network is.own.owner script past done (Opens r) rest replies outcomes) same own))
 
-open-reply : (network : Network) (past : List Done) (done : Done) (tasks rest : List Task) (request : Request) → (step : CallerStep network past done tasks) → (stand past done tasks).tasks ≡ Opens request ∷ rest → is_expected request (progress_of request (stand past done tasks).replies) done.reply ≡ true
-open-reply network past done tasks rest request step first =
-    let is = named-own network past done tasks rest (Opens request) (channel_number request.chan) step first (λ off. off refl) in
-    let own : slice_get network.scripts is.own.owner ≡ Some tasks = ap (slice_get network.scripts) (sym is.same) ∙ step.found in
-    let first' : (standing tasks (replies_to is.own.owner past)).tasks ≡ Opens request ∷ rest = ap (λ a. (standing tasks (replies_to a past)).tasks) (sym is.same) ∙ first in
-    let opens : Each (OwnTask is.own.request) (Opens request ∷ rest) = subst (Each (OwnTask is.own.request)) first' (standing-is network is.own.request is.own.owner tasks (replies_to is.own.owner past) is.own.full own) in
-    let same : request ≡ is.own.request = opens-own is.own.request request opens.0 (sym is.own.chan) in
-    let told = setup-expected network is.own.request is.own.owner past done tasks rest step.fits is.own.sound (owned-once network is.own.request is.own.owner is.own.full) step.run step.next is.same own (first' ∙ ap (λ r. Opens r ∷ rest) same) in
-    let mine : is_expected request (progress_of request (standing tasks (replies_to is.own.owner past)).replies) done.reply ≡ true = subst (λ r. is_expected r (progress_of r (standing tasks (replies_to is.own.owner past)).replies) done.reply ≡ true) (sym same) told in
-    ap (λ a. is_expected request (progress_of request (standing tasks (replies_to a past)).replies) done.reply) is.same ∙ mine
+-- the packets of a move are no larger than the contract of the channel that it joins
+moved-small : (network : Network) (owner : ℕ) (script : List Task) (past : List Done) (done : Done) (old new : Request) (gap size : ℕ) (rest : List Task) (replies : List Reply) (outcomes : List Learnt) → NetworkFits network → AllOwned network → OwnStep network owner script past done (Moves old new gap size) rest replies outcomes → (own : OwnerIs network (channel_number new.chan) owner) → size ≤ own.own.request.contract.smax
+moved-small network owner script past done old new gap size rest replies outcomes fits all step own =
+    first-small network past owner script old new gap size rest own.own.request fits all step.run step.found (subst (OwnedFully network own.own.request) (sym own.same) own.own.full) (sym own.own.chan) (ap (λ (s : Standing). s.tasks) step.stands)
 
-caller-expected : (network : Network) (past : List Done) (done : Done) (tasks : List Task) → (step : CallerStep network past done tasks) → actor_number done.actor ≢ plane_no network → Expected (stand past done tasks).tasks (stand past done tasks).replies done.ask done.reply
-caller-expected network past done tasks step other = by-tasks (stand past done tasks).tasks refl asked' where
-  asks : AsksOf network past (actor_number done.actor) done.link done.ask
-  asks = caller-next network past done step.next other
+step-expected : (network : Network) (owner : ℕ) (script : List Task) (past : List Done) (done : Done) (task : Task) (rest : List Task) (replies : List Reply) (outcomes : List Learnt) → NetworkFits network → AllOwned network → OwnStep network owner script past done task rest replies outcomes → Expected (task ∷ rest) replies done.ask done.reply
+step-expected network owner script past done (Opens request) rest replies outcomes fits all step =
+    opens-expected request rest replies done.link done.ask done.reply step.asks (open-reply network owner script past done request rest replies outcomes fits all step)
+step-expected network owner script past done (Sends link (Some chan) count gap size) rest replies outcomes fits all step =
+    let task : Task = Sends link (Some chan) count gap size in
+    let own = named-own network owner script past done task rest replies outcomes fits all step (channel_number chan) (λ off. off refl) in
+    sends-expected link (Some chan) count gap size rest replies done.link done.ask done.reply step.asks (usual-reply network owner script past done task rest replies outcomes fits all step (channel_number chan) own (λ off. off (sym own.own.chan)))
+step-expected network owner script past done (Sends link None count gap size) rest replies outcomes fits all step =
+    sends-expected link None count gap size rest replies done.link done.ask done.reply step.asks
+    (subst IsSendReply (sym step.next.answered) (best-reply step.next.link (part_of (link_number done.link) past) done.ask count gap size (sym (once-asked link (packets_ask None count gap size) replies done.link done.ask step.asks).is)))
+step-expected network owner script past done (Closes request) rest replies outcomes fits all step =
+    let own = named-own network owner script past done (Closes request) rest replies outcomes fits all step (channel_number request.chan) (λ off. off refl) in
+    closes-expected request rest replies done.link done.ask done.reply step.asks (usual-reply network owner script past done (Closes request) rest replies outcomes fits all step (channel_number request.chan) own (sym own.own.chan))
+step-expected network owner script past done (Moves old new gap size) rest replies outcomes fits all step =
+    let task : Task = Moves old new gap size in
+    let own-old = named-own network owner script past done task rest replies outcomes fits all step (channel_number old.chan) (λ off. off.0 refl) in
+    let own-new = named-own network owner script past done task rest replies outcomes fits all step (channel_number new.chan) (λ off. off.1 refl) in
+    let released = (usual-reply network owner script past done task rest replies outcomes fits all step (channel_number old.chan) own-old).0 (sym own-old.own.chan) in
+    let planned = (usual-reply network owner script past done task rest replies outcomes fits all step (channel_number new.chan) own-new).1 (sym own-new.own.chan) (moved-small network owner script past done old new gap size rest replies outcomes fits all step own-new) in
+    moves-expected old new gap size rest replies done.link done.ask done.reply step.asks released planned
 
-  asked' : first_ask (stand past done tasks).tasks (stand past done tasks).replies ≡ Some (done.link, done.ask)
-  asked' = subst (λ ts. ask_at (standing ts (replies_to (actor_number done.actor) past)) ≡ Some (done.link, done.ask)) (same_Some asks.tasks tasks (sym asks.found ∙ step.found)) asks.asks
-
-  -- the packets of a move are no larger than the contract of the channel that it joins
-  moved-small : {old new : Request} {gap size : ℕ} {rest : List Task} → (own : OwnerIs network (channel_number new.chan) (actor_number done.actor)) → (stand past done tasks).tasks ≡ Moves old new gap size ∷ rest → size ≤ own.own.request.contract.smax
-  moved-small {old} {new} {gap} {size} {rest} own is = first-small network past (actor_number done.actor) tasks old new gap size rest own.own.request step.fits step.all step.run step.found (subst (OwnedFully network own.own.request) (sym own.same) own.own.full) (sym own.own.chan) is
-
-  by-tasks : (ts : List Task) → (stand past done tasks).tasks ≡ ts → first_ask (stand past done tasks).tasks (stand past done tasks).replies ≡ Some (done.link, done.ask) → Expected (stand past done tasks).tasks (stand past done tasks).replies done.ask done.reply
-  by-tasks ts first asked = subst (λ xs. Expected xs (stand past done tasks).replies done.ask done.reply) (sym first) (by-first ts first (subst (λ xs. first_ask xs (stand past done tasks).replies ≡ Some (done.link, done.ask)) first asked)) where
-    by-first : (xs : List Task) → (stand past done tasks).tasks ≡ xs → first_ask xs (stand past done tasks).replies ≡ Some (done.link, done.ask) → Expected xs (stand past done tasks).replies done.ask done.reply
-    by-first [] is asked = cc
-    by-first (Opens request ∷ rest) is asked = opens-expected request rest (stand past done tasks).replies done.link done.ask done.reply asked (open-reply network past done tasks rest request step is)
-    by-first (Sends link (Some chan) count gap size ∷ rest) is asked =
-        (let own = named-own network past done tasks rest (Sends link (Some chan) count gap size) (channel_number chan) step is (λ off. off refl) in
-        sends-expected link (Some chan) count gap size rest (stand past done tasks).replies done.link done.ask done.reply asked
-        (usual-reply network past done tasks rest (Sends link (Some chan) count gap size) (channel_number chan) step own is (λ off. off (sym own.own.chan))))
-    by-first (Sends link None count gap size ∷ rest) is asked =
-        sends-expected link None count gap size rest (stand past done tasks).replies done.link done.ask done.reply asked
-        (subst IsSendReply (sym step.next.answered) (best-reply step.next.link (part_of (link_number done.link) past) done.ask count gap size (sym (once-asked link (packets_ask None count gap size) (stand past done tasks).replies done.link done.ask asked).is)))
-    by-first (Closes request ∷ rest) is asked =
-        (let own = named-own network past done tasks rest (Closes request) (channel_number request.chan) step is (λ off. off refl) in
-        closes-expected request rest (stand past done tasks).replies done.link done.ask done.reply asked (usual-reply network past done tasks rest (Closes request) (channel_number request.chan) step own is (sym own.own.chan)))
-    by-first (Moves old new gap size ∷ rest) is asked =
-        (let own-old = named-own network past done tasks rest (Moves old new gap size) (channel_number old.chan) step is (λ off. off.0 refl) in
-        let own-new = named-own network past done tasks rest (Moves old new gap size) (channel_number new.chan) step is (λ off. off.1 refl) in
-        let released = (usual-reply network past done tasks rest (Moves old new gap size) (channel_number old.chan) step own-old is).0 (sym own-old.own.chan) in
-        let planned = (usual-reply network past done tasks rest (Moves old new gap size) (channel_number new.chan) step own-new is).1 (sym own-new.own.chan) (moved-small own-new is) in
-        moves-expected old new gap size rest (stand past done tasks).replies done.link done.ask done.reply asked released planned)
+caller-expected : (network : Network) (past : List Done) (done : Done) (tasks : List Task) → NetworkFits network → AllOwned network → IsRun network past → IsNext network past done → slice_get network.scripts (actor_number done.actor) ≡ Some tasks
+    → Expected (standing tasks (replies_to (actor_number done.actor) past)).tasks (standing tasks (replies_to (actor_number done.actor) past)).replies done.ask done.reply
+caller-expected network past done tasks fits all run next found =
+    at-step network (actor_number done.actor) tasks past done run next refl found (λ at. Expected at.tasks at.replies done.ask done.reply) (λ task rest replies outcomes step. step-expected network (actor_number done.actor) tasks past done task rest replies outcomes fits all step)
 
 -- ---- each reply to the plane
 
@@ -251,7 +221,7 @@ plane-expected network past done next same =
 
 pub replies-expected : EveryReplyIsExpected
 replies-expected = record {
-  callers = λ network past done tasks fits all run next other found. (caller-expected network past done tasks (record { fits = fits; all = all; run = run; next = next; found = found }) other).is;
+  callers = λ network past done tasks fits all run next other found. (caller-expected network past done tasks fits all run next found).is;
   plane = λ network past done next same. (plane-expected network past done next same).0;
 }
 
@@ -262,7 +232,7 @@ asks-answered network past done fits all run next =
       | inr caller ↦
           (let other = eqb-false (actor_number done.actor) (plane_no network) caller in
           let asks = caller-next network past done next other in
-          (caller-expected network past done asks.tasks (record { fits = fits; all = all; run = run; next = next; found = asks.found }) other).answered)
+          (caller-expected network past done asks.tasks fits all run next asks.found).answered)
     ]
 
 -- ---- the submit of a move
@@ -360,23 +330,18 @@ joined-plans network past done new request gap size count fits sound run next jo
     )
 
 -- the submit of a move is planned, and then its channel's plan has exactly its packets
-pub moves-plan : (network : Network) (past : List Done) (done : Done) (tasks rest : List Task) (old new : Request) (gap size count : ℕ) → NetworkFits network → AllOwned network → IsRun network past → (next : IsNext network past done) → actor_number done.actor ≢ plane_no network → slice_get network.scripts (actor_number done.actor) ≡ Some tasks
-    → (standing tasks (replies_to (actor_number done.actor) past)).tasks ≡ Moves old new gap size ∷ rest → done.ask ≡ Submit new.chan count gap size
-    → (done.reply ≡ Is.Planned (clock_of (part_of (link_number done.link) past))) × (plan_at new.chan next.link.shape (part_of (link_number done.link) (done ∷ past)) ≡ planned_from (clock_of (part_of (link_number done.link) past)) gap size count)
-moves-plan network past done tasks rest old new gap size count fits all run next other found first asked =
-    let step : CallerStep network past done tasks = record { fits = fits; all = all; run = run; next = next; found = found } in
-    let own = named-own network past done tasks rest (Moves old new gap size) (channel_number new.chan) step first (λ off. off.1 refl) in
-    let asks = caller-next network past done next other in
-    let asks' : first_ask (stand past done tasks).tasks (stand past done tasks).replies ≡ Some (done.link, done.ask) = subst (λ ts. ask_at (standing ts (replies_to (actor_number done.actor) past)) ≡ Some (done.link, done.ask)) (same_Some asks.tasks tasks (sym asks.found ∙ found)) asks.asks in
-    let move : next_of_move (move_between old new gap size) (stand past done tasks).replies ≡ Some (done.link, done.ask) = subst (λ ts. first_ask ts (stand past done tasks).replies ≡ Some (done.link, done.ask)) first asks' in
-    let closes = subst (λ a. ClosesAt network own.own.request past (standing tasks (replies_to a past))) (sym own.same) ((run-closes network own.own.request own.own.owner past fits own.own.sound own.own.full run).at tasks (ap (slice_get network.scripts) (sym own.same) ∙ found)) in
-    let small = first-small network past (actor_number done.actor) tasks old new gap size rest own.own.request fits all run found (subst (OwnedFully network own.own.request) (sym own.same) own.own.full) (sym own.own.chan) first in
-    let planned : IfPlanned done.ask done.reply = (usual-reply network past done tasks rest (Moves old new gap size) (channel_number new.chan) step own first).1 (sym own.own.chan) small in
-    by own closes (subst (λ a. IfPlanned a done.reply) asked planned) (move-asks (move_between old new gap size) (stand past done tasks).replies done.link done.ask move) where
-      by : (own : OwnerIs network (channel_number new.chan) (actor_number done.actor)) → ClosesAt network own.own.request past (stand past done tasks) → IsPlanned done.reply → MoveAsks (move_between old new gap size) (stand past done tasks).replies done.link done.ask
-          → (done.reply ≡ Is.Planned (clock_of (part_of (link_number done.link) past))) × (plan_at new.chan next.link.shape (part_of (link_number done.link) (done ∷ past)) ≡ planned_from (clock_of (part_of (link_number done.link) past)) gap size count)
+pub moves-plan : (network : Network) (owner : ℕ) (script : List Task) (past : List Done) (done : Done) (old new : Request) (gap size : ℕ) (rest : List Task) (replies : List Reply) (outcomes : List Learnt) (count : ℕ) → NetworkFits network → AllOwned network → (step : OwnStep network owner script past done (Moves old new gap size) rest replies outcomes) → done.ask ≡ Submit new.chan count gap size
+    → (done.reply ≡ Is.Planned (clock_of (part_of (link_number done.link) past))) × (plan_at new.chan step.next.link.shape (part_of (link_number done.link) (done ∷ past)) ≡ planned_from (clock_of (part_of (link_number done.link) past)) gap size count)
+moves-plan network owner script past done old new gap size rest replies outcomes count fits all step asked =
+    let task : Task = Moves old new gap size in
+    let own = named-own network owner script past done task rest replies outcomes fits all step (channel_number new.chan) (λ off. off.1 refl) in
+    let closes = step-closes network own.own.request own.own.owner script past done task rest replies outcomes fits own.own.sound own.own.full (own-step network owner script past done task rest replies outcomes fits all step (channel_number new.chan) own) in
+    let planned : IfPlanned done.ask done.reply = (usual-reply network owner script past done task rest replies outcomes fits all step (channel_number new.chan) own).1 (sym own.own.chan) (moved-small network owner script past done old new gap size rest replies outcomes fits all step own) in
+    by own closes (subst (λ a. IfPlanned a done.reply) asked planned) (move-asks (move_between old new gap size) replies done.link done.ask step.asks) where
+      by : (own : OwnerIs network (channel_number new.chan) owner) → ClosesAt network own.own.request past (record { tasks = Moves old new gap size ∷ rest; replies = replies; outcomes = outcomes }) → IsPlanned done.reply → MoveAsks (move_between old new gap size) replies done.link done.ask
+          → (done.reply ≡ Is.Planned (clock_of (part_of (link_number done.link) past))) × (plan_at new.chan step.next.link.shape (part_of (link_number done.link) (done ∷ past)) ≡ planned_from (clock_of (part_of (link_number done.link) past)) gap size count)
       by own closes planned (AsksFirst none at is) = absurd (let clash : Release old.chan None ≡ Submit new.chan count gap size = sym is ∙ asked in cc)
       by own closes planned (AsksRest told made stage at is) = absurd (let clash : Release old.chan (Some told.kept) ≡ Submit new.chan count gap size = sym is ∙ asked in cc)
       by own closes planned (AsksSubmit reply one some at is) =
-          (let joined = onto-facts network own.own.request old new gap size rest past (stand past done tasks) first (sym own.own.chan) (inr (reply, one)) closes in
-          joined-plans network past done new own.own.request gap size count fits own.own.sound run next joined (subst (λ r. HopAsked r.route 0 done.link) joined.same at) asked planned)
+          (let joined = onto-facts network own.own.request old new gap size rest past (record { tasks = Moves old new gap size ∷ rest; replies = replies; outcomes = outcomes }) refl (sym own.own.chan) (inr (reply, one)) closes in
+          joined-plans network past done new own.own.request gap size count fits own.own.sound step.run step.next joined (subst (λ r. HopAsked r.route 0 done.link) joined.same at) asked planned)

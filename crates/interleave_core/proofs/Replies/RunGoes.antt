@@ -24,7 +24,7 @@ use Rattle.channel_laws.specs.Reservations.{held_by, IsOpen, ComesOf, Stays, Clo
 use Rattle.channel_laws.proofs.TermsAfter.{held-off, comes-mild}
 use Rattle.call_script.specs.Fits.{NetworkFits}
 use Rattle.call_script.specs.Owners.{TaskOff}
-use Rattle.call_script.specs.Scripts.{Learnt, outcome_in, standing, first_ask}
+use Rattle.call_script.specs.Scripts.{Learnt, outcome_in, standing, Standing}
 use Rattle.call_script.specs.Tasks.{Network}
 use Rattle.call_script.specs.declared.tasks.Task.{Task}
 use Rattle.call_script.specs.declared.tasks.Task.TheVariants.{Opens}
@@ -36,9 +36,9 @@ use Rattle.interleave_core.specs.runs.Runs.{IsNext, IsRun}
 use Rattle.interleave_core.proofs.Channels.HopsAt.{HaveLevelsAt}
 use Rattle.interleave_core.proofs.Channels.RowLevels.{levels-held, none-comes}
 use Rattle.interleave_core.proofs.Channels.RowsFollow.{held_at, SetupRows, setup-goes, KeptTerms, AfterRows, Settles, setup-settles, held-here}
-use Rattle.interleave_core.proofs.Runs.EachRun.{OwnStep, owner-asks}
+use Rattle.interleave_core.proofs.Runs.EachRun.{OwnStep}
 use Rattle.interleave_core.proofs.Runs.RunLegal.{part-on, part-off, run-stands, part-admissible, by-part}
-use Rattle.interleave_core.proofs.Tasks.CallerFacts.{StandingFits, OffersFit}
+use Rattle.interleave_core.proofs.Tasks.CallerFacts.{StandingFits}
 use Rattle.interleave_core.proofs.Tasks.EachSetup.{OpenedOnce, OpensOnce, SetupAt, Before, Under, After, KeptBySetup, is-run, each-setup}
 use Rattle.interleave_core.proofs.Tasks.SetupOnce.{channel-asked}
 use Rattle.interleave_core.proofs.Tasks.TaskAsks.{IsOther, off-other, entry-off}
@@ -194,6 +194,10 @@ recorded-settled network request replies run settles = by-verdict settles.accept
         only = λ own delay is. absurd (let clash : Some (Denies verdict.0) ≡ Some (Accepts own delay) = sym verdict.1 ∙ is in cc);
       }
 
+-- what stands as the owner makes a step
+pub step-stands : (network : Network) (owner : ℕ) (script : List Task) (past : List Done) (done : Done) (task : Task) (rest : List Task) (replies : List Reply) (outcomes : List Learnt) → NetworkFits network → OwnStep network owner script past done task rest replies outcomes → StandingFits network.links (record { tasks = task ∷ rest; replies = replies; outcomes = outcomes })
+step-stands network owner script past done task rest replies outcomes fits step = subst (StandingFits network.links) step.stands ((run-stands network past fits step.run).callers owner script step.found)
+
 -- ---- every run
 
 module _ (network : Network) (request : Request) (owner : ℕ) (fits : NetworkFits network) (sound : RequestFits network.links request) (once : OwnedOnce network request owner) where
@@ -206,7 +210,7 @@ module _ (network : Network) (request : Request) (owner : ℕ) (fits : NetworkFi
 
   -- the offers of the setup under way are levels of their hops
   setup-offers : (script : List Task) (past : List Done) (done : Done) (rest : List Task) (replies : List Reply) (outcomes : List Learnt) → OwnStep network owner script past done (Opens request) rest replies outcomes → AreLevels request.route (offers_in replies)
-  setup-offers script past done rest replies outcomes step = (let stands = subst (StandingFits network.links) step.stands ((run-stands network past fits step.run).callers owner script step.found) in stands.offers)
+  setup-offers script past done rest replies outcomes step = (step-stands network owner script past done (Opens request) rest replies outcomes fits step).offers
 
   settled : (run : List Done) (replies : List Reply) → IsRun network run → next_ask request replies ≡ None → SetupRows network request replies run → IsAfter network request run (verdict_of request replies)
   settled run replies is none rows =
@@ -252,15 +256,15 @@ run-goes network request owner run fits sound once is = record {
   at = λ tasks found. each-setup network request owner tasks found (opens-once network request owner once) (NoneHeld network request) (λ past rs. SetupRows network request rs past) (IsAfter network request) (goes-keeps network request owner fits sound once tasks) run is;
 }
 
+pub step-goes : (network : Network) (request : Request) (owner : ℕ) (script : List Task) (past : List Done) (done : Done) (task : Task) (rest : List Task) (replies : List Reply) (outcomes : List Learnt) → NetworkFits network → RequestFits network.links request → OwnedOnce network request owner → OwnStep network owner script past done task rest replies outcomes → GoesAt network request past (task ∷ rest) replies outcomes
+step-goes network request owner script past done task rest replies outcomes fits sound once step =
+    subst (λ (s : Standing). GoesAt network request past s.tasks s.replies s.outcomes) step.stands ((run-goes network request owner past fits sound once step.run).at script step.found)
+
 -- a reply to a setup is one of its ask's
-pub setup-expected : (network : Network) (request : Request) (owner : ℕ) (past : List Done) (done : Done) (tasks rest : List Task) → NetworkFits network → RequestFits network.links request → OwnedOnce network request owner → IsRun network past → (next : IsNext network past done) → actor_number done.actor ≡ owner → slice_get network.scripts owner ≡ Some tasks → (standing tasks (replies_to owner past)).tasks ≡ Opens request ∷ rest
-    → is_expected request (progress_of request (standing tasks (replies_to owner past)).replies) done.reply ≡ true
-setup-expected network request owner past done tasks rest fits sound once run next by found first =
-    let at = standing tasks (replies_to owner past) in
-    let asks : next_ask request at.replies ≡ Some (done.link, done.ask) = subst (λ ts. first_ask ts at.replies ≡ Some (done.link, done.ask)) first (owner-asks network past done owner tasks next by found) in
-    let goes : GoesAt network request past (Opens request ∷ rest) at.replies at.outcomes = subst (λ ts. GoesAt network request past ts at.replies at.outcomes) first ((run-goes network request owner past fits sound once run).at tasks found) in
-    let stands = subst (λ ts. OffersFit ts at.replies) first ((run-stands network past fits run).callers owner tasks found).offers in
-    (setup-goes network request at.replies done past fits sound run next stands (goes-rows network request past rest at.replies at.outcomes sound.route.least goes) asks).expected
+pub setup-expected : (network : Network) (request : Request) (owner : ℕ) (script : List Task) (past : List Done) (done : Done) (rest : List Task) (replies : List Reply) (outcomes : List Learnt) → NetworkFits network → RequestFits network.links request → OwnedOnce network request owner → OwnStep network owner script past done (Opens request) rest replies outcomes → is_expected request (progress_of request replies) done.reply ≡ true
+setup-expected network request owner script past done rest replies outcomes fits sound once step =
+    let rows = goes-rows network request past rest replies outcomes sound.route.least (step-goes network request owner script past done (Opens request) rest replies outcomes fits sound once step) in
+    (setup-goes network request replies done past fits sound step.run step.next (setup-offers network request owner fits sound once script past done rest replies outcomes step) rows step.asks).expected
 
 -- the levels of an accepted request are those of its packets at each hop
 pub accepted-levels : (network : Network) (request : Request) (owner : ℕ) (run : List Done) (tasks : List Task) (levels : List ℕ) (delay : ℕ) → NetworkFits network → RequestFits network.links request → OwnedOnce network request owner → IsRun network run → slice_get network.scripts owner ≡ Some tasks

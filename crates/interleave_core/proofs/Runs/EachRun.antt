@@ -116,6 +116,15 @@ pub record OwnStep (network : Network) (owner : ℕ) (script : List Task) (past 
   pub stands : standing script (replies_to owner past) ≡ record { tasks = task ∷ rest; replies = replies; outcomes = outcomes }
   pub asks : task_ask task replies ≡ Some (done.link, done.ask)
 
+-- what is so of each of its steps is so of where it stands as it makes one
+pub at-step : (network : Network) (owner : ℕ) (script : List Task) (past : List Done) (done : Done) → IsRun network past → IsNext network past done → actor_number done.actor ≡ owner → slice_get network.scripts owner ≡ Some script → (X : Standing → Type 0)
+    → ((task : Task) (rest : List Task) (replies : List Reply) (outcomes : List Learnt) → OwnStep network owner script past done task rest replies outcomes → X (record { tasks = task ∷ rest; replies = replies; outcomes = outcomes })) → X (standing script (replies_to owner past))
+at-step network owner script past done run next by found X each =
+    (let at = standing script (replies_to owner past) in by-left at.tasks at.replies at.outcomes refl (owner-asks network past done owner script next by found)) where
+      by-left : (left : List Task) (replies : List Reply) (outcomes : List Learnt) → standing script (replies_to owner past) ≡ record { tasks = left; replies = replies; outcomes = outcomes } → first_ask left replies ≡ Some (done.link, done.ask) → X (record { tasks = left; replies = replies; outcomes = outcomes })
+      by-left [] replies outcomes is asks = cc
+      by-left (task ∷ rest) replies outcomes is asks = each task rest replies outcomes (record { run = run; next = next; by = by; found = found; stands = is; asks = asks })
+
 -- an entry of another actor keeps where the caller stands
 abbrev pub KeptByOthers : Network → ℕ → (List Done → Standing → Type 0) → Type 0
 KeptByOthers network owner P = (past : List Done) (done : Done) (at : Standing) → IsRun network past → IsNext network past done → actor_number done.actor ≢ owner → P past at → P (done ∷ past) at
@@ -126,19 +135,13 @@ module _ (network : Network) (owner : ℕ) (script : List Task) (found : slice_g
   Resumes = (past : List Done) (done : Done) (task : Task) (rest : List Task) (replies : List Reply) (outcomes : List Learnt) → OwnStep network owner script past done task rest replies outcomes
       → P past (record { tasks = task ∷ rest; replies = replies; outcomes = outcomes }) → P (done ∷ past) (resumed outcomes (task ∷ rest) (replies ++ done.reply ∷ []))
 
-  own-kept : Resumes → (past : List Done) (done : Done) (left : List Task) (replies : List Reply) (outcomes : List Learnt) → IsRun network past → IsNext network past done → actor_number done.actor ≡ owner → standing script (replies_to owner past) ≡ record { tasks = left; replies = replies; outcomes = outcomes } → first_ask left replies ≡ Some (done.link, done.ask)
-      → P past (record { tasks = left; replies = replies; outcomes = outcomes }) → P (done ∷ past) (resumed outcomes left (replies ++ done.reply ∷ []))
-  own-kept step past done [] replies outcomes run next by is asks was = cc
-  own-kept step past done (task ∷ rest) replies outcomes run next by is asks was = step past done task rest replies outcomes (record { run = run; next = next; by = by; found = found; stands = is; asks = asks }) was
-
   pub entry-kept : KeptByOthers network owner P → Resumes → (past : List Done) (done : Done) → IsRun network past → IsNext network past done → P past (standing script (replies_to owner past)) → P (done ∷ past) (standing script (replies_to owner (done ∷ past)))
   entry-kept off step past done run next was =
       elim (cases_Bool (nat_eq (actor_number done.actor) owner)) [
         | inl own ↦
             (let by = eqb-true (actor_number done.actor) owner own in
-            let at = standing script (replies_to owner past) in
             subst (P (done ∷ past)) (sym (ap (standing script) (replies-by owner done past by) ∙ standing-more script done.reply (replies_to owner past)))
-            (own-kept step past done at.tasks at.replies at.outcomes run next by refl (owner-asks network past done owner script next by found) was))
+            (at-step network owner script past done run next by found (λ at. P past at → P (done ∷ past) (resumed at.outcomes at.tasks (at.replies ++ done.reply ∷ []))) (step past done) was))
         | inr others ↦
             (let other = eqb-false (actor_number done.actor) owner others in
             subst (λ rs. P (done ∷ past) (standing script rs)) (sym (replies-off owner done past other)) (off past done (standing script (replies_to owner past)) run next other was))

@@ -1,6 +1,6 @@
 -- The part of a run on each link is a legal history of that link.
 use Rattle.channel_laws.proofs.FewLeft.{few-cancelled}
-use Rattle.interleave_core.proofs.Tasks.CallerFacts.{IfRelease, FewShifted, few-told}
+use Rattle.interleave_core.proofs.Tasks.CallerFacts.{IfRelease, FewShifted, few-told, IsCallers, StandingFits, standing-asks, begun-fits, replied-fits}
 use Rattle.std.proofs.Common.{◌≡◌, ◌≢◌, ℕ, suc, ◌+◌, ◌<◌, ◌≤◌, cond, List, [], ◌∷◌, length, Option, Some, None, refl, sym, ap, ◌∙◌, subst, inl, inr, arith, lit<}
 use Rattle.std.proofs.Math.Nat.{lt_of_le_of_lt}
 use Rattle.std.proofs.lemmas.Bool.{cases_Bool, cond_both, eqb-true, eqb-false, eq-eqb, ne_eqb, le-ltb}
@@ -27,14 +27,12 @@ use Rattle.run_record.specs.declared.done.Done.{Done}
 use Rattle.call_script.specs.Fits.{TaskFits, NetworkFits}
 use Rattle.call_script.specs.declared.tasks.Task.{Task}
 use Rattle.call_script.specs.Tasks.{Network}
-use Rattle.call_script.specs.Scripts.{standing, ask_at}
+use Rattle.call_script.specs.Scripts.{standing, ask_at, script_ask}
 use Rattle.tick_plane.specs.declared.flight.Flight.{Flight}
 use Rattle.tick_plane.specs.Planes.{Plane, is_due, next_due, ask_due, plane_ask, flight_in, plane_with, plane_after, plane_of}
 use Rattle.run_record.specs.Runs.{entry_of, replies_to, part_of}
 use Rattle.interleave_core.specs.runs.Runs.{plane_no, plane_at, next_for, IsNext, IsRun}
-use Rattle.call_script.specs.Scripts.{script_ask}
 use Rattle.link_steps.proofs.ListParts.{Each-at}
-use Rattle.interleave_core.proofs.Tasks.CallerFacts.{IsCallers, StandingFits, standing-asks, begun-fits, replied-fits}
 use Rattle.channel_laws.proofs.SentFacts.{sent-facts, sent-fits, tick-answer}
 use Rattle.tick_plane.proofs.FlightFacts.{AsksDue, asks-due, flight-in, flights-with}
 use Rattle.tick_plane.proofs.RoundFacts.{tick-clocks, other-clocks, ticked-with}

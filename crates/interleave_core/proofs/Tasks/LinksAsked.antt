@@ -1,7 +1,7 @@
 -- Every ask of a run goes to a link of the network. A caller asks hops of its routes, and links at which it pours; the plane
 -- ticks links of the network, and lets packets arrive at the next links of rows, which reserves have named.
 use Rattle.channel_move.proofs.MoveFacts.{HopAsked, MoveAsks, AsksFirst, AsksSubmit, AsksRest, move-asks}
-use Rattle.call_script.specs.Scripts.{move_between}
+use Rattle.call_script.specs.Scripts.{move_between, packets_ask, first_ask, ask_at, script_ask, standing, task_ask}
 use Rattle.std.proofs.Common.{◌≡◌, ℕ, suc, ◌-◌, ◌<◌, List, [], ◌∷◌, length, Option, Some, None, refl, sym, ap, ◌∙◌, subst, inl, inr, option_map, arith}
 use Rattle.std.proofs.lemmas.Bool.{cases_Bool, eqb-true, eqb-false}
 use Rattle.std.proofs.lemmas.Option.{slice_get_cases}
@@ -24,7 +24,6 @@ use Rattle.setup_protocol.specs.Setup.{Progress, Reserving, Undoing, Relaxing, S
 use Rattle.setup_protocol.specs.declared.request.Request.{Request}
 use Rattle.call_script.specs.Fits.{TaskFits, NetworkFits}
 use Rattle.setup_protocol.specs.Hops.{IsHopOf}
-use Rattle.call_script.specs.Scripts.{packets_ask, first_ask, ask_at, script_ask, standing, task_ask}
 use Rattle.call_script.specs.Tasks.{Network}
 use Rattle.call_script.specs.declared.tasks.Task.{Task}
 use Rattle.call_script.specs.declared.tasks.Task.TheVariants.{Opens, Sends, Closes, Moves}

@@ -1,8 +1,8 @@
 -- An actor's steps come to an end: the greatest number of steps that it may have left falls with each step that it makes.
 use Rattle.channel_move.proofs.MoveFacts.{MoveAsks, AsksFirst, AsksSubmit, AsksRest, move-asks, rest-length}
-use Rattle.call_script.specs.Fits.{TaskFits}
-use Rattle.link_steps.specs.Lists.{Each}
-use Rattle.call_script.specs.Scripts.{move_between, last_packets, ready}
+use Rattle.call_script.specs.Fits.{TaskFits, NetworkFits}
+use Rattle.link_steps.specs.Lists.{Each, without_first}
+use Rattle.call_script.specs.Scripts.{move_between, last_packets, ready, Learnt, standing, standing_of, resumed, continued, from_step, takes_step, outcome_by, task_ask, first_ask, ask_at}
 use Rattle.std.proofs.Common.{◌≡◌, ◌≢◌, ℕ, zero, suc, ◌+◌, ◌*◌, ◌-◌, ◌<◌, ◌≤◌, Bool, Option, Some, None, IsSome, List, [], ◌∷◌, ◌++◌, length, find, refl, sym, ap, ◌∙◌, subst, inl, inr, arith}
 use Rattle.std.proofs.Math.Nat.{suc-mul}
 use Rattle.std.proofs.lemmas.Bool.{cases_Bool, cases_lt, cond_both, eqb-true, eqb-false, eq-eqb, ne_eqb}
@@ -20,7 +20,6 @@ use Rattle.link_steps.specs.declared.asks.Ask.{Ask}
 use Rattle.link_steps.specs.declared.replies.Reply.{Reply}
 use Rattle.link_steps.specs.declared.replies.Reply.TheVariants as Is
 use Rattle.link_steps.specs.declared.replies.Sent.{Sent}
-use Rattle.link_steps.specs.Lists.{without_first}
 use Rattle.link_steps.specs.Replies.{reply_to}
 use Rattle.link_steps.specs.Split.{Link}
 use Rattle.relaxation.specs.declared.EndDenial.{EndDenial}
@@ -28,8 +27,6 @@ use Rattle.setup_protocol.specs.Setup.{offers_in, after_offers, undoing, relaxin
 use Rattle.setup_protocol.specs.declared.request.Request.{Request}
 use Rattle.setup_protocol.specs.declared.verdict.Deny.{Deny}
 use Rattle.setup_protocol.proofs.ProgressFacts.{progress-on_the_way, progress-tested}
-use Rattle.call_script.specs.Fits.{NetworkFits}
-use Rattle.call_script.specs.Scripts.{Learnt, standing, standing_of, resumed, continued, from_step, takes_step, outcome_by, task_ask, first_ask, ask_at}
 use Rattle.call_script.specs.Tasks.{Network}
 use Rattle.call_script.specs.declared.tasks.Task.{Task}
 use Rattle.call_script.specs.declared.tasks.Task.TheVariants.{Opens, Sends, Closes, Moves}
