@@ -2,3 +2,4 @@ pub mod TickFacts
 pub mod StreamFacts
 pub mod ScaleFacts
 pub mod TermFacts
+mod TriedScales

@@ -9,6 +9,7 @@ pub mod laws;
 pub mod quantity;
 pub mod rounded;
 pub mod scale;
+pub mod serving;
 pub mod stream;
 pub mod text;
 

@@ -11,7 +11,7 @@ use net_units::limits::{
 };
 
 /// The picoseconds of a second.
-const SECOND: u128 = 1_000_000_000_000;
+pub(crate) const SECOND: u128 = 1_000_000_000_000;
 
 /// The largest unit, in bits: a mebibyte.
 const MOST_UNIT: u64 = 8_388_608;

@@ -63,7 +63,7 @@ impl Scale {
 
     /// The ticks that the jitter leaves of the window for each of its packets, rounded down and as few as a contract has.
     #[tactic(auto, unfolding(crate::specs::Rounding::mean_in))]
-    fn mean_gap(&self, stream: &Stream) -> u32
+    pub(crate) fn mean_gap(&self, stream: &Stream) -> u32
         requires { 1 ≤ stream.now.packets }
         ensures value { result ≡ mean_in self.now.tick stream.now }
         ensures most { result ≤ most_mean stream.now.packets }
@@ -76,7 +76,7 @@ impl Scale {
 }
 
 /// What a jitter leaves of a time, in picoseconds.
-fn left_by(jitter: Time, time: Time) -> u64
+pub(crate) fn left_by(jitter: Time, time: Time) -> u64
     ensures { result ≡ time.picoseconds - jitter.picoseconds }
 {
     time.picoseconds.saturating_sub(jitter.picoseconds)

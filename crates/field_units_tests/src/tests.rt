@@ -1,5 +1,6 @@
 //! Numbers of real networks, worked by hand.
 
+use field_units::serving::tried_scales;
 use field_units::text::BadQuantity;
 use field_units::{BadStream, Misfit, Rate, Scale, Size, Stream, Time};
 use std::test::Fail;
@@ -247,6 +248,47 @@ fn contracts_of_streams_in_the_field(rt: HostRuntime) -> Result<(), Fail> {
     assert_eq!(rt;
         ten.contract(&late).err(),
         Some(BadStream::Gap(Misfit::ShorterTick(microseconds(5))))
+    );
+    Ok(())
+}
+
+/// What scales keep but for a part: a telephone trunk's rate, an Ethernet frame's size, a wanted delay, and a run.
+#[test]
+fn what_scales_keep_of_numbers(rt: HostRuntime) -> Result<(), Fail> {
+    let rate = Rate::parse("2.048 Mbit/s").ok().ok_or("rate")?;
+    let tenth = microseconds(100);
+    let bytes_scale = Scale::new(tenth, Size { bits: 8 }).ok_or("scale")?;
+    let bits_scale = Scale::new(tenth, Size { bits: 1 }).ok_or("scale")?;
+    // 204.8 bits a tick: 25 bytes are 2.3 percent less, and 204 bits 0.4 percent
+    assert!(rt; bytes_scale.keeps_rate(rate, 40));
+    assert!(rt; !bytes_scale.keeps_rate(rate, 100));
+    assert!(rt; bits_scale.keeps_rate(rate, 100));
+    // 97 units of 16 bytes are 0.9 percent more, and 49 of 32 bytes are 2 percent more
+    let frame = bytes(1_538);
+    let sixteen = Scale::new(tenth, bytes(16)).ok_or("scale")?;
+    let double = Scale::new(tenth, bytes(32)).ok_or("scale")?;
+    assert!(rt; sixteen.keeps_size(frame, 100));
+    assert!(rt; !double.keeps_size(frame, 100));
+    // 2.01 ms are 200 ticks of 10 us, and 99 of 20 us
+    let wanted = microseconds(2_010);
+    let twenty = Scale::new(microseconds(20), Size { bits: 8 }).ok_or("scale")?;
+    let ten = scale().ok_or("scale")?;
+    assert!(rt; ten.keeps_delay(wanted, 100));
+    assert!(rt; !twenty.keeps_delay(wanted, 100));
+    // 1.1 s are 110,000 ticks of 10 us
+    assert!(rt; ten.fits_run(microseconds(1_100_000), 4));
+    assert!(rt; !ten.fits_run(microseconds(1_100_000), 5));
+    Ok(())
+}
+
+#[test]
+fn the_coarsest_scale_is_tried_first(rt: HostRuntime) -> Result<(), Fail> {
+    let scales = tried_scales(rt.alloc())?;
+    assert_eq!(rt; scales.len(), 176);
+    let first = scales.first().ok_or("first")?;
+    assert_eq!(rt;
+        (first.tick(), first.unit()),
+        (microseconds(10_000), bytes(64))
     );
     Ok(())
 }
