@@ -32,7 +32,7 @@ use Rattle.interleave_core.specs.replies.Verdicts.{is_setup_ask, setup_replies}
 use Rattle.interleave_core.proofs.Replies.Replying.{asks-answered}
 use Rattle.interleave_core.proofs.Replies.RunCloses.{owned-once, others-off}
 use Rattle.interleave_core.proofs.Replies.VerdictHolds.{VerdictAt, verdict-run}
-use Rattle.interleave_core.proofs.Runs.EachRun.{owner-asks}
+use Rattle.interleave_core.proofs.Runs.RunLegal.{owner-asks}
 use Rattle.interleave_core.proofs.Tasks.EachSetup.{Before, Under, After, OpenedOnce, IsBegun}
 use Rattle.interleave_core.proofs.Tasks.SetupOnce.{reserves}
 use Rattle.interleave_core.proofs.Tasks.TaskAsks.{task-mild, mild-tasks}

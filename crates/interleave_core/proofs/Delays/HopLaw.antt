@@ -9,7 +9,7 @@ use Rattle.std.specs.List.{slice_get}
 use Rattle.std.specs.Option.{option_map}
 use Rattle.std.specs.Prelude.{nat_eq, nat_lt, find, reverse}
 use Rattle.net_units.specs.LevelBounds.{bound_at}
-use Rattle.net_units.specs.Numbers.{link_number, actor_number, channel_number}
+use Rattle.net_units.specs.Numbers.{link_number, channel_number}
 use Rattle.net_units.specs.declared.Kind.{Kind}
 use Rattle.net_units.specs.declared.Kind.TheVariants.{Rate, Jitter}
 use Rattle.net_units.specs.declared.numbers.LinkNo.{LinkNo}
@@ -46,10 +46,8 @@ use Rattle.interleave_core.specs.channels.Hops.{packets_on, terms_at, ChannelAsk
 use Rattle.call_script.specs.Tasks.{Network}
 use Rattle.tick_plane.specs.declared.flight.Flight.{Flight}
 use Rattle.tick_plane.specs.Planes.{is_due, next_due, ask_due}
-use Rattle.run_record.specs.Runs.{part_of, replies_to}
-use Rattle.interleave_core.specs.runs.Runs.{plane_no, plane_at, IsNext, IsRun}
-use Rattle.call_script.specs.Scripts.{standing}
-use Rattle.interleave_core.proofs.Tasks.CallerFacts.{IsCallers, standing-asks}
+use Rattle.run_record.specs.Runs.{part_of}
+use Rattle.interleave_core.specs.runs.Runs.{plane_at, IsNext, IsRun}
 use Rattle.channel_laws.proofs.ChannelRows.{packets-on, packets-off, row-of, find-passes, arrive-number, tick-none, tick-free, legal-free}
 use Rattle.interleave_core.proofs.Channels.ChannelsAt.{stands-at, packet-offered}
 use Rattle.hop_reservation.proofs.RouteFacts.{index-apart}
@@ -57,7 +55,7 @@ use Rattle.channel_laws.proofs.Places.{place-of, row-keeps}
 use Rattle.link_steps.proofs.PacketRows.{Among-passes}
 use Rattle.interleave_core.proofs.Flights.FlightFacts.{part-grows, run-flights}
 use Rattle.interleave_core.proofs.Delays.HopStep.{IsTimed, eligible-after, timed-none, timed-later, timed-append, timed-more}
-use Rattle.interleave_core.proofs.Runs.RunLegal.{RunStands, clock_at, plane-next, caller-next, run-stands, part-admissible, by-part}
+use Rattle.interleave_core.proofs.Runs.RunLegal.{RunStands, clock_at, run-stands, part-admissible, by-part, arrive-due}
 use Rattle.interleave_core.specs.channels.Flights.{FlightsStand}
 use Rattle.link_steps.proofs.ListParts.{Each-parts}
 use Rattle.link_steps.proofs.ClockFacts.{clock_with-later}
@@ -107,15 +105,8 @@ due-comes network past done packet (Some flight) stands flights inside due asks 
 
 pub arrive-comes : (network : Network) (past : List Done) (done : Done) (packet : Packet) → NetworkFits network → IsRun network past → (next : IsNext network past done) → done.ask ≡ Arrive packet → ArriveComes network past done packet
 arrive-comes network past done packet fits run next is =
-    let stands = run-stands network past fits run in
-    elim (cases_Bool (nat_eq (actor_number done.actor) (plane_no network))) [
-      | inl plane ↦
-          (let asks = plane-next network past done next (eqb-true (actor_number done.actor) (plane_no network) plane) in
-          due-comes network past done packet (next_due (plane_at network past)) stands (run-flights network past fits run) (slice_get_within network.links (link_number done.link) next.link next.linked) refl asks.asks is)
-      | inr caller ↦
-          (let asks = caller-next network past done next (eqb-false (actor_number done.actor) (plane_no network) caller) in
-          absurd (subst IsCallers is (standing-asks network.links (standing asks.tasks (replies_to (actor_number done.actor) past)) done.link done.ask (stands.callers (actor_number done.actor) asks.tasks asks.found) asks.asks).callers))
-    ]
+    let asks = arrive-due network past done packet fits run next is in
+    due-comes network past done packet (next_due (plane_at network past)) (run-stands network past fits run) (run-flights network past fits run) (slice_get_within network.links (link_number done.link) next.link next.linked) refl asks.asks is
 
 -- ---- two hops
 

@@ -1,13 +1,13 @@
 -- Each flight of a run is of a packet that has left a link within its bound; and while the links make their ticks no
 -- flight is due.
 use Rattle.std.proofs.Common.{◌≡◌, ℕ, suc, ◌+◌, ◌<◌, ◌≤◌, Bool, false, List, [], ◌∷◌, ◌++◌, length, Option, Some, None, refl, sym, ap, ◌∙◌, subst, inl, inr, arith, append-nil}
-use Rattle.std.proofs.lemmas.Bool.{cases_Bool, eqb-true, eqb-false, ne_eqb}
+use Rattle.std.proofs.lemmas.Bool.{cases_Bool, ne_eqb}
 use Rattle.std.proofs.lemmas.List.Folds.{find-append}
 use Rattle.std.proofs.lemmas.Option.{slice_get_within}
 use Rattle.std.specs.List.{slice_get}
 use Rattle.std.specs.Prelude.{nat_eq, find}
 use Rattle.net_units.specs.LevelBounds.{bound_at}
-use Rattle.net_units.specs.Numbers.{link_number, actor_number, link_at}
+use Rattle.net_units.specs.Numbers.{link_number, link_at}
 use Rattle.net_units.specs.declared.numbers.LinkNo.{LinkNo}
 use Rattle.link_steps.specs.declared.asks.Ask.{Ask}
 use Rattle.link_steps.specs.declared.asks.Ask.TheVariants.{Tick}
@@ -33,8 +33,8 @@ use Rattle.tick_plane.specs.declared.flight.Flight.{Flight}
 use Rattle.tick_plane.specs.Planes.{Plane, is_due, next_due, ask_due, flight_to, flight_in, tick_made, plane_with, plane_of}
 use Rattle.run_record.specs.Runs.{entry_of, part_of, replies_to}
 use Rattle.interleave_core.specs.channels.Flights.{FlightsStand}
-use Rattle.interleave_core.specs.runs.Runs.{plane_no, plane_at, IsNext, IsRun}
-use Rattle.interleave_core.proofs.Runs.RunLegal.{part-may, RunStands, clock_at, plane-next, plane-off, plane-by, part-on, link_at-number, run-stands, by-part}
+use Rattle.interleave_core.specs.runs.Runs.{plane_at, IsNext, IsRun}
+use Rattle.interleave_core.proofs.Runs.RunLegal.{part-may, RunStands, clock_at, part-on, link_at-number, run-stands, by-part, by-actor}
 use Rattle.channel_laws.specs.Departing.{ticked, IsSent}
 use Rattle.channel_laws.proofs.SentFacts.{sent-facts, tick-answer}
 use Rattle.channel_laws.proofs.DepartedCount.{history-from, more-legal}
@@ -165,20 +165,10 @@ flights-with network plane None done past fits stands next is due asks from calm
 
 flights-next : (network : Network) (past : List Done) (done : Done) → NetworkFits network → RunStands network past → FlightsStand network past → (next : IsNext network past done) → FlightsStand network (done ∷ past)
 flights-next network past done fits stands flights next =
-    elim (cases_Bool (nat_eq (actor_number done.actor) (plane_no network))) [
-      | inl plane ↦
-          (let same = eqb-true (actor_number done.actor) (plane_no network) plane in
-          let asks = plane-next network past done next same in
-          let both = flights-with network (plane_at network past) (next_due (plane_at network past)) done past fits stands next refl refl asks.asks flights.from flights.calm in
-          let by = plane-by network done past same in
-          record { from = subst (λ p. Each (ComesFrom network (done ∷ past)) p.flights) (sym by) both.0; calm = subst (λ p. 1 ≤ p.ticked → next_due p ≡ None) (sym by) both.1 })
-      | inr caller ↦
-          (let off = plane-off network done past (eqb-false (actor_number done.actor) (plane_no network) caller) in
-          record {
-            from = subst (λ p. Each (ComesFrom network (done ∷ past)) p.flights) (sym off) (Each-if (ComesFrom network past) (ComesFrom network (done ∷ past)) (plane_at network past).flights (comes-later network done past) flights.from);
-            calm = subst (λ p. 1 ≤ p.ticked → next_due p ≡ None) (sym off) flights.calm;
-          })
-    ]
+    let both = by-actor (λ p. Each (ComesFrom network (done ∷ past)) p.flights × (1 ≤ p.ticked → next_due p ≡ None)) network done past next
+    (λ asks. flights-with network (plane_at network past) (next_due (plane_at network past)) done past fits stands next refl refl asks.asks flights.from flights.calm)
+    (λ asks. (Each-if (ComesFrom network past) (ComesFrom network (done ∷ past)) (plane_at network past).flights (comes-later network done past) flights.from, flights.calm)) in
+    record { from = both.0; calm = both.1 }
 
 pub run-flights : (network : Network) (run : List Done) → NetworkFits network → IsRun network run → FlightsStand network run
 unfolding IsRun plane_of replies_to

@@ -49,7 +49,7 @@ use Rattle.channel_laws.proofs.NumberedPackets.{HasNumber, packets-have_numbers}
 use Rattle.interleave_core.specs.channels.Flights.{IsPunctual}
 use Rattle.interleave_core.proofs.Flights.Punctual.{run-punctual}
 use Rattle.interleave_core.proofs.Flights.QueueTicks.{leg, QueueOf, SendsTo, queue-ticks}
-use Rattle.interleave_core.proofs.Runs.RunLegal.{plane-next, caller-next, plane-off, plane-by, part-on, part-off, run-stands, part-admissible, by-part}
+use Rattle.interleave_core.proofs.Runs.RunLegal.{plane-next, caller-next, plane-off, plane-by, part-on, part-off, run-stands, part-admissible, by-part, arrive-due}
 use Rattle.channel_laws.specs.Departing.{ticked, gone_of}
 use Rattle.channel_laws.proofs.SentFacts.{sent-facts, tick-answer}
 use Rattle.link_steps.proofs.EffectFacts.{packets-by}
@@ -275,14 +275,8 @@ due-number network request i two plane (Some flight) done past packet punctual d
 -- an arrive of the channel at the far hop has the number after those taken there
 pub arrive-in-turn : (network : Network) (request : Request) (i : ℕ) (two : TwoHops network request i) (done : Done) (past : List Done) (packet : Packet) → NetworkFits network → IsRun network past → (next : IsNext network past done) → done.ask ≡ Arrive packet → channel_number packet.chan ≡ channel_number request.chan → link_number done.link ≡ link_number two.after.link → LegStands network request i two past → packet.number ≡ suc (far_count network request i two past)
 arrive-in-turn network request i two done past packet fits run next arrives chan at is =
-    elim (cases_Bool (nat_eq (actor_number done.actor) (plane_no network))) [
-      | inl plane ↦
-          (let asks = plane-next network past done next (eqb-true (actor_number done.actor) (plane_no network) plane) in
-          due-number network request i two (plane_at network past) (next_due (plane_at network past)) done past packet (run-punctual network past fits run) refl asks.asks arrives chan at is)
-      | inr caller ↦
-          (let asks = caller-next network past done next (eqb-false (actor_number done.actor) (plane_no network) caller) in
-          absurd (subst IsCallers arrives (standing-asks network.links (standing asks.tasks (replies_to (actor_number done.actor) past)) done.link done.ask ((run-stands network past fits run).callers (actor_number done.actor) asks.tasks asks.found) asks.asks).callers))
-    ]
+    let asks = arrive-due network past done packet fits run next arrives in
+    due-number network request i two (plane_at network past) (next_due (plane_at network past)) done past packet (run-punctual network past fits run) refl asks.asks arrives chan at is
 
 -- and a size within the contract
 pub arrive-small : (network : Network) (request : Request) (i : ℕ) (two : TwoHops network request i) (done : Done) (past : List Done) (packet : Packet) → NetworkFits network → RequestFits network.links request → IsRun network past → ChannelAsked request past → (next : IsNext network past done) → done.ask ≡ Arrive packet → channel_number packet.chan ≡ channel_number request.chan → link_number done.link ≡ link_number two.after.link → packet.size ≤ request.contract.smax

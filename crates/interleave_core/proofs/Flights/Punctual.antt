@@ -1,6 +1,6 @@
 -- No flight is late: each is due in the plane's round or in a later one.
-use Rattle.std.proofs.Common.{◌≡◌, ℕ, suc, ◌+◌, ◌<◌, ◌≤◌, false, List, [], ◌∷◌, length, Option, Some, None, refl, sym, ap, ◌∙◌, subst, inl, inr, arith}
-use Rattle.std.proofs.lemmas.Bool.{cases_Bool, eqb-true, eqb-false}
+use Rattle.std.proofs.Common.{◌≡◌, ℕ, suc, ◌+◌, ◌<◌, ◌≤◌, false, List, [], ◌∷◌, length, Option, Some, None, refl, sym, ap, ◌∙◌, inl, inr, arith}
+use Rattle.std.proofs.lemmas.Bool.{cases_Bool, eqb-false}
 use Rattle.std.proofs.lemmas.Option.{slice_get_within}
 use Rattle.std.specs.Prelude.{nat_eq, find}
 use Rattle.net_units.specs.Numbers.{link_number, actor_number}
@@ -27,7 +27,7 @@ use Rattle.tick_plane.specs.declared.flight.Flight.{Flight}
 use Rattle.tick_plane.specs.Planes.{Plane, is_due, next_due, ask_due, flight_to, flight_in, tick_made, plane_with, plane_of, IsDueLater}
 use Rattle.run_record.specs.Runs.{part_of, replies_to}
 use Rattle.interleave_core.specs.runs.Runs.{plane_no, plane_at, IsNext, IsRun}
-use Rattle.interleave_core.proofs.Runs.RunLegal.{part-may, RunStands, clock_at, plane-next, plane-off, plane-by, run-stands}
+use Rattle.interleave_core.proofs.Runs.RunLegal.{part-may, RunStands, clock_at, plane-next, run-stands, by-actor}
 use Rattle.channel_laws.specs.Departing.{IsSent}
 use Rattle.channel_laws.proofs.ArriveReplies.{arrive-told, of-arrive}
 use Rattle.channel_laws.proofs.SentFacts.{sent-facts, tick-answer}
@@ -92,13 +92,7 @@ unfolding IsRun plane_of replies_to
 run-punctual network [] fits is = tt
 run-punctual network (done ∷ past) fits is =
     let before = run-punctual network past fits is.0 in
-    elim (cases_Bool (nat_eq (actor_number done.actor) (plane_no network))) [
-      | inl plane ↦
-          (let same = eqb-true (actor_number done.actor) (plane_no network) plane in
-          let asks = plane-next network past done is.1 same in
-          subst IsPunctual (sym (plane-by network done past same)) (with-punctual network (plane_at network past) (next_due (plane_at network past)) done past fits (run-stands network past fits is.0) is.1 refl refl asks.asks before))
-      | inr caller ↦ subst IsPunctual (sym (plane-off network done past (eqb-false (actor_number done.actor) (plane_no network) caller))) before
-    ]
+    by-actor IsPunctual network done past is.1 (λ asks. with-punctual network (plane_at network past) (next_due (plane_at network past)) done past fits (run-stands network past fits is.0) is.1 refl refl asks.asks before) (λ asks. before)
 
 pub flights-of-runs : NoFlightIsLate
 flights-of-runs = record { punctual = run-punctual; stand = run-flights }

@@ -35,8 +35,8 @@ use Rattle.interleave_core.proofs.Moves.MoveTotal.{cancelled_at, own-release, en
 use Rattle.interleave_core.proofs.Replies.Replying.{moves-plan}
 use Rattle.interleave_core.proofs.Replies.RunCloses.{owned-once, step-kind}
 use Rattle.interleave_core.proofs.Replies.RunGoes.{owned-asked}
-use Rattle.interleave_core.proofs.Runs.RunLegal.{run-stands}
-use Rattle.interleave_core.proofs.Runs.EachRun.{owner-asks, OwnStep}
+use Rattle.interleave_core.proofs.Runs.RunLegal.{run-stands, owner-asks}
+use Rattle.interleave_core.proofs.Runs.EachRun.{OwnStep}
 use Rattle.interleave_core.proofs.Replies.OwnerKinds.{IsLeaving, stage-told}
 
 -- two hops at one place

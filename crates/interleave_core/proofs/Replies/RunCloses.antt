@@ -165,12 +165,6 @@ module _ (network : Network) (request : Request) (owner : ℕ) (fits : NetworkFi
       (λ past done at before next other was. closes-later network request done past at fits before (others-off network request owner past done full next other) was)
       (λ past done task rest replies outcomes step was. (own-closes script past done task rest replies outcomes step was).closes) run is
 
-pub record RunCloses (network : Network) (request : Request) (owner : ℕ) (run : List Done) : Type 0 where
-  pub at : (tasks : List Task) → slice_get network.scripts owner ≡ Some tasks → ClosesAt network request run (standing tasks (replies_to owner run))
-
-pub run-closes : (network : Network) (request : Request) (owner : ℕ) (run : List Done) → NetworkFits network → RequestFits network.links request → OwnedFully network request owner → IsRun network run → RunCloses network request owner run
-run-closes network request owner run fits sound full is = record { at = λ tasks found. closes-run network request owner fits sound full run tasks is found }
-
 -- where the owner stands as it makes a step
 pub step-closes : (network : Network) (request : Request) (owner : ℕ) (script : List Task) (past : List Done) (done : Done) (task : Task) (rest : List Task) (replies : List Reply) (outcomes : List Learnt) → NetworkFits network → RequestFits network.links request → OwnedFully network request owner → OwnStep network owner script past done task rest replies outcomes
     → ClosesAt network request past (record { tasks = task ∷ rest; replies = replies; outcomes = outcomes })

@@ -1,8 +1,7 @@
 -- What is so before the first step of a run, and is kept by each step of one caller and by each step of the others, is so of where that
 -- caller stands after every run.
-use Rattle.std.proofs.Common.{◌≡◌, ◌≢◌, ℕ, true, false, List, [], ◌∷◌, ◌++◌, Option, Some, None, refl, sym, ap, ◌∙◌, subst, inl, inr, arith}
+use Rattle.std.proofs.Common.{◌≡◌, ◌≢◌, ℕ, true, false, List, [], ◌∷◌, ◌++◌, Option, Some, None, refl, sym, ap, ◌∙◌, subst, inl, inr}
 use Rattle.std.proofs.lemmas.Bool.{cases_Bool, cond_both, eqb-true, eqb-false}
-use Rattle.std.proofs.lemmas.Option.{same_Some, slice_get_within}
 use Rattle.std.specs.List.{slice_get}
 use Rattle.std.specs.Prelude.{nat_eq}
 use Rattle.net_units.specs.Numbers.{actor_number}
@@ -13,7 +12,7 @@ use Rattle.link_steps.specs.declared.asks.Packet.{Packet}
 use Rattle.link_steps.specs.declared.replies.Reply.{Reply}
 use Rattle.link_steps.specs.Lists.{Each}
 use Rattle.setup_protocol.specs.declared.request.Request.{Request}
-use Rattle.call_script.specs.Scripts.{Learnt, Standing, task_ask, takes_step, ready, from_step, begun, outcome_by, continued, resumed, standing, first_ask, ask_at}
+use Rattle.call_script.specs.Scripts.{Learnt, Standing, task_ask, takes_step, ready, from_step, begun, outcome_by, continued, resumed, standing, first_ask}
 use Rattle.call_script.specs.Tasks.{Network}
 use Rattle.call_script.specs.declared.tasks.Task.{Task}
 use Rattle.call_script.specs.declared.tasks.Task.TheVariants.{Moves}
@@ -23,7 +22,7 @@ use Rattle.tick_plane.specs.Planes.{next_due, ask_due}
 use Rattle.run_record.specs.Runs.{replies_to}
 use Rattle.run_record.specs.declared.done.Done.{Done}
 use Rattle.interleave_core.specs.runs.Runs.{plane_no, plane_at, IsNext, IsRun}
-use Rattle.interleave_core.proofs.Runs.RunLegal.{plane-next, caller-next, replies-by, replies-off}
+use Rattle.interleave_core.proofs.Runs.RunLegal.{plane-next, caller-next, replies-by, replies-off, owner-asks}
 use Rattle.interleave_core.proofs.Tasks.CallerFacts.{standing-more}
 
 -- ---- the tasks that are left
@@ -95,17 +94,6 @@ module _ (K : Ask → Type 0) (T : Task → Type 0) (alike : MovesAlike T) (tick
       ]
 
 -- ---- the steps of one caller
-
--- a caller is not the plane
-pub not-plane : (network : Network) (actor owner : ℕ) (tasks : List Task) → actor ≡ owner → slice_get network.scripts owner ≡ Some tasks → actor ≢ plane_no network
-not-plane network actor owner tasks by found same = (let inside = slice_get_within network.scripts owner tasks found in absurd (omega (arith, inside, by, same)))
-
--- what a caller asks, by where it stands
-pub owner-asks : (network : Network) (past : List Done) (done : Done) (owner : ℕ) (tasks : List Task) → IsNext network past done → actor_number done.actor ≡ owner → slice_get network.scripts owner ≡ Some tasks → ask_at (standing tasks (replies_to owner past)) ≡ Some (done.link, done.ask)
-owner-asks network past done owner tasks next by found =
-    let asks = caller-next network past done next (not-plane network (actor_number done.actor) owner tasks by found) in
-    let own : asks.tasks ≡ tasks = same_Some asks.tasks tasks (sym asks.found ∙ ap (slice_get network.scripts) by ∙ found) in
-    subst (λ ts. ask_at (standing ts (replies_to owner past)) ≡ Some (done.link, done.ask)) own (subst (λ a. ask_at (standing asks.tasks (replies_to a past)) ≡ Some (done.link, done.ask)) by asks.asks)
 
 -- the caller's step, with this task under way
 pub record OwnStep (network : Network) (owner : ℕ) (script : List Task) (past : List Done) (done : Done) (task : Task) (rest : List Task) (replies : List Reply) (outcomes : List Learnt) : Type 0 where

@@ -10,6 +10,7 @@ use Rattle.std.specs.Prelude.{nat_eq, nat_lt}
 use Rattle.net_units.specs.Numbers.{link_number, actor_number, link_at}
 use Rattle.net_units.specs.declared.numbers.LinkNo.{LinkNo}
 use Rattle.link_steps.specs.declared.asks.Ask.{Ask}
+use Rattle.link_steps.specs.declared.asks.Packet.{Packet}
 use Rattle.link_steps.specs.declared.asks.Ask.TheVariants.{Release, Arrive, Tick}
 use Rattle.link_steps.specs.declared.replies.Entry.{Entry}
 use Rattle.link_steps.specs.declared.replies.Reply.{Reply}
@@ -114,6 +115,26 @@ pub plane-by : (network : Network) (done : Done) (past : List Done) → actor_nu
 unfolding plane_of
 plane-by network done past same = ap (plane_of (length network.links)) (replies-by (plane_no network) done past same)
 
+-- what is so of where the plane stands, by whether the newest entry is its own
+pub by-actor : (P : Plane → Type 0) (network : Network) (done : Done) (past : List Done) → IsNext network past done → (AsksDue network.rounds (plane_at network past) done.link done.ask → P (plane_after (length network.links) done.reply (plane_at network past)))
+    → (AsksOf network past (actor_number done.actor) done.link done.ask → P (plane_at network past)) → P (plane_at network (done ∷ past))
+by-actor P network done past next own other =
+    elim (cases_Bool (nat_eq (actor_number done.actor) (plane_no network))) [
+      | inl plane ↦ (let same = eqb-true (actor_number done.actor) (plane_no network) plane in subst P (sym (plane-by network done past same)) (own (plane-next network past done next same)))
+      | inr caller ↦ (let apart = eqb-false (actor_number done.actor) (plane_no network) caller in subst P (sym (plane-off network done past apart)) (other (caller-next network past done next apart)))
+    ]
+
+-- a caller is not the plane
+pub not-plane : (network : Network) (actor owner : ℕ) (tasks : List Task) → actor ≡ owner → slice_get network.scripts owner ≡ Some tasks → actor ≢ plane_no network
+not-plane network actor owner tasks by found same = (let inside = slice_get_within network.scripts owner tasks found in absurd (omega (arith, inside, by, same)))
+
+-- what a caller asks, by where it stands
+pub owner-asks : (network : Network) (past : List Done) (done : Done) (owner : ℕ) (tasks : List Task) → IsNext network past done → actor_number done.actor ≡ owner → slice_get network.scripts owner ≡ Some tasks → ask_at (standing tasks (replies_to owner past)) ≡ Some (done.link, done.ask)
+owner-asks network past done owner tasks next by found =
+    let asks = caller-next network past done next (not-plane network (actor_number done.actor) owner tasks by found) in
+    let own : asks.tasks ≡ tasks = same_Some asks.tasks tasks (sym asks.found ∙ ap (slice_get network.scripts) by ∙ found) in
+    subst (λ ts. ask_at (standing ts (replies_to owner past)) ≡ Some (done.link, done.ask)) own (subst (λ a. ask_at (standing asks.tasks (replies_to a past)) ≡ Some (done.link, done.ask)) by asks.asks)
+
 -- ---- the parts are admissible
 
 pub part-may : (network : Network) (run : List Done) (n : ℕ) (link : Link) → NetworkFits network → RunStands network run → slice_get network.links n ≡ Some link → IsAdmissible link.shape (part_of n run)
@@ -191,17 +212,11 @@ plane-clocks network plane None n done past few within inside asks before =
 
 clocks-next : (network : Network) (past : List Done) (done : Done) → NetworkFits network → RunStands network past → (next : IsNext network past done) → (n : ℕ) → n < length network.links → clock_of (part_of n (done ∷ past)) ≡ clock_at (plane_at network (done ∷ past)) n
 clocks-next network past done fits stands next n inside =
-    elim (cases_Bool (nat_eq (actor_number done.actor) (plane_no network))) [
-      | inl plane ↦
-          (let same = eqb-true (actor_number done.actor) (plane_no network) plane in
-          let asks = plane-next network past done next same in
-          plane-clocks network (plane_at network past) (next_due (plane_at network past)) n done past fits.few stands.ticked inside asks.asks (stands.clocks n inside) ∙ ap (λ p. clock_at p n) (sym (plane-by network done past same)))
-      | inr caller ↦
-          (let other = eqb-false (actor_number done.actor) (plane_no network) caller in
-          let asks = caller-next network past done next other in
-          let is = (standing-asks network.links (standing asks.tasks (replies_to (actor_number done.actor) past)) done.link done.ask (stands.callers (actor_number done.actor) asks.tasks asks.found) asks.asks).callers in
-          clock-still n done past (λ t. callers-clock done.ask t is) ∙ stands.clocks n inside ∙ ap (λ p. clock_at p n) (sym (plane-off network done past other)))
-    ]
+    by-actor (λ p. clock_of (part_of n (done ∷ past)) ≡ clock_at p n) network done past next
+    (λ asks. plane-clocks network (plane_at network past) (next_due (plane_at network past)) n done past fits.few stands.ticked inside asks.asks (stands.clocks n inside))
+    (λ asks.
+    let is = (standing-asks network.links (standing asks.tasks (replies_to (actor_number done.actor) past)) done.link done.ask (stands.callers (actor_number done.actor) asks.tasks asks.found) asks.asks).callers in
+    clock-still n done past (λ t. callers-clock done.ask t is) ∙ stands.clocks n inside)
 
 -- ---- the flights
 
@@ -231,10 +246,7 @@ callers-next network past done fits stands next actor tasks found =
     elim (cases_Bool (nat_eq (actor_number done.actor) actor)) [
       | inl by ↦
           (let e : actor_number done.actor ≡ actor = eqb-true (actor_number done.actor) actor by in
-          let within : actor < length network.scripts = slice_get_within network.scripts actor tasks found in
-          let asks = caller-next network past done next (λ is. (let clash : actor ≡ length network.scripts = sym e ∙ is in absurd (omega arith))) in
-          let own : asks.tasks ≡ tasks = same_Some asks.tasks tasks (sym asks.found ∙ ap (slice_get network.scripts) e ∙ found) in
-          let asked : ask_at (standing tasks (replies_to actor past)) ≡ Some (done.link, done.ask) = subst (λ ts. ask_at (standing ts (replies_to actor past)) ≡ Some (done.link, done.ask)) own (subst (λ a. ask_at (standing asks.tasks (replies_to a past)) ≡ Some (done.link, done.ask)) e asks.asks) in
+          let asked = owner-asks network past done actor tasks next e found in
           subst (λ rs. StandingFits network.links (standing tasks rs)) (sym (replies-by actor done past e))
           (replied-fits network.links (standing tasks (replies_to actor past)) done.reply done.link done.ask next.link (part_of (link_number done.link) past) (stands.callers actor tasks found) asked next.linked (next-may network past done fits stands next) (if-few done.ask (next-may network past done fits stands next))))
       | inr off ↦ subst (λ rs. StandingFits network.links (standing tasks rs)) (sym (replies-off actor done past (eqb-false (actor_number done.actor) actor off))) (stands.callers actor tasks found)
@@ -246,28 +258,13 @@ callers-next network past done fits stands next actor tasks found =
 -- ---- all together
 
 stands-next : (network : Network) (past : List Done) (done : Done) → NetworkFits network → RunStands network past → IsNext network past done → RunStands network (done ∷ past)
-stands-next network past done fits stands next =
-    elim (cases_Bool (nat_eq (actor_number done.actor) (plane_no network))) [
-      | inl plane ↦
-          (let same = eqb-true (actor_number done.actor) (plane_no network) plane in
-          let asks = plane-next network past done next same in
-          record {
-            legal = legal-next network past done stands next;
-            clocks = clocks-next network past done fits stands next;
-            ticked = subst (λ p. p.ticked < length network.links) (sym (plane-by network done past same)) (ticked-with (length network.links) (plane_at network past) (next_due (plane_at network past)) done.reply fits.some stands.ticked);
-            flights = subst (λ p. Each FlightFits p.flights) (sym (plane-by network done past same)) (flights-next network (plane_at network past) done past fits stands next refl asks stands.flights);
-            callers = callers-next network past done fits stands next;
-          })
-      | inr caller ↦
-          (let other = eqb-false (actor_number done.actor) (plane_no network) caller in
-          record {
-            legal = legal-next network past done stands next;
-            clocks = clocks-next network past done fits stands next;
-            ticked = subst (λ p. p.ticked < length network.links) (sym (plane-off network done past other)) stands.ticked;
-            flights = subst (λ p. Each FlightFits p.flights) (sym (plane-off network done past other)) stands.flights;
-            callers = callers-next network past done fits stands next;
-          })
-    ]
+stands-next network past done fits stands next = record {
+  legal = legal-next network past done stands next;
+  clocks = clocks-next network past done fits stands next;
+  ticked = by-actor (λ p. p.ticked < length network.links) network done past next (λ asks. ticked-with (length network.links) (plane_at network past) (next_due (plane_at network past)) done.reply fits.some stands.ticked) (λ asks. stands.ticked);
+  flights = by-actor (λ p. Each FlightFits p.flights) network done past next (λ asks. flights-next network (plane_at network past) done past fits stands next refl asks stands.flights) (λ asks. stands.flights);
+  callers = callers-next network past done fits stands next;
+}
 
 stands-none : (network : Network) → NetworkFits network → RunStands network []
 unfolding IsLegal part_of clock_of plane_of replies_to standing
@@ -283,6 +280,16 @@ pub run-stands : (network : Network) (run : List Done) → NetworkFits network �
 unfolding IsRun
 run-stands network [] fits is = stands-none network fits
 run-stands network (done ∷ past) fits is = stands-next network past done fits (run-stands network past fits is.0) is.1
+
+-- the plane alone has packets arrive
+pub arrive-due : (network : Network) (past : List Done) (done : Done) (packet : Packet) → NetworkFits network → IsRun network past → IsNext network past done → done.ask ≡ Arrive packet → AsksDue network.rounds (plane_at network past) done.link done.ask
+arrive-due network past done packet fits run next is =
+    elim (cases_Bool (nat_eq (actor_number done.actor) (plane_no network))) [
+      | inl plane ↦ plane-next network past done next (eqb-true (actor_number done.actor) (plane_no network) plane)
+      | inr caller ↦
+          (let asks = caller-next network past done next (eqb-false (actor_number done.actor) (plane_no network) caller) in
+          absurd (subst IsCallers is (standing-asks network.links (standing asks.tasks (replies_to (actor_number done.actor) past)) done.link done.ask ((run-stands network past fits run).callers (actor_number done.actor) asks.tasks asks.found) asks.asks).callers))
+    ]
 
 -- the part on each link is legal there
 pub part-legal : (network : Network) (run : List Done) (n : ℕ) (link : Link) → NetworkFits network → IsRun network run → slice_get network.links n ≡ Some link → IsLegal link (part_of n run)

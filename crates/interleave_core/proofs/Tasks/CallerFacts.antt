@@ -327,10 +327,6 @@ resumed-fits links outcomes (task ∷ tasks) replies reply to ask link h notes e
 pub replied-fits : (links : List Link) (at : Standing) (reply : Reply) (to : LinkNo) (ask : Ask) (link : Link) (h : List Entry) → StandingFits links at → ask_at at ≡ Some (to, ask) → slice_get links (link_number to) ≡ Some link → MayReplyTo link.shape h ask reply → IfRelease ask (FewShifted reply) → StandingFits links (replied at reply)
 replied-fits links at reply to ask link h fits same found answered few = resumed-fits links at.outcomes at.tasks at.replies reply to ask link h fits.notes fits.tasks fits.offers same found answered few
 
--- without a task nothing is asked
-pub nothing-asked : (replies : List Reply) (to : LinkNo × Ask) → first_ask [] replies ≡ Some to → ⊥
-nothing-asked replies to same = cc
-
 -- where a script stands with one reply more
 pub standing-more : (tasks : List Task) (reply : Reply) (before : List Reply) → standing tasks (reply ∷ before) ≡ resumed (standing tasks before).outcomes (standing tasks before).tasks ((standing tasks before).replies ++ reply ∷ [])
 unfolding standing

@@ -34,7 +34,7 @@ use Rattle.run_record.specs.declared.done.Done.{Done}
 use Rattle.interleave_core.specs.runs.Linked.{IsLinkThere, EveryAskGoesToALink}
 use Rattle.interleave_core.specs.runs.Runs.{plane_no, plane_at, IsNext, IsRun}
 use Rattle.link_steps.proofs.ListParts.{Each-at}
-use Rattle.interleave_core.proofs.Runs.RunLegal.{asked-plane, asked-caller, caller-next, plane-next, plane-off, plane-by, link_at-number, run-stands, by-part}
+use Rattle.interleave_core.proofs.Runs.RunLegal.{asked-plane, asked-caller, caller-next, plane-next, link_at-number, run-stands, by-part, by-actor}
 use Rattle.channel_laws.proofs.NextLinks.{NamesNext, NextsAre, after-nexts, sent-next}
 use Rattle.setup_protocol.proofs.HopAsks.{asked-at}
 use Rattle.tick_plane.proofs.FlightFacts.{asks-due, flight-in, flights-with}
@@ -169,14 +169,7 @@ flights-there network past done was next asks = flights-with (λ flight. IsLinkT
 linked-next : (network : Network) (past : List Done) (done : Done) → NetworkFits network → IsRun network past → RunLinked network past → IsNext network past done → RunLinked network (done ∷ past)
 linked-next network past done fits run was next = record {
   parts = parts-there network past done was next (next-there network past done fits run was next).next;
-  flights =
-      elim (cases_Bool (nat_eq (actor_number done.actor) (plane_no network))) [
-        | inl plane ↦
-            (let same = eqb-true (actor_number done.actor) (plane_no network) plane in
-            subst (λ p. Each (λ flight. IsLinkThere network.links flight.to) p.flights) (sym (plane-by network done past same))
-            (flights-there network past done was next (plane-next network past done next same).asks))
-        | inr caller ↦ subst (λ p. Each (λ flight. IsLinkThere network.links flight.to) p.flights) (sym (plane-off network done past (eqb-false (actor_number done.actor) (plane_no network) caller))) was.flights
-      ];
+  flights = by-actor (λ p. Each (λ flight. IsLinkThere network.links flight.to) p.flights) network done past next (λ asks. flights-there network past done was next asks.asks) (λ asks. was.flights);
 }
 
 run-linked : (network : Network) (run : List Done) → NetworkFits network → IsRun network run → RunLinked network run
