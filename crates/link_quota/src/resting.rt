@@ -1,5 +1,5 @@
 //! A split link rests while nothing falls due in it: no row expires, so its groups hold what they held.
-ghost use Rattle.std.specs.Prelude.{◌≡◌, ℕ, ◌+◌, ◌^◌, ◌<◌, ◌≤◌, List};
+ghost use Rattle.std.specs.Prelude.{◌≡◌, true, ℕ, ◌+◌, ◌^◌, ◌<◌, ◌≤◌, List};
 ghost use Rattle.link_steps.specs.declared.asks.Ask.TheVariants.{Tick};
 ghost use Rattle.link_steps.specs.declared.replies.Entry.{Entry};
 ghost use Rattle.link_steps.specs.Quiet.{RestsUntil, later_by, quiet_reply, quiet_ticks};
@@ -19,6 +19,14 @@ impl QuotaLink {
         ensures { RestsUntil self.now.link.shape result (kept_in self.now.link) }
     {
         self.link.rests_until()
+    }
+
+    /// Whether it rests in its next tick, as far as it knows without a look at its rows and packets.
+    #[inline(always)]
+    pub fn rests(&self) -> bool
+        ensures { result ≡ true → (until : ℕ) × (RestsUntil self.now.link.shape until (kept_in self.now.link) × (self.now.link.clock + 1 ≤ until)) }
+    {
+        self.link.clock() < self.due
     }
 
     /// Makes this many ticks, all before a tick until which the link rests.
@@ -63,6 +71,17 @@ impl AnyLink {
         match self {
             AnyLink::Plain(link) => link.rests_until(),
             AnyLink::Quota(link) => link.rests_until(),
+        }
+    }
+
+    /// Whether it rests in its next tick, as far as it knows without a look at its rows and packets.
+    #[inline(always)]
+    pub fn rests(&self) -> bool
+        ensures { result ≡ true → (until : ℕ) × (RestsUntil (any_rules self.now).shape until (any_kept self.now) × (any_clock self.now + 1 ≤ until)) }
+    {
+        match self {
+            AnyLink::Plain(link) => link.rests(),
+            AnyLink::Quota(link) => link.rests(),
         }
     }
 

@@ -1,5 +1,5 @@
 //! A link rests while nothing falls due in it: its ticks then change its clock alone.
-ghost use Rattle.std.specs.Prelude.{◌≡◌, ℕ, ◌+◌, ◌^◌, ◌<◌, ◌≤◌, suc, List};
+ghost use Rattle.std.specs.Prelude.{◌≡◌, true, ℕ, ◌+◌, ◌^◌, ◌<◌, ◌≤◌, suc, List};
 ghost use Rattle.link_steps.specs.declared.asks.Ask.TheVariants.{Tick as AskTick};
 ghost use Rattle.link_steps.specs.Kept.{kept_reply, kept_after};
 ghost use Rattle.link_steps.specs.Lists.{Each};
@@ -23,6 +23,14 @@ impl LinkState {
             return self.due;
         }
         next_due(&self.table, &self.queue, &self.shape)
+    }
+
+    /// Whether it rests in its next tick, as far as it knows without a look at its rows and packets.
+    #[inline(always)]
+    pub fn rests(&self) -> bool
+        ensures { result ≡ true → (until : ℕ) × (RestsUntil self.now.shape until (kept_in self.now) × (self.now.clock + 1 ≤ until)) }
+    {
+        self.clock < self.due
     }
 
     /// Makes this many ticks, all before a tick until which the link rests.
