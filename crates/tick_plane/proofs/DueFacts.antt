@@ -1,5 +1,5 @@
 -- The first flight that is due in the round at hand is the one under the key that the calendar tells.
-use Rattle.std.proofs.Common.{◌≡◌, ℕ, zero, suc, ◌+◌, ◌<◌, ◌≤◌, Bool, true, false, nat_eq, List, [], ◌∷◌, ◌++◌, Option, Some, None, map, get_or, length, refl, sym, ap, ◌∙◌, subst, arith, inl, inr}
+use Rattle.std.proofs.Common.{◌≡◌, ℕ, zero, suc, ◌+◌, ◌<◌, ◌≤◌, Bool, true, false, nat_eq, List, [], ◌∷◌, ◌++◌, Option, Some, None, is_some, map, get_or, length, refl, sym, ap, ◌∙◌, subst, arith, inl, inr}
 use Rattle.std.proofs.lemmas.Bool.{cases_Bool, eq-eqb, eqb-false, eqb-true, ne_eqb}
 use Rattle.std.specs.List.{All, find}
 use Rattle.std.specs.Prelude.{IsNone, IsSome, IfSome}
@@ -58,6 +58,11 @@ one-due slots round entries (Some k) key is same = subst (λ (d : Option ℕ). I
 
 pub found-due : (slots : List (Option Flight)) (round key : ℕ) (entries : List Entry) → IsFirst round key entries → find (is_due round) (flights_at slots entries) ≡ Some (flight_at slots (round, key))
 found-due slots round key entries first = ap (λ es. find (is_due round) (flights_at slots es)) first.is ∙ first-found slots round key first.after first.before first.later
+
+-- there is a key exactly where a flight is due
+pub due-told : (slots : List (Option Flight)) (round : ℕ) (entries : List Entry) (due : Option ℕ) → IsDue round entries due → is_some due ≡ is_some (find (is_due round) (flights_at slots entries))
+due-told slots round entries None later = ap is_some (sym (none-found slots round entries later))
+due-told slots round entries (Some key) first = ap is_some (sym (found-due slots round key entries first))
 
 -- ---- what the calendar tells
 

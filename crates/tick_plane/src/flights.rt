@@ -1,5 +1,5 @@
 //! The packets on their way, in the order of their departures, found by the round in which they are due.
-ghost use Rattle.std.specs.Prelude.{◌≡◌, ◌+◌, ◌-◌, ◌^◌, ◌≤◌, ◌<◌, ◌++◌, ◌∷◌, [], suc, None, IsOk, IsSome, OnOk, OnErr, IfOk, length, find, filter};
+ghost use Rattle.std.specs.Prelude.{◌≡◌, ◌+◌, ◌-◌, ◌^◌, ◌≤◌, ◌<◌, ◌++◌, ◌∷◌, [], suc, None, IsOk, IsSome, OnOk, OnErr, IfOk, is_some, length, find, filter};
 ghost use Rattle.tick_plane.specs.Planes.{is_due};
 ghost use Rattle.tick_plane.specs.Carried.{IsCarried, flights_at};
 ghost use Rattle.tick_plane.specs.Coming.{IsDueFrom, is_before};
@@ -85,6 +85,13 @@ impl Flights {
         let key = self.carried.insert_reserved(flight) as u32;
         self.rounds.put(flight.round, key);
         self.room -= 1;
+    }
+
+    // Whether a flight is due in the round at hand.
+    pub(crate) fn has_due(&self) -> bool
+        ensures { result ≡ is_some (find (is_due self.now.round) self.now.list) }
+    {
+        self.due.is_some()
     }
 
     // The first flight that is due in the round at hand.

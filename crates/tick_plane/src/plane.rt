@@ -1,6 +1,7 @@
 //! The rounds of arrivals and ticks.
-ghost use Rattle.std.specs.Prelude.{◌≡◌, ◌+◌, ◌-◌, ◌^◌, ◌<◌, ◌≤◌, ◌↔◌, ◌++◌, true, None, Some, IsTrue, IsOk, IsNone, OnOk, OnErr, IfOk, IfErr, IfNone, IfSome, length, option_map};
+ghost use Rattle.std.specs.Prelude.{◌≡◌, ◌+◌, ◌-◌, ◌^◌, ◌<◌, ◌≤◌, ◌↔◌, ◌⊎◌, ◌++◌, [], true, None, Some, IsTrue, IsOk, IsSome, IsNone, OnOk, OnErr, IfOk, IfErr, IfNone, IfSome, length, option_map};
 ghost use Rattle.net_units.specs.Numbers.{link_at};
+ghost use Rattle.link_steps.specs.declared.asks.Ask.TheVariants.{Tick as AskTick};
 ghost use Rattle.link_steps.specs.Lists.{Each};
 ghost use Rattle.tick_plane.specs.Calm.{IsCalm, rounds_later};
 ghost use Rattle.tick_plane.specs.Rounds.{rest_of};
@@ -96,6 +97,18 @@ impl Plane {
         }
     }
 
+    /// The link whose tick is the next ask. None comes exactly where a packet arrives first, or all rounds are made.
+    #[inline(always)]
+    pub fn next_tick(&self) -> Option<LinkNo>
+        ensures asked { IfSome result (λ link. plane_ask self.now.rounds self.now.at ≡ Some (link, AskTick)) }
+        ensures none { IsNone result → IsSome (next_due self.now.at) ⊎ (self.now.at.round ≡ self.now.rounds) }
+    {
+        if self.round == self.rounds || self.flights.has_due() {
+            return None;
+        }
+        Some(link_of(self.ticked))
+    }
+
     /// Takes the reply to the next ask. An ask has to be left, and `ready` has to have made room in this round, so it takes no
     /// memory; there is that room for the rest of the round. A packet that leaves with the reply has to be due at its next link
     /// after this round. A reply that isn't one to the ask is answered with the ask, and changes nothing: to an arrive, a
@@ -151,6 +164,26 @@ impl Plane {
         match reply {
             Reply::Ticked { sent, .. } => self.tick(sent),
             _ => self.flights.land(),
+        }
+    }
+
+    /// Takes the reply to the next ask, a tick with which no packet leaves for another link, as [`Plane::take`] does. The reply
+    /// isn't needed, nor is room.
+    #[inline(always)]
+    pub fn pass(&mut self)
+        requires left { self.old.at.round < self.old.rounds }
+        requires none { next_due self.old.at ≡ None }
+        ensures passed { self.new.at ≡ tick_made self.old.links self.old.at [] }
+        ensures links { self.new.links ≡ self.old.links }
+        ensures rounds { self.new.rounds ≡ self.old.rounds }
+        ensures spare { self.new.spare ≡ self.old.spare }
+    {
+        if self.ticked + 1 == self.links {
+            self.flights.begin_round();
+            self.round += 1;
+            self.ticked = 0;
+        } else {
+            self.ticked += 1;
         }
     }
 
@@ -236,15 +269,9 @@ impl Plane {
         ensures rounds { self.new.rounds ≡ self.old.rounds }
         ensures room { 1 ≤ self.new.at.ticked → self.new.links - self.new.at.ticked ≤ self.new.spare }
     {
-        let last = self.ticked + 1 == self.links;
+        prove!(self.ticked < self.links);
         self.depart(sent);
-        if last {
-            self.flights.begin_round();
-            self.round += 1;
-            self.ticked = 0;
-        } else {
-            self.ticked += 1;
-        }
+        self.pass();
     }
 
     // A packet that has left a link is on its way, where there is a next link.
