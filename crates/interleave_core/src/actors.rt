@@ -1,6 +1,7 @@
 //! The actors of a run, as they are kept.
-ghost use Rattle.std.specs.Prelude.{◌≡◌, ◌-◌, ◌<◌, ◌≤◌, ◌∷◌, [], List, IfOk, OnOk};
+ghost use Rattle.std.specs.Prelude.{◌≡◌, ℕ, ◌-◌, ◌<◌, ◌≤◌, ◌∷◌, [], List, IfOk, OnOk};
 ghost use Rattle.net_units.specs.Numbers.{actor_at, actor_number};
+ghost use Rattle.link_steps.specs.Quiet.{quiet_reply};
 ghost use Rattle.call_script.specs.Parts.{PlanParts};
 ghost use Rattle.call_script.specs.Plans.{IsPlan};
 ghost use Rattle.call_script.specs.Tasks.{network_of};
@@ -75,6 +76,14 @@ impl Actors {
         ensures { (parts : PlanParts) (past : List Entry) (done : Entry) → IsPlaneStep parts self.old past done reply.now → ActorsStand parts self.new (done ∷ past) }
     {
         self.plane.take_expected(reply);
+    }
+
+    // Lets the plane make its next step, a tick in which nothing happens.
+    pub(crate) fn pass_plane(&mut self)
+        requires { (parts : PlanParts) × (past : List Entry) × (done : Entry) × (clock : ℕ) × IsPlaneStep parts self.old past done (quiet_reply clock) }
+        ensures { (parts : PlanParts) (past : List Entry) (done : Entry) (clock : ℕ) → IsPlaneStep parts self.old past done (quiet_reply clock) → ActorsStand parts self.new (done ∷ past) }
+    {
+        self.plane.pass();
     }
 }
 

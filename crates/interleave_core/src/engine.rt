@@ -1,18 +1,20 @@
 //! The links and the actors of a plan on their way through a run, which they don't record.
-ghost use Rattle.std.specs.Prelude.{◌≡◌, ◌≤◌, ◌∷◌, [], List, IfOk, OnErr, length};
+ghost use Rattle.std.specs.Prelude.{◌≡◌, ◌≤◌, ◌∷◌, [], true, List, IfOk, OnErr, length};
 ghost use Rattle.net_units.specs.Numbers.{actor_number};
 ghost use Rattle.net_units.specs.declared.numbers.ActorNo.{ActorNo as Actor};
+ghost use Rattle.link_steps.specs.declared.asks.Ask.TheVariants.{Tick as AskTick};
+ghost use Rattle.link_steps.specs.Quiet.{quiet_reply};
 ghost use Rattle.call_script.specs.Parts.{PlanParts};
 ghost use Rattle.call_script.specs.Tasks.{network_of};
 ghost use Rattle.interleave_core.specs.schedules.PlaneSteps.{IsAnswered};
-ghost use Rattle.interleave_core.specs.schedules.Resting.{EngineRests, MakesStride};
+ghost use Rattle.interleave_core.specs.schedules.Resting.{EngineRests, MakesStride, RestsAt};
 ghost use Rattle.interleave_core.specs.runs.Runs.{next_for};
 ghost use Rattle.interleave_core.specs.schedules.Standing.{EngineStands, IsAboutTo, MakesStep};
 ghost use Rattle.run_record.specs.declared.done.Done.{Done as Entry};
 
 use crate::actors::Actors;
 use crate::callers::Callers;
-use crate::links::{new_links, rest_links, step_link, ticks_at_rest};
+use crate::links::{new_links, rest_link, rest_links, step_link, ticks_at_rest};
 use call_script::Plan;
 use link_quota::AnyLink;
 use link_steps::{Ask, Reply};
@@ -80,6 +82,29 @@ impl Engine {
     {
         self.actors.ready()?;
         step_link(&mut self.links, usize::from(link.get()), ask)
+    }
+
+    // Whether nothing falls due in the next tick of this link, as far as the link knows without a look at its rows and packets.
+    #[inline(always)]
+    pub(crate) fn rests_at(&self, link: LinkNo) -> bool
+        ensures { result ≡ true → RestsAt self.now link }
+    {
+        match self.links.get(usize::from(link.get())) {
+            Some(one) => one.rests(),
+            None => false,
+        }
+    }
+
+    // Has the link make the tick that an actor asks next, in which nothing falls due there. Its reply, that of a quiet tick, tells
+    // the clock that this answers, and the actor hasn't got it then.
+    #[inline(always)]
+    pub(crate) fn pass_link(&mut self, link: LinkNo) -> Result<u64, OutOfMemory>
+        requires about { (parts : PlanParts) × (run : List Entry) × (actor : Actor) × IsAboutTo parts self.old run actor link AskTick }
+        requires rests { RestsAt self.old link }
+        ensures { IfOk result (λ clock. (parts : PlanParts) (run : List Entry) (actor : Actor) → IsAboutTo parts self.old run actor link AskTick → IsAnswered parts self.new run (record { actor = actor; link = link; ask = AskTick; reply = quiet_reply clock })) }
+    {
+        self.actors.ready()?;
+        Ok(rest_link(&mut self.links, usize::from(link.get())))
     }
 
     /// The number of the plane's round.

@@ -14,7 +14,7 @@ mod links;
 pub mod playing;
 mod quiet;
 pub mod refusal;
-mod rounds;
+pub mod rounds;
 pub mod stepping;
 pub mod watching;
 
@@ -25,5 +25,6 @@ pub use links::new_link;
 pub use playing::{PlayFault, play, play_watched};
 pub use quiet::plane_of;
 pub use refusal::CoreRefusal;
+pub use rounds::play_plane;
 pub use stepping::Core;
 pub use watching::{Watch, make_watched, stride_watched};

@@ -10,7 +10,9 @@ ghost use Rattle.interleave_core.specs.schedules.Standing.{LinksStand};
 ghost use Rattle.link_quota.specs.Any.{any_rules, any_clock, AnyStands};
 ghost use Rattle.link_quota.specs.declared.any_link.AnyLink.{AnyLink as Kept};
 ghost use Rattle.link_steps.specs.Legal.{AskFits};
+ghost use Rattle.link_steps.specs.declared.asks.Ask.TheVariants.{Tick as AskTick};
 ghost use Rattle.link_steps.specs.Lists.{Each};
+ghost use Rattle.link_steps.specs.Quiet.{quiet_reply};
 ghost use Rattle.link_steps.specs.Replies.{reply_to};
 ghost use Rattle.link_steps.specs.declared.replies.Entry.{Entry};
 
@@ -64,6 +66,23 @@ pub(crate) fn step_link(
     ensures memory { OnErr result ((link next : Kept) (h : List Entry) → slice_get links.old number ≡ Some link → slice_get links.new number ≡ Some next → AnyStands link h → AnyStands next h) }
 {
     links[number].step(ask)
+}
+
+// The link of this number makes a tick, in which nothing falls due. Answers its clock before it.
+pub(crate) fn rest_link(links: &mut [AnyLink], number: usize) -> u64
+    requires inside { number < length links.old }
+    requires rests { (link : Kept) → slice_get links.old number ≡ Some link → RestsBy 1 link }
+    requires early { (link : Kept) → slice_get links.old number ≡ Some link → any_clock link < 2 ^ 61 }
+    ensures length { length links.new ≡ length links.old }
+    ensures others { (n : ℕ) → n ≢ number → slice_get links.new n ≡ slice_get links.old n }
+    ensures same { (link next : Kept) → slice_get links.old number ≡ Some link → slice_get links.new number ≡ Some next → any_rules next ≡ any_rules link }
+    ensures legal { (link : Kept) (h : List Entry) → slice_get links.old number ≡ Some link → AnyStands link h → quiet_reply result ≡ reply_to (any_rules link) h AskTick }
+    ensures entered { (link next : Kept) (h : List Entry) → slice_get links.old number ≡ Some link → slice_get links.new number ≡ Some next → AnyStands link h → AnyStands next (record { ask = AskTick; reply = quiet_reply result } ∷ h) }
+{
+    let link = &mut links[number];
+    let clock = link.clock();
+    link.rest(1);
+    clock
 }
 
 // How many ticks these links rest for, at most this many.

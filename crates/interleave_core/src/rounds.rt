@@ -1,13 +1,14 @@
 //! The plane's steps, made and shown without the entries that they stand for, many of them at once.
 ghost use Rattle.std.specs.Prelude.{◌≡◌, ◌≤◌, true, false, None, List, IfOk, OnOk};
 ghost use Rattle.call_script.specs.Tasks.{network_of};
+ghost use Rattle.link_steps.specs.declared.asks.Ask.TheVariants.{Tick as AskTick};
 ghost use Rattle.net_units.specs.Numbers.{actor_number};
 ghost use Rattle.interleave_core.specs.runs.Runs.{next_for};
 ghost use Rattle.interleave_core.specs.schedules.PlaneSteps.{IsOver};
 ghost use Rattle.interleave_core.specs.schedules.Quiet.{the_plane};
-ghost use Rattle.interleave_core.specs.schedules.Resting.{EngineRests};
+ghost use Rattle.interleave_core.specs.schedules.Resting.{EngineRests, RestsAt};
 ghost use Rattle.interleave_core.specs.schedules.Schedules.{repeated};
-ghost use Rattle.interleave_core.specs.schedules.Watching.{GoesOn, IsAsked, PlaysOn, WatchStands};
+ghost use Rattle.interleave_core.specs.schedules.Watching.{GoesOn, IsAsked, PlaysOn, PlaysOut, WatchStands};
 ghost use Rattle.run_record.specs.declared.done.Done.{Done as Entry};
 
 use crate::engine::Engine;
@@ -15,6 +16,25 @@ use crate::watching::{Watch, stride_watched};
 use call_script::Plan;
 use link_steps::Ask;
 use net_units::{LinkNo, OutOfMemory};
+
+/// Lets the plane make its steps until it has none left, and shows them to the watcher. An `Err` comes only for want of memory.
+pub fn play_plane<W: Watch>(
+    engine: &mut Engine,
+    watch: &mut W,
+    plan: &Plan,
+) -> Result<(), OutOfMemory>
+    requires { (run : List Entry) × WatchStands W.saw plan.now engine.old watch.old run }
+    ensures out { OnOk result ((past : List Entry) → WatchStands W.saw plan.now engine.old watch.old past → PlaysOut W.saw plan.now engine.new watch.new past (the_plane (network_of plan.now))) }
+    ensures table { OnOk result (W.has_table watch.new ≡ W.has_table watch.old) }
+{
+    // a run has fewer steps
+    for _ in 0..u64::MAX {
+        if make_plane_steps(engine, watch, plan, u64::MAX)? == 0 {
+            return Ok(());
+        }
+    }
+    unreachable!()
+}
 
 // Makes steps of the plane, at most this many: a stride of whole rounds where all rests, or else those that are left of a round.
 // Answers how many it made, which is 0 exactly where the plane has none left.
@@ -83,6 +103,26 @@ fn make_next<W: Watch>(engine: &mut Engine, watch: &mut W, plan: &Plan) -> Resul
     ensures over { IfOk result (λ more. more ≡ false → (past : List Entry) → WatchStands W.saw plan.now engine.old watch.old past → IsOver W.saw plan.now engine.new watch.new past (the_plane (network_of plan.now))) }
     ensures table { OnOk result (W.has_table watch.new ≡ W.has_table watch.old) }
 {
+    match engine.actors.plane.next_tick() {
+        Some(link) => {
+            make_tick(engine, watch, plan, link)?;
+            Ok(true)
+        }
+        None => make_asked(engine, watch, plan),
+    }
+}
+
+// The same of any step. Ticks are most of the plane's steps, and their ask needn't be made.
+fn make_asked<W: Watch>(
+    engine: &mut Engine,
+    watch: &mut W,
+    plan: &Plan,
+) -> Result<bool, OutOfMemory>
+    requires { (run : List Entry) × WatchStands W.saw plan.now engine.old watch.old run }
+    ensures goes_on { IfOk result (λ more. more ≡ true → (past : List Entry) → WatchStands W.saw plan.now engine.old watch.old past → GoesOn W.saw plan.now engine.new watch.new past (the_plane (network_of plan.now))) }
+    ensures over { IfOk result (λ more. more ≡ false → (past : List Entry) → WatchStands W.saw plan.now engine.old watch.old past → IsOver W.saw plan.now engine.new watch.new past (the_plane (network_of plan.now))) }
+    ensures table { OnOk result (W.has_table watch.new ≡ W.has_table watch.old) }
+{
     match engine.actors.plane.next_ask() {
         None => Ok(false),
         Some((link, ask)) => {
@@ -90,6 +130,42 @@ fn make_next<W: Watch>(engine: &mut Engine, watch: &mut W, plan: &Plan) -> Resul
             Ok(true)
         }
     }
+}
+
+// Makes the plane's next step, the tick of this link: nothing but its clock changes where the link rests.
+fn make_tick<W: Watch>(
+    engine: &mut Engine,
+    watch: &mut W,
+    plan: &Plan,
+    link: LinkNo,
+) -> Result<(), OutOfMemory>
+    requires { (run : List Entry) × IsAsked W.saw plan.now engine.old watch.old run (the_plane (network_of plan.now)) link AskTick }
+    ensures goes_on { OnOk result ((past : List Entry) → IsAsked W.saw plan.now engine.old watch.old past (the_plane (network_of plan.now)) link AskTick → GoesOn W.saw plan.now engine.new watch.new past (the_plane (network_of plan.now))) }
+    ensures table { OnOk result (W.has_table watch.new ≡ W.has_table watch.old) }
+{
+    if engine.rests_at(link) {
+        pass_watched(engine, watch, plan, link)
+    } else {
+        step_watched(engine, watch, plan, link, &Ask::Tick)
+    }
+}
+
+// Makes the plane's next step, the tick of this link, in which nothing falls due there, and shows it to the watcher.
+fn pass_watched<W: Watch>(
+    engine: &mut Engine,
+    watch: &mut W,
+    plan: &Plan,
+    link: LinkNo,
+) -> Result<(), OutOfMemory>
+    requires asked { (run : List Entry) × IsAsked W.saw plan.now engine.old watch.old run (the_plane (network_of plan.now)) link AskTick }
+    requires rests { RestsAt engine.old link }
+    ensures goes_on { OnOk result ((past : List Entry) → IsAsked W.saw plan.now engine.old watch.old past (the_plane (network_of plan.now)) link AskTick → GoesOn W.saw plan.now engine.new watch.new past (the_plane (network_of plan.now))) }
+    ensures table { OnOk result (W.has_table watch.new ≡ W.has_table watch.old) }
+{
+    let clock = engine.pass_link(link)?;
+    engine.actors.pass_plane();
+    watch.passed(plan, link, clock)?;
+    Ok(())
 }
 
 // Makes the plane's next step, which asks this link this, and shows it to the watcher.

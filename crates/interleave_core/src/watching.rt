@@ -8,6 +8,8 @@ ghost use Rattle.interleave_core.specs.schedules.Quiet.{rested, the_plane};
 ghost use Rattle.interleave_core.specs.schedules.Resting.{EngineRests};
 ghost use Rattle.interleave_core.specs.schedules.Schedules.{repeated};
 ghost use Rattle.interleave_core.specs.schedules.Watching.{GoesOn, IsAsked, IsNextSeen, IsRestSeen, PlaysOn, WatchStands};
+ghost use Rattle.link_steps.specs.declared.asks.Ask.TheVariants.{Tick as AskTick};
+ghost use Rattle.link_steps.specs.Quiet.{quiet_reply};
 ghost use Rattle.run_record.specs.Runs.{replies_to};
 ghost use Rattle.run_record.specs.declared.done.Done.{Done as Entry};
 
@@ -51,6 +53,22 @@ pub trait Watch: Drop {
             reply: *reply,
         };
         self.see(plan, &done)
+    }
+
+    /// Sees the plane's next step, the tick of this link at this clock, in which nothing happens, as [`Watch::see`] does its entry.
+    fn passed(&mut self, plan: &Plan, link: LinkNo, clock: u64) -> Result<(), OutOfMemory>
+        requires { (past : List Entry) × IsNextSeen saw plan.now self.old past (plane_step (network_of plan.now) link AskTick (quiet_reply clock)) }
+        ensures seen { OnOk result ((past : List Entry) → IsNextSeen saw plan.now self.old past (plane_step (network_of plan.now) link AskTick (quiet_reply clock)) → saw self.new plan.now (plane_step (network_of plan.now) link AskTick (quiet_reply clock) ∷ past)) }
+        ensures table { OnOk result (has_table self.new ≡ has_table self.old) }
+    {
+        let reply = Reply::Ticked {
+            clock,
+            full: 0,
+            sent: None,
+            best_sent: false,
+            best_lost: false,
+        };
+        self.see_plane(plan, link, &Ask::Tick, &reply)
     }
 
     /// Sees the next rounds of the run at once: this many quiet ones, the first of which has this number. An `Err` comes only for

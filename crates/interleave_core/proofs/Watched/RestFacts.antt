@@ -6,6 +6,7 @@ use Rattle.std.specs.List.{slice_get}
 use Rattle.link_quota.specs.Any.{any_clock, any_kept, any_rules, AnyStands, any-clock-is}
 use Rattle.link_quota.specs.declared.any_link.AnyLink.{AnyLink}
 use Rattle.link_steps.specs.declared.asks.Ask.TheVariants.{Tick}
+use Rattle.link_steps.specs.declared.replies.Entry.{Entry}
 use Rattle.link_steps.specs.Lists.{Each}
 use Rattle.link_steps.specs.Quiet.{RestsUntil, quiet_reply, quiet_ticks}
 use Rattle.link_steps.specs.Replies.{reply_to}
@@ -74,6 +75,15 @@ pub least-more : (links : List AnyLink) (i : ℕ) (link : AnyLink) (until ticks 
 least-more links i link until ticks now within is rests few fewer before some =
     subst (Each (RestsBy now)) (sym (before-at links i link within is))
     (Each-append (RestsBy now) (take i links) (link ∷ []) (fewer-rests now ticks (take i links) few (before (omega (arith, few, some)))) ((until, (rests, omega (arith, fewer, some))), tt))
+
+-- one tick of a link that rests
+pub first-told : (rules : Link) (clock : ℕ) (h : List Entry) → quiet_reply (clock + 0) ≡ reply_to rules (quiet_ticks 0 clock h) Tick → quiet_reply clock ≡ reply_to rules h Tick
+unfolding quiet_ticks
+first-told rules clock h legal = (let same : clock ≡ clock + 0 = omega arith in ap quiet_reply same ∙ legal)
+
+pub one-tick : (link : AnyLink) (clock : ℕ) (h : List Entry) → AnyStands link (quiet_ticks 1 clock h) → AnyStands link (record { ask = Tick; reply = quiet_reply clock } ∷ h)
+unfolding quiet_ticks
+one-tick link clock h stands = (let same : clock + 0 ≡ clock = omega arith in subst (λ (t : ℕ). AnyStands link (record { ask = Tick; reply = quiet_reply t } ∷ h)) same stands)
 
 -- the first i of them have rested, and the others are as they were
 pub record HaveRestedTo (n : ℕ) (old new : List AnyLink) (i : ℕ) : Type 0 where

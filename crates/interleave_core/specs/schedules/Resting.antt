@@ -2,6 +2,8 @@
 -- one stride, and stands for its runs continued by n quiet rounds.
 use Rattle.std.specs.Prelude.{◌≡◌, ℕ, ◌+◌, ◌<◌, ◌≤◌, Some, List, length}
 use Rattle.std.specs.List.{slice_get}
+use Rattle.net_units.specs.Numbers.{link_number}
+use Rattle.net_units.specs.declared.numbers.LinkNo.{LinkNo}
 use Rattle.link_quota.specs.Any.{any_clock, any_kept, any_rules, AnyStands}
 use Rattle.link_quota.specs.declared.any_link.AnyLink.{AnyLink}
 use Rattle.link_steps.specs.declared.asks.Ask.TheVariants.{Tick}
@@ -35,6 +37,10 @@ pub record HaveRested (n : ℕ) (old new : List AnyLink) : Type 0 where
   pub each : (k : ℕ) (link next : AnyLink) → slice_get old k ≡ Some link → slice_get new k ≡ Some next → HasRested n link next
 
 -- ---- an engine
+
+-- the link of this number rests in its next tick
+abbrev pub RestsAt : Engine → LinkNo → Type 0
+RestsAt engine to = (link : AnyLink) → slice_get engine.links.items (link_number to) ≡ Some link → RestsBy 1 link
 
 -- its plane and its links rest for n rounds
 pub record EngineRests (engine : Engine) (n : ℕ) : Type 0 where

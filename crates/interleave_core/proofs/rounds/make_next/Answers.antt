@@ -1,17 +1,13 @@
--- The plane makes what it asks next, in each run that both stand for, or it asks nothing.
-use Rattle.std.proofs.Common.{◌∙◌}
-use Rattle.interleave_core.proofs.Keeping.PlaneFacts.{plane-asked}
+-- The plane makes the tick that it asks for next, in each run that both stand for.
+use Rattle.interleave_core.proofs.Keeping.PlaneFacts.{tick-asked}
 use Rattle.interleave_core.proofs.rounds.make_next.Goals as goal
 
-pub step_watched-requires : goal.step_watched-requires
-step_watched-requires g c =
+pub make_tick-requires : goal.make_tick-requires
+make_tick-requires g c =
     let stand = c.requires.1 in
-    (c.requires.0, record { stand = stand; asks = plane-asked c.args.plan.now c.args.engine.now.actors c.requires.0 c.next_ask.result stand.stands.plan stand.stands.actors c.next_ask.ensures.asked ∙ c.in-Some.is })
+    (c.requires.0, record { stand = stand; asks = tick-asked c.args.plan.now c.args.engine.now.actors c.requires.0 c.next_tick.result c.in-Some.link stand.stands.plan stand.stands.actors c.next_tick.ensures.asked c.in-Some.is })
 
-pub returns-in_ok-step_watched-in-Some-clause-goes_on : goal.returns-in_ok-step_watched-in-Some-clause-goes_on
-returns-in_ok-step_watched-in-Some-clause-goes_on g c = λ more past stand.
-    c.in_ok-step_watched-in-Some.ensures.goes_on past (record { stand = stand; asks = plane-asked c.args.plan.now c.args.engine.now.actors past c.next_ask.result stand.stands.plan stand.stands.actors c.next_ask.ensures.asked ∙ c.in-Some.is })
-
-pub returns-in-None-clause-over : goal.returns-in-None-clause-over
-returns-in-None-clause-over g c = λ none past stand.
-    record { none = plane-asked c.args.plan.now c.args.engine.now.actors past c.next_ask.result stand.stands.plan stand.stands.actors c.next_ask.ensures.asked ∙ c.in-None.is; stand = stand }
+pub returns-in_ok-make_tick-in-Some-clause-goes_on : goal.returns-in_ok-make_tick-in-Some-clause-goes_on
+returns-in_ok-make_tick-in-Some-clause-goes_on g c = λ more past stand.
+    c.in_ok-make_tick-in-Some.ensures.goes_on past
+    (record { stand = stand; asks = tick-asked c.args.plan.now c.args.engine.now.actors past c.next_tick.result c.in-Some.link stand.stands.plan stand.stands.actors c.next_tick.ensures.asked c.in-Some.is })

@@ -1,0 +1,14 @@
+use Rattle.std.proofs.Common.{◌≡◌, List}
+use Rattle.call_script.specs.Tasks.{network_of}
+use Rattle.interleave_core.specs.schedules.Quiet.{the_plane}
+use Rattle.interleave_core.specs.schedules.Watching.{WatchStands}
+use Rattle.interleave_core.proofs.Watched.StrideFacts.{PlaysAtLeast}
+use Rattle.run_record.specs.declared.done.Done.{Done}
+use Rattle.interleave_core.proofs.rounds.play_plane.Given as goal
+
+-- so many steps of the plane are made at least
+abbrev pub invariant-loop : goal.invariant-loop
+invariant-loop g l = record {
+  made : (past : List Done) → WatchStands g.W.Watch.saw l.plan l.initial.engine l.initial.watch past → PlaysAtLeast g.W.Watch.saw l.plan l.engine l.watch past (the_plane (network_of l.plan)) l.counter;
+  table : g.W.Watch.has_table l.watch ≡ g.W.Watch.has_table l.initial.watch;
+}
