@@ -1,3 +1,4 @@
+pub mod CutFields
 pub mod FormFacts
 pub mod DecimalFacts
 pub mod NameFacts

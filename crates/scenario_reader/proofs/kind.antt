@@ -28,3 +28,4 @@ pub mod MoveBack
 pub mod PourBack
 pub mod RoundsBack
 pub mod ScheduleBack
+pub mod LinkJudged

@@ -2,6 +2,7 @@ pub mod Causes
 pub mod Words
 pub mod Decimal
 pub mod Fields
+pub mod FieldCells
 pub mod Forms
 pub mod Entries
 pub mod Uses

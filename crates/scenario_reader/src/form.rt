@@ -1,9 +1,8 @@
 //! The forms of a scenario's lines.
 ghost use Rattle.std.specs.Prelude.{◌≡◌, ◌≤◌, ◌+◌, ◌-◌, if◌then◌else◌, IfSome, Some, None, length, drop, min};
-ghost use Rattle.scenario_reader.specs.Fields.{fields_of};
 ghost use Rattle.scenario_reader.specs.Forms.{text_of, is_word, route_length, fields_up_to, fields_taken, has_form};
 
-use crate::fields::{field, field_count};
+use crate::fields::Fields;
 
 /// A fixed word of the grammar.
 #[derive(Clone, Copy, Debug, PartialEq, Eq)]
@@ -91,13 +90,13 @@ pub enum Part {
 }
 
 /// Whether the line has the form: each part takes some of its fields, and none is left.
-pub fn has_form(form: &[Part], line: &[u8]) -> bool
-    ensures { result ≡ has_form form.now (fields_of line.now) }
+pub fn has_form(form: &[Part], fields: &Fields) -> bool
+    ensures { result ≡ has_form form.now fields.now }
 {
-    let count = field_count(line);
+    let count = fields.count();
     let mut place = 0;
     for part in form {
-        match part.taken(line, count, place) {
+        match part.taken(fields, place) {
             None => return false,
             Some(taken) => place += taken,
         }
@@ -106,17 +105,16 @@ pub fn has_form(form: &[Part], line: &[u8]) -> bool
 }
 
 impl Part {
-    // How many fields the part takes from a place on, None where they don't fit it. The line has `count` of them.
-    fn taken(&self, line: &[u8], count: usize, place: usize) -> Option<usize>
-        requires { count ≡ length (fields_of line.now) }
-        ensures value { result ≡ fields_taken self.now (drop place (fields_of line.now)) }
-        ensures within { IfSome result (λ taken. place + taken ≤ length (fields_of line.now)) }
+    // How many fields the part takes from a place on, None where they don't fit it.
+    fn taken(&self, fields: &Fields, place: usize) -> Option<usize>
+        ensures value { result ≡ fields_taken self.now (drop place fields.now) }
+        ensures within { IfSome result (λ taken. place + taken ≤ length fields.now) }
     {
-        let left = count.saturating_sub(place);
+        let left = fields.count().saturating_sub(place);
         match self {
-            Part::Word(word) => one_if(left > 0 && word.is(field(line, place))),
+            Part::Word(word) => one_if(left > 0 && word.is(fields.at(place))),
             Part::Field => one_if(left > 0),
-            Part::Route => up_to(16, route_length(line, place)),
+            Part::Route => up_to(16, route_length(fields, place)),
             Part::Bounds => up_to(8, left),
         }
     }
@@ -140,13 +138,13 @@ fn up_to(most: usize, count: usize) -> Option<usize>
 
 /// How many fields stand from a place on before the word `contract`, or before the line's end. It is 17 where there are more than 17,
 /// so a long line isn't looked through for each of its fields.
-pub fn route_length(line: &[u8], from: usize) -> usize
-    ensures value { result ≡ min 17 (route_length (drop from (fields_of line.now))) }
-    ensures within { result ≤ length (fields_of line.now) - from }
+pub fn route_length(fields: &Fields, from: usize) -> usize
+    ensures value { result ≡ min 17 (route_length (drop from fields.now)) }
+    ensures within { result ≤ length fields.now - from }
 {
-    let end = field_count(line).min(from.saturating_add(17));
+    let end = fields.count().min(from.saturating_add(17));
     for place in from..end {
-        if Keyword::Contract.is(field(line, place)) {
+        if Keyword::Contract.is(fields.at(place)) {
             return place - from;
         }
     }

@@ -3,13 +3,12 @@
 //! Each kind of line has a form, a list of rules in the order in which they are judged, and what it says.
 ghost use Rattle.std.specs.Prelude.{◌≡◌, Some, IfOk};
 ghost use Rattle.scenario_reader.specs.Causes.{AnswersWithRoom};
-ghost use Rattle.scenario_reader.specs.Fields.{fields_of};
 ghost use Rattle.scenario_reader.specs.line.Table.{MayAdd};
 ghost use Rattle.scenario_reader.specs.Grammar.{judge_word, judge_after, judge, is_passed_over};
 
 use crate::cause::{Cause, LineFault};
 use crate::draft::Draft;
-use crate::fields::{field, has_fields};
+use crate::fields::Fields;
 use crate::form::Keyword;
 use crate::item::Item;
 use crate::line::header::judge_header;
@@ -27,22 +26,23 @@ impl Draft {
         if is_passed_over(line) {
             return Ok(Item::Nothing);
         }
-        if !has_fields(line) {
+        let fields = Fields::of(line);
+        if !fields.are_written() {
             return Err(LineFault::Refused(Cause::Shape));
         }
-        self.judge_after(alloc, number, line)
+        self.judge_after(alloc, number, &fields)
     }
 
     // The first line is the header; after it each line begins with a word.
-    fn judge_after(&self, alloc: Global, number: u64, line: &[u8]) -> Result<Item, LineFault>
-        ensures judged { AnswersWithRoom result (judge_after self.now.version self.now number (fields_of line.now)) }
+    fn judge_after(&self, alloc: Global, number: u64, fields: &Fields) -> Result<Item, LineFault>
+        ensures judged { AnswersWithRoom result (judge_after self.now.version self.now number fields.now) }
         ensures room { IfOk result (MayAdd self.now) }
     {
         match self.version {
-            None => Ok(judge_header(line)?),
-            Some(version) => match line_word(field(line, 0)) {
+            None => judge_header(fields),
+            Some(version) => match line_word(fields.at(0)) {
                 None => Err(LineFault::Refused(Cause::Word)),
-                Some(word) => self.judge_word(alloc, word, version, number, line),
+                Some(word) => self.judge_word(alloc, word, version, number, fields),
             },
         }
     }
@@ -53,12 +53,12 @@ impl Draft {
         word: Keyword,
         version: Version,
         number: u64,
-        line: &[u8],
+        fields: &Fields,
     ) -> Result<Item, LineFault>
-        ensures { AnswersWithRoom result (judge_word (Some word) version self.now number (fields_of line.now)) }
+        ensures { AnswersWithRoom result (judge_word (Some word) version self.now number fields.now) }
     {
         if self.may_stand(version, word) {
-            self.judge_as(alloc, word, version, number, line)
+            self.judge_as(alloc, word, version, number, fields)
         } else {
             Err(LineFault::Refused(Cause::Word))
         }

@@ -6,12 +6,11 @@ ghost use Rattle.net_units.specs.Numbers.{channel_number};
 ghost use Rattle.setup_protocol.specs.State.{HaveLevels};
 ghost use Rattle.scenario_reader.specs.AuditKept.{KeepsTold, told_of};
 ghost use Rattle.scenario_reader.specs.AuditLines.{acceptance_in, are_level_fields, are_within, channel_in, has_accept_words, is_untold, levels_told, request_in};
-ghost use Rattle.scenario_reader.specs.Fields.{fields_of};
 ghost use Rattle.scenario_reader.specs.declared.audit.place.Place.TheVariants as place;
 
 use crate::audit::draft::AuditDraft;
 use crate::draft::Draft;
-use crate::fields::{field, field_count};
+use crate::fields::Fields;
 use crate::form::Keyword;
 use crate::values::{name, number};
 use call_script::RequestEntry;
@@ -30,19 +29,19 @@ pub(crate) struct Acceptance {
 
 impl AuditDraft {
     // What the line tells after those above, where it is right.
-    pub(crate) fn acceptance(&self, line: &[u8]) -> Option<Acceptance>
+    pub(crate) fn acceptance(&self, fields: &Fields) -> Option<Acceptance>
         requires { self.now.place ≡ place.Report }
-        ensures told { option_map told_of result ≡ acceptance_in self.now.said.requests self.now.levels (fields_of line.now) }
+        ensures told { option_map told_of result ≡ acceptance_in self.now.said.requests self.now.levels fields.now }
         ensures within { IfSome result (λ told. told.request < length self.now.levels) }
         ensures keeps { IfSome result (λ told. KeepsTold self.now.said.requests (told_of told)) }
     {
-        let entry = self.draft.request_in(field(line, 1))?;
+        let entry = self.draft.request_in(fields.at(1))?;
         let request = entry.request.chan.get() as usize;
-        if !self.is_untold(request) || !has_accept_words(line) {
+        if !self.is_untold(request) || !has_accept_words(fields) {
             return None;
         }
-        let levels = levels_told(&entry.request.route, line)?;
-        let sum = number(field(line, 3), 0, MOST_DELAY).ok()?;
+        let levels = levels_told(&entry.request.route, fields)?;
+        let sum = number(fields.at(3), 0, MOST_DELAY).ok()?;
         if are_within(&entry.request, &levels, sum) {
             Some(Acceptance { request, levels })
         } else {
@@ -90,25 +89,25 @@ impl Draft {
 }
 
 // Whether the line has its fixed words after the first.
-fn has_accept_words(line: &[u8]) -> bool
-    ensures { result ≡ has_accept_words (fields_of line.now) }
+fn has_accept_words(fields: &Fields) -> bool
+    ensures { result ≡ has_accept_words fields.now }
 {
-    Keyword::Delay.is(field(line, 2)) && Keyword::Levels.is(field(line, 4))
+    Keyword::Delay.is(fields.at(2)) && Keyword::Levels.is(fields.at(4))
 }
 
 // The levels that the line tells, where they are levels of the links, one for each hop.
-fn levels_told(route: &Route, line: &[u8]) -> Option<Levels>
-    ensures there { is_some result ≡ are_level_fields route.now (drop 5 (fields_of line.now)) }
-    ensures value { IfSome result (λ levels. levels_of levels ≡ levels_told (fields_of line.now)) }
+fn levels_told(route: &Route, fields: &Fields) -> Option<Levels>
+    ensures there { is_some result ≡ are_level_fields route.now (drop 5 fields.now) }
+    ensures value { IfSome result (λ levels. levels_of levels ≡ levels_told fields.now) }
     ensures have { IfSome result (λ levels. HaveLevels route.now (levels_of levels)) }
 {
     let mut levels = Levels::new();
     for index in 0..route.len() {
         let most = route.hop(index + 1).bounds.len();
-        let told = number(field(line, 5 + usize::from(index)), 1, u64::from(most)).ok()?;
+        let told = number(fields.at(5 + usize::from(index)), 1, u64::from(most)).ok()?;
         levels.push(Level::new(told as u8)?);
     }
-    if field_count(line) == 5 + usize::from(route.len()) {
+    if fields.count() == 5 + usize::from(route.len()) {
         Some(levels)
     } else {
         None

@@ -1,5 +1,5 @@
 //! What was read of an audit's input so far.
-ghost use Rattle.std.specs.Prelude.{◌≡◌, ◌++◌, ◌∷◌, [], None, IfOk, IsTrue, OnOk, replicate};
+ghost use Rattle.std.specs.Prelude.{◌≡◌, ◌++◌, ◌∷◌, ◌&&◌, [], None, IfOk, IsTrue, OnOk, codes, nat_eq, replicate};
 ghost use Rattle.call_script.specs.Accepted.{AreAccepted};
 ghost use Rattle.run_record.specs.SmallRows.{AreSmall, IsSmall};
 ghost use Rattle.scenario_reader.specs.AuditKept.{levels_given};
@@ -7,7 +7,8 @@ ghost use Rattle.scenario_reader.specs.AuditReading.{begins_report, nothing_read
 ghost use Rattle.scenario_reader.specs.AuditRows.{row_told};
 ghost use Rattle.scenario_reader.specs.ReadSteps.{Adds};
 ghost use Rattle.scenario_reader.specs.Drafts.{is_complete, parts_said};
-ghost use Rattle.scenario_reader.specs.Fields.{fields_of};
+ghost use Rattle.scenario_reader.specs.Fields.{are_fields, field_at, fields_of};
+ghost use Rattle.std.specs.Cmp.Lexicographic.{pointwise};
 ghost use Rattle.scenario_reader.specs.declared.audit.place.Place.TheVariants as place;
 
 use crate::audit::place::Place;
@@ -16,7 +17,7 @@ use crate::audit::table_reader::TableReader;
 use crate::by_line::TakesLines;
 use crate::cause::{Cause, LineFault};
 use crate::draft::Draft;
-use crate::fields::{field, field_count, has_fields};
+use crate::fields::Fields;
 use crate::values::require;
 use call_script::Plan;
 use csv::ByteRecord;
@@ -116,7 +117,7 @@ impl AuditDraft {
         ensures { Adds result self.new (scenario_line self.old number line.now) }
     {
         if self.begins_report(line) {
-            require(field_count(line) == 1, Cause::Shape)?;
+            require(Fields::of(line).count() == 1, Cause::Shape)?;
             self.begin_report(alloc)?;
         } else {
             self.draft.add_line(alloc, number, line, ahead)?;
@@ -128,7 +129,7 @@ impl AuditDraft {
     fn begins_report(&self, line: &[u8]) -> bool
         ensures { result ≡ begins_report self.now.said (fields_of line.now) }
     {
-        self.draft.is_complete() && has_fields(line) && field(line, 0) == b"report".as_slice()
+        self.draft.is_complete() && is_report(&Fields::of(line))
     }
 
     // From here on the lines are those of a report, and no request is known to be accepted.
@@ -149,7 +150,7 @@ impl AuditDraft {
         if line == HEADER {
             self.place = Place::Table;
         } else if line.starts_with(b"accept ") {
-            match self.acceptance(line) {
+            match self.acceptance(&Fields::of(line)) {
                 Some(told) => self.levels[told.request] = Some(told.levels),
                 None => return Err(LineFault::Refused(Cause::Accept)),
             }
@@ -193,6 +194,13 @@ impl AuditDraft {
         let (plan, _schedule) = self.draft.into_plan(alloc)?;
         Ok((plan, self.levels, self.rows))
     }
+}
+
+// Whether a line has fields, of which the first is the word `report`.
+fn is_report(fields: &Fields) -> bool
+    ensures { result ≡ (are_fields fields.now && pointwise nat_eq (field_at fields.now 0) (codes "report")) }
+{
+    fields.are_written() && fields.at(0) == b"report".as_slice()
 }
 
 // No levels of this many requests.

@@ -1,17 +1,18 @@
 //! The line of a caller: judging it, adding the caller, and its text.
 ghost use Rattle.std.specs.Prelude.{◌≡◌, OnOk, OnErr, IfOk, string_bytes};
-ghost use Rattle.scenario_reader.specs.Causes.{Judges};
-ghost use Rattle.scenario_reader.specs.Fields.{fields_of, field_at};
+ghost use Rattle.scenario_reader.specs.Causes.{AnswersWithRoom, Judges, judged};
+ghost use Rattle.scenario_reader.specs.Fields.{field_at};
 ghost use Rattle.text_writer.specs.Lines.{whole_line};
 ghost use Rattle.scenario_reader.specs.line.Caller.{is_caller_line, member_rule, group_in, caller_rule, caller_fields};
 ghost use Rattle.scenario_reader.specs.Drafts.{with_item};
 ghost use Rattle.scenario_reader.specs.line.Table.{MayAdd};
 ghost use Rattle.scenario_reader.specs.declared.item.Item.TheVariants as item;
 
-use crate::cause::Cause;
+use crate::cause::{Cause, LineFault};
 use crate::draft::Draft;
-use crate::fields::field;
+use crate::fields::Fields;
 use crate::form::{Keyword, Part, has_form};
+use crate::item::Item;
 use crate::line::group::group_name;
 use crate::values::{new_name, require};
 use call_script::{CallerEntry, Ops, Version};
@@ -29,23 +30,23 @@ const MEMBER_FORM: [Part; 4] = [
 ];
 
 impl Draft {
-    // The name of the caller that the line says, and the number of its group.
-    pub(crate) fn judge_caller(&self, version: Version, line: &[u8]) -> Result<(Name, u8), Cause>
-        ensures { Judges result (caller_rule version self.now (fields_of line.now)) (field_at (fields_of line.now) 1, group_in self.now (fields_of line.now)) }
+    // The caller that the line says, with the number of its group.
+    pub(crate) fn judge_caller(&self, version: Version, fields: &Fields) -> Result<Item, LineFault>
+        ensures { AnswersWithRoom result (judged (caller_rule version self.now fields.now) (item.Caller (field_at fields.now 1) (group_in self.now fields.now))) }
     {
-        require(is_caller_line(version, line), Cause::Shape)?;
-        let caller = new_name(field(line, 1), &self.caller_names)?;
-        let group = self.judge_member(line)?;
+        require(is_caller_line(version, fields), Cause::Shape)?;
+        let name = new_name(fields.at(1), &self.caller_names)?;
+        let group = self.judge_member(fields)?;
         require(self.callers.len() < MOST_CALLERS, Cause::Many)?;
-        Ok((caller, group))
+        Ok(Item::Caller { name, group })
     }
 
     // The number of the group that a caller line names, 0 where it names none.
-    fn judge_member(&self, line: &[u8]) -> Result<u8, Cause>
-        ensures { Judges result (member_rule self.now (fields_of line.now)) (group_in self.now (fields_of line.now)) }
+    fn judge_member(&self, fields: &Fields) -> Result<u8, Cause>
+        ensures { Judges result (member_rule self.now fields.now) (group_in self.now fields.now) }
     {
-        if Keyword::Group.is(field(line, 2)) {
-            self.judge_group_named(field(line, 3))
+        if Keyword::Group.is(fields.at(2)) {
+            self.judge_group_named(fields.at(3))
         } else {
             Ok(0)
         }
@@ -73,10 +74,10 @@ impl Draft {
 }
 
 // Whether the line has a form that the version has.
-fn is_caller_line(version: Version, line: &[u8]) -> bool
-    ensures { result ≡ is_caller_line version (fields_of line.now) }
+fn is_caller_line(version: Version, fields: &Fields) -> bool
+    ensures { result ≡ is_caller_line version fields.now }
 {
-    has_form(&CALLER_FORM, line) || (version.has_groups() && has_form(&MEMBER_FORM, line))
+    has_form(&CALLER_FORM, fields) || (version.has_groups() && has_form(&MEMBER_FORM, fields))
 }
 
 pub(crate) fn caller_line(

@@ -1,18 +1,19 @@
 //! The line of a group: judging it, adding the group, and its text.
 ghost use Rattle.std.specs.Prelude.{◌≡◌, ◌<◌, is_some, OnOk, OnErr, IfSome, position, length, IfOk, string_bytes};
-ghost use Rattle.scenario_reader.specs.Causes.{Judges, States};
+ghost use Rattle.scenario_reader.specs.Causes.{AnswersWithRoom, Judges, States, judged};
 ghost use Rattle.scenario_reader.specs.Drafts.{group_named, with_item};
-ghost use Rattle.scenario_reader.specs.Fields.{fields_of, field_at};
+ghost use Rattle.scenario_reader.specs.Fields.{field_at};
 ghost use Rattle.scenario_reader.specs.Forms.{new_name_rule, used_name_rule, is_among};
 ghost use Rattle.scenario_reader.specs.line.Group.{group_rule, group_text, group_name};
 ghost use Rattle.scenario_reader.specs.line.Table.{MayAdd};
 ghost use Rattle.call_script.specs.Rules.{is_named};
 ghost use Rattle.scenario_reader.specs.declared.item.Item.TheVariants as item;
 
-use crate::cause::Cause;
+use crate::cause::{Cause, LineFault};
 use crate::draft::Draft;
-use crate::fields::field;
+use crate::fields::Fields;
 use crate::form::{Keyword, Part, has_form};
+use crate::item::Item;
 use crate::values::{name, require};
 use net_units::{Name, OutOfMemory};
 use std::alloc::Global;
@@ -23,14 +24,14 @@ const MOST_GROUPS: usize = 4;
 const GROUP_FORM: [Part; 2] = [Part::Word(Keyword::Group), Part::Field];
 
 impl Draft {
-    // The name of the group that the line says.
-    pub(crate) fn judge_group(&self, line: &[u8]) -> Result<Name, Cause>
-        ensures { Judges result (group_rule self.now (fields_of line.now)) (field_at (fields_of line.now) 1) }
+    // The group that the line says.
+    pub(crate) fn judge_group(&self, fields: &Fields) -> Result<Item, LineFault>
+        ensures { AnswersWithRoom result (judged (group_rule self.now fields.now) (item.Group (field_at fields.now 1))) }
     {
-        require(has_form(&GROUP_FORM, line), Cause::Shape)?;
-        let group = self.judge_new_group(field(line, 1))?;
+        require(has_form(&GROUP_FORM, fields), Cause::Shape)?;
+        let group = self.judge_new_group(fields.at(1))?;
         require(self.groups.len() < MOST_GROUPS, Cause::Many)?;
-        Ok(group)
+        Ok(Item::Group(group))
     }
 
     // The new name that a field holds, which no group has.

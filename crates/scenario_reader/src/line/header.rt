@@ -1,34 +1,34 @@
 //! The header: judging it, adding it, and its text.
 ghost use Rattle.std.specs.Prelude.{◌≡◌, IfOk, string_bytes};
-ghost use Rattle.scenario_reader.specs.Fields.{fields_of};
+ghost use Rattle.scenario_reader.specs.Causes.{AnswersWithRoom};
 ghost use Rattle.text_writer.specs.Lines.{whole_line};
 ghost use Rattle.scenario_reader.specs.line.Header.{version_in, header_version, header_said, header_fields};
 ghost use Rattle.scenario_reader.specs.Drafts.{with_item};
 ghost use Rattle.scenario_reader.specs.line.Table.{MayAdd};
 ghost use Rattle.scenario_reader.specs.declared.item.Item.TheVariants as item;
 
-use crate::cause::Cause;
+use crate::cause::{Cause, LineFault};
 use crate::draft::Draft;
-use crate::fields::{field, field_count};
+use crate::fields::Fields;
 use crate::item::Item;
 use call_script::Version;
 use net_units::OutOfMemory;
 use std::alloc::Global;
 
-pub(crate) fn judge_header(line: &[u8]) -> Result<Item, Cause>
-    ensures { result ≡ header_said (header_version (fields_of line.now)) }
+pub(crate) fn judge_header(fields: &Fields) -> Result<Item, LineFault>
+    ensures { AnswersWithRoom result (header_said (header_version fields.now)) }
 {
-    match header_version(line) {
+    match header_version(fields) {
         Some(version) => Ok(Item::Header(version)),
-        None => Err(Cause::Header),
+        None => Err(LineFault::Refused(Cause::Header)),
     }
 }
 
-fn header_version(line: &[u8]) -> Option<Version>
-    ensures { result ≡ header_version (fields_of line.now) }
+fn header_version(fields: &Fields) -> Option<Version>
+    ensures { result ≡ header_version fields.now }
 {
-    if field_count(line) == 2 && field(line, 0) == b"tenet".as_slice() {
-        version_in(field(line, 1))
+    if fields.count() == 2 && fields.at(0) == b"tenet".as_slice() {
+        version_in(fields.at(1))
     } else {
         None
     }

@@ -3,9 +3,9 @@ ghost use Rattle.std.specs.Prelude.{ℕ, ◌≡◌, ◌≤◌, ◌<◌, IfOk, Li
 ghost use Rattle.net_units.specs.Limits.{most_best};
 ghost use Rattle.net_units.specs.Numbers.{link_at};
 ghost use Rattle.call_script.specs.Versions.{test_of};
-ghost use Rattle.scenario_reader.specs.Causes.{Judges, States, unless};
+ghost use Rattle.scenario_reader.specs.Causes.{AnswersWithRoom, Judges, States, stated, unless};
 ghost use Rattle.scenario_reader.specs.Entries.{has_bounds, shape_of};
-ghost use Rattle.scenario_reader.specs.Fields.{fields_of, spaced};
+ghost use Rattle.scenario_reader.specs.Fields.{spaced};
 ghost use Rattle.scenario_reader.specs.line.LinkFields.{AreFigures, link_told, numbers_with, figures_in};
 ghost use Rattle.scenario_reader.specs.line.Link.{is_link_line, bound_fields, bounds_of, link_fields_rule, link_rule, link_said, has_best, bound_start, best_in, link_numbers_rule, best_rule, bound_numbers_rule, best_fields, bounds_fields, link_text, link_line_front};
 ghost use Rattle.scenario_reader.specs.Drafts.{link_named, shape_in, with_item};
@@ -14,10 +14,11 @@ ghost use Rattle.scenario_reader.specs.line.Table.{MayAdd};
 ghost use Rattle.scenario_reader.specs.Decimal.{value_of};
 ghost use Rattle.scenario_reader.specs.declared.item.Item.TheVariants as item;
 
-use crate::cause::Cause;
+use crate::cause::{Cause, LineFault};
 use crate::draft::Draft;
-use crate::fields::{field, field_count};
+use crate::fields::Fields;
 use crate::form::{Keyword, Part, has_form};
+use crate::item::Item;
 use crate::values::{name, new_name, number, require};
 use call_script::{LinkEntry, Quotas, Version};
 use link_steps::LinkShape;
@@ -86,17 +87,29 @@ struct LinkFields {
 }
 
 impl Draft {
-    // The link that the line says.
+    // What the line says.
     pub(crate) fn judge_link(
         &self,
         alloc: Global,
         version: Version,
-        line: &[u8],
-    ) -> Result<LinkEntry, Cause>
-        ensures { States result (link_rule version self.now (fields_of line.now)) (link_said version self.now (fields_of line.now)) }
+        fields: &Fields,
+    ) -> Result<Item, LineFault>
+        ensures { AnswersWithRoom result (stated (link_rule version self.now fields.now) (option_map item.Link (link_said version self.now fields.now))) }
     {
-        require(is_link_line(version, line), Cause::Shape)?;
-        let link = self.judge_link_fields(line)?;
+        Ok(Item::Link(self.judge_entry(alloc, version, fields)?))
+    }
+
+    // The link that the line says.
+    fn judge_entry(
+        &self,
+        alloc: Global,
+        version: Version,
+        fields: &Fields,
+    ) -> Result<LinkEntry, Cause>
+        ensures { States result (link_rule version self.now fields.now) (link_said version self.now fields.now) }
+    {
+        require(is_link_line(version, fields), Cause::Shape)?;
+        let link = self.judge_link_fields(fields)?;
         require(self.links.len() < usize::from(MOST_LINKS), Cause::Many)?;
         let shape = self.judge_shape(version, &link)?;
         Ok(LinkEntry {
@@ -109,18 +122,18 @@ impl Draft {
     }
 
     // The fields after its word, from left to right.
-    fn judge_link_fields(&self, line: &[u8]) -> Result<LinkFields, Cause>
-        requires { length (bound_fields (fields_of line.now)) ≤ 8 }
-        ensures judged { Judges result (link_fields_rule self.now (fields_of line.now)) (link_told (fields_of line.now)) }
+    fn judge_link_fields(&self, fields: &Fields) -> Result<LinkFields, Cause>
+        requires { length (bound_fields fields.now) ≤ 8 }
+        ensures judged { Judges result (link_fields_rule self.now fields.now) (link_told fields.now) }
         ensures figures { IfOk result (λ link. AreFigures link.figures) }
         ensures best { IfOk result (λ link. link.best ≤ most_best) }
     {
-        let link_name = new_name(field(line, 1), &self.link_names)?;
-        let from = name(field(line, 2))?;
-        let to = name(field(line, 3))?;
-        let figures = judge_figures(line)?;
-        let best = judge_best(line)?;
-        let bounds = judge_bounds(line)?;
+        let link_name = new_name(fields.at(1), &self.link_names)?;
+        let from = name(fields.at(2))?;
+        let to = name(fields.at(3))?;
+        let figures = judge_figures(fields)?;
+        let best = judge_best(fields)?;
+        let bounds = judge_bounds(fields)?;
         Ok(LinkFields {
             name: link_name,
             from,
@@ -187,29 +200,29 @@ impl Draft {
 
 // Whether the line has a form that the version has. Up to 8 bounds stand in it then.
 #[tactic(auto, using(crate::proofs::kind::LinkForm::plain_few, crate::proofs::kind::LinkForm::best_few))]
-fn is_link_line(version: Version, line: &[u8]) -> bool
-    ensures value { result ≡ is_link_line version (fields_of line.now) }
-    ensures few { IsTrue result → length (bound_fields (fields_of line.now)) ≤ 8 }
+fn is_link_line(version: Version, fields: &Fields) -> bool
+    ensures value { result ≡ is_link_line version fields.now }
+    ensures few { IsTrue result → length (bound_fields fields.now) ≤ 8 }
 {
-    has_form(&PLAIN_FORM, line) || (version.has_best_effort() && has_form(&BEST_FORM, line))
+    has_form(&PLAIN_FORM, fields) || (version.has_best_effort() && has_form(&BEST_FORM, fields))
 }
 
 // Whether best-effort packets stand after the buffer.
-fn has_best(line: &[u8]) -> bool
-    ensures { result ≡ has_best (fields_of line.now) }
+fn has_best(fields: &Fields) -> bool
+    ensures { result ≡ has_best fields.now }
 {
-    Keyword::Best.is(field(line, 12))
+    Keyword::Best.is(fields.at(12))
 }
 
 // The four numbers between the nodes and the bounds.
-fn judge_figures(line: &[u8]) -> Result<Figures, Cause>
-    ensures judged { Judges result (link_numbers_rule (fields_of line.now)) (figures_in (fields_of line.now)) }
+fn judge_figures(fields: &Fields) -> Result<Figures, Cause>
+    ensures judged { Judges result (link_numbers_rule fields.now) (figures_in fields.now) }
     ensures figures { IfOk result AreFigures }
 {
-    let rate = number(field(line, 5), 1, u64::from(MOST_RATE))?;
-    let cap = number(field(line, 7), 1, u64::from(MOST_SIZE))?;
-    let prop = number(field(line, 9), 0, u64::from(MOST_PROPAGATION))?;
-    let buffer = number(field(line, 11), 0, u64::from(MOST_BUFFER))?;
+    let rate = number(fields.at(5), 1, u64::from(MOST_RATE))?;
+    let cap = number(fields.at(7), 1, u64::from(MOST_SIZE))?;
+    let prop = number(fields.at(9), 0, u64::from(MOST_PROPAGATION))?;
+    let buffer = number(fields.at(11), 0, u64::from(MOST_BUFFER))?;
     Ok(Figures {
         rate: rate as u32,
         cap: cap as u32,
@@ -219,34 +232,34 @@ fn judge_figures(line: &[u8]) -> Result<Figures, Cause>
 }
 
 // How many best-effort packets may wait, 0 where the line doesn't say it.
-fn judge_best(line: &[u8]) -> Result<u32, Cause>
-    ensures judged { Judges result (best_rule (fields_of line.now)) (best_in (fields_of line.now)) }
+fn judge_best(fields: &Fields) -> Result<u32, Cause>
+    ensures judged { Judges result (best_rule fields.now) (best_in fields.now) }
     ensures most { IfOk result (λ best. best ≤ most_best) }
 {
-    if has_best(line) {
-        Ok(number(field(line, 13), 1, u64::from(MOST_BEST))? as u32)
+    if has_best(fields) {
+        Ok(number(fields.at(13), 1, u64::from(MOST_BEST))? as u32)
     } else {
         Ok(0)
     }
 }
 
 // Where the bounds of the levels begin.
-fn bound_start(line: &[u8]) -> usize
-    ensures { result ≡ bound_start (fields_of line.now) }
+fn bound_start(fields: &Fields) -> usize
+    ensures { result ≡ bound_start fields.now }
 {
-    if has_best(line) { 15 } else { 13 }
+    if has_best(fields) { 15 } else { 13 }
 }
 
 // The bounds that the last fields are, None where they don't rise.
-fn judge_bounds(line: &[u8]) -> Result<Option<Bounds>, Cause>
-    requires { length (bound_fields (fields_of line.now)) ≤ 8 }
-    ensures { Judges result (bound_numbers_rule (bound_fields (fields_of line.now))) (bounds_of (map value_of (bound_fields (fields_of line.now)))) }
+fn judge_bounds(fields: &Fields) -> Result<Option<Bounds>, Cause>
+    requires { length (bound_fields fields.now) ≤ 8 }
+    ensures { Judges result (bound_numbers_rule (bound_fields fields.now)) (bounds_of (map value_of (bound_fields fields.now))) }
 {
-    let start = bound_start(line);
-    let count = field_count(line).saturating_sub(start);
+    let start = bound_start(fields);
+    let count = fields.count().saturating_sub(start);
     let mut cells = [0; MOST_LEVELS as usize];
     for place in 0..count {
-        cells[place] = number(field(line, start + place), 1, u64::from(MOST_BOUND))? as u32;
+        cells[place] = number(fields.at(start + place), 1, u64::from(MOST_BOUND))? as u32;
     }
     Ok(Bounds::new(&cells[..count]))
 }

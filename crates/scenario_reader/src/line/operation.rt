@@ -12,7 +12,7 @@ ghost use Rattle.call_script.specs.Rules.{hops_of, load_of, loads_in};
 ghost use Rattle.scenario_reader.specs.line.Table.{MayAdd};
 ghost use Rattle.net_units.specs.Limits.{most_packets};
 ghost use Rattle.scenario_reader.specs.Decimal.{value_of};
-ghost use Rattle.scenario_reader.specs.Fields.{fields_of, field_at};
+ghost use Rattle.scenario_reader.specs.Fields.{field_at};
 ghost use Rattle.scenario_reader.specs.line.Operation.{op_text};
 ghost use Rattle.scenario_reader.specs.declared.item.Item.TheVariants as item;
 
@@ -23,7 +23,7 @@ pub(crate) mod send;
 
 use crate::cause::Cause;
 use crate::draft::Draft;
-use crate::fields::field;
+use crate::fields::Fields;
 use crate::line::operation::close::close_line;
 use crate::line::operation::moving::move_line;
 use crate::line::operation::pour::pour_line;
@@ -128,17 +128,17 @@ impl Draft {
 }
 
 // The count, the gap and the size of a send or a pour.
-pub(crate) fn judge_packets(line: &[u8]) -> Result<Packets, Cause>
-    ensures judged { Judges result (packets_rule (fields_of line.now)) (record {
-      count = value_of (field_at (fields_of line.now) 2);
-      gap = value_of (field_at (fields_of line.now) 3);
-      size = value_of (field_at (fields_of line.now) 4);
+pub(crate) fn judge_packets(fields: &Fields) -> Result<Packets, Cause>
+    ensures judged { Judges result (packets_rule fields.now) (record {
+      count = value_of (field_at fields.now 2);
+      gap = value_of (field_at fields.now 3);
+      size = value_of (field_at fields.now 4);
     }) }
     ensures range { IfOk result (λ packets. packets.count ≤ most_packets) }
 {
-    let count = number(field(line, 2), 1, MOST_PACKETS)?;
-    let gap = number(field(line, 3), 1, u64::from(MOST_GAP))?;
-    let size = number(field(line, 4), 1, u64::from(MOST_SIZE))?;
+    let count = number(fields.at(2), 1, MOST_PACKETS)?;
+    let gap = number(fields.at(3), 1, u64::from(MOST_GAP))?;
+    let size = number(fields.at(4), 1, u64::from(MOST_SIZE))?;
     Ok(Packets {
         count,
         gap,

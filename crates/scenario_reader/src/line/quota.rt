@@ -3,9 +3,9 @@ ghost use Rattle.std.specs.Prelude.{◌≡◌, ◌<◌, IfOk, is_some, position,
 ghost use Rattle.std.specs.List.{slice_get};
 ghost use Rattle.call_script.specs.Groups.{has_group, quotas_fit};
 ghost use Rattle.call_script.specs.Rules.{is_named, link_names};
-ghost use Rattle.scenario_reader.specs.Causes.{States, Judges};
+ghost use Rattle.scenario_reader.specs.Causes.{AnswersWithRoom, Judges, States, stated};
 ghost use Rattle.scenario_reader.specs.Drafts.{link_named, with_item};
-ghost use Rattle.scenario_reader.specs.Fields.{fields_of, spaced};
+ghost use Rattle.scenario_reader.specs.Fields.{spaced};
 ghost use Rattle.scenario_reader.specs.Forms.{used_name_rule, has_form};
 ghost use Rattle.scenario_reader.specs.line.Quota.{quota_rule, quota_said, quota_form, load_fields, in_eight, quota_of, loads_rule, quota_numbers_rule, quota_text};
 ghost use Rattle.call_script.specs.Growing.{add_quota};
@@ -14,9 +14,9 @@ ghost use Rattle.scenario_reader.specs.Decimal.{value_of};
 ghost use Rattle.std.specs.Fmt.{decimal};
 ghost use Rattle.scenario_reader.specs.declared.item.Item.TheVariants as item;
 
-use crate::cause::Cause;
+use crate::cause::{Cause, LineFault};
 use crate::draft::Draft;
-use crate::fields::{field, field_count};
+use crate::fields::Fields;
 use crate::form::{Keyword, Part, has_form};
 use crate::item::Item;
 use crate::line::group::group_name;
@@ -42,16 +42,16 @@ const LOAD_START: usize = 6;
 
 impl Draft {
     // The quota that the line says, with the number of its link.
-    pub(crate) fn judge_quota(&self, line: &[u8]) -> Result<Item, Cause>
-        ensures { States result (quota_rule self.now (fields_of line.now)) (quota_said self.now (fields_of line.now)) }
+    pub(crate) fn judge_quota(&self, fields: &Fields) -> Result<Item, LineFault>
+        ensures { AnswersWithRoom result (stated (quota_rule self.now fields.now) (quota_said self.now fields.now)) }
     {
-        require(is_quota_line(line), Cause::Shape)?;
-        let place = self.judge_link_place(field(line, 1))?;
-        let group = self.judge_group_named(field(line, 2))?;
+        require(is_quota_line(fields), Cause::Shape)?;
+        let place = self.judge_link_place(fields.at(1))?;
+        let group = self.judge_group_named(fields.at(2))?;
         let entry = &self.links[place];
         require(!has_group(group, entry.quotas.as_slice()), Cause::Known)?;
-        let quota = judge_numbers(line, group)?;
-        require(is_fit(load_count(line), entry, &quota), Cause::Quota)?;
+        let quota = judge_numbers(fields, group)?;
+        require(is_fit(load_count(fields), entry, &quota), Cause::Quota)?;
         Ok(Item::Quota {
             link: entry.shape.link,
             quota,
@@ -80,18 +80,18 @@ impl Draft {
 
 // Whether the line has its form. Up to 8 loads stand in it then.
 #[tactic(auto, using(crate::proofs::kind::QuotaForm::quota_few))]
-fn is_quota_line(line: &[u8]) -> bool
-    ensures value { result ≡ has_form quota_form (fields_of line.now) }
-    ensures few { IsTrue result → length (load_fields (fields_of line.now)) ≤ 8 }
+fn is_quota_line(fields: &Fields) -> bool
+    ensures value { result ≡ has_form quota_form fields.now }
+    ensures few { IsTrue result → length (load_fields fields.now) ≤ 8 }
 {
-    has_form(&QUOTA_FORM, line)
+    has_form(&QUOTA_FORM, fields)
 }
 
 // How many loads stand in it.
-fn load_count(line: &[u8]) -> usize
-    ensures { result ≡ length (load_fields (fields_of line.now)) }
+fn load_count(fields: &Fields) -> usize
+    ensures { result ≡ length (load_fields fields.now) }
 {
-    field_count(line).saturating_sub(LOAD_START)
+    fields.count().saturating_sub(LOAD_START)
 }
 
 // Whether a quota of these is of this group.
@@ -109,12 +109,12 @@ fn is_fit(count: usize, entry: &LinkEntry, quota: &Quota) -> bool
 }
 
 // The quota of this group with the line's numbers.
-fn judge_numbers(line: &[u8], group: u8) -> Result<Quota, Cause>
-    requires { length (load_fields (fields_of line.now)) ≤ 8 }
-    ensures { Judges result (quota_numbers_rule (fields_of line.now)) (quota_of (fields_of line.now) group) }
+fn judge_numbers(fields: &Fields, group: u8) -> Result<Quota, Cause>
+    requires { length (load_fields fields.now) ≤ 8 }
+    ensures { Judges result (quota_numbers_rule fields.now) (quota_of fields.now group) }
 {
-    let buffer = number(field(line, 4), 0, u64::from(MOST_BUFFER))?;
-    let levels = judge_loads(line)?;
+    let buffer = number(fields.at(4), 0, u64::from(MOST_BUFFER))?;
+    let levels = judge_loads(fields)?;
     Ok(Quota {
         group,
         buffer: buffer as u32,
@@ -123,14 +123,14 @@ fn judge_numbers(line: &[u8], group: u8) -> Result<Quota, Cause>
 }
 
 // The loads that the last fields are, and 0 in the places after them.
-fn judge_loads(line: &[u8]) -> Result<[u32; MOST_LEVELS as usize], Cause>
-    requires { length (load_fields (fields_of line.now)) ≤ 8 }
-    ensures { Judges result (loads_rule (load_fields (fields_of line.now))) (in_eight (map value_of (load_fields (fields_of line.now)))) }
+fn judge_loads(fields: &Fields) -> Result<[u32; MOST_LEVELS as usize], Cause>
+    requires { length (load_fields fields.now) ≤ 8 }
+    ensures { Judges result (loads_rule (load_fields fields.now)) (in_eight (map value_of (load_fields fields.now))) }
 {
-    let count = load_count(line);
+    let count = load_count(fields);
     let mut cells = [0; MOST_LEVELS as usize];
     for place in 0..count {
-        cells[place] = number(field(line, LOAD_START + place), 0, u64::from(MOST_BOUND))? as u32;
+        cells[place] = number(fields.at(LOAD_START + place), 0, u64::from(MOST_BOUND))? as u32;
     }
     Ok(cells)
 }

@@ -1,9 +1,8 @@
 //! The line of a request that is opened: judging it, and adding the request.
 ghost use Rattle.std.specs.Prelude.{ℕ, ◌≡◌, ◌+◌, ◌<◌, ◌≤◌, List, false, IfOk, [], length, OnOk, OnErr, IsTrue, ◌++◌, ◌∷◌, vec_len, vec_capacity};
 ghost use Rattle.net_units.specs.Numbers.{actor_at, channel_at};
-ghost use Rattle.scenario_reader.specs.Causes.{Judges, JudgesWithRoom};
+ghost use Rattle.scenario_reader.specs.Causes.{AnswersWithRoom, Judges, JudgesWithRoom, judged};
 ghost use Rattle.scenario_reader.specs.Drafts.{last_caller, with_item};
-ghost use Rattle.scenario_reader.specs.Fields.{fields_of};
 ghost use Rattle.scenario_reader.specs.line.RequestFields.{open_in, HasNodes};
 ghost use Rattle.scenario_reader.specs.line.Request.{is_open_line, is_found, route_hops, after_route, open_fields_rule, open_limits_rule, open_rule, request_said, is_found_line, control_in, contract_told, contract_of, terms_rule, jitter_rule};
 ghost use Rattle.scenario_reader.specs.line.Table.{MayAdd};
@@ -16,8 +15,9 @@ pub mod way;
 
 use crate::cause::{Cause, LineFault};
 use crate::draft::Draft;
-use crate::fields::field;
+use crate::fields::Fields;
 use crate::form::{Keyword, Part, has_form, route_length};
+use crate::item::Item;
 use crate::line::operation::add_op;
 use crate::line::request::way::Way;
 use crate::uses::blank;
@@ -108,33 +108,45 @@ struct OpenFields {
 }
 
 impl Draft {
-    // The request that the line says.
+    // What the line says.
     pub(crate) fn judge_open(
         &self,
         alloc: Global,
         version: Version,
-        line: &[u8],
-    ) -> Result<RequestEntry, LineFault>
-        ensures { JudgesWithRoom result (open_rule version self.now (fields_of line.now)) (request_said self.now (fields_of line.now)) }
+        fields: &Fields,
+    ) -> Result<Item, LineFault>
+        ensures { AnswersWithRoom result (judged (open_rule version self.now fields.now) (item.Open (request_said self.now fields.now))) }
     {
-        require(is_open_line(version, line), Cause::Shape)?;
-        let asked = self.judge_open_fields(line)?;
+        Ok(Item::Open(self.judge_request(alloc, version, fields)?))
+    }
+
+    // The request that the line says.
+    fn judge_request(
+        &self,
+        alloc: Global,
+        version: Version,
+        fields: &Fields,
+    ) -> Result<RequestEntry, LineFault>
+        ensures { JudgesWithRoom result (open_rule version self.now fields.now) (request_said self.now fields.now) }
+    {
+        require(is_open_line(version, fields), Cause::Shape)?;
+        let asked = self.judge_open_fields(fields)?;
         self.judge_open_limits(alloc, &asked)
     }
 
     // The fields after its word, from left to right.
-    fn judge_open_fields(&self, line: &[u8]) -> Result<OpenFields, Cause>
-        requires least { is_found (fields_of line.now) ≡ false → 1 ≤ route_hops (fields_of line.now) }
-        requires most { route_hops (fields_of line.now) ≤ 16 }
-        ensures judged { Judges result (open_fields_rule self.now (fields_of line.now)) (open_in self.now (fields_of line.now)) }
+    fn judge_open_fields(&self, fields: &Fields) -> Result<OpenFields, Cause>
+        requires least { is_found fields.now ≡ false → 1 ≤ route_hops fields.now }
+        requires most { route_hops fields.now ≤ 16 }
+        ensures judged { Judges result (open_fields_rule self.now fields.now) (open_in self.now fields.now) }
         ensures nodes { IfOk result (λ asked. HasNodes self.now asked.way) }
     {
-        let request_name = new_name(field(line, 1), &self.request_names)?;
-        let hops = route_length(line, 3);
-        let way = self.judge_way_fields(line, hops)?;
-        let contract = judge_terms(line, hops)?;
-        let delay = number(after_route(line, hops, 6), 1, MOST_DELAY)?;
-        let control = judge_control(line, hops)?;
+        let request_name = new_name(fields.at(1), &self.request_names)?;
+        let hops = route_length(fields, 3);
+        let way = self.judge_way_fields(fields, hops)?;
+        let contract = judge_terms(fields, hops)?;
+        let delay = number(after_route(fields, hops, 6), 1, MOST_DELAY)?;
+        let control = judge_control(fields, hops)?;
         Ok(OpenFields {
             name: request_name,
             way,
@@ -202,53 +214,53 @@ impl Draft {
 
 // Whether the line has one of the forms of an open line. A route that is written has then 1 to 16 links.
 #[tactic(auto, using(crate::proofs::kind::RequestForm::open_line_few))]
-fn is_open_line(version: Version, line: &[u8]) -> bool
-    ensures value { result ≡ is_open_line version (fields_of line.now) }
-    ensures least { IsTrue result → is_found (fields_of line.now) ≡ false → 1 ≤ route_hops (fields_of line.now) }
-    ensures most { IsTrue result → route_hops (fields_of line.now) ≤ 16 }
+fn is_open_line(version: Version, fields: &Fields) -> bool
+    ensures value { result ≡ is_open_line version fields.now }
+    ensures least { IsTrue result → is_found fields.now ≡ false → 1 ≤ route_hops fields.now }
+    ensures most { IsTrue result → route_hops fields.now ≤ 16 }
 {
-    has_form(&RATE_FORM, line)
-        || has_form(&JITTER_FORM, line)
-        || version.has_found_routes() && is_found_line(line)
+    has_form(&RATE_FORM, fields)
+        || has_form(&JITTER_FORM, fields)
+        || version.has_found_routes() && is_found_line(fields)
 }
 
-fn is_found_line(line: &[u8]) -> bool
-    ensures { result ≡ is_found_line (fields_of line.now) }
+fn is_found_line(fields: &Fields) -> bool
+    ensures { result ≡ is_found_line fields.now }
 {
-    has_form(&FOUND_RATE_FORM, line) || has_form(&FOUND_JITTER_FORM, line)
+    has_form(&FOUND_RATE_FORM, fields) || has_form(&FOUND_JITTER_FORM, fields)
 }
 
 // The field that stands this many places after the route, from 0: the word `contract` and what follows it.
-fn after_route(line: &[u8], hops: usize, place: usize) -> &[u8]
-    requires hops { hops ≡ route_hops (fields_of line.now) }
+fn after_route<'a>(fields: &Fields<'a>, hops: usize, place: usize) -> &'a [u8]
+    requires hops { hops ≡ route_hops fields.now }
     requires few { hops ≤ 16 }
     requires near { place ≤ 8 }
-    ensures { result.now ≡ after_route (fields_of line.now) place }
+    ensures { result.now ≡ after_route fields.now place }
 {
-    field(line, 3 + hops + place)
+    fields.at(3 + hops + place)
 }
 
 // The contract that the four numbers after the route are, None where they aren't one.
-fn judge_terms(line: &[u8], hops: usize) -> Result<Option<Contract>, Cause>
-    requires hops { hops ≡ route_hops (fields_of line.now) }
+fn judge_terms(fields: &Fields, hops: usize) -> Result<Option<Contract>, Cause>
+    requires hops { hops ≡ route_hops fields.now }
     requires few { hops ≤ 16 }
-    ensures { Judges result (terms_rule (fields_of line.now)) (contract_of (contract_told (fields_of line.now))) }
+    ensures { Judges result (terms_rule fields.now) (contract_of (contract_told fields.now)) }
 {
-    let xmin = number(after_route(line, hops, 1), 1, u64::from(MOST_GAP))?;
-    let xave = number(after_route(line, hops, 2), 1, u64::from(MOST_GAP))?;
-    let interval = number(after_route(line, hops, 3), 1, u64::from(MOST_INTERVAL))?;
-    let smax = number(after_route(line, hops, 4), 1, u64::from(MOST_SIZE))?;
+    let xmin = number(after_route(fields, hops, 1), 1, u64::from(MOST_GAP))?;
+    let xave = number(after_route(fields, hops, 2), 1, u64::from(MOST_GAP))?;
+    let interval = number(after_route(fields, hops, 3), 1, u64::from(MOST_INTERVAL))?;
+    let smax = number(after_route(fields, hops, 4), 1, u64::from(MOST_SIZE))?;
     Ok(Contract::new(xmin as u32, xave as u32, interval as u32, smax as u32).ok())
 }
 
 // Delay-jitter control with its bound, where the line has one, or else rate-jitter control.
-fn judge_control(line: &[u8], hops: usize) -> Result<Control, Cause>
-    requires hops { hops ≡ route_hops (fields_of line.now) }
+fn judge_control(fields: &Fields, hops: usize) -> Result<Control, Cause>
+    requires hops { hops ≡ route_hops fields.now }
     requires few { hops ≤ 16 }
-    ensures { Judges result (jitter_rule (fields_of line.now)) (control_in (fields_of line.now)) }
+    ensures { Judges result (jitter_rule fields.now) (control_in fields.now) }
 {
-    if Keyword::Jitter.is(after_route(line, hops, 7)) {
-        let bound = number(after_route(line, hops, 8), 1, MOST_DELAY)?;
+    if Keyword::Jitter.is(after_route(fields, hops, 7)) {
+        let bound = number(after_route(fields, hops, 8), 1, MOST_DELAY)?;
         Ok(Control::Jitter(bound))
     } else {
         Ok(Control::Rate)

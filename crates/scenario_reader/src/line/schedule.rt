@@ -1,17 +1,17 @@
 //! The line `schedule` and its `do` lines: judging them, adding what they say, and their text.
-ghost use Rattle.std.specs.Prelude.{◌≤◌, IfOk, ◌≡◌, OnOk, OnErr, string_bytes};
-ghost use Rattle.scenario_reader.specs.Causes.{States, Judges};
-ghost use Rattle.scenario_reader.specs.Fields.{fields_of};
+ghost use Rattle.std.specs.Prelude.{◌≤◌, IfOk, ◌≡◌, OnOk, OnErr, option_map, string_bytes};
+ghost use Rattle.scenario_reader.specs.Causes.{AnswersWithRoom, States, judged, stated};
 ghost use Rattle.text_writer.specs.Lines.{whole_line};
 ghost use Rattle.scenario_reader.specs.line.Schedule.{actor_rule, actor_named, actor_said, do_rule, do_said, schedule_rule, do_text, schedule_fields};
 ghost use Rattle.scenario_reader.specs.Drafts.{with_item};
 ghost use Rattle.scenario_reader.specs.line.Table.{MayAdd};
 ghost use Rattle.scenario_reader.specs.declared.item.Item.TheVariants as item;
 
-use crate::cause::Cause;
+use crate::cause::{Cause, LineFault};
 use crate::draft::Draft;
-use crate::fields::field;
+use crate::fields::Fields;
 use crate::form::{Keyword, Part, has_form};
+use crate::item::Item;
 use crate::values::{name, number, require};
 use call_script::{CallerEntry, Do, actor_name};
 use net_units::limits::MOST_STEPS;
@@ -23,17 +23,17 @@ const SCHEDULE_FORM: [Part; 1] = [Part::Word(Keyword::Schedule)];
 const DO_FORM: [Part; 3] = [Part::Word(Keyword::Do), Part::Field, Part::Field];
 
 impl Draft {
-    pub(crate) fn judge_do(&self, number_of_line: u64, line: &[u8]) -> Result<Do, Cause>
-        ensures { States result (do_rule self.now (fields_of line.now)) (do_said self.now number_of_line (fields_of line.now)) }
+    pub(crate) fn judge_do(&self, number_of_line: u64, fields: &Fields) -> Result<Item, LineFault>
+        ensures { AnswersWithRoom result (stated (do_rule self.now fields.now) (option_map item.Do (do_said self.now number_of_line fields.now))) }
     {
-        require(has_form(&DO_FORM, line), Cause::Shape)?;
-        let actor = self.judge_actor(field(line, 1))?;
-        let count = number(field(line, 2), 1, MOST_STEPS)?;
-        Ok(Do {
+        require(has_form(&DO_FORM, fields), Cause::Shape)?;
+        let actor = self.judge_actor(fields.at(1))?;
+        let count = number(fields.at(2), 1, MOST_STEPS)?;
+        Ok(Item::Do(Do {
             line: number_of_line,
             actor,
             count,
-        })
+        }))
     }
 
     // The actor that a field names.
@@ -73,10 +73,11 @@ impl Draft {
     }
 }
 
-pub(crate) fn judge_schedule(line: &[u8]) -> Result<(), Cause>
-    ensures { Judges result (schedule_rule (fields_of line.now)) tt }
+pub(crate) fn judge_schedule(fields: &Fields) -> Result<Item, LineFault>
+    ensures { AnswersWithRoom result (judged (schedule_rule fields.now) item.Schedule) }
 {
-    require(has_form(&SCHEDULE_FORM, line), Cause::Shape)
+    require(has_form(&SCHEDULE_FORM, fields), Cause::Shape)?;
+    Ok(Item::Schedule)
 }
 
 pub(crate) fn schedule_line(alloc: Global) -> Result<String, OutOfMemory>

@@ -2,18 +2,16 @@
 ghost use Rattle.std.specs.Prelude.{◌≡◌, OnOk, OnErr};
 ghost use Rattle.scenario_reader.specs.Causes.{AnswersWithRoom};
 ghost use Rattle.scenario_reader.specs.Drafts.{has_quotas, with_item};
-ghost use Rattle.scenario_reader.specs.Fields.{fields_of};
 ghost use Rattle.scenario_reader.specs.line.Table.{may_stand, judge_as, is_before_callers, MayAdd, line_word};
 
 use crate::cause::{Cause, LineFault};
 use crate::draft::Draft;
-use crate::fields::field;
+use crate::fields::Fields;
 use crate::form::Keyword;
 use crate::item::Item;
 use crate::line::rounds::judge_rounds;
 use crate::line::schedule::judge_schedule;
-use call_script::{Do, LinkEntry, Op, Version};
-use link_steps::Quota;
+use call_script::{LinkEntry, Version};
 use net_units::OutOfMemory;
 use std::alloc::Global;
 
@@ -24,30 +22,24 @@ impl Draft {
         word: Keyword,
         version: Version,
         number: u64,
-        line: &[u8],
+        fields: &Fields,
     ) -> Result<Item, LineFault>
-        ensures { AnswersWithRoom result (judge_as word version self.now number (fields_of line.now)) }
+        ensures { AnswersWithRoom result (judge_as word version self.now number fields.now) }
     {
         match word {
-            Keyword::Link => Ok(Item::Link(self.judge_link(alloc, version, line)?)),
-            Keyword::Group => Ok(Item::Group(self.judge_group(line)?)),
-            Keyword::Quota => Ok(self.judge_quota(line)?),
-            Keyword::Caller => {
-                let (name, group) = self.judge_caller(version, line)?;
-                Ok(Item::Caller { name, group })
-            }
-            Keyword::Open => Ok(Item::Open(self.judge_open(alloc, version, line)?)),
-            Keyword::Send => Ok(Item::Op(self.judge_send(line)?)),
-            Keyword::Close => Ok(Item::Op(self.judge_close(line)?)),
-            Keyword::Pour => Ok(Item::Op(self.judge_pour(line)?)),
-            Keyword::Move => Ok(Item::Op(self.judge_move(line)?)),
-            Keyword::Rounds => Ok(Item::Rounds(judge_rounds(line)?)),
-            Keyword::Tail => Ok(Item::Tail(self.judge_tail(line)?)),
-            Keyword::Schedule => {
-                judge_schedule(line)?;
-                Ok(Item::Schedule)
-            }
-            Keyword::Do => Ok(Item::Do(self.judge_do(number, line)?)),
+            Keyword::Link => self.judge_link(alloc, version, fields),
+            Keyword::Group => self.judge_group(fields),
+            Keyword::Quota => self.judge_quota(fields),
+            Keyword::Caller => self.judge_caller(version, fields),
+            Keyword::Open => self.judge_open(alloc, version, fields),
+            Keyword::Send => self.judge_send(fields),
+            Keyword::Close => self.judge_close(fields),
+            Keyword::Pour => self.judge_pour(fields),
+            Keyword::Move => self.judge_move(fields),
+            Keyword::Rounds => judge_rounds(fields),
+            Keyword::Tail => self.judge_tail(fields),
+            Keyword::Schedule => judge_schedule(fields),
+            Keyword::Do => self.judge_do(number, fields),
             _ => Err(LineFault::Refused(Cause::Word)),
         }
     }

@@ -1,11 +1,10 @@
 use Rattle.std.proofs.Common.{◌≡◌, ◌≤◌, drop, length}
-use Rattle.scenario_reader.specs.Fields.{fields_of}
 use Rattle.scenario_reader.specs.Forms.{has_form}
 use Rattle.scenario_reader.proofs.form.has_form.Given as goal
 
 -- what is left of the form has to fit what is left of the fields
 abbrev pub invariant-loop-part : goal.invariant-loop-part
 invariant-loop-part l = record {
-  rest : has_form l.form (fields_of l.line) ≡ has_form (drop l.part-index l.form) (drop l.place (fields_of l.line));
-  within : l.place ≤ length (fields_of l.line);
+  rest : has_form l.form l.fields ≡ has_form (drop l.part-index l.form) (drop l.place l.fields);
+  within : l.place ≤ length l.fields;
 }

@@ -1,14 +1,15 @@
 //! The line that closes a request: judging it, and its text.
-ghost use Rattle.std.specs.Prelude.{◌≡◌, IfOk, string_bytes};
-ghost use Rattle.scenario_reader.specs.Causes.{States};
-ghost use Rattle.scenario_reader.specs.Fields.{fields_of};
+ghost use Rattle.std.specs.Prelude.{◌≡◌, IfOk, string_bytes, option_map};
+ghost use Rattle.scenario_reader.specs.Causes.{AnswersWithRoom, stated};
 ghost use Rattle.text_writer.specs.Lines.{whole_line};
 ghost use Rattle.scenario_reader.specs.line.Close.{close_rule, close_said, close_fields};
+ghost use Rattle.scenario_reader.specs.declared.item.Item.TheVariants as item;
 
-use crate::cause::Cause;
+use crate::cause::{Cause, LineFault};
 use crate::draft::Draft;
-use crate::fields::field;
+use crate::fields::Fields;
 use crate::form::{Keyword, Part, has_form};
+use crate::item::Item;
 use crate::values::{name, require};
 use call_script::{Op, RequestEntry};
 use net_units::OutOfMemory;
@@ -18,14 +19,14 @@ const CLOSE_FORM: [Part; 2] = [Part::Word(Keyword::Close), Part::Field];
 
 impl Draft {
     // The close that the line says.
-    pub(crate) fn judge_close(&self, line: &[u8]) -> Result<Op, Cause>
-        ensures { States result (close_rule self.now (fields_of line.now)) (close_said self.now (fields_of line.now)) }
+    pub(crate) fn judge_close(&self, fields: &Fields) -> Result<Item, LineFault>
+        ensures { AnswersWithRoom result (stated (close_rule self.now fields.now) (option_map item.Op (close_said self.now fields.now))) }
     {
-        require(has_form(&CLOSE_FORM, line), Cause::Shape)?;
-        let named = name(field(line, 1))?;
+        require(has_form(&CLOSE_FORM, fields), Cause::Shape)?;
+        let named = name(fields.at(1))?;
         let entry = self.own_request(&named).ok_or(Cause::Unknown)?;
         require(!self.uses_of(&entry).closed, Cause::Closed)?;
-        Ok(Op::Close(entry.request.chan))
+        Ok(Item::Op(Op::Close(entry.request.chan)))
     }
 }
 

@@ -1,15 +1,16 @@
 //! The line of a move: judging it, and its text.
-ghost use Rattle.std.specs.Prelude.{ℕ, ◌≡◌, List, Some, IfOk, string_bytes};
-ghost use Rattle.scenario_reader.specs.Causes.{States};
+ghost use Rattle.std.specs.Prelude.{ℕ, ◌≡◌, List, Some, IfOk, string_bytes, option_map};
+ghost use Rattle.scenario_reader.specs.Causes.{AnswersWithRoom, stated};
 ghost use Rattle.scenario_reader.specs.Drafts.{own_request};
-ghost use Rattle.scenario_reader.specs.Fields.{fields_of};
 ghost use Rattle.text_writer.specs.Lines.{whole_line};
 ghost use Rattle.scenario_reader.specs.line.Move.{may_join, move_rule, move_said, move_fields};
+ghost use Rattle.scenario_reader.specs.declared.item.Item.TheVariants as item;
 
-use crate::cause::Cause;
+use crate::cause::{Cause, LineFault};
 use crate::draft::Draft;
-use crate::fields::field;
+use crate::fields::Fields;
 use crate::form::{Keyword, Part, has_form};
+use crate::item::Item;
 use crate::values::require;
 use call_script::{Op, RequestEntry, may_move};
 use net_units::OutOfMemory;
@@ -19,20 +20,20 @@ const MOVE_FORM: [Part; 3] = [Part::Word(Keyword::Move), Part::Field, Part::Fiel
 
 impl Draft {
     // The move that the line says.
-    pub(crate) fn judge_move(&self, line: &[u8]) -> Result<Op, Cause>
-        ensures { States result (move_rule self.now (fields_of line.now)) (move_said self.now (fields_of line.now)) }
+    pub(crate) fn judge_move(&self, fields: &Fields) -> Result<Item, LineFault>
+        ensures { AnswersWithRoom result (stated (move_rule self.now fields.now) (option_map item.Op (move_said self.now fields.now))) }
     {
-        require(has_form(&MOVE_FORM, line), Cause::Shape)?;
-        let old = self.judge_own(field(line, 1))?;
-        let new = self.judge_own(field(line, 2))?;
+        require(has_form(&MOVE_FORM, fields), Cause::Shape)?;
+        let old = self.judge_own(fields.at(1))?;
+        let new = self.judge_own(fields.at(2))?;
         let uses = self.uses_of(&old);
         require(!(uses.closed || uses.left), Cause::Closed)?;
         require(self.may_join(&old, &new), Cause::Move)?;
         self.judge_load(uses.load * u64::from(new.request.route.len()))?;
-        Ok(Op::Move {
+        Ok(Item::Op(Op::Move {
             old: old.request.chan,
             new: new.request.chan,
-        })
+        }))
     }
 
     // Whether packets may move from the one request to the other, which is another one, and wasn't used or joined above.

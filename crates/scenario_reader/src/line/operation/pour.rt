@@ -1,14 +1,15 @@
 //! The line of a pour: judging it, and its text.
-ghost use Rattle.std.specs.Prelude.{◌≡◌, IfOk, string_bytes};
-ghost use Rattle.scenario_reader.specs.Causes.{States};
-ghost use Rattle.scenario_reader.specs.Fields.{fields_of};
+ghost use Rattle.std.specs.Prelude.{◌≡◌, IfOk, string_bytes, option_map};
+ghost use Rattle.scenario_reader.specs.Causes.{AnswersWithRoom, stated};
 ghost use Rattle.text_writer.specs.Lines.{whole_line};
 ghost use Rattle.scenario_reader.specs.line.Pour.{pour_rule, pour_said, pour_fields};
+ghost use Rattle.scenario_reader.specs.declared.item.Item.TheVariants as item;
 
-use crate::cause::Cause;
+use crate::cause::{Cause, LineFault};
 use crate::draft::Draft;
-use crate::fields::field;
+use crate::fields::Fields;
 use crate::form::{Keyword, Part, has_form};
+use crate::item::Item;
 use crate::line::operation::judge_packets;
 use crate::values::require;
 use call_script::{LinkEntry, Op};
@@ -25,20 +26,20 @@ const POUR_FORM: [Part; 5] = [
 
 impl Draft {
     // The pour that the line says.
-    pub(crate) fn judge_pour(&self, line: &[u8]) -> Result<Op, Cause>
-        ensures { States result (pour_rule self.now (fields_of line.now)) (pour_said self.now (fields_of line.now)) }
+    pub(crate) fn judge_pour(&self, fields: &Fields) -> Result<Item, LineFault>
+        ensures { AnswersWithRoom result (stated (pour_rule self.now fields.now) (option_map item.Op (pour_said self.now fields.now))) }
     {
-        require(has_form(&POUR_FORM, line), Cause::Shape)?;
-        let shape = self.judge_link_named(field(line, 1))?;
-        let packets = judge_packets(line)?;
+        require(has_form(&POUR_FORM, fields), Cause::Shape)?;
+        let shape = self.judge_link_named(fields.at(1))?;
+        let packets = judge_packets(fields)?;
         self.judge_load(packets.count)?;
         require(shape.best >= 1, Cause::Best)?;
-        Ok(Op::Pour {
+        Ok(Item::Op(Op::Pour {
             link: shape.link,
             count: packets.count,
             gap: packets.gap,
             size: packets.size,
-        })
+        }))
     }
 }
 

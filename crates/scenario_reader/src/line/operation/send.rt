@@ -1,14 +1,15 @@
 //! The line of a send: judging it, and its text.
-ghost use Rattle.std.specs.Prelude.{◌≡◌, IfOk, string_bytes};
-ghost use Rattle.scenario_reader.specs.Causes.{States};
-ghost use Rattle.scenario_reader.specs.Fields.{fields_of};
+ghost use Rattle.std.specs.Prelude.{◌≡◌, IfOk, string_bytes, option_map};
+ghost use Rattle.scenario_reader.specs.Causes.{AnswersWithRoom, stated};
 ghost use Rattle.text_writer.specs.Lines.{whole_line};
 ghost use Rattle.scenario_reader.specs.line.Send.{send_rule, send_said, send_fields};
+ghost use Rattle.scenario_reader.specs.declared.item.Item.TheVariants as item;
 
-use crate::cause::Cause;
+use crate::cause::{Cause, LineFault};
 use crate::draft::Draft;
-use crate::fields::field;
+use crate::fields::Fields;
 use crate::form::{Keyword, Part, has_form};
+use crate::item::Item;
 use crate::line::operation::judge_packets;
 use crate::values::require;
 use call_script::{Op, RequestEntry};
@@ -25,21 +26,21 @@ const SEND_FORM: [Part; 5] = [
 
 impl Draft {
     // The send that the line says.
-    pub(crate) fn judge_send(&self, line: &[u8]) -> Result<Op, Cause>
-        ensures { States result (send_rule self.now (fields_of line.now)) (send_said self.now (fields_of line.now)) }
+    pub(crate) fn judge_send(&self, fields: &Fields) -> Result<Item, LineFault>
+        ensures { AnswersWithRoom result (stated (send_rule self.now fields.now) (option_map item.Op (send_said self.now fields.now))) }
     {
-        require(has_form(&SEND_FORM, line), Cause::Shape)?;
-        let entry = self.judge_own(field(line, 1))?;
-        let packets = judge_packets(line)?;
+        require(has_form(&SEND_FORM, fields), Cause::Shape)?;
+        let entry = self.judge_own(fields.at(1))?;
+        let packets = judge_packets(fields)?;
         let uses = self.uses_of(&entry);
         require(!(uses.closed || uses.left), Cause::Closed)?;
         self.judge_load(packets.count * u64::from(entry.request.route.len()))?;
-        Ok(Op::Send {
+        Ok(Item::Op(Op::Send {
             chan: entry.request.chan,
             count: packets.count,
             gap: packets.gap,
             size: packets.size,
-        })
+        }))
     }
 }
 

@@ -5,14 +5,13 @@ ghost use Rattle.call_script.specs.Rules.{meets, is_joined};
 ghost use Rattle.scenario_reader.specs.Causes.{Judges, JudgesWithRoom, States, unless};
 ghost use Rattle.scenario_reader.specs.Drafts.{link_named};
 ghost use Rattle.scenario_reader.specs.Entries.{hop_of as hop_over};
-ghost use Rattle.scenario_reader.specs.Fields.{fields_of};
 ghost use Rattle.scenario_reader.specs.Nodes.{is_node, route_between};
 ghost use Rattle.scenario_reader.specs.line.RequestFields.{routed_in, way_in, HasNodes};
 ghost use Rattle.scenario_reader.specs.line.Request.{is_found, node_rule, way_fields_rule, way_rule, between_rule, route_hops, route_fields, hops_in, route_link_rule, route_names_rule, is_way};
 
 use crate::cause::{Cause, LineFault};
 use crate::draft::Draft;
-use crate::fields::field;
+use crate::fields::Fields;
 use crate::form::Keyword;
 use crate::line::request::hops::Hops;
 use crate::line::request::nodes::{is_node, route_between};
@@ -38,19 +37,19 @@ pub(crate) struct Routed {
 
 impl Draft {
     // The links of the route, or the nodes between which it is to be found, each of which is known.
-    pub(crate) fn judge_way_fields(&self, line: &[u8], hops: usize) -> Result<Way, Cause>
-        requires hops { hops ≡ route_hops (fields_of line.now) }
-        requires least { is_found (fields_of line.now) ≡ false → 1 ≤ hops }
+    pub(crate) fn judge_way_fields(&self, fields: &Fields, hops: usize) -> Result<Way, Cause>
+        requires hops { hops ≡ route_hops fields.now }
+        requires least { is_found fields.now ≡ false → 1 ≤ hops }
         requires most { hops ≤ 16 }
-        ensures judged { Judges result (way_fields_rule self.now (fields_of line.now)) (way_in self.now (fields_of line.now)) }
+        ensures judged { Judges result (way_fields_rule self.now fields.now) (way_in self.now fields.now) }
         ensures nodes { IfOk result (λ way. HasNodes self.now way) }
     {
-        if Keyword::From.is(field(line, 2)) {
-            let from = self.judge_node(field(line, 3))?;
-            let to = self.judge_node(field(line, 5))?;
+        if Keyword::From.is(fields.at(2)) {
+            let from = self.judge_node(fields.at(3))?;
+            let to = self.judge_node(fields.at(5))?;
             Ok(Way::Between(from, to))
         } else {
-            Ok(Way::Over(self.judge_route(line, hops)?))
+            Ok(Way::Over(self.judge_route(fields, hops)?))
         }
     }
 
@@ -65,15 +64,15 @@ impl Draft {
     }
 
     // The hops over the links of the route, each of which is known.
-    fn judge_route(&self, line: &[u8], hops: usize) -> Result<Hops, Cause>
-        requires hops { hops ≡ route_hops (fields_of line.now) }
+    fn judge_route(&self, fields: &Fields, hops: usize) -> Result<Hops, Cause>
+        requires hops { hops ≡ route_hops fields.now }
         requires least { 1 ≤ hops }
         requires most { hops ≤ 16 }
-        ensures { Judges result (route_names_rule self.now (route_fields (fields_of line.now))) (hops_in self.now (fields_of line.now)) }
+        ensures { Judges result (route_names_rule self.now (route_fields fields.now)) (hops_in self.now fields.now) }
     {
-        let mut route = Hops::new(self.judge_hop(field(line, 3))?);
+        let mut route = Hops::new(self.judge_hop(fields.at(3))?);
         for place in 1..hops {
-            route.push(self.judge_hop(field(line, 3 + place))?);
+            route.push(self.judge_hop(fields.at(3 + place))?);
         }
         Ok(route)
     }

@@ -1,8 +1,7 @@
 use Rattle.std.proofs.Common.{drop, length-drop, refl}
-use Rattle.scenario_reader.specs.Fields.{fields_of}
 use Rattle.scenario_reader.proofs.FormFacts.{one_left}
 use Rattle.scenario_reader.proofs.form.Part.taken.Goals as goal
 
 pub returns-in-Field-clause-value : goal.returns-in-Field-clause-value
 returns-in-Field-clause-value c =
-    rw c.in-Field.is (rw c.one_if-in-Field.ensures (rw (one_left (drop c.args.place (fields_of c.args.line.now)), c.saturating_sub-left.ensures, c.requires, length-drop) refl))
+    rw c.in-Field.is (rw c.one_if-in-Field.ensures (rw (one_left (drop c.args.place c.args.fields.now), c.saturating_sub-left.ensures, c.count.ensures, length-drop) refl))

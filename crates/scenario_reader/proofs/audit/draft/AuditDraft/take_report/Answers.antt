@@ -18,6 +18,6 @@ invariant_of-self-in-Some c =
 pub returns-in-Some : goal.returns-in-Some
 returns-in-Some c =
     let told = c.in-Some.told in
-    report_told c.args.self.now _ c.args.line.now (told_of told) (sym c.eq.ensures ∙ c.if-eq.false) (sym c.starts_with.ensures.value ∙ c.if-starts_with.true) c.in-Some.ensures.told
+    report_told c.args.self.now _ c.args.line.now (told_of told) (sym c.eq.ensures ∙ c.if-eq.false) (sym c.starts_with.ensures.value ∙ c.if-starts_with.true) (rw c.of.ensures at c.in-Some.ensures.told)
     (ap (λ levels. audit_said c.self.inside.draft c.self.inside.place levels c.self.inside.rows.items) (map-set (option_map levels_of) c.self.inside.levels.items told.request (Some told.levels))
     ∙ ap (λ (r : AuditSaid). record r { levels = set r.levels c.in-Some.told.request (Some (levels_of c.in-Some.told.levels)) }) c.self.view_is)
