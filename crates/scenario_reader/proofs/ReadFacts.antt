@@ -6,11 +6,11 @@ use Rattle.std.proofs.lemmas.List.Elements.{All-take}
 use Rattle.std.proofs.lemmas.Option.{same_Some}
 use Rattle.std.proofs.lemmas.Result.{err_from_is_err_and}
 use Rattle.std.specs.Prelude.{IsErrAnd, Result}
-use Rattle.byte_ends.specs.Answers.{AnswersLine, AnswersReadFault, AnswersTooLong, Foretells as BeforeLine, outlook_before}
+use Rattle.byte_ends.specs.Answers.{AnswersEnd, AnswersLine, AnswersNoLineEnd, AnswersReadFault, AnswersTooLong, Foretells as BeforeLine, outlook_before}
 use Rattle.byte_ends.specs.Cutting.{Cutting, IsCutting, IsOf, allowance, ahead as bytes_ahead}
 use Rattle.byte_ends.specs.WholeLines.{Outlook, feed, all_given, outlook, whole_lines}
-use Rattle.byte_ends.specs.declared.lines.Cut.TheVariants.{Line}
-use Rattle.byte_ends.specs.declared.lines.LineRefusal.TheVariants.{TooLong as LineTooLong}
+use Rattle.byte_ends.specs.declared.lines.Cut.TheVariants.{End, Line}
+use Rattle.byte_ends.specs.declared.lines.LineRefusal.TheVariants.{NoLineEnd, TooLong as LineTooLong}
 use Rattle.byte_ends.proofs.Outlooks.{whole_lines-line, whole_lines-none, allowance-line}
 use Rattle.call_script.specs.Parts.{PlanParts}
 use Rattle.call_script.specs.declared.schedule.Schedule.{Schedule}
@@ -117,6 +117,31 @@ over_reads k s t taken said left left' by a foretold =
       from_source = m.from_source;
       counted = omega (arith, a.count, m.counted);
     }
+
+-- where the input is at its end, nothing is ahead
+end_ahead : {W R : Type 0} (k : Language W R) (s t : Cutting) (said : W) (left left' : Option (List ℕ)) → BeforeLine (Ok End) s t (bytes_ahead s left) (bytes_ahead t left') → IfSome (ahead k s said left) (λ r. r ≡ k.on s.number (record { lines = []; ending = all_given }) said)
+end_ahead k s t said None left' foretold = tt
+end_ahead k s t said (Some bytes) None foretold = absurd foretold
+end_ahead k s t said (Some bytes) (Some rest) foretold = ap (λ (o : Outlook). k.on s.number o said) foretold
+
+pub end_reads : {W R : Type 0} (k : Language W R) (s t : Cutting) (said : W) (left left' : Option (List ℕ)) → IsOf s left → AnswersEnd s t left left' → BeforeLine (Ok End) s t (bytes_ahead s left) (bytes_ahead t left') → ComesToEnd k s t said said left left'
+end_reads k s t said left left' of a foretold = record {
+  number = a.stays.same_number;
+  same = refl;
+  nothing_left = a.stays.moves.same_source of a.done.at_end;
+  ends = end_ahead k s t said left left' foretold;
+}
+
+-- where it ends inside a line, what is ahead is that this line is cut
+cut_ahead : {W R : Type 0} (k : Language W R) (s t : Cutting) (line : ℕ) (said : W) (left left' : Option (List ℕ)) → IsByLine k → BeforeLine (Err (NoLineEnd line)) s t (bytes_ahead s left) (bytes_ahead t left') → IfSome (ahead k s said left) (λ r. r ≡ k.refused (suc s.number) cause.Cut)
+cut_ahead k s t line said None left' by foretold = tt
+cut_ahead k s t line said (Some bytes) None by foretold = absurd foretold
+cut_ahead k s t line said (Some bytes) (Some rest) by foretold = ap (λ (o : Outlook). k.on s.number o said) foretold ∙ by.cut s.number said
+
+pub cut_reads : {W R : Type 0} (k : Language W R) (s t : Cutting) (line : ℕ) (said : W) (left left' : Option (List ℕ)) → IsByLine k → AnswersNoLineEnd line s t left left' → BeforeLine (Err (NoLineEnd line)) s t (bytes_ahead s left) (bytes_ahead t left') → IfSome (ahead k s said left) (λ r. r ≡ k.refused line cause.Cut)
+cut_reads k s t line said left left' by a foretold =
+    let number : suc s.number ≡ line = omega (arith, a.place, a.stays.same_number) in
+    subst (λ (n : ℕ). IfSome (ahead k s said left) (λ r. r ≡ k.refused n cause.Cut)) number (cut_ahead k s t line said left left' by foretold)
 
 -- where the source failed, no whole line is ahead, and no byte too many was taken
 pub passes_fault : {W R : Type 0} (k : Language W R) (s t : Cutting) (said : W) (left left' : Option (List ℕ)) (faults faults' : ℕ) → AnswersReadFault s t left left' faults faults' → StopsPassing k s said left left'

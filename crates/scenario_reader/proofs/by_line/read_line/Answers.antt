@@ -1,5 +1,5 @@
 use Rattle.scenario_reader.specs.ReadSteps.{ReadsLine}
-use Rattle.scenario_reader.proofs.ReadFacts.{line_reads, over_reads, passes_fault, refused_reads, tells_handed}
+use Rattle.scenario_reader.proofs.ReadFacts.{cut_reads, end_reads, line_reads, over_reads, passes_fault, refused_reads, tells_handed}
 use Rattle.scenario_reader.proofs.by_line.read_line.Goals as goal
 
 pub returns-in_err-take_line-in-Ok-Line-clause-reads : goal.returns-in_err-take_line-in-Ok-Line-clause-reads
@@ -35,3 +35,17 @@ returns-in-Err-TooLong-clause-reads g c =
     let a = rw c.in-Err-TooLong.field-0-is at c.in-Err-TooLong.ensures.answers in
     let told = rw c.in-Err-TooLong.field-0-is at c.in-Err-TooLong.ensures.told in
     rw c.in-Err-TooLong.field-0-is (over_reads g.D.TakesLines.language c.args.lines.now c.read_line.new.self c.in-Err-TooLong.taken c.args.draft.now (g.S.Source.left c.args.source.now) (g.S.Source.left c.read_line.new.source) g.met.D.TakesLines.by_line a (told c.requires.source))
+
+pub returns-in-Ok-End-clause-reads : goal.returns-in-Ok-End-clause-reads
+returns-in-Ok-End-clause-reads g c =
+    let left = g.S.Source.left in
+    let a = rw c.in-Ok-End.field-0-is at c.in-Ok-End.ensures.answers in
+    let told = rw c.in-Ok-End.field-0-is at c.in-Ok-End.ensures.told in
+    end_reads g.D.TakesLines.language c.args.lines.now c.read_line.new.self c.args.draft.now (left c.args.source.now) (left c.read_line.new.source) c.requires.source a (told c.requires.source)
+
+pub returns-in-Err-NoLineEnd-clause-reads : goal.returns-in-Err-NoLineEnd-clause-reads
+returns-in-Err-NoLineEnd-clause-reads g c =
+    let left = g.S.Source.left in
+    let a = rw c.in-Err-NoLineEnd.field-0-is at c.in-Err-NoLineEnd.ensures.answers in
+    let told = rw c.in-Err-NoLineEnd.field-0-is at c.in-Err-NoLineEnd.ensures.told in
+    rw c.in-Err-NoLineEnd.field-0-is (cut_reads g.D.TakesLines.language c.args.lines.now c.read_line.new.self c.in-Err-NoLineEnd.line c.args.draft.now (left c.args.source.now) (left c.read_line.new.source) g.met.D.TakesLines.by_line a (told c.requires.source))
