@@ -121,6 +121,11 @@ tally-rests (suc n) t h tally is =
     tally-more (quiet_ticks n t h) Tick (quiet_reply (t + n)) (ticks_later n tally) (tally.clock + suc n) tally.sent tally.dropped tally.best_sent tally.best_lost tally.pours_refused (tally-rests n t h tally is)
     (omega arith) (omega arith) (omega arith) (omega arith) (omega arith) (omega arith) (omega arith)
 
+-- one of them
+pub tally-passed : (t : ℕ) (h : List Entry) (tally : LinkTally) → IsTally h tally → IsTally (record { ask = Tick; reply = quiet_reply t } ∷ h) (ticks_later 1 tally)
+unfolding quiet_ticks
+tally-passed t h tally is = (let same : t + 0 ≡ t = omega arith in subst (λ (n : ℕ). IsTally (record { ask = Tick; reply = quiet_reply n } ∷ h) (ticks_later 1 tally)) same (tally-rests 1 t h tally is))
+
 links-rested : (network : Network) (n : ℕ) (run : List Done) (old new : List LinkTally) → GoesOnAtRest network n run → AreLinkTallies (length network.links) run old → HaveRested n old new → AreLinkTallies (length network.links) (rested network n run) new
 links-rested network n run old new goes are have = record {
   all = have.same ∙ are.all;

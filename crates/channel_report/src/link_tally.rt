@@ -1,6 +1,8 @@
 //! What a run tells of a link.
 ghost use Rattle.std.specs.Prelude.{◌≡◌, ℕ, ◌+◌, ◌∷◌, ◌<◌, ◌≤◌, ◌^◌, List, length};
+ghost use Rattle.link_steps.specs.Quiet.{quiet_reply};
 ghost use Rattle.link_steps.specs.Scan.{clock_with};
+ghost use Rattle.link_steps.specs.declared.asks.Ask.TheVariants.{Tick as AskTick};
 ghost use Rattle.link_steps.specs.declared.replies.Entry.{Entry};
 ghost use Rattle.channel_report.specs.Links.{sent_by, dropped_by, best_sent_by, best_lost_by, pours_refused_by};
 ghost use Rattle.channel_report.specs.Tallies.{IsTally};
@@ -46,6 +48,15 @@ impl LinkTally {
         self.best_sent += best_sent(reply);
         self.best_lost += best_lost(reply);
         self.pours_refused += pours_refused(ask, reply);
+    }
+
+    // Counts a tick in which nothing happens.
+    #[inline(always)]
+    pub(crate) fn pass(&mut self)
+        requires { (h : List Entry) × (IsTally h self.old × (length h < 2 ^ 60)) }
+        ensures { (h : List Entry) (clock : ℕ) → IsTally h self.old → IsTally (record { ask = AskTick; reply = quiet_reply clock } ∷ h) self.new }
+    {
+        self.clock += 1;
     }
 }
 

@@ -3,8 +3,8 @@ ghost use Rattle.std.specs.Prelude.{◌≡◌, ℕ, ◌+◌, ◌<◌, ◌^◌, �
 ghost use Rattle.net_units.specs.Numbers.{actor_number, link_number};
 ghost use Rattle.link_steps.specs.Scan.{clock_of};
 ghost use Rattle.run_record.specs.Hops.{AreHops};
-ghost use Rattle.net_units.specs.declared.numbers.LinkNo.{LinkNo as Link};
-ghost use Rattle.run_record.specs.Rows.{IsEarly, offer_by, rows_by};
+ghost use Rattle.link_steps.specs.declared.replies.Reply.{Reply as Replied};
+ghost use Rattle.run_record.specs.Rows.{IsEarly, offer_by};
 ghost use Rattle.run_record.specs.Runs.{part_of};
 ghost use Rattle.run_record.specs.declared.done.Done.{Done as Step};
 ghost use Rattle.channel_report.specs.Ends.{AreKept, is_end, is_kept};
@@ -79,7 +79,14 @@ impl Watch for Tally {
         let clock = count_link(&mut self.links, done);
         keep_source(self.alloc, plan, &mut self.channels, clock, done)?;
         self.hops.note(done)?;
-        keep_row(&mut self.rows, &self.hops, plan, self.packets, done)?;
+        keep_row(
+            &mut self.rows,
+            &self.hops,
+            plan,
+            self.packets,
+            done.link,
+            &done.reply,
+        )?;
         count_step(&mut self.made, done.actor);
         self.steps += 1;
         Ok(())
@@ -93,9 +100,10 @@ impl Watch for Tally {
         reply: &Reply,
     ) -> Result<(), OutOfMemory> {
         let actor = plane_of(plan);
-        // Most steps are such, and they cost no entry.
-        if is_counted_alone(ask, reply) {
+        // The plane's asks are all such, and they cost no entry.
+        if is_for_no_source(ask) {
             self.links[usize::from(link.get())].add(ask, reply);
+            keep_row(&mut self.rows, &self.hops, plan, self.packets, link, reply)?;
             count_step(&mut self.made, actor);
             self.steps += 1;
             return Ok(());
@@ -107,6 +115,14 @@ impl Watch for Tally {
             reply: *reply,
         };
         self.see(plan, &done)?;
+        Ok(())
+    }
+
+    fn passed(&mut self, plan: &Plan, link: LinkNo, _clock: u64) -> Result<(), OutOfMemory> {
+        let actor = plane_of(plan);
+        self.links[usize::from(link.get())].pass();
+        count_step(&mut self.made, actor);
+        self.steps += 1;
         Ok(())
     }
 
@@ -123,16 +139,12 @@ impl Watch for Tally {
     }
 }
 
-// Whether of a step that asks this and gets this reply nothing is kept but counts: it is for no source, makes no offer and tells no row.
-fn is_counted_alone(ask: &Ask, reply: &Reply) -> bool
-    ensures sources { result ≡ true → act_of ask.now reply.now ≡ Nothing }
-    ensures offers { result ≡ true → offer_by ask.now reply.now ≡ None }
-    ensures rows { result ≡ true → (run : List Step) (link : Link) → rows_by run link reply.now ≡ [] }
+// Whether a step that asks this is for no source and gets no offer, whatever the reply.
+fn is_for_no_source(ask: &Ask) -> bool
+    ensures sources { result ≡ true → (reply : Replied) → act_of ask.now reply ≡ Nothing }
+    ensures offers { result ≡ true → (reply : Replied) → offer_by ask.now reply ≡ None }
 {
-    match reply {
-        Reply::Ticked { sent: Some(_), .. } => false,
-        _ => matches!(ask, Ask::Arrive { .. } | Ask::Tick),
-    }
+    matches!(ask, Ask::Arrive { .. } | Ask::Tick)
 }
 
 // Counts this many quiet ticks of each link.
@@ -158,19 +170,19 @@ fn count_link(links: &mut Vec<LinkTally>, done: &Done) -> u64
     clock
 }
 
-// Keeps the row that an entry tells, if it tells one that is to be kept. Its offer is noted.
+// Keeps the row that an entry with this link and reply tells, if it tells one that is to be kept. Its offer is noted.
 fn keep_row(
     rows: &mut Vec<HopRow>,
     hops: &HopTable,
     plan: &Plan,
     packets: bool,
-    done: &Done,
+    link: LinkNo,
+    reply: &Reply,
 ) -> Result<(), OutOfMemory>
-    requires early { IsEarly done.now.reply }
-    requires noted { (past : List Step) × AreHops (past ++ done.now ∷ []) hops.now.channels.items }
-    ensures { OnOk result ((past : List Step) → AreHops (past ++ done.now ∷ []) hops.now.channels.items → AreKept (is_kept plan.now.requests packets) past rows.old.items → AreKept (is_kept plan.now.requests packets) (past ++ done.now ∷ []) rows.new.items) }
+    requires { IsEarly reply.now }
+    ensures { OnOk result ((past : List Step) (done : Step) → done.link ≡ link → done.reply ≡ reply.now → AreHops (past ++ done ∷ []) hops.now.channels.items → AreKept (is_kept plan.now.requests packets) past rows.old.items → AreKept (is_kept plan.now.requests packets) (past ++ done ∷ []) rows.new.items) }
 {
-    match hops.row_of(done) {
+    match hops.row_at(link, reply) {
         Some(row) => {
             if is_wanted(plan, packets, &row) {
                 rows.push(row)?;

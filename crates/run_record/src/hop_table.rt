@@ -10,7 +10,7 @@ use crate::done::Done;
 use crate::hops::{Hops, hop_at, note};
 use crate::rows::{HopRow, HopRows};
 use link_steps::Reply;
-use net_units::OutOfMemory;
+use net_units::{LinkNo, OutOfMemory};
 use std::alloc::Global;
 
 /// Which links have made an offer to each channel, by the entries of a run that were noted so far.
@@ -42,12 +42,21 @@ impl HopTable {
         ensures some { IfSome result (λ told. (run : List Step) → AreHops run self.now.channels.items → rows_by run done.now.link done.now.reply ≡ told ∷ []) }
         ensures none { IfNone result ((run : List Step) → rows_by run done.now.link done.now.reply ≡ []) }
     {
-        match &done.reply {
+        self.row_at(done.link, &done.reply)
+    }
+
+    /// The row that this reply of a link tells, if it tells one, as [`HopTable::row_of`] does of an entry.
+    pub fn row_at(&self, link: LinkNo, reply: &Reply) -> Option<HopRow>
+        requires { IsEarly reply.now }
+        ensures some { IfSome result (λ told. (run : List Step) → AreHops run self.now.channels.items → rows_by run link reply.now ≡ told ∷ []) }
+        ensures none { IfNone result ((run : List Step) → rows_by run link reply.now ≡ []) }
+    {
+        match reply {
             Reply::Ticked {
                 clock,
                 sent: Some(sent),
                 ..
-            } => Some(row(self.channels.as_slice(), done.link, *clock, sent)),
+            } => Some(row(self.channels.as_slice(), link, *clock, sent)),
             _ => None,
         }
     }

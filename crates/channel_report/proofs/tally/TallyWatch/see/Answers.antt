@@ -23,13 +23,10 @@ count_link-clock-requires-clause-short c =
 pub keep_source-requires : goal.keep_source-requires
 keep_source-requires c = (c.requires.0, (c.requires.1.seen.channels, run-short c.args.plan.now c.requires.0 c.requires.1.plan c.requires.1.run))
 
-pub keep_row-requires-clause-early : goal.keep_row-requires-clause-early
-keep_row-requires-clause-early c =
+pub keep_row-requires : goal.keep_row-requires
+keep_row-requires c =
     let next = c.requires.1 in
     next-early c.args.plan.now c.requires.0 c.args.done.now next.plan next.run next.next (run-short c.args.plan.now c.requires.0 next.plan next.run)
-
-pub keep_row-requires-clause-noted : goal.keep_row-requires-clause-noted
-keep_row-requires-clause-noted c = (reverse c.requires.0, c.in_ok-note.ensures (reverse c.requires.0) c.requires.1.seen.hops)
 
 pub count_step-requires : goal.count_step-requires
 count_step-requires c = (c.requires.0, (c.requires.1.seen.made, run-short c.args.plan.now c.requires.0 c.requires.1.plan c.requires.1.run))
@@ -49,7 +46,7 @@ returns-clause-seen c = λ past next.
       links = subst (λ n. AreLinkTallies n (done ∷ past) c.count_link-clock.new.links.items) seen.links.all (c.count_link-clock.ensures.counted past links);
       channels = c.in_ok-keep_source.ensures past seen.channels (c.count_link-clock.ensures.clock past links);
       hops = subst (λ entries. AreHops entries c.note.new.self.channels.items) turned noted;
-      rows = subst (λ entries. AreKept (is_kept parts.requests c.args.self.now.packets) entries c.keep_row.new.rows.items) turned (c.in_ok-keep_row.ensures (reverse past) noted seen.rows);
+      rows = subst (λ entries. AreKept (is_kept parts.requests c.args.self.now.packets) entries c.keep_row.new.rows.items) turned (c.in_ok-keep_row.ensures (reverse past) done refl refl noted seen.rows);
       made = c.count_step.ensures past done seen.made refl;
       steps = omega (arith, seen.steps);
     }

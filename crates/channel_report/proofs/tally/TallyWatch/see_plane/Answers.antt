@@ -1,5 +1,5 @@
--- The counts have the new entry, and there is nothing else to keep of it; or it is seen as any other.
-use Rattle.std.proofs.Common.{◌≡◌, ◌<◌, None, Some, List, [], ◌∷◌, ◌++◌, length, reverse, sym, ap, subst, ◌∙◌, arith}
+-- The counts and the rows have the new entry, and there is nothing else to keep of it; or it is seen as any other.
+use Rattle.std.proofs.Common.{◌≡◌, ◌<◌, None, Some, List, [], ◌∷◌, ◌++◌, length, refl, reverse, sym, ap, subst, ◌∙◌, arith}
 use Rattle.std.proofs.lemmas.List.{reverse-append}
 use Rattle.net_units.specs.Numbers.{actor_number}
 use Rattle.net_units.specs.declared.numbers.ActorNo.{ActorNo}
@@ -21,7 +21,7 @@ use Rattle.channel_report.specs.Tallied.{IsTallied}
 use Rattle.channel_report.specs.Tallies.{IsTally}
 use Rattle.channel_report.specs.declared.tally.Tally.{Tally}
 use Rattle.channel_report.proofs.ChannelTallies.{sources-same}
-use Rattle.channel_report.proofs.KeptFacts.{row-none}
+use Rattle.channel_report.proofs.EarlyTicks.{next-early}
 use Rattle.channel_report.proofs.LinkTallies.{link-within, part-short, tallies-more}
 use Rattle.channel_report.proofs.tally.TallyWatch.see_plane.Goals as goal
 
@@ -29,6 +29,11 @@ pub index_mut-requires : goal.index_mut-requires
 index_mut-requires c =
     let next = c.requires.1 in
     omega (arith, c.from.ensures, c.get.ensures.value, link-within c.args.plan.now c.requires.0 (plane_step (network_of c.args.plan.now) c.args.link c.args.ask.now c.args.reply.now) next.next, next.seen.links.all, c.args.self.now.links.ok.0)
+
+pub keep_row-requires : goal.keep_row-requires
+keep_row-requires c =
+    let next = c.requires.1 in
+    next-early c.args.plan.now c.requires.0 (plane_step (network_of c.args.plan.now) c.args.link c.args.ask.now c.args.reply.now) next.plan next.run next.next (run-short c.args.plan.now c.requires.0 next.plan next.run)
 
 pub count_step-requires : goal.count_step-requires
 count_step-requires c = (c.requires.0, (c.requires.1.seen.made, run-short c.args.plan.now c.requires.0 c.requires.1.plan c.requires.1.run))
@@ -49,14 +54,15 @@ add-requires c =
 for-none : (act : Act) (chan : ChanNo) → act ≡ Nothing → chan_of act ≡ Some chan → ⊥
 for-none act chan nothing of = (let clash : None ≡ Some chan = sym (ap chan_of nothing) ∙ of in cc)
 
-pub returns-then-is_counted_alone-clause-seen : goal.returns-then-is_counted_alone-clause-seen
-returns-then-is_counted_alone-clause-seen c = λ past next.
+pub returns-then-is_for_no_source-clause-seen : goal.returns-then-is_for_no_source-clause-seen
+returns-then-is_for_no_source-clause-seen c = λ past next.
     let parts = c.args.plan.now in
     let old = c.args.self.now in
     let done : Done = plane_step (network_of parts) c.args.link c.args.ask.now c.args.reply.now in
     let seen = next.seen in
-    let alone = c.if-is_counted_alone.true in
+    let alone = c.if-is_for_no_source.true in
     let turned : reverse past ++ done ∷ [] ≡ reverse (done ∷ past) = sym (reverse-append (done ∷ []) past) in
+    let noted = hops-kept (reverse past) done old.hops.channels.items (c.is_for_no_source.ensures.offers alone c.args.reply.now) seen.hops in
     let place = c.from.result in
     let number = c.from.ensures ∙ c.get.ensures.value in
     let inside : place < length parts.links = omega (arith, number, link-within parts past done next.next) in
@@ -64,9 +70,9 @@ returns-then-is_counted_alone-clause-seen c = λ past next.
     let added = c.add.ensures (part_of place past) (subst (IsTally (part_of place past)) (sym c.index_mut.ensures.value) tally) in
     record {
       links = tallies-more (length parts.links) past done old.links.items place c.add.new.self seen.links (sym number) inside added;
-      channels = sources-same parts.requests past done old.channels.items seen.channels (λ n entry chan found on of own. for-none _ chan (c.is_counted_alone.ensures.sources alone) of);
-      hops = subst (λ entries. AreHops entries old.hops.channels.items) turned (hops-kept (reverse past) done old.hops.channels.items (c.is_counted_alone.ensures.offers alone) seen.hops);
-      rows = subst (λ entries. AreKept (is_kept parts.requests old.packets) entries old.rows.items) turned (row-none (is_kept parts.requests old.packets) (reverse past) done old.rows.items (λ run. c.is_counted_alone.ensures.rows alone run c.args.link) seen.rows);
+      channels = sources-same parts.requests past done old.channels.items seen.channels (λ n entry chan found on of own. for-none _ chan (c.is_for_no_source.ensures.sources alone c.args.reply.now) of);
+      hops = subst (λ entries. AreHops entries old.hops.channels.items) turned noted;
+      rows = subst (λ entries. AreKept (is_kept parts.requests old.packets) entries c.keep_row.new.rows.items) turned (c.in_ok-keep_row.ensures (reverse past) done refl refl noted seen.rows);
       made = c.count_step.ensures past done seen.made (ap actor_number (sym c.plane_of-actor.ensures));
       steps = omega (arith, seen.steps);
     }
