@@ -7,3 +7,4 @@ pub mod Growth
 pub mod MakeFacts
 pub mod TurnLaws
 pub mod SeenFacts
+pub mod PlaneTurns

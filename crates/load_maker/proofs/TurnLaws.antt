@@ -40,7 +40,7 @@ both-ways None some none = cc
 both-ways (Some x) some none = cc
 
 -- there is no actor after the plane
-beyond : (network : Network) (actor : ℕ) (run : List Done) → plane_no network < actor → next_for network actor run ≡ None
+pub beyond : (network : Network) (actor : ℕ) (run : List Done) → plane_no network < actor → next_for network actor run ≡ None
 beyond network actor run past =
     asked-caller network actor run (λ same. absurd (omega (arith, same, past)))
     ∙ ap (λ found. script_ask found (replies_to actor run)) (slice_get_past network.scripts actor (omega (arith, past)))

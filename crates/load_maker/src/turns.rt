@@ -1,5 +1,6 @@
 //! The run of a plan by turns.
-ghost use Rattle.std.specs.Prelude.{◌≡◌, ◌≤◌, ◌<◌, [], List, IfOk, IfSome, IfNone, OnOk, reverse};
+ghost use Rattle.std.specs.Prelude.{◌≡◌, ◌+◌, ◌%◌, ◌≤◌, ◌<◌, true, [], List, IfOk, IfSome, IfNone, OnOk, length, reverse};
+ghost use Rattle.net_units.specs.Numbers.{actor_number};
 ghost use Rattle.call_script.specs.Tasks.{network_of};
 ghost use Rattle.interleave_core.specs.schedules.Standing.{IsGuaranteedRun};
 ghost use Rattle.interleave_core.specs.schedules.Watching.{WatchStands};
@@ -8,7 +9,7 @@ ghost use Rattle.load_maker.specs.SeenTurns.{HaveTurned, IsCircleAt, IsTurnOf, I
 ghost use Rattle.run_record.specs.declared.done.Done.{Done as Entry};
 
 use call_script::Plan;
-use interleave_core::{Callers, Engine, Watch, actor_of, make_watched};
+use interleave_core::{Callers, Engine, Watch, actor_of, make_watched, play_plane};
 use link_steps::Ask;
 use net_units::{ActorNo, LinkNo, OutOfMemory};
 use run_record::Record;
@@ -55,6 +56,9 @@ fn make_turns<W: Watch>(engine: &mut Engine, watch: &mut W, plan: &Plan) -> Resu
     for _ in 0..u64::MAX {
         match turn(engine, plan, next) {
             Some((actor, link, ask)) => {
+                if is_plane_alone(plan, next, actor) {
+                    return play_plane(engine, watch, plan);
+                }
                 make_watched(engine, watch, plan, actor, link, ask)?;
                 next = usize::from(actor.get()) + 1;
             }
@@ -79,6 +83,16 @@ fn turn(engine: &Engine, plan: &Plan, next: usize) -> Option<(ActorNo, LinkNo, A
         }
     }
     None
+}
+
+// Whether the plane alone has steps left, where the circle goes on at this number and the turn is this actor's: then all callers are
+// passed over.
+fn is_plane_alone(plan: &Plan, next: usize, actor: ActorNo) -> bool
+    ensures plane { result ≡ true → actor_number actor ≡ length plan.now.callers }
+    ensures first { result ≡ true → next % (length plan.now.callers + 1) ≡ 0 }
+{
+    let callers = plan.callers().len();
+    usize::from(actor.get()) == callers && next % (callers + 1) == 0
 }
 
 /// A plan has a run by turns, and only one.

@@ -1,5 +1,8 @@
--- One more turn, until nobody has a step left. A run is too short for the loop to end before.
+-- One more turn, until nobody has a step left, or the plane alone, which then makes its steps. A run is too short for the loop to end before.
 use Rattle.std.proofs.Common.{refl, ◌∙◌, arith}
+use Rattle.net_units.specs.Numbers.{actor_number}
+use Rattle.interleave_core.proofs.Watched.StrideFacts.{on-ok}
+use Rattle.load_maker.proofs.PlaneTurns.{plane-alone}
 use Rattle.load_maker.proofs.SeenFacts.{circle-at, no-turns, one-turn, never-ending, next-within}
 use Rattle.load_maker.proofs.turns.make_turns.Goals as goal
 
@@ -11,6 +14,20 @@ turn-requires-clause-stands g c = (c.loop.invariant.turns.run, circle-at g.W.Wat
 
 pub turn-requires-clause-within : goal.turn-requires-clause-within
 turn-requires-clause-within g c = next-within g.W.Watch.saw c.args.plan.now c.loop.engine c.loop.watch c.loop.next c.loop.counter c.loop.invariant.turns
+
+pub play_plane-requires : goal.play_plane-requires
+play_plane-requires g c = (c.loop.invariant.turns.run, c.loop.invariant.turns.stand)
+
+pub returns-then-is_plane_alone-clause-turns : goal.returns-then-is_plane_alone-clause-turns
+returns-then-is_plane_alone-clause-turns g c =
+    let turns = c.loop.invariant.turns in
+    let at = circle-at g.W.Watch.saw c.args.plan.now c.loop.engine c.loop.watch c.loop.next c.loop.counter turns in
+    let turn = c.in-Some.ensures.some turns.run at in
+    let alone = c.if-is_plane_alone.true in
+    on-ok c.play_plane.result
+    (λ out. plane-alone g.W.Watch.saw c.args.plan.now c.loop.engine c.play_plane.new.engine c.loop.watch c.play_plane.new.watch c.loop.next c.loop.counter (actor_number c.in-Some.actor) turns (c.is_plane_alone.ensures.first alone) (c.is_plane_alone.ensures.plane alone) turn.turn
+    (out turns.run turns.stand))
+    c.play_plane.ensures.out
 
 pub make_watched-requires : goal.make_watched-requires
 make_watched-requires g c =
