@@ -22,6 +22,3 @@ pub use design::{Design, DesignLink, DesignStream, Way};
 pub use field::{Field, Kind, Place, Row};
 pub use mistake::{Mistake, Mistakes};
 pub use read::{BadDesign, File, read_design};
-
-#[cfg(test)]
-mod tests;

@@ -6,12 +6,15 @@ use crate::values::{A_SIZE, A_TIME};
 use field_units::Scale;
 use std::alloc::{AllocError, Global};
 
-/// The tick and the unit.
+/// The tick and the unit, where the design names them. It names both or neither.
 pub(crate) fn scale_of(
     alloc: Global,
     row: &Row,
     told: &mut Mistakes,
 ) -> Result<Option<Scale>, AllocError> {
+    if !row.has("tick") && !row.has("unit") {
+        return Ok(None);
+    }
     let tick = told.time(alloc, row, "tick")?;
     let unit = told.size(alloc, row, "unit")?;
     told.need(row, "tick", A_TIME)?;

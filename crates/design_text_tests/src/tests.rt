@@ -1,7 +1,6 @@
 //! Designs, and files that aren't.
 
-use crate::mistake::Mistake;
-use crate::read::{BadDesign, File, read_design};
+use design_text::{BadDesign, File, Mistake, read_design};
 use std::alloc::Global;
 use std::test::Fail;
 use std::vec::Vec;
@@ -210,6 +209,23 @@ fn links_stand_in_a_sheet(rt: HostRuntime) -> Result<(), Fail> {
         "net.toml:4: streams = streams.csv: the name of a sheet that is there
 links.csv:3: rate = fast: no number comes first; wanted is a rate in bit/s, kbit/s, Mbit/s, Gbit/s, B/s, kB/s or MB/s, as in 100 Mbit/s
 "
+    );
+    Ok(())
+}
+
+/// Without a tick and a unit a design is read, and with one of them alone it isn't.
+#[test]
+fn a_tick_and_a_unit_stand_together(rt: HostRuntime) -> Result<(), Fail> {
+    let file = File {
+        name: "net.toml",
+        text: "link = [{ from = \"a\", to = \"b\", rate = \"1 Mbit/s\", levels = \"5 ms\" }]\n",
+    };
+    let design = read_design(rt.alloc(), &file, &[])?;
+    assert!(rt; design.scale.is_none());
+    let told = mistakes(rt.alloc(), "tick = \"10 us\"\n")?;
+    assert_eq!(rt;
+        told.as_str(),
+        "net.toml:1: unit is missing: a size in bit, kbit, Mbit, B, bytes, kB, KiB, MB or MiB, as in 1538 B\n"
     );
     Ok(())
 }
