@@ -94,7 +94,42 @@ impl Plan {
         };
         match parts.broken_rule(alloc)? {
             Some(rule) => Err(BadPlan::Broken { rule }),
-            None => Ok(Plan { parts }),
+            None => Ok(Plan::of_kept(
+                parts.version,
+                parts.links,
+                parts.groups,
+                parts.requests,
+                parts.callers,
+                parts.rounds,
+                parts.tail,
+            )),
+        }
+    }
+
+    /// The plan of these parts, which keep the rules. Nothing is tested.
+    pub fn of_kept(
+        version: Version,
+        links: Vec<LinkEntry>,
+        groups: Vec<Name>,
+        requests: Vec<RequestEntry>,
+        callers: Vec<CallerEntry>,
+        rounds: u64,
+        tail: u64,
+    ) -> Plan
+        requires { IsPlan (parts_with version links.items groups.items requests.items callers.items rounds tail) }
+        ensures value { result ≡ parts_with version links.items groups.items requests.items callers.items rounds tail }
+        ensures kept { IsPlan result }
+    {
+        Plan {
+            parts: Parts {
+                version,
+                links,
+                groups,
+                requests,
+                callers,
+                rounds,
+                tail,
+            },
         }
     }
 
