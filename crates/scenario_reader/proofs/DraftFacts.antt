@@ -8,9 +8,7 @@ use Rattle.net_units.specs.Numbers.{link_number}
 use Rattle.net_units.specs.declared.numbers.LinkNo.{LinkNo}
 use Rattle.link_steps.specs.declared.quota.Quota.{Quota}
 use Rattle.call_script.specs.Growing.{KeepSoFar, new_caller, with_op, add_quota, add_op}
-use Rattle.call_script.specs.Parts.{PlanParts}
 use Rattle.call_script.specs.Plans.{IsPlan}
-use Rattle.call_script.specs.Broken.{rule_broken}
 use Rattle.call_script.specs.declared.entries.CallerEntry.{CallerEntry}
 use Rattle.call_script.specs.declared.entries.LinkEntry.{LinkEntry}
 use Rattle.call_script.specs.declared.entries.RequestEntry.{RequestEntry}
@@ -232,7 +230,3 @@ complete_draft said d e = grown-is-plan (parts_said said) d.keeps (record {
   links = least_one said.links (linked_tail said d e);
   ticks = ticks_of said.tail (rounds_of said) (length said.links) e d.ticks;
 })
-
--- a plan breaks no rule
-pub unbroken : (parts : PlanParts) (rule : ℕ) → rule_broken parts ≡ None → rule_broken parts ≡ Some rule → ⊥
-unbroken parts rule kept broken = (let clash : ◌≡◌ {A = Option ℕ} None (Some rule) = sym kept ∙ broken in cc)

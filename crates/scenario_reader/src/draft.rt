@@ -9,9 +9,7 @@ use crate::cause::{Cause, LineFault};
 use crate::names::Names;
 use crate::uses::Uses;
 use crate::values::require;
-use call_script::{
-    BadPlan, CallerEntry, Do, Dos, LinkEntry, Plan, RequestEntry, Schedule, Version,
-};
+use call_script::{CallerEntry, Do, Dos, LinkEntry, Plan, RequestEntry, Schedule, Version};
 use net_units::{Name, OutOfMemory};
 use std::alloc::Global;
 use std::marker::Model;
@@ -119,13 +117,12 @@ impl Draft {
         self.rounds.unwrap_or(0)
     }
 
-    /// The plan and the schedule that were read, once the last line that a plan needs was. An `Err` comes only for want of
-    /// memory.
-    pub fn into_plan(self, alloc: Global) -> Result<(Plan, Schedule), OutOfMemory>
+    /// The plan and the schedule that were read, once the last line that a plan needs was.
+    pub fn into_plan(self) -> (Plan, Schedule)
         requires { IsTrue (is_complete self) }
-        ensures plan { IfOk result (λ read. read.0 ≡ parts_said self) }
-        ensures items { IfOk result (λ read. read.1 ≡ schedule_said self) }
-        ensures schedule { IfOk result (λ read. IsScheduleOf read.0.callers read.1) }
+        ensures plan { result.0 ≡ parts_said self }
+        ensures items { result.1 ≡ schedule_said self }
+        ensures schedule { IsScheduleOf result.0.callers result.1 }
     {
         let version = self.version.unwrap_or(Version::One);
         let rounds = self.rounds.unwrap_or(0);
@@ -134,8 +131,7 @@ impl Draft {
             written: self.written,
             items: Dos::new(self.items),
         };
-        let made = Plan::new(
-            alloc,
+        let plan = Plan::of_kept(
             version,
             self.links,
             self.groups,
@@ -144,10 +140,6 @@ impl Draft {
             rounds,
             tail,
         );
-        match made {
-            Ok(plan) => Ok((plan, schedule)),
-            Err(BadPlan::Memory) => Err(OutOfMemory),
-            Err(BadPlan::Broken { .. }) => unreachable!(),
-        }
+        (plan, schedule)
     }
 }

@@ -78,5 +78,5 @@ pub fn read_plan<S: Source>(alloc: Global, source: &mut S) -> Result<(Plan, Sche
 {
     let mut draft = Draft::new(alloc)?;
     read_lines(alloc, &mut draft, source)?;
-    Ok(draft.into_plan(alloc)?)
+    Ok(draft.into_plan())
 }

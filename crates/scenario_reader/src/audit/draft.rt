@@ -179,20 +179,17 @@ impl AuditDraft {
         Ok(())
     }
 
-    /// The plan, the levels of its requests, and the rows, once the table's header was read. An `Err` comes only for want of memory.
-    pub fn into_parts(
-        self,
-        alloc: Global,
-    ) -> Result<(Plan, Vec<Option<Levels>>, Vec<HopRow>), OutOfMemory>
+    /// The plan, the levels of its requests, and the rows, once the table's header was read.
+    pub fn into_parts(self) -> (Plan, Vec<Option<Levels>>, Vec<HopRow>)
         requires { self.place ≡ place.Table }
-        ensures plan { IfOk result (λ read. read.0 ≡ parts_said self.said) }
-        ensures levels { IfOk result (λ read. levels_given read.1.items ≡ self.levels) }
-        ensures rows { IfOk result (λ read. read.2.items ≡ self.rows) }
-        ensures accepted { IfOk result (λ read. AreAccepted read.0 read.1.items) }
-        ensures small { IfOk result (λ read. AreSmall read.2.items) }
+        ensures plan { result.0 ≡ parts_said self.said }
+        ensures levels { levels_given result.1.items ≡ self.levels }
+        ensures rows { result.2.items ≡ self.rows }
+        ensures accepted { AreAccepted result.0 result.1.items }
+        ensures small { AreSmall result.2.items }
     {
-        let (plan, _schedule) = self.draft.into_plan(alloc)?;
-        Ok((plan, self.levels, self.rows))
+        let (plan, _schedule) = self.draft.into_plan();
+        (plan, self.levels, self.rows)
     }
 }
 

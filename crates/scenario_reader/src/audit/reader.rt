@@ -40,5 +40,5 @@ pub fn read_audit<S: Source>(
 {
     let mut draft = AuditDraft::new(alloc)?;
     read_lines(alloc, &mut draft, source)?;
-    Ok(draft.into_parts(alloc)?)
+    Ok(draft.into_parts())
 }

@@ -16,5 +16,5 @@ pub returns-clause-told : goal.returns-clause-told
 unfolding reading
 returns-clause-told g c =
     let said = c.read_lines.new.draft in
-    comes_to scenarios (g.S.Source.left c.args.source.now) said (PlanRead c.in_ok-into_plan.field-0.0 c.in_ok-into_plan.field-0.1) c.in_ok-read_lines.ensures.told
-    (λ count. complete_end count said c.in_ok-into_plan.field-0.0 c.in_ok-into_plan.field-0.1 (may_end said c.in_ok-read_lines.ensures.whole) c.in_ok-into_plan.ensures.plan c.in_ok-into_plan.ensures.items)
+    comes_to scenarios (g.S.Source.left c.args.source.now) said (PlanRead c.into_plan.result.0 c.into_plan.result.1) c.in_ok-read_lines.ensures.told
+    (λ count. complete_end count said c.into_plan.result.0 c.into_plan.result.1 (may_end said c.in_ok-read_lines.ensures.whole) c.into_plan.ensures.plan c.into_plan.ensures.items)

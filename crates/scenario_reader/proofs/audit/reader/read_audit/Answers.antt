@@ -18,4 +18,4 @@ unfolding audit_reading
 returns-clause-told g c =
     let said = c.read_lines.new.draft in
     comes_to audits (g.S.Source.left c.args.source.now) said (AuditRead _ _ _) c.in_ok-read_lines.ensures.told
-    (λ count. table_end _ count said _ _ _ (may_end _ c.in_ok-read_lines.ensures.whole) c.in_ok-into_parts.ensures.plan c.in_ok-into_parts.ensures.levels c.in_ok-into_parts.ensures.rows)
+    (λ count. table_end _ count said _ _ _ (may_end _ c.in_ok-read_lines.ensures.whole) c.into_parts.ensures.plan c.into_parts.ensures.levels c.into_parts.ensures.rows)
