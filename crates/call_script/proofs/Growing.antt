@@ -8,7 +8,7 @@ use Rattle.std.specs.Prelude.{nat_le, ◌&&◌, ◌*◌}
 use Rattle.net_units.specs.Numbers.{link_number, actor_number, channel_number}
 use Rattle.net_units.specs.declared.numbers.ChanNo.{ChanNo}
 use Rattle.net_units.specs.declared.numbers.LinkNo.{LinkNo}
-use Rattle.link_steps.proofs.ListFacts.{Each-append}
+use Rattle.link_steps.proofs.SearchAndFilter.{Each-append}
 use Rattle.link_steps.specs.Lists.{Each}
 use Rattle.call_script.specs.Broken.{unless_broken, use_rule_broken, range_rule_broken, name_rule_broken, rule_broken}
 use Rattle.call_script.specs.Groups.{groups_have_version, groups_have_names, groups_are_there, quotas_are_in_range, groups_are_few, quotas_are_fit}
@@ -25,13 +25,13 @@ use Rattle.call_script.specs.declared.operations.Op.TheVariants.{Open, Send, Clo
 use Rattle.call_script.specs.declared.roles.Role.TheVariants as role
 use Rattle.call_script.specs.declared.version.Version.{Version}
 use Rattle.link_steps.proofs.ListParts.{Each-by_place}
-use Rattle.call_script.proofs.GrowthFacts.{all-more, after-more, get-before, get-more, added-all, added-after, added-names, added-length, added-openings, added-opens-none, new-opens-none}
-use Rattle.call_script.proofs.GroupFacts.{no-groups, none-unused, groups-with-link, groups-with-caller, groups-with-op, groups-from}
-use Rattle.call_script.proofs.OpeningFacts.{opened-has}
-use Rattle.call_script.proofs.LoadFacts.{load-more, added-load, new-over}
-use Rattle.call_script.proofs.OperationFacts.{IsThere, HasHops, leaves-there}
-use Rattle.call_script.proofs.OwnerFacts.{any-later, twice-not}
-use Rattle.call_script.proofs.RuleFacts.{HasUsed, used-in, used-from, unclosed-in, unclosed-from, moves-in, moves-from}
+use Rattle.call_script.proofs.OneMoreOperation.{all-more, after-more, get-before, get-more, added-all, added-after, added-names, added-length, added-openings, added-opens-none, new-opens-none}
+use Rattle.call_script.proofs.GroupRulesStay.{no-groups, none-unused, groups-with-link, groups-with-caller, groups-with-op, groups-from}
+use Rattle.call_script.proofs.OpeningsInOrder.{opened-has}
+use Rattle.call_script.proofs.ScriptLoads.{load-more, added-load, new-over}
+use Rattle.call_script.proofs.OperationTable.{IsThere, HasHops, leaves-there}
+use Rattle.call_script.proofs.OneOwner.{any-later, twice-not}
+use Rattle.call_script.proofs.RulesAreKept.{HasUsed, used-in, used-from, unclosed-in, unclosed-from, moves-in, moves-from}
 
 -- ---- the rules on names and numbers, in their parts
 

@@ -16,7 +16,7 @@ use Rattle.call_script.specs.declared.entries.CallerEntry.{CallerEntry}
 use Rattle.call_script.specs.declared.entries.LinkEntry.{LinkEntry}
 use Rattle.call_script.specs.declared.entries.RequestEntry.{RequestEntry}
 use Rattle.call_script.specs.declared.version.Version.{Version}
-use Rattle.call_script.proofs.GrowthFacts.{all-more, after-more}
+use Rattle.call_script.proofs.OneMoreOperation.{all-more, after-more}
 use Rattle.call_script.proofs.Growing.{names-in, names-from, version-in, version-from, few-in, few-from, length-more, names-more, no-request}
 
 -- ---- groups

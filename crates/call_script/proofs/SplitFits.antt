@@ -16,7 +16,7 @@ use Rattle.call_script.specs.Plans.{IsPlan}
 use Rattle.call_script.specs.Rules.{each_after}
 use Rattle.call_script.specs.Splits.{split_by, entry_link}
 use Rattle.call_script.specs.declared.entries.LinkEntry.{LinkEntry}
-use Rattle.call_script.proofs.RuleFacts.{each-of, keeps-rules}
+use Rattle.call_script.proofs.RulesAreKept.{each-of, keeps-rules}
 
 -- ---- quotas of different groups
 

@@ -29,13 +29,13 @@ use Rattle.link_steps.specs.Buffer.{has_slot}
 use Rattle.link_steps.specs.Sources.{SourceStep, Rests, Brings, Drops, source_step, arrival_at, with_packet, source_tick, step_of, packet_of, row_after, taken_by, source_packets, rows_after}
 use Rattle.link_steps.specs.BestEffort.{best_packet}
 use Rattle.link_steps.specs.Effects.{Change, Commits, Plans, Closes, Effect, Adds, Changes, Removes, Takes, Ticks, changed_row, is_changed, level_with, plan_with, with_effect}
-use Rattle.link_steps.proofs.EffectFacts.{ChangeFits, TakeFits, EffectFits, changed-row, by-fit, new_in, offer_of}
-use Rattle.link_steps.proofs.ChangeFacts.{Each-change_found}
+use Rattle.link_steps.proofs.EntryEffects.{ChangeFits, TakeFits, EffectFits, changed-row, by-fit, new_in, offer_of}
+use Rattle.link_steps.proofs.FoundElements.{Each-change_found}
 use Rattle.link_steps.proofs.LegalChannels.{DifferInChannel, legal-channels, differ-filter}
 use Rattle.link_steps.proofs.LegalOrder.{ScanInOrder, legal-order}
-use Rattle.link_steps.proofs.LegalRowFacts.{IsInOrder, keeps-more}
-use Rattle.link_steps.proofs.ListFacts.{Each-append, Each-filter, Each-find, Each-if, Each-change_first, Each-without_first, Each-mapped}
-use Rattle.link_steps.proofs.ReplyFacts.{arrive-tells}
+use Rattle.link_steps.proofs.RowsInOrder.{IsInOrder, keeps-more}
+use Rattle.link_steps.proofs.SearchAndFilter.{Each-append, Each-filter, Each-find, Each-if, Each-change_first, Each-without_first, Each-mapped}
+use Rattle.link_steps.proofs.ReservationFound.{arrive-tells}
 use Rattle.channel_laws.specs.Channels.{HopTerms, is_of_channel, channel_packets, tick_of_packet, channel_of, offers_with, offers_to, OffersTerms, AllOfferTerms, AreNumberedAfter, RowTells, IsElsewhere, IsOnly, IsFree, HasOneRow, ChannelStands, NamesTerms}
 
 -- ---- packets

@@ -18,9 +18,9 @@ use Rattle.link_steps.specs.Rows.{Row}
 use Rattle.link_steps.specs.Scan.{clock_with, clock_of, scan_of, after, starts_of}
 use Rattle.link_steps.specs.Service.{Arrival, Start, leaves_at, work_of, starts_below}
 use Rattle.link_steps.specs.Shape.{blocking_of}
-use Rattle.link_steps.proofs.ListFacts.{Each-among, Each-if}
-use Rattle.link_steps.proofs.ServiceFacts.{starts-fact}
-use Rattle.link_steps.proofs.ChangeFacts.{Each-from_among}
+use Rattle.link_steps.proofs.SearchAndFilter.{Each-among, Each-if}
+use Rattle.link_steps.proofs.ServiceStarts.{starts-fact}
+use Rattle.link_steps.proofs.FoundElements.{Each-from_among}
 use Rattle.link_steps.proofs.WindowFits.{packets-have_work}
 use Rattle.channel_laws.specs.Channels.{HopTerms, is_of_channel, channel_packets, RowTells, AllOfferTerms, offers_to, ChannelStands}
 use Rattle.link_steps.specs.Belonging.{AreNumbered as ArePlaced}
@@ -32,7 +32,7 @@ use Rattle.channel_laws.proofs.GoneCount.{gone-append, gone-still}
 use Rattle.channel_laws.specs.Departing.{ticked, gone_count, gone_of, TickSends, SendsOwn, SendsOther}
 use Rattle.channel_laws.proofs.ChannelRows.{legal-stands}
 use Rattle.link_steps.proofs.PacketRows.{Among-passes}
-use Rattle.channel_laws.proofs.SentFacts.{sent-facts}
+use Rattle.channel_laws.proofs.SentInTime.{sent-facts}
 use Rattle.channel_laws.proofs.SentOrder.{SentHead, sent-number}
 
 -- ---- the count of a history

@@ -9,8 +9,8 @@ use Rattle.link_steps.specs.Scan.{scan_of}
 use Rattle.link_steps.specs.Service.{Arrival, Start, leaves_at, goes_before, first_in_line, is_start_of, has_started, is_waiting, is_busy, add_start, serve_tick, starts_below, is_departure_by, has_departed}
 use Rattle.link_steps.specs.Belonging.{AreNumbered as ArePlaced}
 use Rattle.link_steps.proofs.NewPackets.{packets-numbered, same-number}
-use Rattle.link_steps.proofs.ChangeFacts.{Each-from_among}
-use Rattle.link_steps.proofs.ServiceFacts.{HasLeft, FollowEachOther, starts-follow, starts-fact}
+use Rattle.link_steps.proofs.FoundElements.{Each-from_among}
+use Rattle.link_steps.proofs.ServiceStarts.{HasLeft, FollowEachOther, starts-follow, starts-fact}
 use Rattle.link_steps.proofs.Departures.{IsEligibleStart, starts-eligible}
 use Rattle.channel_laws.proofs.ServiceOrder.{Tick as Sooner, Place, true-before, order-start}
 

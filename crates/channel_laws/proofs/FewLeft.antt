@@ -20,8 +20,8 @@ use Rattle.link_steps.specs.declared.replies.Phase.TheVariants.{Committed}
 use Rattle.net_units.specs.declared.numbers.ChanNo.{ChanNo}
 use Rattle.std.proofs.lemmas.List.{nil_from_length}
 use Rattle.link_steps.proofs.AccountOfRows.{left-planned, left-cancelled}
-use Rattle.link_steps.proofs.ListFacts.{Each-find}
-use Rattle.link_steps.proofs.ReplyFacts.{submit-tells}
+use Rattle.link_steps.proofs.SearchAndFilter.{Each-find}
+use Rattle.link_steps.proofs.ReservationFound.{submit-tells}
 use Rattle.channel_laws.specs.Unsent.{FewCancelled}
 use Rattle.channel_laws.proofs.PlanLaw.{On, IsPlanLaw, SubmitKeeps, after-keeps}
 

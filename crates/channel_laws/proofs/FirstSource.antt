@@ -18,12 +18,12 @@ use Rattle.link_steps.specs.Rows.{Row, new_row}
 use Rattle.link_steps.specs.Scan.{Scan, clock_of, scan_of, is_row_of, arrived_packet, arrived_row, with_arrival, without_expired, with_sources, with_best, after_tick}
 use Rattle.link_steps.specs.Service.{Arrival, here_at}
 use Rattle.link_steps.specs.SourceGuarantee.{IsEligibleAtOnce, KeepingIsServed}
-use Rattle.link_steps.proofs.ChangeFacts.{Each-passes, Each-if_passes}
-use Rattle.link_steps.proofs.ListFacts.{Each-append, Each-both, Each-if, Each-filter, Each-find, Each-among, Each-change_first, Each-without_first}
+use Rattle.link_steps.proofs.FoundElements.{Each-passes, Each-if_passes}
+use Rattle.link_steps.proofs.SearchAndFilter.{Each-append, Each-both, Each-if, Each-filter, Each-find, Each-among, Each-change_first, Each-without_first}
 use Rattle.link_steps.proofs.RowPackets.{IsHeld, IsBeside}
 use Rattle.link_steps.specs.Belonging.{own_packets}
 use Rattle.link_steps.specs.Effects.{Effect, Adds, Changes, Removes, Takes, Ticks, changed_row, is_changed, with_effect}
-use Rattle.link_steps.proofs.EffectFacts.{EffectFits, by-fit, new_in}
+use Rattle.link_steps.proofs.EntryEffects.{EffectFits, by-fit, new_in}
 use Rattle.link_steps.proofs.SourceHistory.{source-guarantee, legal-served}
 use Rattle.channel_laws.specs.Channels.{HopTerms, is_of_channel, channel_packets, channel_of, offers_with, offers_to, AllOfferTerms, RowTells, IsElsewhere, IsOnly, ChannelStands}
 use Rattle.channel_laws.specs.Sources.{SourceIsKept, SourceIsServed}

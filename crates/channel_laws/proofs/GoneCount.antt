@@ -6,10 +6,10 @@ use Rattle.std.specs.Prelude.{filter}
 use Rattle.link_steps.specs.declared.shape.LinkShape.{LinkShape}
 use Rattle.link_steps.specs.Lists.{Each, Among}
 use Rattle.link_steps.specs.Service.{Arrival, Start, leaves_at, work_of, is_start_of, starts_below, has_departed}
-use Rattle.link_steps.proofs.ChangeFacts.{Each-from_among}
+use Rattle.link_steps.proofs.FoundElements.{Each-from_among}
 use Rattle.link_steps.proofs.Departures.{IsEligibleStart, starts-eligible, departed-at}
-use Rattle.link_steps.proofs.ListFacts.{Each-among, filter-none, filter-same, Among-filter}
-use Rattle.link_steps.proofs.ServiceFacts.{IsFrom, starts_below-append, starts-fact, FollowEachOther, starts-follow, HasBegun, starts-begun}
+use Rattle.link_steps.proofs.SearchAndFilter.{Each-among, filter-none, filter-same, Among-filter}
+use Rattle.link_steps.proofs.ServiceStarts.{IsFrom, starts_below-append, starts-fact, FollowEachOther, starts-follow, HasBegun, starts-begun}
 use Rattle.channel_laws.specs.Channels.{is_of_channel, channel_packets}
 use Rattle.link_steps.specs.Belonging.{AreNumbered as ArePlaced}
 use Rattle.link_steps.proofs.NewPackets.{same-number}

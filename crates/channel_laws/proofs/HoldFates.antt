@@ -29,16 +29,16 @@ use Rattle.link_steps.specs.Service.{Arrival, here_at}
 use Rattle.link_steps.specs.Sources.{source_step, step_of, packet_of, taken_by, source_packets}
 use Rattle.link_steps.proofs.AdmissionHolds.{rows_after-terms}
 use Rattle.link_steps.proofs.LegalChannels.{DifferInChannel}
-use Rattle.link_steps.proofs.LegalRowFacts.{IsInOrder, source-settled}
-use Rattle.link_steps.proofs.ListFacts.{Each-filter}
-use Rattle.link_steps.proofs.RefusalFacts.{kept-rule}
+use Rattle.link_steps.proofs.RowsInOrder.{IsInOrder, source-settled}
+use Rattle.link_steps.proofs.SearchAndFilter.{Each-filter}
+use Rattle.link_steps.proofs.RulesPassed.{kept-rule}
 use Rattle.channel_laws.specs.Channels.{is_of_channel, channel_packets, channel_of, IsElsewhere}
 use Rattle.channel_laws.proofs.ChannelRows.{row-of, row-at-hop, others-elsewhere, packet-elsewhere, find-passes, packets-off, tick-packets}
 use Rattle.channel_laws.proofs.SendReplies.{same-hop}
 use Rattle.channel_laws.specs.Reservations.{held_by}
 use Rattle.channel_laws.proofs.TermsAfter.{other-changed, other-without, apart-row, apart-hop, none-held, reserved-other, pushed, arrival-held, held-submitted}
-use Rattle.link_steps.proofs.ReplyFacts.{closing-count, relax-tells, deny-tells, arrive-tells}
-use Rattle.link_steps.proofs.EffectFacts.{packets-by}
+use Rattle.link_steps.proofs.ReservationFound.{closing-count, relax-tells, deny-tells, arrive-tells}
+use Rattle.link_steps.proofs.EntryEffects.{packets-by}
 
 pub data Fate (least count : ℕ) (held : Option Reservation) : Type 0 where
   FateOpen : (terms : Reservation) → held ≡ Some terms → terms.phase ≡ Committed → Fate least count held

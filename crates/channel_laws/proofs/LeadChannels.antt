@@ -12,10 +12,10 @@ use Rattle.link_steps.specs.Rows.{Row}
 use Rattle.link_steps.specs.Scan.{Scan, clock_of, without_expired, with_sources, with_best, best_step_at, after_tick, scan_of}
 use Rattle.link_steps.specs.Service.{Arrival, here_at, is_here, starts_below}
 use Rattle.link_steps.specs.Sources.{SourceStep, Rests, Brings, Drops, step_of, packet_of, row_after}
-use Rattle.link_steps.proofs.ChangeFacts.{Each-if_passes}
-use Rattle.link_steps.proofs.ListFacts.{Each-append, Each-find}
+use Rattle.link_steps.proofs.FoundElements.{Each-if_passes}
+use Rattle.link_steps.proofs.SearchAndFilter.{Each-append, Each-find}
 use Rattle.link_steps.specs.Belonging.{own_packets}
-use Rattle.link_steps.proofs.EffectFacts.{each-admissible}
+use Rattle.link_steps.proofs.EntryEffects.{each-admissible}
 use Rattle.link_steps.proofs.SourceHistory.{stand-best}
 use Rattle.link_steps.proofs.RowPackets.{IsHeld, RowsStand, stand-sources}
 use Rattle.link_steps.proofs.RowsStanding.{stand-expired, Stands, stand-effect}

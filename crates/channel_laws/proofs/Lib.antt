@@ -1,5 +1,5 @@
 pub mod OfferAnswers
-pub mod SentFacts
+pub mod SentInTime
 pub mod ChannelRows
 pub mod TermsAfter
 pub mod SendReplies

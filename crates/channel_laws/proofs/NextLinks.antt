@@ -21,9 +21,9 @@ use Rattle.link_steps.specs.Rows.{Row}
 use Rattle.link_steps.specs.Scan.{Scan, clock_of, is_row_of, is_row_at_hop, names_first_hop, relax_row, plan_row, close_row, arrived_row, with_arrival, without_expired, with_sources, with_best, best_step_at, after_tick, after, scan_of}
 use Rattle.link_steps.specs.Service.{Arrival, Start, here_at, leaves_at, starts_below}
 use Rattle.link_steps.specs.Sources.{SourceStep, Rests, Brings, Drops, step_of, packet_of, row_after, taken_by, source_packets, rows_after}
-use Rattle.link_steps.proofs.ListFacts.{Each-append, Each-filter, Each-find, Each-change_first, Each-without_first}
-use Rattle.link_steps.proofs.ServiceFacts.{starts-fact}
-use Rattle.channel_laws.proofs.SentFacts.{ticked-sent}
+use Rattle.link_steps.proofs.SearchAndFilter.{Each-append, Each-filter, Each-find, Each-change_first, Each-without_first}
+use Rattle.link_steps.proofs.ServiceStarts.{starts-fact}
+use Rattle.channel_laws.proofs.SentInTime.{ticked-sent}
 
 -- the ask reserves with such a next link, or reserves nothing
 abbrev pub NamesNext : (Option LinkNo → Type 0) → Ask → Type 0

@@ -13,10 +13,10 @@ use Rattle.link_steps.specs.Scan.{Scan, clock_of, is_row_of, with_arrival, witho
 use Rattle.link_steps.specs.Service.{Arrival, here_at}
 use Rattle.link_steps.specs.Sources.{SourceStep, Rests, Brings, Drops, step_of, packet_of, taken_by, source_packets}
 use Rattle.link_steps.specs.Effects.{Effect, Takes, Ticks, with_effect}
-use Rattle.link_steps.proofs.EffectFacts.{EffectFits, each-admissible}
+use Rattle.link_steps.proofs.EntryEffects.{EffectFits, each-admissible}
 use Rattle.link_steps.proofs.LegalOrder.{ScanInOrder, legal-order}
-use Rattle.link_steps.proofs.LegalRowFacts.{IsInOrder}
-use Rattle.link_steps.proofs.ListFacts.{Each-append, Each-filter, Each-find}
+use Rattle.link_steps.proofs.RowsInOrder.{IsInOrder}
+use Rattle.link_steps.proofs.SearchAndFilter.{Each-append, Each-filter, Each-find}
 
 pub record HasNumber (bounds : List ℕ) (p : Arrival) : Type 0 where
   pub some : p.level ≤ length bounds → 1 ≤ p.number

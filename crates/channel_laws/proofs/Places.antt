@@ -4,7 +4,7 @@ use Rattle.std.proofs.Common.{◌≡◌, ℕ, zero, suc, ◌+◌, ◌<◌, List,
 use Rattle.std.proofs.lemmas.Option.{same_Some}
 use Rattle.std.specs.List.{slice_get}
 use Rattle.traffic_contract.specs.Keeping.{Keeps}
-use Rattle.traffic_contract.proofs.ContractFacts.{burst-least}
+use Rattle.traffic_contract.proofs.BurstIsPositive.{burst-least}
 use Rattle.traffic_contract.proofs.NewestFirst.{Decides-keeps_newest_first}
 use Rattle.link_steps.specs.Rows.{Row}
 use Rattle.link_steps.specs.Service.{Arrival}

@@ -15,8 +15,8 @@ use Rattle.link_steps.specs.Rows.{Row, SourcePacket, made_by}
 use Rattle.link_steps.specs.Scan.{Scan, plan_row, clock_with, is_row_of, is_row_at_hop, arrived_row, with_arrival, without_expired, with_sources, with_best, after_tick, after}
 use Rattle.link_steps.specs.Service.{Arrival, here_at}
 use Rattle.link_steps.specs.Sources.{SourceStep, Rests, Brings, Drops, row_after, rows_after, step_of, taken_by}
-use Rattle.link_steps.proofs.ChangeFacts.{Each-change_found}
-use Rattle.link_steps.proofs.ListFacts.{Each-append, Each-filter, Each-change_first, Each-without_first}
+use Rattle.link_steps.proofs.FoundElements.{Each-change_found}
+use Rattle.link_steps.proofs.SearchAndFilter.{Each-append, Each-filter, Each-change_first, Each-without_first}
 use Rattle.channel_laws.specs.Channels.{channel_of}
 
 -- what a row's plan is at clock t, given its channel's number

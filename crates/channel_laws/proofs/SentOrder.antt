@@ -14,8 +14,8 @@ use Rattle.link_steps.specs.Rows.{Row}
 use Rattle.link_steps.specs.Scan.{scan_of}
 use Rattle.link_steps.specs.Service.{Arrival, Start, leaves_at, work_of, first_in_line, is_start_of, is_waiting, is_busy, add_start, serve_tick, starts_below, is_departure_by, has_departed}
 use Rattle.link_steps.proofs.Departures.{departed-at, starts-once, leaves-once}
-use Rattle.link_steps.proofs.ListFacts.{Each-among, Among-filter}
-use Rattle.link_steps.proofs.ServiceFacts.{FollowEachOther, starts-follow, starts-begun, HasBegun, starts-fact}
+use Rattle.link_steps.proofs.SearchAndFilter.{Each-among, Among-filter}
+use Rattle.link_steps.proofs.ServiceStarts.{FollowEachOther, starts-follow, starts-begun, HasBegun, starts-fact}
 use Rattle.channel_laws.specs.Channels.{HopTerms, is_of_channel, channel_packets, tick_of_packet, AreNumberedAfter, RowTells}
 use Rattle.link_steps.proofs.ListParts.{Each-at, Among-at}
 use Rattle.channel_laws.proofs.Places.{tick-at, place-of, row-keeps}

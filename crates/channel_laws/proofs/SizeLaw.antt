@@ -15,10 +15,10 @@ use Rattle.link_steps.specs.Scan.{Scan, clock_of, scan_of, is_row_of, arrived_pa
 use Rattle.link_steps.specs.Service.{Arrival, here_at}
 use Rattle.link_steps.specs.Sources.{source_step, step_of, packet_of, row_after, taken_by, source_packets, rows_after}
 use Rattle.link_steps.specs.Effects.{Effect, Adds, Changes, Removes, Takes, Ticks, with_effect}
-use Rattle.link_steps.proofs.EffectFacts.{TakeFits, EffectFits, by-fit, new_in}
+use Rattle.link_steps.proofs.EntryEffects.{TakeFits, EffectFits, by-fit, new_in}
 use Rattle.link_steps.proofs.LegalOrder.{legal-order}
-use Rattle.link_steps.proofs.LegalRowFacts.{SizeFits, IsInOrder}
-use Rattle.link_steps.proofs.ListFacts.{Each-append, Each-filter, Each-find, Each-change_first, Each-without_first}
+use Rattle.link_steps.proofs.RowsInOrder.{SizeFits, IsInOrder}
+use Rattle.link_steps.proofs.SearchAndFilter.{Each-append, Each-filter, Each-find, Each-change_first, Each-without_first}
 use Rattle.channel_laws.specs.Channels.{SizeWithin, HopTerms, is_of_channel, channel_packets, channel_of, AllOfferTerms}
 use Rattle.channel_laws.proofs.ChannelRows.{NewTerms, new-terms, packets-on, packets-off, tick-packets}
 

@@ -27,7 +27,7 @@ use Rattle.link_steps.specs.Scan.{Scan, is_row_of, is_row_at_hop, names_first_ho
 use Rattle.link_steps.specs.Service.{here_at}
 use Rattle.link_steps.proofs.AdmissionHolds.{rows_after-terms}
 use Rattle.link_steps.proofs.LegalChannels.{DifferInChannel}
-use Rattle.link_steps.proofs.ListFacts.{map-change_first-same}
+use Rattle.link_steps.proofs.SearchAndFilter.{map-change_first-same}
 use Rattle.channel_laws.specs.Reservations.{held_by, IsOpen, ComesOf, Stays, Closed}
 use Rattle.channel_laws.specs.Asks.{IsOff, IsMild}
 use Rattle.channel_laws.specs.Channels.{channel_of, IsElsewhere}

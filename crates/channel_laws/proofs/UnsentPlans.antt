@@ -15,7 +15,7 @@ use Rattle.link_steps.specs.Scan.{Scan, clock_of, scan_of, is_row_at_hop}
 use Rattle.link_steps.specs.Reservation.{is_same}
 use Rattle.net_units.specs.declared.numbers.ChanNo.{ChanNo}
 use Rattle.channel_laws.proofs.ChannelRows.{find-passes}
-use Rattle.link_steps.proofs.ListFacts.{Each-find}
+use Rattle.link_steps.proofs.SearchAndFilter.{Each-find}
 use Rattle.channel_laws.specs.Channels.{channel_of}
 use Rattle.channel_laws.specs.Unsent.{IsUnsent, NoneSent}
 use Rattle.channel_laws.proofs.PlanLaw.{On, IsPlanLaw, SubmitKeeps, after-keeps}

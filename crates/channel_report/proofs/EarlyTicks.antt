@@ -10,20 +10,20 @@ use Rattle.link_steps.specs.declared.replies.Entry.{Entry}
 use Rattle.link_steps.specs.declared.replies.Reply.{Reply}
 use Rattle.link_steps.specs.declared.replies.Reply.TheVariants as Is
 use Rattle.channel_laws.specs.Reservations.{IsSendReply, IsReleased, IsArriveReply}
-use Rattle.call_script.proofs.FitFacts.{plan-fits}
-use Rattle.call_script.proofs.OwnerFacts.{all-owned}
+use Rattle.call_script.proofs.PlansFit.{plan-fits}
+use Rattle.call_script.proofs.OneOwner.{all-owned}
 use Rattle.call_script.specs.Parts.{PlanParts}
 use Rattle.call_script.specs.Plans.{IsPlan}
 use Rattle.call_script.specs.Tasks.{network_of}
 use Rattle.interleave_core.specs.replies.Answers.{IsReplyOf, IsReserveReply, IsRelaxed}
 use Rattle.interleave_core.specs.runs.Runs.{IsNext, IsRun}
 use Rattle.interleave_core.proofs.Replies.Replying.{asks-answered}
-use Rattle.channel_laws.proofs.SentFacts.{tick-answer}
+use Rattle.channel_laws.proofs.SentInTime.{tick-answer}
 use Rattle.run_record.specs.Rows.{IsEarly}
 use Rattle.run_record.specs.Runs.{part_of}
 use Rattle.run_record.specs.declared.done.Done.{Done}
 use Rattle.channel_report.proofs.LinkTallies.{part-short}
-use Rattle.link_steps.proofs.ClockFacts.{clock_of-most}
+use Rattle.link_steps.proofs.ClockAdvances.{clock_of-most}
 
 reserve-early : (reply : Reply) → IsReserveReply reply → IsEarly reply
 reserve-early (Is.Ticked clock full sent best_sent best_lost) is = absurd is

@@ -6,26 +6,26 @@ use Rattle.net_units.specs.declared.numbers.ActorNo.{ActorNo}
 use Rattle.link_steps.specs.declared.asks.Ask.TheVariants.{Tick}
 use Rattle.link_steps.specs.declared.replies.Entry.{Entry}
 use Rattle.link_steps.specs.Quiet.{quiet_reply, quiet_ticks}
-use Rattle.call_script.proofs.FitFacts.{plan-fits}
+use Rattle.call_script.proofs.PlansFit.{plan-fits}
 use Rattle.call_script.specs.Parts.{PlanParts}
 use Rattle.call_script.specs.Tasks.{Network, network_of}
 use Rattle.call_script.specs.declared.entries.RequestEntry.{RequestEntry}
 use Rattle.interleave_core.specs.schedules.Quiet.{quiet_step, quiet_round, quiet_rounds, the_plane, rested, GoesOnAtRest}
 use Rattle.interleave_core.specs.runs.Runs.{plane_no, plane_at}
 use Rattle.interleave_core.specs.schedules.Watching.{IsRestSeen}
-use Rattle.interleave_core.proofs.Keeping.ActorFacts.{plane-number}
+use Rattle.interleave_core.proofs.Keeping.KeptActors.{plane-number}
 use Rattle.interleave_core.proofs.Watched.QuietRounds.{plane-is, quiet-rounds}
 use Rattle.interleave_core.proofs.Runs.RunLegal.{replies-by}
 use Rattle.interleave_core.proofs.Runs.RunLength.{run-short}
-use Rattle.interleave_core.proofs.Keeping.StepFacts.{callers-few}
-use Rattle.interleave_core.proofs.Watched.StrideFacts.{links-are}
+use Rattle.interleave_core.proofs.Keeping.CoreStep.{callers-few}
+use Rattle.interleave_core.proofs.Watched.WatchedStrides.{links-are}
 use Rattle.run_record.specs.Hops.{AreHops, AreOffered, hops_at}
 use Rattle.run_record.specs.Rows.{links_of}
 use Rattle.run_record.specs.Runs.{part_of, replies_to}
 use Rattle.run_record.specs.declared.done.Done.{Done}
 use Rattle.run_record.specs.declared.hops.Hops.{Hops}
 use Rattle.run_record.specs.declared.rows.HopRow.{HopRow}
-use Rattle.run_record.proofs.HopFacts.{links-push}
+use Rattle.run_record.proofs.OfferPlaces.{links-push}
 use Rattle.channel_report.specs.ChannelTallies.{AreChannelTallies}
 use Rattle.channel_report.specs.Ends.{AreKept, is_kept}
 use Rattle.channel_report.specs.StepCounts.{AreStepCounts}
@@ -35,8 +35,8 @@ use Rattle.channel_report.specs.declared.channel_tally.ChannelTally.{ChannelTall
 use Rattle.channel_report.specs.declared.link_tally.LinkTally.{LinkTally}
 use Rattle.channel_report.specs.declared.tally.Tally.{Tally}
 use Rattle.channel_report.proofs.ChannelTallies.{sources-same}
-use Rattle.channel_report.proofs.KeptFacts.{row-none}
-use Rattle.channel_report.proofs.LinkFacts.{are-small, tally-more}
+use Rattle.channel_report.proofs.RowsStayKept.{row-none}
+use Rattle.channel_report.proofs.CountsPerLink.{are-small, tally-more}
 use Rattle.channel_report.proofs.LinkTallies.{part-short}
 use Rattle.channel_report.proofs.StepTallies.{replies-few}
 

@@ -1,4 +1,4 @@
 pub mod ListSteps
-pub mod LinkFacts
-pub mod RequestFacts
-pub mod PlanFacts
+pub mod LinksOneByOne
+pub mod RequestsOneByOne
+pub mod DesignIsPlan

@@ -1,5 +1,5 @@
-pub mod TickFacts
-pub mod StreamFacts
-pub mod ScaleFacts
-pub mod TermFacts
+pub mod RoundedTicks
+pub mod StreamSpacing
+pub mod ScaleThatFits
+pub mod TermsWithinLimits
 mod TriedScales

@@ -83,7 +83,7 @@ pub(crate) fn left_by(jitter: Time, time: Time) -> u64
 }
 
 /// The contract of a least gap, a mean gap, the packets of a window and a size.
-#[tactic(auto, using(crate::proofs::TermFacts::mean_is_contract, crate::proofs::TermFacts::gap_is_contract))]
+#[tactic(auto, using(crate::proofs::TermsWithinLimits::mean_is_contract, crate::proofs::TermsWithinLimits::gap_is_contract))]
 fn held_to(gap: u32, mean: u32, packets: u32, size: u32) -> Contract
     requires gap { IsFrom 1 most_gap gap }
     requires mean { mean ≤ most_mean packets }

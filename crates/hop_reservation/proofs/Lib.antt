@@ -1,2 +1,2 @@
-pub mod OfferFacts
-pub mod RouteFacts
+pub mod OneMoreOffer
+pub mod DistinctLinks

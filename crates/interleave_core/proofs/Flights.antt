@@ -1,5 +1,5 @@
 -- Packets on their way from one link to the next.
-pub mod FlightFacts
+pub mod FlightOrigins
 pub mod Punctual
 pub mod FlightQueue
 pub mod QueueTicks

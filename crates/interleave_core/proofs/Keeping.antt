@@ -1,8 +1,8 @@
 -- What a core keeps of a run: its links and its actors, and each step of theirs.
 pub mod Lookups
-pub mod LinkFacts
+pub mod KeptLinks
 pub mod SplitLinks
-pub mod ActorFacts
-pub mod StepFacts
-pub mod EngineFacts
-pub mod PlaneFacts
+pub mod KeptActors
+pub mod CoreStep
+pub mod EngineStep
+pub mod NextPlaneStep

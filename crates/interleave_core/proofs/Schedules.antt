@@ -1,3 +1,3 @@
 -- How a schedule is played.
-pub mod ScheduleFacts
-pub mod PlayFacts
+pub mod ScheduleOutcome
+pub mod CorePlaysSchedule

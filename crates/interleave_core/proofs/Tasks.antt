@@ -1,11 +1,11 @@
 -- What the actors ask: the tasks of a caller, and how many steps an actor has.
-pub mod OnceFacts
-pub mod CallerFacts
+pub mod SingleAskTask
+pub mod CallerAsksFit
 pub mod TaskAsks
 pub mod OwnTasks
 pub mod EachSetup
 pub mod SetupOnce
 pub mod LinksAsked
-pub mod TurnFacts
+pub mod StepsRunOut
 pub mod OpsFew
 pub mod StepCounts

@@ -1,5 +1,5 @@
 -- What an engine and its watcher make of a run, step by step and by strides.
-pub mod WatchFacts
+pub mod WatchedSteps
 pub mod QuietRounds
-pub mod RestFacts
-pub mod StrideFacts
+pub mod RestedRounds
+pub mod WatchedStrides

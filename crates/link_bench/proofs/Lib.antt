@@ -1,1 +1,1 @@
-pub mod SplitFacts
+pub mod OneQuotaFits

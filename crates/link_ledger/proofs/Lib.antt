@@ -1,5 +1,5 @@
-pub mod JournalFacts
-pub mod OwnFacts
-mod OrderFacts
-mod StepFacts
-pub mod AnswerFacts
+pub mod JournalGrowth
+pub mod OwnStaysExact
+mod LinkStaysInOrder
+mod StepUnderLock
+pub mod RepliesMakeOwn

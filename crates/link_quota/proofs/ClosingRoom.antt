@@ -21,15 +21,15 @@ use Rattle.link_steps.specs.Scan.{Scan, clock_of, is_row_of, is_row_at_hop, name
 use Rattle.link_steps.specs.Split.{Link, Split, SplitFits, is_split}
 use Rattle.link_server.specs.Held.{seen_of}
 use Rattle.link_server.specs.declared.held_row.HeldRow.{HeldRow}
-use Rattle.link_server.proofs.ChosenFacts.{terms-stand}
+use Rattle.link_server.proofs.ChosenLevel.{terms-stand}
 use Rattle.link_quota.specs.Closing.{is_closing, if_closing, closing_part, AreClosing, HasRoomToClose}
 use Rattle.link_quota.specs.Places.{value_of}
 use Rattle.link_quota.specs.Steps.{GoesOn, IsCarrying, IsReserve, IsSettling}
 use Rattle.link_quota.specs.Stood.{IsLegallyStood}
 use Rattle.link_quota.proofs.ClosingSteps.{left-terms, value-open, value-part}
-use Rattle.link_quota.proofs.QuotaFacts.{held_in, sure-equal, sure-most, setup-total}
+use Rattle.link_quota.proofs.SomeLegalHistory.{held_in, sure-equal, sure-most, setup-total}
 use Rattle.link_quota.proofs.RowChanges.{filter-less, terms-carried}
-use Rattle.link_quota.proofs.StepFacts.{settling-new, settling-setup}
+use Rattle.link_quota.proofs.SplitSteps.{settling-new, settling-setup}
 
 -- ---- how many rows there are after an ask
 

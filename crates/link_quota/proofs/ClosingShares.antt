@@ -12,9 +12,9 @@ use Rattle.link_quota.specs.Closing.{is_held, if_gone, HaveGone, AreLowered}
 use Rattle.link_quota.specs.Places.{HavePart, AreRaisedBy, work_for, units_for_row}
 use Rattle.link_quota.specs.Shares.{row_work}
 use Rattle.link_quota.specs.declared.share.Share.{Share}
-use Rattle.link_quota.proofs.AnewFacts.{total-take, total-take-le}
-use Rattle.link_quota.proofs.ChangeFacts.{changed-back}
-use Rattle.link_quota.proofs.GroupFacts.{inside-at}
+use Rattle.link_quota.proofs.SharesRowByRow.{total-take, total-take-le}
+use Rattle.link_quota.proofs.SharesThroughChange.{changed-back}
+use Rattle.link_quota.proofs.QuotaPlaces.{inside-at}
 
 -- none is gone yet
 pub lowered-none : (link : Link) (held : List Reservation) (shares : List Share) → AreLowered link held [] shares shares

@@ -6,7 +6,7 @@ use Rattle.std.specs.Prelude.{IfOk, OnErr, IsOk, Result, Ok, Err, filter, find}
 use Rattle.std.specs.Option.{option_map}
 use Rattle.net_units.specs.declared.numbers.ChanNo.{ChanNo}
 use Rattle.traffic_contract.specs.Admission.{total}
-use Rattle.traffic_contract.proofs.AdmissionFacts.{total-map, total-push}
+use Rattle.traffic_contract.proofs.AdmissionTest.{total-map, total-push}
 use Rattle.link_steps.specs.declared.asks.Ask.{Ask}
 use Rattle.link_steps.specs.declared.asks.Ask.TheVariants.{Reserve, Relax, Deny, Release, Tick}
 use Rattle.link_steps.specs.declared.replies.Entry.{Entry}
@@ -32,17 +32,17 @@ use Rattle.link_steps.proofs.LegalChannels.{DifferInChannel, legal-channels}
 use Rattle.link_steps.proofs.ListParts.{stands-at}
 use Rattle.link_server.specs.Held.{seen, seen_of}
 use Rattle.link_server.specs.declared.held_row.HeldRow.{HeldRow}
-use Rattle.link_server.proofs.ChosenFacts.{terms-stand}
+use Rattle.link_server.proofs.ChosenLevel.{terms-stand}
 use Rattle.link_quota.specs.Closing.{is_closing, if_closing, closing_part, AreClosing, is_held, if_held, if_gone, HaveGone, AreLowered}
 use Rattle.link_quota.specs.Places.{value_of, work_for, units_for_row}
 use Rattle.link_quota.specs.Shares.{AreShares}
 use Rattle.link_quota.specs.Steps.{GoesOn, IsCarrying, IsReserve, IsSettling}
 use Rattle.link_quota.specs.Stood.{IsLegallyStood}
 use Rattle.link_quota.specs.declared.share.Share.{Share}
-use Rattle.link_quota.proofs.ClosingFacts.{gone-total, left-total, total-filtered, expires-closing}
-use Rattle.link_quota.proofs.GroupFacts.{inside-at}
+use Rattle.link_quota.proofs.ExpiringRows.{gone-total, left-total, total-filtered, expires-closing}
+use Rattle.link_quota.proofs.QuotaPlaces.{inside-at}
 use Rattle.link_quota.proofs.OwnRows.{hop-of}
-use Rattle.link_quota.proofs.QuotaFacts.{held_in, sure-equal, same-total, setup-total}
+use Rattle.link_quota.proofs.SomeLegalHistory.{held_in, sure-equal, same-total, setup-total}
 use Rattle.link_quota.proofs.RowChanges.{IsSetupOf, OffersNew, none-of, find-none, narrower, terms-carried, terms-ticked}
 
 -- ---- where no sum changes

@@ -8,7 +8,7 @@ use Rattle.link_steps.specs.Scan.{scan_of}
 use Rattle.link_steps.specs.Split.{Link, SplitFits, is_split}
 use Rattle.link_steps.proofs.LegalAdmissible.{legal-has}
 use Rattle.link_quota.specs.Within.{GroupsAreWithin}
-use Rattle.link_quota.proofs.QuotaFacts.{few-held}
+use Rattle.link_quota.proofs.SomeLegalHistory.{few-held}
 
 now-within : (link : Link) (h : List Entry) → SplitFits link → is_split link.split ≡ true → IsLegal link h → GroupsAreWithin link h
 now-within link h fits splits legal = few-held link (map row_terms (scan_of link.shape h).rows) ((legal-has link h fits legal).within splits)

@@ -6,8 +6,8 @@ use Rattle.std.proofs.lemmas.List.Elements.{All-push}
 use Rattle.std.specs.List.{All}
 use Rattle.std.specs.Prelude.{nat_eq}
 use Rattle.link_server.specs.KeyedList.{position, IsNoneOf, AreApart, AreRising, AreStamps}
-use Rattle.link_server.proofs.RowFacts.Placed.{removed-mapped}
-use Rattle.link_server.proofs.RowFacts.Places.{all-without}
+use Rattle.link_server.proofs.RowsOfTable.Placed.{removed-mapped}
+use Rattle.link_server.proofs.RowsOfTable.Places.{all-without}
 use Rattle.link_server.proofs.Waiting.Rising.{rising-apart, rising-last, rising-without}
 
 -- ---- places

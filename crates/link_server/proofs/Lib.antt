@@ -3,12 +3,12 @@ pub mod Words
 pub mod Sourcing
 pub mod Waiting
 pub mod Replies
-pub mod RowFacts
+pub mod RowsOfTable
 pub mod Calendars
 pub mod Sound
 pub mod Departed
-pub mod StepFacts
-pub mod ChosenFacts
-mod KeyedListFacts
+pub mod EveryHistoryAgrees
+pub mod ChosenLevel
+mod KeyedValues
 mod KeyPlaces
-pub mod RestFacts
+pub mod LinkRests

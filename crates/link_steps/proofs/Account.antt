@@ -28,11 +28,11 @@ use Rattle.link_steps.specs.Sources.{SourceStep, Rests, Brings, Drops, source_st
 use Rattle.link_steps.specs.BestEffort.{best_packet, best_step}
 use Rattle.link_steps.specs.declared.replies.Sent.{Sent}
 use Rattle.link_steps.specs.Effects.{Effect, Takes, Ticks, with_effect}
-use Rattle.link_steps.proofs.EffectFacts.{each-history}
+use Rattle.link_steps.proofs.EntryEffects.{each-history}
 use Rattle.link_steps.proofs.AccountOfRows.{RowHasContract, left-left, eligible-recent, left-planned, left-cancelled, held-kept, kept-packet, packets-kept, rows-kept, lost-kept, eligible-from, source_packets-above, source_packets-upto, source_packets-from}
 use Rattle.link_steps.proofs.AccountOfService.{IsUpTo, IsAbove, waiting-kept, ShowsTick, here_at-append, shows-tick-append}
-use Rattle.link_steps.proofs.ListFacts.{find-filter, Each-append, Each-filter, Each-if, Each-find, Each-mapped, find-map, map-change_first, map-without_first}
-use Rattle.link_steps.proofs.ServiceFacts.{IsFrom, starts_below-append}
+use Rattle.link_steps.proofs.SearchAndFilter.{find-filter, Each-append, Each-filter, Each-if, Each-find, Each-mapped, find-map, map-change_first, map-without_first}
+use Rattle.link_steps.proofs.ServiceStarts.{IsFrom, starts_below-append}
 use Rattle.link_steps.proofs.NewPackets.{best-from}
 
 -- ---- arrival numbers

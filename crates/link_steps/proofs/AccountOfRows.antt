@@ -9,8 +9,8 @@ use Rattle.net_units.specs.declared.Kind.TheVariants.{Rate, Jitter}
 use Rattle.traffic_contract.specs.Contract.{Traffic, IsContract, burst_of}
 use Rattle.traffic_contract.specs.Eligible.{eligible, newest, newest_burst}
 use Rattle.traffic_contract.specs.Keeping.{may_follow}
-use Rattle.traffic_contract.proofs.ContractFacts.{burst-least}
-use Rattle.traffic_contract.proofs.EligibleFacts.{eligible-take, first_from-reached, newest-take, take-cons-take}
+use Rattle.traffic_contract.proofs.BurstIsPositive.{burst-least}
+use Rattle.traffic_contract.proofs.LeastEligibleTick.{eligible-take, first_from-reached, newest-take, take-cons-take}
 use Rattle.link_steps.specs.Buffer.{has_slot}
 use Rattle.link_steps.specs.Hold.{stays}
 use Rattle.link_steps.specs.Kept.{kept_row, kept_stays, kept_step, kept_tick, kept_packet, kept_with, past_tick, kept_after_step, kept_packets, kept_rows_after, kept_lost}
@@ -20,8 +20,8 @@ use Rattle.link_steps.specs.Service.{Arrival}
 use Rattle.link_steps.specs.Regulator.{waits_until, eligible_next}
 use Rattle.link_steps.specs.Rows.{Row, SourcePacket, planned_from, is_for, is_from, is_before, left_at, made_by}
 use Rattle.link_steps.specs.Sources.{SourceStep, Rests, Brings, Drops, with_packet, source_step, step_of, source_tick, packet_of, row_after, taken_by, source_packets, rows_after, dropped_in}
-use Rattle.link_steps.proofs.ListFacts.{Each-from, Each-if, Each-append, filter-same, filter-none, filter-map, filter-filter, find-filter, filter-all}
-use Rattle.link_steps.proofs.ServiceFacts.{IsFrom}
+use Rattle.link_steps.proofs.SearchAndFilter.{Each-from, Each-if, Each-append, filter-same, filter-none, filter-map, filter-filter, find-filter, filter-all}
+use Rattle.link_steps.proofs.ServiceStarts.{IsFrom}
 use Rattle.link_steps.proofs.AccountOfService.{IsAbove, IsUpTo}
 
 -- a row has a contract

@@ -10,8 +10,8 @@ use Rattle.link_steps.specs.Lists.{Each}
 use Rattle.link_steps.specs.Replies.{sent_at, best_sent_at}
 use Rattle.link_steps.specs.BestEffort.{is_best, waits_best, waiting_best}
 use Rattle.link_steps.specs.Service.{Arrival, Start, leaves_at, first_in_line, is_start_of, has_started, is_waiting, is_busy, add_start, serve_tick, starts_below, has_departed, is_here, here_at}
-use Rattle.link_steps.proofs.ListFacts.{Each-from, Each-if, filter-same, filter-all, filter-filter}
-use Rattle.link_steps.proofs.ServiceFacts.{IsFrom, HasLeft, FollowEachOther, HasBegun, starts_below-append, starts-begun, left-idle, starts-follow, starts-fact}
+use Rattle.link_steps.proofs.SearchAndFilter.{Each-from, Each-if, filter-same, filter-all, filter-filter}
+use Rattle.link_steps.proofs.ServiceStarts.{IsFrom, HasLeft, FollowEachOther, HasBegun, starts_below-append, starts-begun, left-idle, starts-follow, starts-fact}
 
 -- ---- what has left
 

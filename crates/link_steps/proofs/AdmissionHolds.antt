@@ -3,13 +3,13 @@ use Rattle.std.proofs.Common.{◌≡◌, ℕ, suc, ◌+◌, ◌≤◌, List, [],
 use Rattle.std.proofs.lemmas.List.{map-append}
 use Rattle.std.specs.Prelude.{filter, find}
 use Rattle.std.specs.Option.{option_map}
-use Rattle.net_units.proofs.BoundFacts.{bound_at-rising}
+use Rattle.net_units.proofs.BoundsInOrder.{bound_at-rising}
 use Rattle.net_units.specs.Numbers.{level_number}
 use Rattle.net_units.specs.Quotient.{ceil_quotient}
 use Rattle.net_units.specs.LevelBounds.{bound_at}
 use Rattle.net_units.specs.declared.numbers.ChanNo.{ChanNo}
 use Rattle.traffic_contract.specs.Admission.{Admitted, total, work_up_to, load, Passes, with_row}
-use Rattle.traffic_contract.proofs.AdmissionFacts.{Passes-le, Passes-nil, total-map, total-filter-le, work_up_to-le, Decides-admits}
+use Rattle.traffic_contract.proofs.AdmissionTest.{Passes-le, Passes-nil, total-map, total-filter-le, work_up_to-le, Decides-admits}
 use Rattle.link_steps.specs.declared.replies.Entry.{Entry}
 use Rattle.link_steps.specs.declared.shape.LinkShape.{LinkShape}
 use Rattle.link_steps.specs.Admissible.{IsAdmissible}
@@ -21,9 +21,9 @@ use Rattle.link_steps.specs.Shape.{server_of}
 use Rattle.link_steps.specs.Rows.{Row, row_terms, new_row}
 use Rattle.link_steps.specs.Sources.{SourceStep, Rests, Brings, Drops, step_of, row_after, rows_after, taken_by}
 use Rattle.link_steps.specs.Effects.{Change, Commits, Plans, Closes, Effect, Adds, Changes, Removes, Takes, Ticks, changed_row, is_changed, with_effect}
-use Rattle.link_steps.proofs.EffectFacts.{AddFits, ChangeFits, EffectFits, by-fit}
-use Rattle.link_steps.proofs.ListFacts.{find-map, map-change_first-same, total-change_first-le, total-without_first-le}
-use Rattle.traffic_contract.proofs.LoadFacts.{ceil_quotient-some}
+use Rattle.link_steps.proofs.EntryEffects.{AddFits, ChangeFits, EffectFits, by-fit}
+use Rattle.link_steps.proofs.SearchAndFilter.{find-map, map-change_first-same, total-change_first-le, total-without_first-le}
+use Rattle.traffic_contract.proofs.LoadLimits.{ceil_quotient-some}
 
 -- what a row adds to the load of the levels up to m in a window of w ticks
 abbrev pub row_load : ℕ → ℕ → ℕ → Row → ℕ

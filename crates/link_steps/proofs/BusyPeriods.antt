@@ -4,12 +4,12 @@ use Rattle.std.proofs.lemmas.Bool.{cases_Bool, leb-true, le-leb, ltb-true, ltb-f
 use Rattle.std.proofs.lemmas.Option.{same_Some}
 use Rattle.std.specs.Prelude.{filter, nat_lt, nat_eq, if◌then◌else◌}
 use Rattle.traffic_contract.specs.Admission.{total}
-use Rattle.traffic_contract.proofs.AdmissionFacts.{total-le}
+use Rattle.traffic_contract.proofs.AdmissionTest.{total-le}
 use Rattle.link_steps.specs.BusyPeriod.{IsGone, IsClear, HasWork, is_eligible_in, window_work, EndsWithin, FitsWindow}
 use Rattle.link_steps.specs.Lists.{Each, Among}
 use Rattle.link_steps.specs.Service.{Arrival, Start, work_of, leaves_at, goes_before, sooner, first_in_line, is_start_of, has_started, is_waiting, is_busy, add_start, serve_tick, starts_below, is_departure_by, has_departed}
-use Rattle.link_steps.proofs.ListFacts.{Each-if, Each-among, Among-filter, total-drop}
-use Rattle.link_steps.proofs.ServiceFacts.{HasLeft, HasBegun, left-idle, starts-follow, starts-begun, starts-fact}
+use Rattle.link_steps.proofs.SearchAndFilter.{Each-if, Each-among, Among-filter, total-drop}
+use Rattle.link_steps.proofs.ServiceStarts.{HasLeft, HasBegun, left-idle, starts-follow, starts-begun, starts-fact}
 
 -- ---- started and departed
 

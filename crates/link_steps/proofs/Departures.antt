@@ -7,9 +7,9 @@ use Rattle.link_steps.specs.BusyPeriod.{IsClear, IsGone, HasWork, FitsWithin, En
 use Rattle.link_steps.specs.Lists.{Each, Among}
 use Rattle.link_steps.specs.Service.{Arrival, Start, leaves_at, first_in_line, is_start_of, has_started, is_waiting, is_busy, add_start, serve_tick, starts_below, is_departure_by, has_departed}
 use Rattle.link_steps.proofs.BusyPeriods.{busy_period-ends, add-departed, departed-has-started, waits-fresh}
-use Rattle.link_steps.proofs.ChangeFacts.{Each-passes}
-use Rattle.link_steps.proofs.ListFacts.{Each-from, Each-among}
-use Rattle.link_steps.proofs.ServiceFacts.{first_in_line-fact}
+use Rattle.link_steps.proofs.FoundElements.{Each-passes}
+use Rattle.link_steps.proofs.SearchAndFilter.{Each-from, Each-among}
+use Rattle.link_steps.proofs.ServiceStarts.{first_in_line-fact}
 
 -- ---- clear ticks follow one another
 

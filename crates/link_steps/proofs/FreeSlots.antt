@@ -10,15 +10,15 @@ use Rattle.std.specs.Prelude.{filter, reverse}
 use Rattle.net_units.specs.Numbers.{level_number}
 use Rattle.net_units.specs.LevelBounds.{bound_at}
 use Rattle.net_units.specs.declared.Kind.{Kind}
-use Rattle.net_units.proofs.BoundFacts.{bound_least}
+use Rattle.net_units.proofs.BoundsInOrder.{bound_least}
 use Rattle.traffic_contract.specs.Contract.{Traffic, IsContract, burst_of, most_in}
 use Rattle.traffic_contract.specs.Eligible.{eligible, newest}
 use Rattle.traffic_contract.specs.Keeping.{Keeps, may_follow, keeps_newest_first}
 use Rattle.traffic_contract.specs.Window.{is_in_window, count_in}
-use Rattle.traffic_contract.proofs.EligibleFacts.{first_from-reached, first_from-least}
+use Rattle.traffic_contract.proofs.LeastEligibleTick.{first_from-reached, first_from-least}
 use Rattle.traffic_contract.proofs.LongerWindows.{most_in-mono}
 use Rattle.traffic_contract.proofs.NewestFirst.{Decides-keeps_newest_first}
-use Rattle.traffic_contract.proofs.WindowFacts.{count_in-le}
+use Rattle.traffic_contract.proofs.WindowsAreBounded.{count_in-le}
 use Rattle.link_steps.specs.declared.replies.Phase.{Phase}
 use Rattle.link_steps.specs.declared.replies.Phase.TheVariants.{Tentative, Committed, Closing}
 use Rattle.link_steps.specs.declared.shape.LinkShape.{LinkShape}

@@ -3,7 +3,7 @@
 use Rattle.std.proofs.Common.{ℕ, ◌<◌, ◌≤◌, List, [], ◌∷◌, length, ⊎_elim, arith}
 use Rattle.std.proofs.lemmas.Bool.{cases_lt}
 use Rattle.net_units.specs.LevelBounds.{bound_at}
-use Rattle.traffic_contract.proofs.ContractFacts.{burst-least}
+use Rattle.traffic_contract.proofs.BurstIsPositive.{burst-least}
 use Rattle.traffic_contract.proofs.NewestFirst.{Decides-keeps_newest_first}
 use Rattle.link_steps.specs.declared.replies.Entry.{Entry}
 use Rattle.link_steps.specs.declared.shape.LinkShape.{LinkShape}
@@ -17,12 +17,12 @@ use Rattle.link_steps.specs.Scan.{clock_of, scan_of, starts_of}
 use Rattle.link_steps.specs.Service.{Arrival, Start, starts_below}
 use Rattle.link_steps.specs.Shape.{blocking_of}
 use Rattle.link_steps.proofs.AdmissionHolds.{last-pass, held_rows-pass}
-use Rattle.link_steps.proofs.ChangeFacts.{Each-from_among}
+use Rattle.link_steps.proofs.FoundElements.{Each-from_among}
 use Rattle.link_steps.proofs.Departures.{DepartsWithin, departs-within, departed-at, starts-once, IsEligibleStart, starts-eligible, leaves-once}
 use Rattle.link_steps.proofs.LegalOrder.{IsCarried, legal-order}
-use Rattle.link_steps.proofs.LegalRowFacts.{IsInOrder}
-use Rattle.link_steps.proofs.ListFacts.{Each-among, Each-if}
-use Rattle.link_steps.proofs.ServiceFacts.{starts-fact}
+use Rattle.link_steps.proofs.RowsInOrder.{IsInOrder}
+use Rattle.link_steps.proofs.SearchAndFilter.{Each-among, Each-if}
+use Rattle.link_steps.proofs.ServiceStarts.{starts-fact}
 use Rattle.link_steps.proofs.WindowFits.{packets-have_work, window-fits}
 
 -- a packet of one of the levels departs within its bound

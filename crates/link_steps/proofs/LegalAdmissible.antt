@@ -1,6 +1,6 @@
 -- Every legal history of a link whose split fits it is admissible.
 use Rattle.std.proofs.lemmas.Bool.{cases_Bool}
-use Rattle.net_units.proofs.BoundFacts.{bound_at-rising}
+use Rattle.net_units.proofs.BoundsInOrder.{bound_at-rising}
 use Rattle.net_units.specs.Quotient.{ceil_quotient}
 use Rattle.net_units.specs.LevelBounds.{bound_at}
 use Rattle.std.proofs.Common.{◌≡◌, ℕ, ◌≤◌, ◌⊎◌, true, false, inl, inr, arith, List, [], ◌∷◌, map, refl, sym, ◌∙◌}
@@ -21,10 +21,10 @@ use Rattle.link_steps.specs.Room.{Room, room_of}
 use Rattle.link_steps.specs.Rows.{row_terms}
 use Rattle.link_steps.specs.Split.{Link, SplitFits, is_split, whole}
 use Rattle.link_steps.specs.Scan.{Scan, clock_of, scan_of}
-use Rattle.link_steps.proofs.RefusalFacts.{IsAnswer, answers-reply}
+use Rattle.link_steps.proofs.RulesPassed.{IsAnswer, answers-reply}
 use Rattle.link_steps.proofs.LegalOrder.{legal-order}
-use Rattle.link_steps.proofs.ReplyFacts.{whole-offer-may}
-use Rattle.link_steps.proofs.SplitFacts.{AreWithin, group-offer-may, within-after}
+use Rattle.link_steps.proofs.ReservationFound.{whole-offer-may}
+use Rattle.link_steps.proofs.QuotasFitLink.{AreWithin, group-offer-may, within-after}
 
 -- the legal reply to a reserve is an offer, where it is an answer
 only-offers : (shape : LinkShape) (held : List Reservation) (chan : ChanNo) (contract : Traffic) (delay up_reach : ℕ) (room : Room) (answer : Reply) → IsAnswer answer → answer ≡ reserve_reply_in shape held chan contract delay up_reach room → answer ≡ best_offer shape delay room

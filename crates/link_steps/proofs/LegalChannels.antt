@@ -17,9 +17,9 @@ use Rattle.link_steps.specs.Reservation.{Reservation, is_of}
 use Rattle.link_steps.specs.Rows.{Row, row_terms, new_row}
 use Rattle.link_steps.specs.Scan.{Scan, clock_of, is_row_of, arrived_row, with_arrival, without_expired, with_sources, with_best, after_tick, scan_of}
 use Rattle.link_steps.specs.Effects.{Effect, Adds, Changes, Removes, Takes, Ticks, changed_row, is_changed, with_effect}
-use Rattle.link_steps.proofs.EffectFacts.{EffectFits, each-admissible}
+use Rattle.link_steps.proofs.EntryEffects.{EffectFits, each-admissible}
 use Rattle.link_steps.proofs.AdmissionHolds.{rows_after-terms}
-use Rattle.link_steps.proofs.ListFacts.{Each-append, map-change_first-same}
+use Rattle.link_steps.proofs.SearchAndFilter.{Each-append, map-change_first-same}
 
 abbrev channel_of : Row → ℕ
 channel_of row = channel_number row.terms.chan

@@ -6,7 +6,7 @@ use Rattle.std.specs.Prelude.{filter, find, nat_eq, nat_le}
 use Rattle.net_units.specs.LevelBounds.{last_bound}
 use Rattle.traffic_contract.specs.Eligible.{newest}
 use Rattle.traffic_contract.specs.Keeping.{keeps_newest_first}
-use Rattle.traffic_contract.proofs.EligibleFacts.{get_or-le-newest}
+use Rattle.traffic_contract.proofs.LeastEligibleTick.{get_or-le-newest}
 use Rattle.link_steps.specs.declared.asks.Packet.{Packet}
 use Rattle.link_steps.specs.declared.replies.Entry.{Entry}
 use Rattle.link_steps.specs.declared.replies.Phase.TheVariants.{Closing}
@@ -22,11 +22,11 @@ use Rattle.link_steps.specs.Sources.{source_step, step_of, packet_of, source_pac
 use Rattle.link_steps.specs.BestEffort.{level_below, best_packet, best_step, waiting_best}
 use Rattle.link_steps.specs.Buffer.{has_slot}
 use Rattle.link_steps.specs.Effects.{Change, Commits, Plans, Closes, Effect, Adds, Changes, Removes, Takes, Ticks, PlansBest, Nothing, changed_row, is_changed, with_effect, clock_by}
-use Rattle.link_steps.proofs.EffectFacts.{AddFits, ChangeFits, TakeFits, EffectFits, each-admissible}
-use Rattle.link_steps.proofs.ChangeFacts.{Each-change_found, Each-passes}
-use Rattle.link_steps.proofs.LegalRowFacts.{planned-sizes, SizeFits, IsInOrder, order-packet, order-later, order-rows_after, order-relaxed, order-planned, order-closed}
-use Rattle.link_steps.proofs.ListFacts.{Each-append, Each-both, Each-filter, Each-find, Each-if, Each-without_first}
-use Rattle.link_steps.proofs.ReplyFacts.{may-reach, phase-is}
+use Rattle.link_steps.proofs.EntryEffects.{AddFits, ChangeFits, TakeFits, EffectFits, each-admissible}
+use Rattle.link_steps.proofs.FoundElements.{Each-change_found, Each-passes}
+use Rattle.link_steps.proofs.RowsInOrder.{planned-sizes, SizeFits, IsInOrder, order-packet, order-later, order-rows_after, order-relaxed, order-planned, order-closed}
+use Rattle.link_steps.proofs.SearchAndFilter.{Each-append, Each-both, Each-filter, Each-find, Each-if, Each-without_first}
+use Rattle.link_steps.proofs.ReservationFound.{may-reach, phase-is}
 use Rattle.std.proofs.lemmas.Option.{same_Some}
 
 -- a packet that the link carries, at one of its levels

@@ -12,9 +12,9 @@ use Rattle.link_steps.specs.Service.{Arrival}
 use Rattle.link_steps.specs.Rows.{Row, new_row}
 use Rattle.link_steps.specs.Sources.{SourceStep, Rests, Brings, Drops, step_of, row_after, taken_by, rows_after}
 use Rattle.link_steps.specs.Effects.{Effect, Adds, Changes, Removes, Takes, Ticks, changed_row, is_changed, with_effect}
-use Rattle.link_steps.proofs.EffectFacts.{EffectFits, each-admissible}
+use Rattle.link_steps.proofs.EntryEffects.{EffectFits, each-admissible}
 use Rattle.link_steps.proofs.AccountOfRows.{RowHasContract}
-use Rattle.link_steps.proofs.ListFacts.{Each-append, Each-filter, Each-map, Each-change_first, Each-without_first}
+use Rattle.link_steps.proofs.SearchAndFilter.{Each-append, Each-filter, Each-map, Each-change_first, Each-without_first}
 
 rows_after-contracts : (bounds : List ℕ) (here : List Arrival) (t taken : ℕ) (rows : List Row) → Each RowHasContract rows → Each RowHasContract (rows_after bounds here t taken rows)
 unfolding rows_after

@@ -10,26 +10,26 @@ pub mod WorkedRefusals
 pub mod WorkedNext
 pub mod WorkedShares
 pub mod WorkedQuotas
-pub mod LevelFacts
-pub mod ListFacts
+pub mod LevelByNumber
+pub mod SearchAndFilter
 pub mod ListParts
-pub mod ClockFacts
-pub mod RefusalFacts
+pub mod ClockAdvances
+pub mod RulesPassed
 pub mod RuleCases
-pub mod ReplyFacts
-pub mod TickFacts
-pub mod EffectFacts
+pub mod ReservationFound
+pub mod TickInOrder
+pub mod EntryEffects
 pub mod AdmissionHolds
-pub mod ServiceFacts
+pub mod ServiceStarts
 pub mod AccountOfService
 pub mod AccountOfRows
 pub mod Account
 pub mod LegalRows
 pub mod BusyPeriods
-pub mod RuleFacts
+pub mod RulesAsMeant
 pub mod LegalChannels
-pub mod ChangeFacts
-pub mod LegalRowFacts
+pub mod FoundElements
+pub mod RowsInOrder
 pub mod LegalOrder
 pub mod NewPackets
 pub mod WindowWork
@@ -39,10 +39,10 @@ pub mod SumAfter
 pub mod AtMostOnce
 pub mod UnitsHeld
 pub mod Shares
-pub mod SplitFacts
+pub mod QuotasFitLink
 pub mod LegalAdmissible
 pub mod Departures
-pub mod PlanFacts
+pub mod PlanRises
 pub mod FreeSlots
 pub mod RowPackets
 pub mod RowsStanding
@@ -53,7 +53,7 @@ pub mod PacketRows
 pub mod SlotsHeld
 pub mod TogetherHeld
 pub mod TicksBounded
-pub mod JournalFacts
-mod BufferFacts
-mod OrderFacts
-pub mod QuietFacts
+pub mod LegalJournals
+mod PacketsInBuffer
+mod StartsInOrder
+pub mod QuietTicks

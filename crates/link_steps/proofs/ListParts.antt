@@ -6,7 +6,7 @@ use Rattle.std.proofs.lemmas.Option.{same_Some, slice_get-map}
 use Rattle.std.specs.List.{slice_get}
 use Rattle.std.specs.Option.{option_map}
 use Rattle.link_steps.specs.Lists.{Each, Among}
-use Rattle.link_steps.proofs.ListFacts.{Each-append}
+use Rattle.link_steps.proofs.SearchAndFilter.{Each-append}
 
 -- ---- a fact of each element
 

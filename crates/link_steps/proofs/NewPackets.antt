@@ -15,10 +15,10 @@ use Rattle.link_steps.specs.Scan.{Scan, clock_of, scan_of, arrived_packet, with_
 use Rattle.link_steps.specs.Service.{Arrival, here_at}
 use Rattle.link_steps.specs.Sources.{SourceStep, Rests, Brings, Drops, step_of, packet_of, taken_by, source_packets}
 use Rattle.link_steps.specs.Effects.{Effect, Takes, Ticks, effect_of, with_effect}
-use Rattle.link_steps.proofs.EffectFacts.{by-effect}
+use Rattle.link_steps.proofs.EntryEffects.{by-effect}
 use Rattle.link_steps.proofs.AccountOfRows.{eligible-from, source_packets-from}
-use Rattle.link_steps.proofs.ListFacts.{Each-append}
-use Rattle.link_steps.proofs.ServiceFacts.{IsFrom}
+use Rattle.link_steps.proofs.SearchAndFilter.{Each-append}
+use Rattle.link_steps.proofs.ServiceStarts.{IsFrom}
 
 -- the packets of two lists that are numbered one after the other
 numbered-append : (n : ℕ) (packets more : List Arrival) → AreNumbered n packets → AreNumbered (n + length packets) more → AreNumbered n (packets ++ more)

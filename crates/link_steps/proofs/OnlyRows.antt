@@ -12,8 +12,8 @@ use Rattle.link_steps.specs.Lists.{Each, Any}
 use Rattle.link_steps.specs.Rows.{Row}
 use Rattle.link_steps.specs.Scan.{Scan, clock_of, with_arrival, without_expired, with_sources, with_best, after_tick, scan_of}
 use Rattle.link_steps.specs.Service.{Arrival}
-use Rattle.link_steps.proofs.EffectFacts.{each-admissible}
-use Rattle.link_steps.proofs.ListFacts.{Each-append, Each-filter, Each-if}
+use Rattle.link_steps.proofs.EntryEffects.{each-admissible}
+use Rattle.link_steps.proofs.SearchAndFilter.{Each-append, Each-filter, Each-if}
 use Rattle.link_steps.proofs.RowPackets.{IsApart, LeadsApart, IsBeside, IsLedUpTo, RowsStand}
 use Rattle.link_steps.proofs.RowsStanding.{leads-filter}
 use Rattle.link_steps.proofs.SourceHistory.{ScanServed, legal-served}

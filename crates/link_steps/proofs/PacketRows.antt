@@ -21,11 +21,11 @@ use Rattle.link_steps.specs.Scan.{Scan, clock_of, is_row_of, arrived_packet, arr
 use Rattle.link_steps.specs.Service.{Arrival, here_at}
 use Rattle.link_steps.specs.Sources.{SourceStep, Rests, Brings, Drops, lead_with, step_of, packet_of, row_after, rows_after, source_packets, taken_by}
 use Rattle.link_steps.specs.Effects.{Effect, Adds, Changes, Removes, Takes, Ticks, changed_row, is_changed, with_effect}
-use Rattle.link_steps.proofs.EffectFacts.{EffectFits, each-admissible}
-use Rattle.link_steps.proofs.ChangeFacts.{Each-from_among}
+use Rattle.link_steps.proofs.EntryEffects.{EffectFits, each-admissible}
+use Rattle.link_steps.proofs.FoundElements.{Each-from_among}
 use Rattle.link_steps.proofs.LegalOrder.{ScanInOrder, legal-order}
-use Rattle.link_steps.proofs.LegalRowFacts.{IsInOrder}
-use Rattle.link_steps.proofs.ListFacts.{Each-append, Each-both, Each-find, Each-if, Each-among}
+use Rattle.link_steps.proofs.RowsInOrder.{IsInOrder}
+use Rattle.link_steps.proofs.SearchAndFilter.{Each-append, Each-both, Each-find, Each-if, Each-among}
 use Rattle.link_steps.proofs.OnlyRows.{only-row}
 use Rattle.link_steps.proofs.RowPackets.{IsLedUpTo, IsHeld, IsBeside, lead-cases}
 use Rattle.link_steps.proofs.SourceHistory.{ScanServed, legal-served}

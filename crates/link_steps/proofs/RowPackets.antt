@@ -11,7 +11,7 @@ use Rattle.link_steps.specs.Lists.{Each}
 use Rattle.link_steps.specs.Rows.{Row}
 use Rattle.link_steps.specs.Service.{Arrival}
 use Rattle.link_steps.specs.Sources.{SourceStep, Rests, Brings, Drops, arrival_at, lead_with, source_tick, step_of, packet_of, row_after, taken_by, source_packets, rows_after}
-use Rattle.link_steps.proofs.ListFacts.{Each-append, Each-both, Each-if, filter-none}
+use Rattle.link_steps.proofs.SearchAndFilter.{Each-append, Each-both, Each-if, filter-none}
 
 -- the lead of a packet is an arrival number up to `taken`
 pub record IsLedUpTo (taken : ℕ) (p : Arrival) : Type 0 where

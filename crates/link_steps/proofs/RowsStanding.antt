@@ -16,8 +16,8 @@ use Rattle.link_steps.specs.Rows.{Row, new_row}
 use Rattle.link_steps.specs.Scan.{Scan, is_row_of, arrived_row, arrived_packet, with_arrival, after_tick}
 use Rattle.link_steps.specs.Service.{Arrival}
 use Rattle.link_steps.specs.Sources.{lead_with}
-use Rattle.link_steps.proofs.EffectFacts.{AddFits, ChangeFits, TakeFits, EffectFits}
-use Rattle.link_steps.proofs.ListFacts.{Each-append, Each-both, Each-filter, Each-if, Each-without_first}
+use Rattle.link_steps.proofs.EntryEffects.{AddFits, ChangeFits, TakeFits, EffectFits}
+use Rattle.link_steps.proofs.SearchAndFilter.{Each-append, Each-both, Each-filter, Each-if, Each-without_first}
 use Rattle.link_steps.proofs.RowPackets.{own-new, IsApart, LeadsApart, IsHeld, IsBeside, RowsStand, stand-takes, takes-apart, stand-rests, rests-apart, stand-back, own-same, IsLedUpTo}
 
 -- what follows of each row, beside the others or held

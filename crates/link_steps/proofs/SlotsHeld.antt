@@ -20,16 +20,16 @@ use Rattle.link_steps.specs.Service.{Arrival, Start, starts_below, here_at, is_h
 use Rattle.link_steps.specs.Slots.{HasSlots}
 use Rattle.link_steps.specs.Sources.{arrival_at, source_tick, source_step, step_of, packet_of, row_after}
 use Rattle.link_steps.specs.Effects.{Change, Commits, Plans, Closes, Effect, Adds, Changes, Removes, Takes, Ticks, changed_row, is_changed, with_effect, clock_by}
-use Rattle.link_steps.proofs.EffectFacts.{ChangeFits, TakeFits, EffectFits, each-admissible}
+use Rattle.link_steps.proofs.EntryEffects.{ChangeFits, TakeFits, EffectFits, each-admissible}
 use Rattle.link_steps.proofs.AccountOfRows.{eligible-from}
 use Rattle.link_steps.proofs.Departures.{departed-at}
 use Rattle.link_steps.proofs.LegalOrder.{ScanInOrder, legal-order}
-use Rattle.link_steps.proofs.LegalRowFacts.{IsInOrder}
-use Rattle.link_steps.proofs.ListFacts.{Each-find, Each-from, Each-if}
+use Rattle.link_steps.proofs.RowsInOrder.{IsInOrder}
+use Rattle.link_steps.proofs.SearchAndFilter.{Each-find, Each-from, Each-if}
 use Rattle.link_steps.proofs.NewPackets.{adds-tick}
 use Rattle.link_steps.proofs.RowPackets.{IsHeld, RowsStand, stand-sources}
 use Rattle.link_steps.proofs.RowsStanding.{stand-if, stand-expired, stand-reserved, stand-denied, stand-changed, stand-arrives}
-use Rattle.link_steps.proofs.ServiceFacts.{starts_below-append}
+use Rattle.link_steps.proofs.ServiceStarts.{starts_below-append}
 use Rattle.link_steps.proofs.SourceHistory.{no-packets, held-here, stand-best, ScanServed, legal-served}
 use Rattle.link_steps.proofs.SourcesServed.{HasSource}
 

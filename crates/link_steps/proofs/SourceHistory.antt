@@ -24,17 +24,17 @@ use Rattle.link_steps.specs.Scan.{Scan, clock_of, relax_row, plan_row, close_row
 use Rattle.link_steps.specs.Service.{Arrival, starts_below, here_at, is_here}
 use Rattle.link_steps.specs.SourceGuarantee.{arrival_of, IsEligibleAtOnce, LeavesPromptly, HasLeftPromptly, KeepingIsServed, SourceGuarantee}
 use Rattle.link_steps.specs.Effects.{Change, Commits, Plans, Closes, Effect, Ticks, changed_row, with_effect, clock_by}
-use Rattle.link_steps.proofs.EffectFacts.{ChangeFits, EffectFits, each-admissible}
-use Rattle.link_steps.proofs.ChangeFacts.{Each-passes, Each-if_passes}
+use Rattle.link_steps.proofs.EntryEffects.{ChangeFits, EffectFits, each-admissible}
+use Rattle.link_steps.proofs.FoundElements.{Each-passes, Each-if_passes}
 use Rattle.link_steps.proofs.HopHolds.{guaranteed}
 use Rattle.link_steps.proofs.LegalOrder.{ScanInOrder, legal-order}
-use Rattle.link_steps.proofs.LegalRowFacts.{IsInOrder, IsMade}
-use Rattle.link_steps.proofs.ListFacts.{Each-append, Each-both, Each-filter, Each-find, Each-from, Each-if, map-same, filter-same, filter-filter}
-use Rattle.link_steps.proofs.PlanFacts.{rises-submitted, made-submitted, rises-filter, made-closed}
-use Rattle.link_steps.proofs.ReplyFacts.{phase-is}
+use Rattle.link_steps.proofs.RowsInOrder.{IsInOrder, IsMade}
+use Rattle.link_steps.proofs.SearchAndFilter.{Each-append, Each-both, Each-filter, Each-find, Each-from, Each-if, map-same, filter-same, filter-filter}
+use Rattle.link_steps.proofs.PlanRises.{rises-submitted, made-submitted, rises-filter, made-closed}
+use Rattle.link_steps.proofs.ReservationFound.{phase-is}
 use Rattle.link_steps.proofs.RowPackets.{IsHeld, IsBeside, RowsStand, stand-sources}
 use Rattle.link_steps.proofs.RowsStanding.{stand-apart, stand-if, stand-expired, StaysWithEffects, stand-effect}
-use Rattle.link_steps.proofs.ServiceFacts.{starts-fact}
+use Rattle.link_steps.proofs.ServiceStarts.{starts-fact}
 use Rattle.link_steps.proofs.SourcesServed.{HasSource, IsReady, served-same, source-later, ticks-more, source-step}
 
 -- all that is planned for a row is made

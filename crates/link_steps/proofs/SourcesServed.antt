@@ -6,7 +6,7 @@ use Rattle.std.proofs.lemmas.List.{map-append, reverse-append, reverse-reverse}
 use Rattle.std.specs.Prelude.{filter, find, reverse}
 use Rattle.net_units.specs.Numbers.{level_number}
 use Rattle.traffic_contract.specs.Keeping.{Keeps, may_follow}
-use Rattle.traffic_contract.proofs.ContractFacts.{burst-least}
+use Rattle.traffic_contract.proofs.BurstIsPositive.{burst-least}
 use Rattle.link_steps.specs.declared.shape.LinkShape.{LinkShape}
 use Rattle.link_steps.specs.Buffer.{has_slot, held_packets, slots_of}
 use Rattle.link_steps.specs.HopGuarantee.{HasLeftInTime}
@@ -17,9 +17,9 @@ use Rattle.link_steps.specs.Service.{Arrival, Start, is_here}
 use Rattle.link_steps.specs.SourceGuarantee.{SourceKeeps}
 use Rattle.link_steps.specs.Sources.{source_step, source_tick, step_of, packet_of, row_after}
 use Rattle.link_steps.proofs.FreeSlots.{keeps-parts, source-now, slot-free}
-use Rattle.link_steps.proofs.LegalRowFacts.{IsInOrder, IsMade, source-settled}
-use Rattle.link_steps.proofs.ListFacts.{Each-append}
-use Rattle.link_steps.proofs.PlanFacts.{Rises, made-rests, made-next, made-before, made-all}
+use Rattle.link_steps.proofs.RowsInOrder.{IsInOrder, IsMade, source-settled}
+use Rattle.link_steps.proofs.SearchAndFilter.{Each-append}
+use Rattle.link_steps.proofs.PlanRises.{Rises, made-rests, made-next, made-before, made-all}
 
 -- a row's source has lost nothing: its packets were eligible as they were offered, each in the tick of its arrival
 pub record IsPrompt (clock : ℕ) (row : Row) (own : List Arrival) : Type 0 where

@@ -4,7 +4,7 @@ use Rattle.std.specs.Prelude.{filter}
 use Rattle.net_units.specs.declared.numbers.Level.{Level}
 use Rattle.traffic_contract.specs.Admission.{total}
 use Rattle.traffic_contract.specs.Contract.{IsContract}
-use Rattle.traffic_contract.proofs.AdmissionFacts.{total-map, total-append, total-filter-le}
+use Rattle.traffic_contract.proofs.AdmissionTest.{total-map, total-append, total-filter-le}
 use Rattle.net_units.specs.Numbers.{level_number}
 use Rattle.link_steps.specs.declared.replies.Phase.TheVariants.{Committed}
 use Rattle.link_steps.specs.declared.shape.LinkShape.{LinkShape}
@@ -15,11 +15,11 @@ use Rattle.link_steps.specs.Rows.{Row, row_terms, new_row}
 use Rattle.link_steps.specs.Scan.{Scan, is_row_of, arrived_row, with_arrival, without_expired, with_sources, with_best, after_tick}
 use Rattle.link_steps.specs.Service.{here_at}
 use Rattle.link_steps.specs.Effects.{Change, Commits, Plans, Closes, Effect, Adds, Changes, Removes, Takes, Ticks, changed_row, is_changed, with_effect}
-use Rattle.link_steps.proofs.EffectFacts.{ChangeFits, EffectFits, new_in}
+use Rattle.link_steps.proofs.EntryEffects.{ChangeFits, EffectFits, new_in}
 use Rattle.link_steps.proofs.AdmissionHolds.{rows_after-terms}
-use Rattle.link_steps.proofs.LegalRowFacts.{IsInOrder}
-use Rattle.link_steps.proofs.ListFacts.{Each-find, map-change_first-same, total-change_first-le, total-without_first-le}
-use Rattle.link_steps.proofs.ReplyFacts.{FitsOffer}
+use Rattle.link_steps.proofs.RowsInOrder.{IsInOrder}
+use Rattle.link_steps.proofs.SearchAndFilter.{Each-find, map-change_first-same, total-change_first-le, total-without_first-le}
+use Rattle.link_steps.proofs.ReservationFound.{FitsOffer}
 
 -- neither a relax that fits nor a release raises f
 pub record OnlyNewRaise (shape : LinkShape) (f : Reservation → ℕ) : Type 0 where

@@ -14,7 +14,7 @@ use Rattle.traffic_contract.specs.Admission.{total}
 use Rattle.traffic_contract.specs.Contract.{most_in}
 use Rattle.traffic_contract.specs.Eligible.{newest, first_from, eligible}
 use Rattle.traffic_contract.specs.Keeping.{may_follow}
-use Rattle.traffic_contract.proofs.EligibleFacts.{get_or-le-newest}
+use Rattle.traffic_contract.proofs.LeastEligibleTick.{get_or-le-newest}
 use Rattle.link_steps.specs.declared.replies.Entry.{Entry}
 use Rattle.link_steps.specs.declared.shape.LinkShape.{LinkShape}
 use Rattle.link_steps.specs.Admissible.{IsAdmissible}
@@ -29,17 +29,17 @@ use Rattle.link_steps.specs.Scan.{Scan, clock_of, arrived_packet, without_expire
 use Rattle.link_steps.specs.Service.{Arrival, starts_below, here_at, is_here, is_start_of, has_departed}
 use Rattle.link_steps.specs.Slots.{HasSlots, IsSoon, HasSoonTicks, TicksAreSoon}
 use Rattle.link_steps.specs.Sources.{SourceStep, Rests, Brings, Drops, step_of, packet_of, row_after}
-use Rattle.link_steps.proofs.EffectFacts.{each-admissible, clock_by-later}
+use Rattle.link_steps.proofs.EntryEffects.{each-admissible, clock_by-later}
 use Rattle.link_steps.proofs.BusyPeriods.{departed-has-started}
-use Rattle.link_steps.proofs.ChangeFacts.{Each-from_among}
+use Rattle.link_steps.proofs.FoundElements.{Each-from_among}
 use Rattle.link_steps.proofs.Departures.{starts-eligible, IsEligibleStart}
 use Rattle.link_steps.proofs.LegalOrder.{HasExpired, upto-newest, legal-order}
-use Rattle.link_steps.proofs.LegalRowFacts.{IsInOrder}
-use Rattle.link_steps.proofs.ListFacts.{Each-both, Each-filter, Each-if, Each-mapped}
+use Rattle.link_steps.proofs.RowsInOrder.{IsInOrder}
+use Rattle.link_steps.proofs.SearchAndFilter.{Each-both, Each-filter, Each-if, Each-mapped}
 use Rattle.link_steps.proofs.NewPackets.{packets-numbered, same-number}
 use Rattle.link_steps.proofs.RowPackets.{IsHeld, RowsStand, stand-sources}
 use Rattle.link_steps.proofs.RowsStanding.{Stands, stand-effect, stand-expired}
-use Rattle.link_steps.proofs.ServiceFacts.{HasBegun, starts-begun, starts-fact}
+use Rattle.link_steps.proofs.ServiceStarts.{HasBegun, starts-begun, starts-fact}
 use Rattle.link_steps.proofs.SlotsHeld.{filter-fewer, slots-held}
 use Rattle.link_steps.proofs.SourceHistory.{held-here, stand-best}
 use Rattle.link_steps.proofs.UnitsHeld.{units-held}

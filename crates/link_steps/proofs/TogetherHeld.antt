@@ -2,7 +2,7 @@
 use Rattle.std.proofs.Common.{◌≡◌, ℕ, ◌+◌, ◌<◌, ◌≤◌, true, List, [], ◌∷◌, length, ⊎_elim, inl, inr, refl, sym, ap, subst, arith}
 use Rattle.std.proofs.lemmas.Bool.{cases_lt, leb-true, ltb-true, eq-eqb, and_parts}
 use Rattle.std.specs.Prelude.{nat_le, nat_lt, ◌&&◌}
-use Rattle.net_units.proofs.BoundFacts.{bound_at-rising}
+use Rattle.net_units.proofs.BoundsInOrder.{bound_at-rising}
 use Rattle.net_units.specs.LevelBounds.{bound_at, last_bound}
 use Rattle.link_steps.specs.declared.replies.Entry.{Entry}
 use Rattle.link_steps.specs.declared.shape.LinkShape.{LinkShape}
@@ -16,13 +16,13 @@ use Rattle.link_steps.specs.Scan.{clock_with, clock_of, scan_of}
 use Rattle.link_steps.specs.Service.{Arrival}
 use Rattle.link_steps.specs.WindowRows.{BringsPacket, IsBrought, StandTogether}
 use Rattle.link_steps.proofs.AdmissionHolds.{last-pass, held_rows-pass}
-use Rattle.link_steps.proofs.ChangeFacts.{Each-from_among}
+use Rattle.link_steps.proofs.FoundElements.{Each-from_among}
 use Rattle.link_steps.proofs.LegalOrder.{HasExpired, legal-order}
-use Rattle.link_steps.proofs.ListFacts.{Each-append, Each-if, Each-among}
+use Rattle.link_steps.proofs.SearchAndFilter.{Each-append, Each-if, Each-among}
 use Rattle.link_steps.proofs.NewPackets.{packets-after}
 use Rattle.link_steps.proofs.PacketRows.{Among-passes, packets-have_rows}
-use Rattle.link_steps.proofs.ServiceFacts.{IsFrom}
-use Rattle.link_steps.proofs.ClockFacts.{clock_with-most}
+use Rattle.link_steps.proofs.ServiceStarts.{IsFrom}
+use Rattle.link_steps.proofs.ClockAdvances.{clock_with-most}
 use Rattle.link_steps.proofs.ListParts.{Among-map, Among-reverse}
 
 -- ---- a row tells its packets

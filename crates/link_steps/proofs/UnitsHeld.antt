@@ -1,7 +1,7 @@
 -- The held rows of an admissible history never keep more than the link's buffer.
 use Rattle.std.proofs.Common.{◌≡◌, ℕ, ◌+◌, ◌*◌, ◌≤◌, List, map, refl, ap, arith}
 use Rattle.std.proofs.Math.Nat.{mul-le-mul_right}
-use Rattle.net_units.proofs.BoundFacts.{bound_at-rising}
+use Rattle.net_units.proofs.BoundsInOrder.{bound_at-rising}
 use Rattle.net_units.specs.Numbers.{level_number}
 use Rattle.traffic_contract.specs.Admission.{total}
 use Rattle.traffic_contract.specs.Contract.{IsContract, most_in}
@@ -15,7 +15,7 @@ use Rattle.link_steps.specs.Reservation.{Reservation, committed, closing}
 use Rattle.link_steps.specs.Rows.{row_terms}
 use Rattle.link_steps.specs.Scan.{Scan, clock_of, scan_of}
 use Rattle.link_steps.specs.Effects.{Effect, Adds}
-use Rattle.link_steps.proofs.EffectFacts.{EffectFits, each-admissible, new_in}
+use Rattle.link_steps.proofs.EntryEffects.{EffectFits, each-admissible, new_in}
 use Rattle.link_steps.proofs.LegalOrder.{legal-order}
 use Rattle.link_steps.proofs.SumAfter.{OnlyNewRaise, added_by, sum-effect}
 

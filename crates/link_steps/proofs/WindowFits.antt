@@ -4,11 +4,11 @@
 use Rattle.std.proofs.Common.{◌≡◌, ℕ, ◌+◌, ◌<◌, ◌≤◌, Bool, true, false, cond, ◌&&◌, List, [], ◌∷◌, length, ⊎_elim, refl, ap, arith}
 use Rattle.std.proofs.lemmas.Bool.{cases_lt, lt-leb, le-ltb}
 use Rattle.std.specs.Prelude.{nat_le}
-use Rattle.net_units.proofs.BoundFacts.{bound_least, bound_at-rising}
+use Rattle.net_units.proofs.BoundsInOrder.{bound_least, bound_at-rising}
 use Rattle.net_units.specs.LevelBounds.{bound_at, last_bound}
 use Rattle.traffic_contract.specs.Admission.{total, load}
 use Rattle.traffic_contract.specs.Window.{count_in}
-use Rattle.traffic_contract.proofs.AdmissionFacts.{total-append, window-of, counts-within}
+use Rattle.traffic_contract.proofs.AdmissionTest.{total-append, window-of, counts-within}
 use Rattle.traffic_contract.proofs.LongerWindows.{ceil_quotient-mono}
 use Rattle.link_steps.specs.declared.asks.Ask.{Ask}
 use Rattle.link_steps.specs.declared.replies.Entry.{Entry}
@@ -23,13 +23,13 @@ use Rattle.link_steps.specs.Service.{Arrival, work_of}
 use Rattle.link_steps.specs.Shape.{blocking_of, server_of}
 use Rattle.link_steps.proofs.AdmissionHolds.{as_admitted, row_load, total-as_admitted, last-pass, held_rows-pass}
 use Rattle.link_steps.proofs.LegalOrder.{IsCarried, HasExpired, legal-order}
-use Rattle.link_steps.proofs.LegalRowFacts.{IsInOrder}
-use Rattle.link_steps.proofs.ListFacts.{Each-if}
+use Rattle.link_steps.proofs.RowsInOrder.{IsInOrder}
+use Rattle.link_steps.proofs.SearchAndFilter.{Each-if}
 use Rattle.link_steps.proofs.NewPackets.{packets-after}
-use Rattle.link_steps.proofs.ServiceFacts.{IsFrom}
-use Rattle.traffic_contract.proofs.LoadFacts.{ceil_quotient-some}
+use Rattle.link_steps.proofs.ServiceStarts.{IsFrom}
+use Rattle.traffic_contract.proofs.LoadLimits.{ceil_quotient-some}
 use Rattle.link_steps.proofs.WindowWork.{row_work, row_work-none, row_work-admitted, legal-work}
-use Rattle.link_steps.proofs.ClockFacts.{clock_with-most}
+use Rattle.link_steps.proofs.ClockAdvances.{clock_with-most}
 
 -- ---- each packet has work
 

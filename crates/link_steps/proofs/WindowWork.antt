@@ -11,11 +11,11 @@ use Rattle.net_units.specs.Quotient.{ceil_quotient}
 use Rattle.traffic_contract.specs.Admission.{total, work_in, work_up_to}
 use Rattle.traffic_contract.specs.Contract.{most_in}
 use Rattle.traffic_contract.specs.Window.{is_in_window as is_tick_in, count_in}
-use Rattle.traffic_contract.proofs.AdmissionFacts.{total-append}
-use Rattle.traffic_contract.proofs.ContractFacts.{burst-least}
+use Rattle.traffic_contract.proofs.AdmissionTest.{total-append}
+use Rattle.traffic_contract.proofs.BurstIsPositive.{burst-least}
 use Rattle.traffic_contract.proofs.LongerWindows.{ceil_quotient-mono}
 use Rattle.traffic_contract.proofs.NewestFirst.{Decides-keeps_newest_first}
-use Rattle.traffic_contract.proofs.WindowFacts.{count_in-le}
+use Rattle.traffic_contract.proofs.WindowsAreBounded.{count_in-le}
 use Rattle.link_steps.specs.declared.asks.Packet.{Packet}
 use Rattle.link_steps.specs.declared.replies.Entry.{Entry}
 use Rattle.link_steps.specs.declared.shape.LinkShape.{LinkShape}
@@ -31,11 +31,11 @@ use Rattle.link_steps.specs.Scan.{Scan, clock_of, is_row_of, arrived_tick, arriv
 use Rattle.link_steps.specs.Service.{Arrival, here_at}
 use Rattle.link_steps.specs.Sources.{SourceStep, Rests, Brings, Drops, arrival_at, with_packet, source_step, source_tick, step_of, packet_of, row_after, source_packets, rows_after, taken_by}
 use Rattle.link_steps.specs.Effects.{Change, Commits, Plans, Closes, Effect, Adds, Changes, Removes, Takes, Ticks, changed_row, is_changed, with_effect}
-use Rattle.link_steps.proofs.EffectFacts.{ChangeFits, TakeFits, EffectFits, each-admissible}
-use Rattle.link_steps.proofs.ChangeFacts.{total-change_first-more, total-change_first-ge, total-without_first-ge, total-filter-both}
+use Rattle.link_steps.proofs.EntryEffects.{ChangeFits, TakeFits, EffectFits, each-admissible}
+use Rattle.link_steps.proofs.FoundElements.{total-change_first-more, total-change_first-ge, total-without_first-ge, total-filter-both}
 use Rattle.link_steps.proofs.LegalOrder.{ScanInOrder, legal-order}
-use Rattle.link_steps.proofs.LegalRowFacts.{SizeFits, IsInOrder}
-use Rattle.link_steps.proofs.ListFacts.{Each-find, Each-filter}
+use Rattle.link_steps.proofs.RowsInOrder.{SizeFits, IsInOrder}
+use Rattle.link_steps.proofs.SearchAndFilter.{Each-find, Each-filter}
 
 -- ---- the work of a row's ticks
 

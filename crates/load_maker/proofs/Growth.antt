@@ -8,9 +8,9 @@ use Rattle.std.specs.List.{All, list_any, slice_get}
 use Rattle.std.specs.Prelude.{◌%◌}
 use Rattle.net_units.specs.Numbers.{link_number, channel_number, channel_at}
 use Rattle.net_units.specs.declared.numbers.ChanNo.{ChanNo}
-use Rattle.link_steps.proofs.ListFacts.{Each-append}
+use Rattle.link_steps.proofs.SearchAndFilter.{Each-append}
 use Rattle.link_steps.specs.Lists.{Each}
-use Rattle.call_script.proofs.LoadFacts.{load-append, over-push}
+use Rattle.call_script.proofs.ScriptLoads.{load-append, over-push}
 use Rattle.call_script.proofs.Growing.{caller-keeps, open-keeps, send-keeps, close-keeps, rounds-keep, tail-keeps, grown-is-plan}
 use Rattle.call_script.specs.Growing.{last_ops, with_rounds, MayOpen, MaySend, IsOpenedThere, KeepSoFar}
 use Rattle.call_script.specs.Groups.{KeepGroups}
@@ -25,15 +25,15 @@ use Rattle.call_script.specs.declared.operations.Op.TheVariants.{Open, Send, Clo
 use Rattle.call_script.specs.declared.roles.Role.TheVariants as role
 use Rattle.call_script.specs.declared.roles.Role.{Role}
 use Rattle.call_script.specs.declared.version.Version.TheVariants.{One}
-use Rattle.load_maker.proofs.LoadFacts.{load-fits}
+use Rattle.load_maker.proofs.DrawnWithinLimits.{load-fits}
 use Rattle.load_maker.proofs.RouteFits.{crosses}
-use Rattle.load_maker.proofs.ScriptFacts.{channel-is, actor-is, own-length, requests-length, callers-length, new-entries, own-new, requests-new, IsShort, entry-short, own-short, requests-short, send-load, own-load, callers-load, closed-off, left-off, opened-at}
-use Rattle.load_maker.proofs.ShareFacts.{share-below, first-below}
+use Rattle.load_maker.proofs.LoadScripts.{channel-is, actor-is, own-length, requests-length, callers-length, new-entries, own-new, requests-new, IsShort, entry-short, own-short, requests-short, send-load, own-load, callers-load, closed-off, left-off, opened-at}
+use Rattle.load_maker.proofs.CallerShares.{share-below, first-below}
 use Rattle.load_maker.specs.Draws.{state_after}
 use Rattle.load_maker.specs.Loads.{load_at}
 use Rattle.load_maker.specs.Made.{short_name, link_entry, made_links, request_entry_of, belongs_to, share, first_channel, close_before, ops_for, own_requests, own_ops, requests_to, callers_to, made_parts}
-use Rattle.call_script.proofs.GroupFacts.{no-groups, none-unused, groups-with-link}
-use Rattle.call_script.proofs.GrowthFacts.{added-last, last-of}
+use Rattle.call_script.proofs.GroupRulesStay.{no-groups, none-unused, groups-with-link}
+use Rattle.call_script.proofs.OneMoreOperation.{added-last, last-of}
 
 -- ---- the caller at hand
 

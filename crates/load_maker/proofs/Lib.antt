@@ -1,10 +1,10 @@
 pub mod NameText
-pub mod ShareFacts
-pub mod LoadFacts
+pub mod CallerShares
+pub mod DrawnWithinLimits
 pub mod RouteFits
-pub mod ScriptFacts
+pub mod LoadScripts
 pub mod Growth
-pub mod MakeFacts
+pub mod LoopsMakeLoad
 pub mod TurnLaws
-pub mod SeenFacts
+pub mod WatchedTurns
 pub mod PlaneTurns

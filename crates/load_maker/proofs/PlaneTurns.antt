@@ -5,7 +5,7 @@ use Rattle.std.proofs.lemmas.Bool.{cases_eq, cases_order}
 use Rattle.std.specs.List.{slice_get}
 use Rattle.net_units.specs.Numbers.{actor_number}
 use Rattle.net_units.specs.declared.numbers.ActorNo.{ActorNo}
-use Rattle.call_script.proofs.FitFacts.{plan-fits}
+use Rattle.call_script.proofs.PlansFit.{plan-fits}
 use Rattle.call_script.specs.Fits.{NetworkFits}
 use Rattle.call_script.specs.Parts.{PlanParts}
 use Rattle.call_script.specs.Scripts.{script_ask}
@@ -15,13 +15,13 @@ use Rattle.interleave_core.specs.schedules.Quiet.{the_plane}
 use Rattle.interleave_core.specs.schedules.Schedules.{repeated, HaveSteps}
 use Rattle.interleave_core.specs.schedules.Watching.{PlaysOut}
 use Rattle.interleave_core.specs.declared.engine.Engine.{Engine}
-use Rattle.interleave_core.proofs.Keeping.ActorFacts.{plane-number}
-use Rattle.interleave_core.proofs.Keeping.StepFacts.{callers-few}
+use Rattle.interleave_core.proofs.Keeping.KeptActors.{plane-number}
+use Rattle.interleave_core.proofs.Keeping.CoreStep.{callers-few}
 use Rattle.interleave_core.proofs.Runs.RunLegal.{asked-caller, replies-off}
 use Rattle.interleave_core.proofs.Runs.RunOf.{step-run}
-use Rattle.interleave_core.proofs.Tasks.TurnFacts.{steps-end}
+use Rattle.interleave_core.proofs.Tasks.StepsRunOut.{steps-end}
 use Rattle.interleave_core.proofs.Watched.QuietRounds.{plane-is}
-use Rattle.load_maker.proofs.SeenFacts.{TurnsSoFar}
+use Rattle.load_maker.proofs.WatchedTurns.{TurnsSoFar}
 use Rattle.load_maker.proofs.TurnLaws.{beyond, goes-on-within}
 use Rattle.load_maker.specs.SeenTurns.{HaveTurned}
 use Rattle.load_maker.specs.TurnRuns.{goes_on_at, GoesByTurns, IsItsTurn}

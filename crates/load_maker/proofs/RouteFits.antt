@@ -2,7 +2,7 @@
 use Rattle.std.proofs.Common.{◌≡◌, ℕ, zero, suc, ◌+◌, ◌≤◌, true, length, refl, ap, lit≤, arith}
 use Rattle.std.proofs.lemmas.Option.{same_Some}
 use Rattle.std.specs.List.{list_all}
-use Rattle.hop_reservation.proofs.RouteFacts.{route-from_none}
+use Rattle.hop_reservation.proofs.DistinctLinks.{route-from_none}
 use Rattle.hop_reservation.specs.Routes.{repeated_from, IsRoute}
 use Rattle.hop_reservation.specs.declared.route.Hop.{Hop}
 use Rattle.link_steps.specs.Lists.{Each}

@@ -7,27 +7,27 @@ use Rattle.std.proofs.lemmas.Option.{slice_get_past}
 use Rattle.net_units.specs.Numbers.{actor_number, actor_at}
 use Rattle.net_units.specs.declared.numbers.ActorNo.{ActorNo}
 use Rattle.link_steps.specs.declared.replies.Reply.{Reply}
-use Rattle.call_script.proofs.FitFacts.{plan-fits}
+use Rattle.call_script.proofs.PlansFit.{plan-fits}
 use Rattle.call_script.specs.Fits.{NetworkFits}
 use Rattle.call_script.specs.Parts.{PlanParts}
 use Rattle.call_script.specs.Plans.{IsPlan}
 use Rattle.call_script.specs.Scripts.{script_ask}
 use Rattle.call_script.specs.Tasks.{Network, network_of}
 use Rattle.call_script.specs.declared.entries.CallerEntry.{CallerEntry}
-use Rattle.interleave_core.proofs.Keeping.ActorFacts.{plane-number}
-use Rattle.interleave_core.proofs.Schedules.PlayFacts.{step-some}
+use Rattle.interleave_core.proofs.Keeping.KeptActors.{plane-number}
+use Rattle.interleave_core.proofs.Schedules.CorePlaysSchedule.{step-some}
 use Rattle.interleave_core.proofs.Runs.RunLegal.{asked-caller}
 use Rattle.interleave_core.proofs.Runs.RunOf.{none-run, step-is, step-run}
-use Rattle.interleave_core.proofs.Keeping.StepFacts.{callers-few}
-use Rattle.interleave_core.proofs.Tasks.TurnFacts.{steps-end}
+use Rattle.interleave_core.proofs.Keeping.CoreStep.{callers-few}
+use Rattle.interleave_core.proofs.Tasks.StepsRunOut.{steps-end}
 use Rattle.interleave_core.specs.runs.Runs.{plane_no, next_for, IsRun, step}
 use Rattle.interleave_core.specs.schedules.Standing.{StepsTo}
 use Rattle.interleave_core.specs.runs.Turns.{most_left}
-use Rattle.load_maker.proofs.ScriptFacts.{actor-is}
+use Rattle.load_maker.proofs.LoadScripts.{actor-is}
 use Rattle.load_maker.specs.TurnRuns.{goes_on_at, further, IsItsTurn, NobodyIsLeft, GoesByTurns, IsTurnsRun, TurnsMakeOneRun}
 use Rattle.run_record.specs.Runs.{replies_to}
 use Rattle.run_record.specs.declared.done.Done.{Done}
-use Rattle.net_units.proofs.NumberFacts.{same-actor}
+use Rattle.net_units.proofs.KnownByNumber.{same-actor}
 
 -- ---- actors without a step
 

@@ -1,1 +1,1 @@
-mod ReadyFacts
+mod SeatsUnused

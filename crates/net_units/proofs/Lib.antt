@@ -1,4 +1,4 @@
-pub mod BoundFacts
-pub mod NameFacts
-pub mod NumberFacts
+pub mod BoundsInOrder
+pub mod NameIsText
+pub mod KnownByNumber
 mod Worked

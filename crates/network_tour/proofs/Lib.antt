@@ -1,1 +1,1 @@
-pub mod TourFacts
+pub mod TourConditions

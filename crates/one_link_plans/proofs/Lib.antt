@@ -1,1 +1,1 @@
-pub mod OneLinkFacts
+pub mod OneLinkFits

@@ -22,22 +22,22 @@ use Rattle.setup_protocol.specs.Hops.{IsHopOf}
 use Rattle.setup_protocol.specs.Setup.{Progress, Reserving, Undoing, Relaxing, Settled, asked, hop_link, progress_of}
 use Rattle.setup_protocol.specs.declared.request.Request.{Request}
 use Rattle.setup_protocol.proofs.HopAsks.{asked-at}
-use Rattle.channel_move.proofs.MoveFacts.{move-ask-is}
+use Rattle.channel_move.proofs.AskByStage.{move-ask-is}
 use Rattle.call_script.specs.Fits.{TaskFits, NetworkFits}
 use Rattle.call_script.specs.Scripts.{Learnt, continued, resumed, standing, from_step, takes_step, ready, outcome_by, first_ask, packets_ask, move_between, task_ask}
 use Rattle.call_script.specs.Tasks.{Network}
 use Rattle.call_script.specs.declared.tasks.Task.{Task}
 use Rattle.call_script.specs.declared.tasks.Task.TheVariants.{Opens, Sends, Closes, Moves}
-use Rattle.call_script.proofs.ReadyFacts.{ready-keeps}
+use Rattle.call_script.proofs.TaskBegins.{ready-keeps}
 use Rattle.channel_laws.proofs.NextLinks.{NamesNext, NextsAre, after-nexts, sent-next}
-use Rattle.channel_laws.proofs.SentFacts.{sent-facts, tick-answer}
+use Rattle.channel_laws.proofs.SentInTime.{sent-facts, tick-answer}
 use Rattle.tick_plane.specs.Planes.{next_due, ask_due, flight_in, plane_expects, answers_arrive}
 use Rattle.tick_plane.specs.declared.flight.Flight.{Flight}
-use Rattle.tick_plane.proofs.FlightFacts.{flight-in}
+use Rattle.tick_plane.proofs.PlaneFlights.{flight-in}
 use Rattle.run_record.specs.Runs.{replies_to, part_of}
 use Rattle.run_record.specs.declared.done.Done.{Done}
 use Rattle.interleave_core.specs.runs.Runs.{plane_no, plane_at, IsNext, IsRun}
-use Rattle.interleave_core.proofs.Tasks.OnceFacts.{once-asked, packets-hold}
+use Rattle.interleave_core.proofs.Tasks.SingleAskTask.{once-asked, packets-hold}
 use Rattle.interleave_core.proofs.Replies.Replying.{replies-expected}
 use Rattle.interleave_core.proofs.Runs.RunLegal.{caller-next, plane-next, part-on, part-off, part-admissible, run-stands}
 use Rattle.plane_workers.specs.Gaps.{IsSpaced, TaskSpaced, AreSpaced, PacketsTakeTheirTime}

@@ -6,12 +6,12 @@ use Rattle.link_steps.specs.Legal.{AskFits, PacketFits}
 use Rattle.link_steps.specs.Lists.{Each}
 use Rattle.link_steps.specs.declared.asks.Ask.TheVariants.{Tick}
 use Rattle.link_steps.specs.declared.shape.LinkShape.{LinkShape}
-use Rattle.link_steps.proofs.ListFacts.{Each-append, Each-filter, Each-map}
+use Rattle.link_steps.proofs.SearchAndFilter.{Each-append, Each-filter, Each-map}
 use Rattle.tick_plane.specs.Planes.{Plane}
 use Rattle.tick_plane.specs.Windows.{is_bound, arrive_of, arrivals_at, rounds_at, tick_left, window_at}
 use Rattle.tick_plane.specs.declared.flight.Flight.{Flight}
 use Rattle.plane_workers.specs.Answered.{ticks_in}
-use Rattle.plane_workers.proofs.AnswerFacts.{ticks-append}
+use Rattle.plane_workers.proofs.AsksInTurn.{ticks-append}
 
 abbrev FlightFits : Flight → Type 0
 FlightFits flight = PacketFits flight.packet

@@ -22,13 +22,13 @@ use Rattle.call_script.specs.declared.entries.RequestEntry.{RequestEntry}
 use Rattle.call_script.specs.declared.operations.Op.TheVariants.{Close}
 use Rattle.call_script.specs.declared.tasks.Task.TheVariants.{Opens, Closes}
 use Rattle.race_run.specs.Callers.{CallerIsAt, HasOp, IsNetworkOf}
-use Rattle.race_run.proofs.BetweenFacts.{between-skipped, between-made}
-use Rattle.race_run.proofs.ScriptFacts.{AClose, ByClose, each-front, has-front, used-live}
+use Rattle.race_run.proofs.BetweenOperations.{between-skipped, between-made}
+use Rattle.race_run.proofs.ChannelsInScript.{AClose, ByClose, each-front, has-front, used-live}
 use Rattle.call_script.specs.Channels.{channel_in}
 use Rattle.call_script.specs.declared.channels.Channel.{Channel}
-use Rattle.race_run.proofs.OpFacts.{HereAt, here-with, request-at, full-script, owner-at, route-least, established-told}
-use Rattle.race_run.proofs.PacketFacts.{packets-stay}
-use Rattle.shared_network.proofs.SubmittedFacts.{teardown-unsent}
+use Rattle.race_run.proofs.OperationAtPlace.{HereAt, here-with, request-at, full-script, owner-at, route-least, established-told}
+use Rattle.race_run.proofs.PacketsLearnt.{packets-stay}
+use Rattle.shared_network.proofs.SubmitsOfCalls.{teardown-unsent}
 
 close-at : (parts : PlanParts) (caller place : ℕ) (chan : ChanNo) (entry : RequestEntry) (pass : Token) (channels : List Channel) → CallerIsAt parts caller place pass channels → HasOp parts caller place (Close chan) → slice_get parts.requests (channel_number chan) ≡ Some entry → HereAt parts caller place (Closes entry.request) pass channels
 close-at parts caller place chan entry pass channels at has found = here-with parts caller place (Close chan) (Closes entry.request) pass channels at has (request-at parts (λ request. Closes request) (channel_number chan) entry found)

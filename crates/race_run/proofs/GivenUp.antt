@@ -5,7 +5,7 @@ use Rattle.std.specs.List.{slice_get}
 use Rattle.net_units.specs.Numbers.{actor_number}
 use Rattle.link_steps.specs.Lists.{Each}
 use Rattle.link_steps.specs.Split.{Link}
-use Rattle.link_steps.proofs.ListFacts.{Each-if, Each-map, Each-mapped}
+use Rattle.link_steps.proofs.SearchAndFilter.{Each-if, Each-map, Each-mapped}
 use Rattle.step_stamp.specs.Lists.{Has, up_to}
 use Rattle.step_stamp.specs.Marks.{StampsRise}
 use Rattle.link_ledger.specs.Own.{own_entry, own_mark}

@@ -1,14 +1,14 @@
 pub mod Lists
-pub mod WholeFacts
-mod MergeFacts
-pub mod TurnFacts
-mod RunFacts
+pub mod WeaveIsRun
+mod WeaveByStamps
+pub mod OneMoreTurn
+mod RunByActors
 mod Sources
-mod ScriptFacts
-mod PacketFacts
-mod TaskFacts
-mod BetweenFacts
-mod OpFacts
+mod ChannelsInScript
+mod PacketsLearnt
+mod TaskEntries
+mod BetweenOperations
+mod OperationAtPlace
 mod OpenOver
 mod SendOver
 mod CloseOver
@@ -17,10 +17,10 @@ mod StampsLeft
 mod ScheduleCounts
 mod ScriptEnds
 mod PlaneSteps
-mod RoundFacts
-mod PieceFacts
+mod PlaneWithPass
+mod RacePieces
 mod GivenUp
-mod OpenFacts
-mod RaceFacts
-mod EarlyFacts
-mod TailFacts
+mod OpenedOneByOne
+mod RaceSizes
+mod EarlierRounds
+mod TailComesLast

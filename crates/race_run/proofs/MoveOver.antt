@@ -34,12 +34,12 @@ use Rattle.call_script.specs.declared.operations.Op.TheVariants.{Move}
 use Rattle.call_script.specs.declared.tasks.Task.{Task}
 use Rattle.call_script.specs.declared.tasks.Task.TheVariants.{Opens, Moves}
 use Rattle.race_run.specs.Callers.{CallerIsAt, HasOp, IsNetworkOf}
-use Rattle.race_run.proofs.BetweenFacts.{Leaves, between-skipped, between-made}
-use Rattle.race_run.proofs.ScriptFacts.{AMoveFrom, AMoveOnto, ByMoveFrom, ByMoveOnto, joined-unsent, each-front, has-front, used-live}
+use Rattle.race_run.proofs.BetweenOperations.{Leaves, between-skipped, between-made}
+use Rattle.race_run.proofs.ChannelsInScript.{AMoveFrom, AMoveOnto, ByMoveFrom, ByMoveOnto, joined-unsent, each-front, has-front, used-live}
 use Rattle.call_script.specs.Channels.{Told, AreTold, channel_in}
 use Rattle.call_script.specs.declared.channels.Channel.{Channel}
-use Rattle.race_run.proofs.OpFacts.{HereAt, here-with, full-script, owner-at, hops-of, task-fits, established-told, ordered, there-at}
-use Rattle.race_run.proofs.PacketFacts.{packets-moved}
+use Rattle.race_run.proofs.OperationAtPlace.{HereAt, here-with, full-script, owner-at, hops-of, task-fits, established-told, ordered, there-at}
+use Rattle.race_run.proofs.PacketsLearnt.{packets-moved}
 
 request-is : (parts : PlanParts) (c : ℕ) (entry : RequestEntry) → slice_get parts.requests c ≡ Some entry → slice_get (requests_of parts) c ≡ Some entry.request
 request-is parts c entry found = slice_get-map request_of parts.requests c ∙ ap (option_map request_of) found

@@ -8,7 +8,7 @@ use Rattle.net_units.specs.declared.numbers.ChanNo.{ChanNo}
 use Rattle.link_steps.specs.Lists.{Each}
 use Rattle.link_steps.specs.Split.{Link}
 use Rattle.step_stamp.specs.Lists.{Has}
-use Rattle.step_stamp.proofs.ListFacts.{each_has, has_split}
+use Rattle.step_stamp.proofs.ListMembers.{each_has, has_split}
 use Rattle.setup_protocol.specs.Laws.{is_accepted}
 use Rattle.setup_protocol.specs.Setup.{Outcome, Progress, Settled, asked, settled_in, progress_of, verdict_of}
 use Rattle.setup_protocol.specs.declared.request.Request.{Request}
@@ -24,14 +24,14 @@ use Rattle.call_script.specs.declared.entries.RequestEntry.{RequestEntry}
 use Rattle.call_script.specs.declared.operations.Op.TheVariants.{Open}
 use Rattle.call_script.specs.declared.tasks.Task.TheVariants.{Opens}
 use Rattle.race_run.specs.Callers.{CallerIsAt, HasOp, IsNetworkOf}
-use Rattle.race_run.proofs.BetweenFacts.{Leaves, between-made}
-use Rattle.race_run.proofs.ScriptFacts.{AnOpen, each-front, opened-once}
-use Rattle.setup_protocol.proofs.ProgressFacts.{none-settled}
+use Rattle.race_run.proofs.BetweenOperations.{Leaves, between-made}
+use Rattle.race_run.proofs.ChannelsInScript.{AnOpen, each-front, opened-once}
+use Rattle.setup_protocol.proofs.SetupAdvances.{none-settled}
 use Rattle.call_script.specs.Channels.{AreTold}
 use Rattle.call_script.specs.declared.channels.Channel.{Channel}
-use Rattle.race_run.proofs.OpFacts.{HereAt, here-with, request-at, full-script, owner-at, route-least}
-use Rattle.race_run.proofs.PacketFacts.{packets-stay, settled-packets}
-use Rattle.shared_network.proofs.SubmittedFacts.{setup-unsent}
+use Rattle.race_run.proofs.OperationAtPlace.{HereAt, here-with, request-at, full-script, owner-at, route-least}
+use Rattle.race_run.proofs.PacketsLearnt.{packets-stay, settled-packets}
+use Rattle.shared_network.proofs.SubmitsOfCalls.{setup-unsent}
 
 open-at : (parts : PlanParts) (caller place : ℕ) (chan : ChanNo) (entry : RequestEntry) (pass : Token) (channels : List Channel) → CallerIsAt parts caller place pass channels → HasOp parts caller place (Open chan) → slice_get parts.requests (channel_number chan) ≡ Some entry → HereAt parts caller place (Opens entry.request) pass channels
 open-at parts caller place chan entry pass channels at has found = here-with parts caller place (Open chan) (Opens entry.request) pass channels at has (request-at parts (λ request. Opens request) (channel_number chan) entry found)

@@ -12,8 +12,8 @@ use Rattle.link_ledger.specs.declared.entries.OwnEntry.{OwnEntry}
 use Rattle.shared_network.specs.Calls.{Follows, reply_in}
 use Rattle.shared_network.specs.Planes.{next_round}
 use Rattle.interleave_core.specs.runs.Turns.{plane_most}
-use Rattle.tick_plane.proofs.RoundFacts.{ticked-with}
-use Rattle.interleave_core.proofs.Tasks.TurnFacts.{with-fewer}
+use Rattle.tick_plane.proofs.TicksPerLink.{ticked-with}
+use Rattle.interleave_core.proofs.Tasks.StepsRunOut.{with-fewer}
 
 -- ---- the links that have ticked in a round
 

@@ -8,8 +8,8 @@ use Rattle.net_units.specs.Limits.{most_steps}
 use Rattle.net_units.specs.Numbers.{actor_number}
 use Rattle.net_units.specs.declared.numbers.ActorNo.{ActorNo}
 use Rattle.link_steps.specs.Lists.{Each}
-use Rattle.link_steps.proofs.ListFacts.{Each-if, Each-both}
-use Rattle.call_script.proofs.FitFacts.{plan-fits}
+use Rattle.link_steps.proofs.SearchAndFilter.{Each-if, Each-both}
+use Rattle.call_script.proofs.PlansFit.{plan-fits}
 use Rattle.call_script.specs.Parts.{PlanParts}
 use Rattle.call_script.specs.Plans.{IsPlan}
 use Rattle.call_script.specs.Tasks.{network_of}
@@ -17,12 +17,12 @@ use Rattle.call_script.specs.declared.schedule.Do.{Do}
 use Rattle.interleave_core.specs.runs.Runs.{IsRun}
 use Rattle.interleave_core.specs.runs.Laws.{actor_of}
 use Rattle.interleave_core.specs.schedules.Schedules.{IsActorOf, repeated, turns_of}
-use Rattle.interleave_core.proofs.Schedules.ScheduleFacts.{turns-append, turns-one}
+use Rattle.interleave_core.proofs.Schedules.ScheduleOutcome.{turns-append, turns-one}
 use Rattle.interleave_core.proofs.Tasks.StepCounts.{first-most, steps-most}
 use Rattle.run_record.specs.Runs.{is_by, replies_to}
 use Rattle.run_record.specs.declared.done.Done.{Done}
 use Rattle.race_run.specs.Turns.{AreMaximalRuns, IsUnwritten, IsWritable, actors_of}
-use Rattle.race_run.proofs.RunFacts.{turned-actors}
+use Rattle.race_run.proofs.RunByActors.{turned-actors}
 
 -- ---- in a schedule
 

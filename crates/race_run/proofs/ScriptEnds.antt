@@ -22,9 +22,9 @@ use Rattle.race_run.specs.Callers.{StandsBetween, PacketsStand, CallerIsAt, HasO
 use Rattle.call_script.specs.Channels.{AreTold}
 use Rattle.call_script.specs.declared.channels.Channel.{Channel}
 use Rattle.race_run.specs.Whole.{HasMadeAll, own_done}
-use Rattle.race_run.proofs.BetweenFacts.{caller-tasks, tasks-none}
-use Rattle.race_run.proofs.PacketFacts.{packets-first}
-use Rattle.race_run.proofs.TaskFacts.{caller-next}
+use Rattle.race_run.proofs.BetweenOperations.{caller-tasks, tasks-none}
+use Rattle.race_run.proofs.PacketsLearnt.{packets-first}
+use Rattle.race_run.proofs.TaskEntries.{caller-next}
 
 -- ---- before the first operation
 

@@ -34,14 +34,14 @@ use Rattle.call_script.specs.declared.tasks.Task.{Task}
 use Rattle.call_script.specs.declared.tasks.Task.TheVariants.{Opens, Sends}
 use Rattle.interleave_core.proofs.Replies.ClosingStands.{planned-established}
 use Rattle.race_run.specs.Callers.{CallerIsAt, HasOp, IsNetworkOf}
-use Rattle.race_run.proofs.BetweenFacts.{Leaves, between-skipped, between-made}
-use Rattle.race_run.proofs.ScriptFacts.{ASend, BySend, each-front, has-front, used-live}
+use Rattle.race_run.proofs.BetweenOperations.{Leaves, between-skipped, between-made}
+use Rattle.race_run.proofs.ChannelsInScript.{ASend, BySend, each-front, has-front, used-live}
 use Rattle.link_steps.proofs.ListParts.{Each-at}
 use Rattle.call_script.specs.Channels.{AreTold, channel_in}
 use Rattle.call_script.specs.declared.channels.Channel.{Channel}
-use Rattle.race_run.proofs.OpFacts.{HereAt, here-with, full-script, owner-at, hops-of, route-least, task-fits, established-told, ordered, there-at, one-follows, one-some, one-reply}
-use Rattle.race_run.proofs.PacketFacts.{packets-stay, packets-sent}
-use Rattle.shared_network.proofs.SubmittedFacts.{one-unsent}
+use Rattle.race_run.proofs.OperationAtPlace.{HereAt, here-with, full-script, owner-at, hops-of, route-least, task-fits, established-told, ordered, there-at, one-follows, one-some, one-reply}
+use Rattle.race_run.proofs.PacketsLearnt.{packets-stay, packets-sent}
+use Rattle.shared_network.proofs.SubmitsOfCalls.{one-unsent}
 
 -- ---- sending
 

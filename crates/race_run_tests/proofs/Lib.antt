@@ -1,1 +1,1 @@
-mod WorkedFacts
+mod WorkedRaces

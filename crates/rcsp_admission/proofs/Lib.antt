@@ -1,8 +1,8 @@
-pub mod RowFacts
-pub mod SumsFacts
-pub mod RoomFacts
-pub mod KeyFacts
-pub mod IndexFacts
-pub mod PlaceFacts
-pub mod LoadsFacts
-pub mod LineFacts
+pub mod WorkByRow
+pub mod StaysAdmitted
+pub mod LastFullLevel
+pub mod OneRowPerKey
+pub mod OnePlacePerKey
+pub mod IndexFollowsRows
+pub mod RunningLoads
+pub mod LinesBelowWork

@@ -25,7 +25,7 @@ fn admit(sums: &mut LevelSums, key: u32, contract: &Contract) -> Result<u8, NoLe
 }
 
 #[test]
-#[tactic(auto, using(rcsp_admission::proofs::SumsFacts::not_held))]
+#[tactic(auto, using(rcsp_admission::proofs::StaysAdmitted::not_held))]
 fn admits_until_no_level_passes(rt: HostRuntime) -> Result<(), Fail> {
     let bounds = Bounds::new(&[10, 20, 40]).ok_or("bounds")?;
     assert_eq!(rt; bounds.len(), 3);
@@ -64,7 +64,7 @@ fn follows_a_row_that_moves_and_goes(rt: HostRuntime) -> Result<(), Fail> {
 
 // In 23 ticks four rows come to 28, and in 20 ticks to 20.
 #[test]
-#[tactic(auto, using(rcsp_admission::proofs::SumsFacts::not_held))]
+#[tactic(auto, using(rcsp_admission::proofs::StaysAdmitted::not_held))]
 fn finds_a_window_before_the_bound(rt: HostRuntime) -> Result<(), Fail> {
     let bounds = Bounds::new(&[23]).ok_or("bounds")?;
     assert_eq!(rt; bounds.len(), 1);
@@ -86,7 +86,7 @@ fn finds_a_window_before_the_bound(rt: HostRuntime) -> Result<(), Fail> {
 // Three packets of a tick come into any window, and 1,024 ticks of work into each 1,025. With the four of the blocking the
 // load catches up after 7 * 1,025 ticks.
 #[test]
-#[tactic(auto, using(rcsp_admission::proofs::SumsFacts::not_held))]
+#[tactic(auto, using(rcsp_admission::proofs::StaysAdmitted::not_held))]
 fn leaps_to_a_window_far_off(rt: HostRuntime) -> Result<(), Fail> {
     let bounds = Bounds::new(&[7_174, 7_175]).ok_or("bounds")?;
     assert_eq!(rt; bounds.len(), 2);

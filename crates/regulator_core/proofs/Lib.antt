@@ -1,4 +1,4 @@
-pub mod AnswerFacts
-pub mod StandingFacts
-pub mod ShiftFacts
+pub mod LatestOfThree
+pub mod NewestSuffice
+pub mod ShiftedTicks
 mod Worked

@@ -1,3 +1,3 @@
-mod HopFacts
-mod ShareFacts
-pub mod LawFacts
+mod HopAllotment
+mod SlackShares
+pub mod RouteAllotment

@@ -16,8 +16,8 @@ use Rattle.call_script.specs.Fits.{NetworkFits}
 use Rattle.call_script.specs.Parts.{PlanParts}
 use Rattle.call_script.specs.Plans.{IsPlan}
 use Rattle.call_script.specs.declared.entries.RequestEntry.{RequestEntry}
-use Rattle.call_script.proofs.FitFacts.{plan-fits}
-use Rattle.call_script.proofs.OwnerFacts.{owned-by}
+use Rattle.call_script.proofs.PlansFit.{plan-fits}
+use Rattle.call_script.proofs.OneOwner.{owned-by}
 use Rattle.call_script.specs.Tasks.{Network, network_of}
 use Rattle.run_record.specs.Rows.{rows_of}
 use Rattle.run_record.specs.declared.done.Done.{Done}
@@ -30,7 +30,7 @@ use Rattle.interleave_core.specs.channels.Hops.{packets_on, ChannelAsked}
 use Rattle.interleave_core.specs.channels.Paths.{HopAt, clock_at, packets_at, arrived_at}
 use Rattle.trace_audit.proofs.PacketOf.{fits-network}
 use Rattle.trace_audit.proofs.RunSound.{departures_of}
-use Rattle.trace_audit.proofs.SortFacts.{order-among}
+use Rattle.trace_audit.proofs.SortedRows.{order-among}
 use Rattle.channel_report.specs.Delays.{last_prop, prop_of}
 use Rattle.report_laws.proofs.HopPacket.{AreOneHop, one-hop, left-there, packets-there, arrived-at}
 use Rattle.report_laws.specs.Rows.{TellsDeparture}

@@ -7,14 +7,14 @@ use Rattle.std.specs.Prelude.{filter, reverse, min, max}
 use Rattle.net_units.specs.Numbers.{link_number, channel_number}
 use Rattle.link_steps.specs.Lists.{Each, Among}
 use Rattle.link_steps.specs.Service.{Arrival, Start}
-use Rattle.link_steps.proofs.ChangeFacts.{Each-from_among}
+use Rattle.link_steps.proofs.FoundElements.{Each-from_among}
 use Rattle.link_steps.proofs.Departures.{starts-once, leaves-once}
-use Rattle.link_steps.proofs.ListFacts.{Among-filter, Each-among, Each-if}
+use Rattle.link_steps.proofs.SearchAndFilter.{Among-filter, Each-among, Each-if}
 use Rattle.link_steps.proofs.ListParts.{Among-turned}
 use Rattle.setup_protocol.specs.declared.request.Request.{Request}
 use Rattle.channel_laws.proofs.SentOrder.{start-departed}
 use Rattle.call_script.specs.Tasks.{Network, network_of}
-use Rattle.call_script.proofs.FitFacts.{plan-fits}
+use Rattle.call_script.proofs.PlansFit.{plan-fits}
 use Rattle.run_record.specs.Rows.{rows_of}
 use Rattle.run_record.specs.declared.done.Done.{Done}
 use Rattle.run_record.specs.declared.rows.HopRow.{HopRow}
@@ -24,8 +24,8 @@ use Rattle.interleave_core.specs.channels.Paths.{HopAt, clock_at, starts_at, dep
 use Rattle.interleave_core.proofs.Channels.ChannelsAt.{packets-numbered}
 use Rattle.trace_audit.specs.Above.{is_at, rows_at}
 use Rattle.trace_audit.specs.Checks.{AllPass}
-use Rattle.trace_audit.proofs.OrderFacts.{at-parts}
-use Rattle.trace_audit.proofs.PathFacts.{filter-reverse}
+use Rattle.trace_audit.proofs.TableInOrder.{at-parts}
+use Rattle.trace_audit.proofs.WholeRoute.{filter-reverse}
 use Rattle.trace_audit.proofs.RunIsSound.{run-is_sound}
 use Rattle.channel_report.specs.Delays.{is_last, least_with, least_of, worst_with, worst_of}
 use Rattle.report_laws.specs.Bounds.{delays_told}

@@ -8,12 +8,12 @@ use Rattle.std.specs.Prelude.{min, slice_index_or}
 use Rattle.net_units.specs.Allotted.{levels_of}
 use Rattle.net_units.specs.Numbers.{actor_number, channel_number, level_number}
 use Rattle.net_units.specs.declared.levels.Levels.{Levels}
-use Rattle.net_units.proofs.BoundFacts.{bounds_parts}
+use Rattle.net_units.proofs.BoundsInOrder.{bounds_parts}
 use Rattle.hop_reservation.specs.Offers.{AreLevels}
 use Rattle.hop_reservation.specs.declared.route.Hop.{Hop}
 use Rattle.link_steps.specs.Levels.{level_of}
 use Rattle.link_steps.specs.Lists.{Each}
-use Rattle.link_steps.proofs.LevelFacts.{level_of-number}
+use Rattle.link_steps.proofs.LevelByNumber.{level_of-number}
 use Rattle.link_steps.proofs.ListParts.{stands-at}
 use Rattle.setup_protocol.specs.Hops.{IsHopOf}
 use Rattle.setup_protocol.specs.Setup.{Outcome, Accepts, Denies, verdict_of}
@@ -21,8 +21,8 @@ use Rattle.call_script.specs.Parts.{PlanParts}
 use Rattle.call_script.specs.Plans.{IsPlan}
 use Rattle.call_script.specs.Tasks.{network_of}
 use Rattle.call_script.specs.declared.entries.RequestEntry.{RequestEntry}
-use Rattle.call_script.proofs.FitFacts.{plan-fits}
-use Rattle.call_script.proofs.OwnerFacts.{owned-by}
+use Rattle.call_script.proofs.PlansFit.{plan-fits}
+use Rattle.call_script.proofs.OneOwner.{owned-by}
 use Rattle.run_record.specs.declared.done.Done.{Done}
 use Rattle.interleave_core.specs.runs.Runs.{IsRun}
 use Rattle.interleave_core.specs.replies.Verdicts.{setup_replies}

@@ -9,7 +9,7 @@ use Rattle.link_steps.specs.Service.{Arrival, Start, leaves_at}
 use Rattle.link_steps.specs.SourceGuarantee.{arrival_of}
 use Rattle.link_steps.specs.Split.{Link}
 use Rattle.link_steps.specs.Lists.{Among}
-use Rattle.link_steps.proofs.ListFacts.{Each-among}
+use Rattle.link_steps.proofs.SearchAndFilter.{Each-among}
 use Rattle.setup_protocol.specs.declared.request.Request.{Request}
 use Rattle.channel_laws.specs.Channels.{is_of_channel, AreNumberedAfter}
 use Rattle.call_script.specs.Tasks.{Network}

@@ -5,7 +5,7 @@ use Rattle.std.proofs.lemmas.Bool.{cases_lt, eqb-true, eq-eqb, and_parts}
 use Rattle.std.specs.Prelude.{nat_eq, nat_lt}
 use Rattle.net_units.specs.Numbers.{channel_number}
 use Rattle.traffic_contract.specs.Keeping.{keeps, Keeps}
-use Rattle.traffic_contract.proofs.KeepingFacts.{Decides-keeps}
+use Rattle.traffic_contract.proofs.PartsKeepContract.{Decides-keeps}
 use Rattle.link_steps.specs.declared.replies.Entry.{Entry}
 use Rattle.link_steps.specs.declared.shape.LinkShape.{LinkShape}
 use Rattle.link_steps.specs.Admissible.{IsAdmissible}
@@ -16,8 +16,8 @@ use Rattle.link_steps.specs.Rows.{Row, offered_by}
 use Rattle.link_steps.specs.Scan.{clock_of, scan_of}
 use Rattle.link_steps.specs.Service.{Arrival}
 use Rattle.link_steps.specs.SourceGuarantee.{SourceKeeps}
-use Rattle.link_steps.proofs.ChangeFacts.{Each-if_passes}
-use Rattle.link_steps.proofs.ListFacts.{Each-among}
+use Rattle.link_steps.proofs.FoundElements.{Each-if_passes}
+use Rattle.link_steps.proofs.SearchAndFilter.{Each-among}
 use Rattle.link_steps.proofs.PacketRows.{packets-have_rows}
 use Rattle.link_steps.proofs.RowPackets.{IsHeld, IsBeside}
 use Rattle.channel_laws.specs.Channels.{HopTerms, is_of_channel, channel_packets, channel_of, offers_to, AllOfferTerms, RowTells, IsElsewhere, IsOnly}
@@ -29,7 +29,7 @@ use Rattle.channel_laws.proofs.LeadChannels.{OwnChannel, history-own}
 use Rattle.channel_laws.proofs.NumberedPackets.{HasNumber, packets-have_numbers}
 use Rattle.channel_report.specs.Sources.{offered_in}
 use Rattle.report_laws.specs.Offered.{HasOffered, HaveOffered}
-use Rattle.report_laws.proofs.OfferedFacts.{offers-told}
+use Rattle.report_laws.proofs.OfferedTicks.{offers-told}
 
 -- ---- the row of a packet
 

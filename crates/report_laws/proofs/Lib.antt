@@ -1,4 +1,4 @@
-pub mod OfferedFacts
+pub mod OfferedTicks
 pub mod KeptSource
 pub mod ToldDelays
 pub mod RowPacket
@@ -11,4 +11,4 @@ pub mod RowCount
 pub mod EveryDelay
 pub mod LinkCounts
 pub mod LostPackets
-pub mod CountFacts
+pub mod CountsOfEntries

@@ -20,13 +20,13 @@ use Rattle.link_steps.specs.Replies.{sent_of, sent_at, best_sent_at, tick_reply,
 use Rattle.link_steps.specs.Scan.{clock_of, clock_with, scan_of, starts_of}
 use Rattle.link_steps.specs.Service.{Arrival, Start, work_of, leaves_at, first_in_line, is_waiting, is_busy, add_start, serve_tick, starts_below}
 use Rattle.link_steps.specs.Split.{Link}
-use Rattle.link_steps.proofs.ListFacts.{Each-filter, Each-if}
+use Rattle.link_steps.proofs.SearchAndFilter.{Each-filter, Each-if}
 use Rattle.link_steps.proofs.NewPackets.{packets-after}
 use Rattle.link_steps.proofs.WindowFits.{packets-have_work}
-use Rattle.link_steps.proofs.ServiceFacts.{HasLeft, FollowEachOther, HasBegun, starts_below-append, left-idle, starts-follow, starts-begun, first_in_line-fact}
+use Rattle.link_steps.proofs.ServiceStarts.{HasLeft, FollowEachOther, HasBegun, starts_below-append, left-idle, starts-follow, starts-begun, first_in_line-fact}
 use Rattle.channel_laws.specs.Departing.{ticked}
 use Rattle.channel_laws.proofs.DepartedCount.{more-legal}
-use Rattle.channel_laws.proofs.SentFacts.{tick-answer}
+use Rattle.channel_laws.proofs.SentInTime.{tick-answer}
 use Rattle.call_script.specs.Fits.{NetworkFits}
 use Rattle.call_script.specs.Owners.{AllOwned}
 use Rattle.call_script.specs.Tasks.{Network}

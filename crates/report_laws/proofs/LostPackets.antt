@@ -7,7 +7,7 @@ use Rattle.std.proofs.lemmas.List.Elements.{filter-append}
 use Rattle.std.specs.Prelude.{filter, find, nat_eq, nat_lt}
 use Rattle.net_units.specs.Numbers.{level_number}
 use Rattle.traffic_contract.specs.Admission.{total}
-use Rattle.traffic_contract.proofs.AdmissionFacts.{total-append}
+use Rattle.traffic_contract.proofs.AdmissionTest.{total-append}
 use Rattle.link_steps.specs.declared.replies.Entry.{Entry}
 use Rattle.link_steps.specs.declared.replies.Phase.TheVariants.{Tentative, Committed, Closing}
 use Rattle.link_steps.specs.declared.shape.LinkShape.{LinkShape}
@@ -21,12 +21,12 @@ use Rattle.link_steps.specs.Rows.{Row, SourcePacket, new_row, is_for, made_by, t
 use Rattle.link_steps.specs.Scan.{Scan, clock_with, clock_of, is_row_of, arrived_row, arrived_packet, with_arrival, without_expired, with_sources, with_best, best_step_at, after_tick, scan_of}
 use Rattle.link_steps.specs.Service.{Arrival, starts_below, here_at}
 use Rattle.link_steps.specs.Sources.{SourceStep, Rests, Brings, Drops, source_step, step_of, packet_of, row_after, taken_by, dropped_by, source_packets, rows_after, dropped_in}
-use Rattle.link_steps.proofs.ChangeFacts.{total-change_first-ge, total-without_first-ge, total-filter-both}
-use Rattle.link_steps.proofs.EffectFacts.{EffectFits, each-admissible, by-fit}
+use Rattle.link_steps.proofs.FoundElements.{total-change_first-ge, total-without_first-ge, total-filter-both}
+use Rattle.link_steps.proofs.EntryEffects.{EffectFits, each-admissible, by-fit}
 use Rattle.link_steps.proofs.LegalOrder.{legal-order}
-use Rattle.link_steps.proofs.LegalRowFacts.{IsInOrder, source-settled}
-use Rattle.link_steps.proofs.ListFacts.{Each-append, Each-change_first, Each-filter, Each-find, Each-without_first, filter-none, total-change_first-le, total-without_first-le}
-use Rattle.link_steps.proofs.PlanFacts.{Rises, made-next, made-rests, made-submitted, rises-submitted}
+use Rattle.link_steps.proofs.RowsInOrder.{IsInOrder, source-settled}
+use Rattle.link_steps.proofs.SearchAndFilter.{Each-append, Each-change_first, Each-filter, Each-find, Each-without_first, filter-none, total-change_first-le, total-without_first-le}
+use Rattle.link_steps.proofs.PlanRises.{Rises, made-next, made-rests, made-submitted, rises-submitted}
 use Rattle.channel_report.specs.Links.{one_if}
 use Rattle.report_laws.specs.Counts.{drops_of, dropped_packets, best_taken, best_offered}
 

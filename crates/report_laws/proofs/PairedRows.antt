@@ -10,8 +10,8 @@ use Rattle.setup_protocol.specs.declared.request.Request.{Request}
 use Rattle.call_script.specs.Parts.{PlanParts}
 use Rattle.run_record.specs.declared.rows.HopRow.{HopRow}
 use Rattle.trace_audit.specs.Checks.{AllPass}
-use Rattle.trace_audit.proofs.OrderFacts.{Follows, GoesOn, IsNext, IsLater, follows-told, order-parts}
-use Rattle.trace_audit.proofs.RowFacts.{passes-told}
+use Rattle.trace_audit.proofs.TableInOrder.{Follows, GoesOn, IsNext, IsLater, follows-told, order-parts}
+use Rattle.trace_audit.proofs.PassingRow.{passes-told}
 use Rattle.channel_report.specs.Delays.{first_in, last_prop, is_last, delay_by, delays_of}
 use Rattle.report_laws.proofs.ToldDelays.{DelayOf, first-is, later}
 

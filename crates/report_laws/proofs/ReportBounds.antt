@@ -10,14 +10,14 @@ use Rattle.traffic_contract.specs.Keeping.{keeps}
 use Rattle.hop_reservation.specs.declared.route.Hop.{Hop}
 use Rattle.relaxation.specs.Allotment.{bound_at_end}
 use Rattle.link_steps.specs.Lists.{Among}
-use Rattle.link_steps.proofs.ListFacts.{Each-among}
+use Rattle.link_steps.proofs.SearchAndFilter.{Each-among}
 use Rattle.link_steps.proofs.ListParts.{stands-at}
 use Rattle.setup_protocol.specs.Hops.{RequestFits}
 use Rattle.call_script.specs.Owners.{OwnedFully}
 use Rattle.call_script.specs.Tasks.{network_of}
 use Rattle.call_script.specs.declared.tasks.Task.{Task}
-use Rattle.call_script.proofs.FitFacts.{plan-fits}
-use Rattle.call_script.proofs.OwnerFacts.{owned-by}
+use Rattle.call_script.proofs.PlansFit.{plan-fits}
+use Rattle.call_script.proofs.OneOwner.{owned-by}
 use Rattle.run_record.specs.Rows.{rows_of}
 use Rattle.run_record.specs.Runs.{part_of}
 use Rattle.interleave_core.specs.channels.Guarantee.{SourceKept, ChannelGuaranteed}

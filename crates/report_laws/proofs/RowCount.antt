@@ -8,11 +8,11 @@ use Rattle.std.specs.List.{slice_get}
 use Rattle.std.specs.Prelude.{nat_eq, filter, reverse}
 use Rattle.net_units.specs.Numbers.{link_number, actor_number, channel_number}
 use Rattle.hop_reservation.specs.declared.route.Hop.{Hop}
-use Rattle.hop_reservation.proofs.RouteFacts.{index-apart}
+use Rattle.hop_reservation.proofs.DistinctLinks.{index-apart}
 use Rattle.link_steps.specs.Lists.{Among}
 use Rattle.link_steps.specs.Service.{Arrival, Start, has_departed}
-use Rattle.link_steps.proofs.ChangeFacts.{Each-from_among}
-use Rattle.link_steps.proofs.ListFacts.{Among-filter, Each-among, filter-same}
+use Rattle.link_steps.proofs.FoundElements.{Each-from_among}
+use Rattle.link_steps.proofs.SearchAndFilter.{Among-filter, Each-among, filter-same}
 use Rattle.link_steps.proofs.PacketRows.{Among-passes}
 use Rattle.setup_protocol.specs.Hops.{RequestFits}
 use Rattle.setup_protocol.specs.declared.request.Request.{Request}
@@ -25,8 +25,8 @@ use Rattle.call_script.specs.Parts.{PlanParts}
 use Rattle.call_script.specs.Plans.{IsPlan}
 use Rattle.call_script.specs.Tasks.{Network, network_of}
 use Rattle.call_script.specs.declared.entries.RequestEntry.{RequestEntry}
-use Rattle.call_script.proofs.FitFacts.{plan-fits}
-use Rattle.call_script.proofs.OwnerFacts.{owned-by, all-owned}
+use Rattle.call_script.proofs.PlansFit.{plan-fits}
+use Rattle.call_script.proofs.OneOwner.{owned-by, all-owned}
 use Rattle.run_record.specs.Rows.{rows_of}
 use Rattle.run_record.specs.declared.done.Done.{Done}
 use Rattle.run_record.specs.declared.rows.HopRow.{HopRow}
@@ -38,12 +38,12 @@ use Rattle.interleave_core.proofs.Replies.RunCloses.{owned-once}
 use Rattle.interleave_core.proofs.Replies.RunGoes.{owned-asked}
 use Rattle.trace_audit.specs.Above.{is_at, is_of, rows_at}
 use Rattle.trace_audit.specs.Departures.{AreCounted}
-use Rattle.trace_audit.proofs.OrderFacts.{at-parts}
+use Rattle.trace_audit.proofs.TableInOrder.{at-parts}
 use Rattle.trace_audit.proofs.PacketOf.{fits-network}
 use Rattle.trace_audit.proofs.RunDeparts.{counted, numbers-above}
 use Rattle.trace_audit.proofs.RunRows.{is_over, Leaving, run-leaves}
 use Rattle.trace_audit.proofs.RunSound.{departures_of}
-use Rattle.trace_audit.proofs.SortFacts.{order-among, counted-rise, rows-stay}
+use Rattle.trace_audit.proofs.SortedRows.{order-among, counted-rise, rows-stay}
 use Rattle.report_laws.specs.Delivered.{EveryDepartureHasOneRow}
 use Rattle.report_laws.specs.Rows.{TellsDeparture}
 use Rattle.report_laws.proofs.HopPacket.{one-hop, left-there}

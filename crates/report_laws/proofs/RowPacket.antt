@@ -16,15 +16,15 @@ use Rattle.link_steps.specs.Lists.{Among}
 use Rattle.link_steps.proofs.ListParts.{Among-reverse, stands-at}
 use Rattle.setup_protocol.specs.Setup.{offers_in, verdict_of, Accepts}
 use Rattle.setup_protocol.specs.declared.request.Request.{Request}
-use Rattle.setup_protocol.proofs.LawFacts.{accepted-passed}
+use Rattle.setup_protocol.proofs.SettledRequest.{accepted-passed}
 use Rattle.channel_laws.specs.Channels.{is_of_channel}
 use Rattle.channel_laws.proofs.DepartedCount.{start-among}
 use Rattle.call_script.specs.Parts.{PlanParts}
 use Rattle.call_script.specs.Plans.{IsPlan}
 use Rattle.call_script.specs.Tasks.{network_of}
 use Rattle.call_script.specs.declared.entries.RequestEntry.{RequestEntry}
-use Rattle.call_script.proofs.FitFacts.{plan-fits}
-use Rattle.call_script.proofs.OwnerFacts.{owned-by, all-owned}
+use Rattle.call_script.proofs.PlansFit.{plan-fits}
+use Rattle.call_script.proofs.OneOwner.{owned-by, all-owned}
 use Rattle.run_record.specs.Rows.{row_of, hop_among, links_of}
 use Rattle.run_record.specs.Runs.{part_of}
 use Rattle.run_record.specs.declared.done.Done.{Done}
@@ -40,7 +40,7 @@ use Rattle.trace_audit.proofs.HopOrder.{offers-in-order, hop-number}
 use Rattle.trace_audit.proofs.PacketOf.{own-channel, fits-network}
 use Rattle.trace_audit.proofs.RunRows.{departure-told, sent-at, run-split}
 use Rattle.trace_audit.proofs.RunSound.{departures_of}
-use Rattle.trace_audit.proofs.SortFacts.{order-among}
+use Rattle.trace_audit.proofs.SortedRows.{order-among}
 use Rattle.report_laws.specs.Rows.{TellsDeparture, RowsTellDepartures}
 
 -- every hop has offered

@@ -6,7 +6,7 @@ use Rattle.std.proofs.lemmas.Option.{same_Some}
 use Rattle.std.specs.Prelude.{min, max, nat_eq}
 use Rattle.net_units.specs.Numbers.{channel_number}
 use Rattle.link_steps.specs.Lists.{Each, Among}
-use Rattle.link_steps.proofs.ListFacts.{Each-append, Each-if}
+use Rattle.link_steps.proofs.SearchAndFilter.{Each-append, Each-if}
 use Rattle.setup_protocol.specs.declared.request.Request.{Request}
 use Rattle.run_record.specs.declared.rows.HopRow.{HopRow}
 use Rattle.channel_report.specs.Delays.{first_in, last_prop, delay_by, delays_of, least_with, least_of, worst_with, worst_of}

@@ -6,8 +6,8 @@ use Rattle.route_finder.specs.Laws.{IsLeastOrNone, FindsLeastWalk}
 use Rattle.route_finder.specs.Table.{least_prop}
 use Rattle.route_finder.specs.Trace.{fewest, traced_from, walk_by}
 use Rattle.route_finder.specs.Walks.{prop_over, IsNetwork, Leads, IsWay, IsWalk, ComesFirst, IsLeastWalk}
-use Rattle.route_finder.proofs.TableFacts.{least_prop-within}
-use Rattle.route_finder.proofs.TraceFacts.{IsTraced, IsExact, IsFewest, fewest-is, exact-fewest, traced-is, way-fewer}
+use Rattle.route_finder.proofs.LeastPropagations.{least_prop-within}
+use Rattle.route_finder.proofs.TracedWalk.{IsTraced, IsExact, IsFewest, fewest-is, exact-fewest, traced-is, way-fewer}
 
 -- a way between two nodes has a link
 pub way-some : (edges : List Edge) (to most node : ℕ) (walk : List Edge) → IsWay edges to most node walk → node ≢ to → 1 ≤ length walk

@@ -1,13 +1,13 @@
-pub mod CheckFacts
-pub mod FindFacts
+pub mod CheckedRoute
+pub mod WalkReadOff
 pub mod LeastWalk
-pub mod NetworkFacts
+pub mod EdgeByEdge
 pub mod NoLinkTwice
 pub mod OneLeastWalk
-pub mod RowFacts
-pub mod StepFacts
-pub mod TableFacts
+pub mod RowEntries
+pub mod FirstStep
+pub mod LeastPropagations
 pub mod TableRows
-pub mod TraceFacts
+pub mod TracedWalk
 pub mod TraceSteps
 mod Worked

@@ -3,7 +3,7 @@ use Rattle.std.proofs.Common.{◌≡◌, ℕ, zero, suc, ◌+◌, ◌-◌, ◌<�
 use Rattle.route_finder.specs.declared.edge.Edge.{Edge}
 use Rattle.route_finder.specs.Laws.{PassesNoLinkTwice}
 use Rattle.route_finder.specs.Walks.{links_of, prop_over, IsAmong, AreAmong, Leads, IsWalk, IsNotAbove, ComesFirst}
-use Rattle.route_finder.proofs.StepFacts.{same-edge}
+use Rattle.route_finder.proofs.FirstStep.{same-edge}
 
 -- a walk without the part from one place to another
 record IsCut (edges : List Edge) (to node : ℕ) (walk cut : List Edge) (less : ℕ) : Type 0 where

@@ -3,7 +3,7 @@ use Rattle.std.proofs.Common.{◌≡◌, ◌<◌, ℕ, List, [], ◌∷◌, leng
 use Rattle.route_finder.specs.declared.edge.Edge.{Edge}
 use Rattle.route_finder.specs.Laws.{HasOneLeastWalk}
 use Rattle.route_finder.specs.Walks.{link_of, links_of, AreAmong, IsNetwork, IsNotAbove, ComesFirst}
-use Rattle.route_finder.proofs.StepFacts.{same-edge}
+use Rattle.route_finder.proofs.FirstStep.{same-edge}
 
 -- lists of which neither is above the other are the same
 pub not_above-both : (ns others : List ℕ) → IsNotAbove ns others → IsNotAbove others ns → ns ≡ others

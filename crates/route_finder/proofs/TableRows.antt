@@ -6,7 +6,7 @@ use Rattle.std.proofs.lemmas.Option.{same_Some}
 use Rattle.route_finder.specs.declared.edge.Edge.{Edge}
 use Rattle.route_finder.specs.Table.{by_none, by_edge, by_one_more, beyond, lesser, least_prop}
 use Rattle.route_finder.specs.Rows.{in_row, entry, IsUpTo, AreRows}
-use Rattle.route_finder.proofs.TableFacts.{none-is}
+use Rattle.route_finder.proofs.LeastPropagations.{none-is}
 
 -- the rows by 0 to so many links
 pub record HasTable (edges : List Edge) (to links : ℕ) (rows : List (List (Option ℕ))) : Type 0 where

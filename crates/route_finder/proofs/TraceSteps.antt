@@ -8,8 +8,8 @@ use Rattle.route_finder.specs.declared.edge.Edge.{Edge}
 use Rattle.route_finder.specs.Table.{beyond, least_prop}
 use Rattle.route_finder.specs.Trace.{are_same, goes_on, fewest, first_step, traced, traced_from, with_step}
 use Rattle.route_finder.specs.Walks.{hop_of, IsAmong, IsEdge, IsNetwork}
-use Rattle.route_finder.proofs.StepFacts.{are_same-true, are_same-refl}
-use Rattle.route_finder.proofs.TraceFacts.{fewest-is}
+use Rattle.route_finder.proofs.FirstStep.{are_same-true, are_same-refl}
+use Rattle.route_finder.proofs.TracedWalk.{fewest-is}
 
 -- ---- how many links
 

@@ -1,3 +1,3 @@
-pub mod HopFacts
-pub mod OrderFacts
+pub mod OfferPlaces
+pub mod OneSortedList
 pub mod KeptRows

@@ -13,7 +13,7 @@ use Rattle.byte_ends.specs.Cutting.{HasNoFeed}
 use Rattle.byte_ends.specs.WholeLines.{feed}
 use Rattle.net_units.specs.Text.{is_letter, is_name_byte, begins_as_name, is_kept_word, is_name}
 use Rattle.scenario_reader.specs.Fields.{is_space, fields_of, line_of, is_graphic, is_field, are_fields}
-use Rattle.scenario_reader.proofs.DecimalFacts.{numerals, all_digits}
+use Rattle.scenario_reader.proofs.DecimalDigits.{numerals, all_digits}
 
 -- a byte of a field is none below 33
 graphic_apart : (b c : ℕ) → c < 33 → is_graphic b ≡ true → b ≢ c

@@ -10,11 +10,11 @@ use Rattle.route_finder.specs.Table.{least_prop}
 use Rattle.route_finder.specs.Trace.{fewest, traced, traced_from, walk_by, least_walk}
 use Rattle.route_finder.specs.Walks.{hop_of as hop_by, prop_over, IsAmong, AreAmong, Leads}
 use Rattle.route_finder.specs.declared.edge.Edge.{Edge}
-use Rattle.route_finder.proofs.TableFacts.{least_prop-within}
-use Rattle.route_finder.proofs.TraceFacts.{IsFewest, fewest-is}
+use Rattle.route_finder.proofs.LeastPropagations.{least_prop-within}
+use Rattle.route_finder.proofs.TracedWalk.{IsFewest, fewest-is}
 use Rattle.route_finder.proofs.LeastWalk.{finds_least_walk}
 use Rattle.scenario_reader.specs.Nodes.{AreNumbered, touches, is_node, node_from, node_of, edges_of, route_between}
-use Rattle.scenario_reader.proofs.NodeFacts.{named-same, are-network, node-known, ends-known, step-is}
+use Rattle.scenario_reader.proofs.NodesByNumber.{named-same, are-network, node-known, ends-known, step-is}
 
 -- a number of a node that is there
 pub node-there : (n : ℕ) (links : List LinkEntry) (name : List ℕ) → node_from n links name < n + 2 * length links → is_node links name ≡ true

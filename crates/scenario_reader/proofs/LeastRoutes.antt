@@ -8,7 +8,7 @@ use Rattle.route_finder.specs.declared.edge.Edge.{Edge}
 use Rattle.route_finder.proofs.LeastWalk.{finds_least_walk}
 use Rattle.scenario_reader.specs.FoundRoutes.{IsLeastRoute, FindsLeastRoutes, TellsNodesApart}
 use Rattle.scenario_reader.specs.Nodes.{node_of, edges_of, route_between}
-use Rattle.scenario_reader.proofs.NodeFacts.{are-network, node-same}
+use Rattle.scenario_reader.proofs.NodesByNumber.{are-network, node-same}
 
 pub finds_least_routes : FindsLeastRoutes
 unfolding route_between

@@ -6,7 +6,7 @@ use Rattle.std.specs.Str.{all_ascii_digits}
 use Rattle.scenario_reader.specs.Causes.{first_cause}
 use Rattle.scenario_reader.specs.Decimal.{is_number, value_of}
 use Rattle.scenario_reader.specs.Forms.{number_rule}
-use Rattle.scenario_reader.proofs.DecimalFacts.{numerals}
+use Rattle.scenario_reader.proofs.DecimalDigits.{numerals}
 
 -- a decimal form of up to 18 digits is a number
 pub is_number-decimal : (n : ℕ) → n < 10 ^ 18 → is_number (decimal n) ≡ true

@@ -16,7 +16,7 @@ use Rattle.call_script.specs.declared.entries.RequestEntry.{RequestEntry}
 use Rattle.call_script.specs.declared.operations.Op.{Op}
 use Rattle.call_script.specs.declared.roles.Role.TheVariants as role
 use Rattle.call_script.specs.declared.version.Version.{Version}
-use Rattle.call_script.proofs.LoadFacts.{load-append, load-push, loads-append, loads-push, over-push, new-over}
+use Rattle.call_script.proofs.ScriptLoads.{load-append, load-push, loads-append, loads-push, over-push, new-over}
 use Rattle.call_script.proofs.Growing.{caller-keeps, length-more}
 use Rattle.scenario_reader.specs.BothWays.{HasNames}
 use Rattle.scenario_reader.specs.line.Link.{link_fields}

@@ -9,7 +9,7 @@ use Rattle.net_units.specs.Text.{is_name}
 use Rattle.hop_reservation.specs.declared.route.Hop.{Hop}
 use Rattle.link_steps.specs.Lists.{Each}
 use Rattle.link_steps.specs.declared.quota.Quota.{Quota}
-use Rattle.link_steps.proofs.ListFacts.{Each-append}
+use Rattle.link_steps.proofs.SearchAndFilter.{Each-append}
 use Rattle.call_script.specs.Groups.{most_groups}
 use Rattle.call_script.specs.Growing.{add_quota, add_op, with_its_quota, new_caller}
 use Rattle.call_script.specs.Parts.{PlanParts}
@@ -53,9 +53,9 @@ use Rattle.scenario_reader.specs.line.Rounds.{rounds_rule, tail_rule}
 use Rattle.scenario_reader.specs.line.Schedule.{schedule_rule, do_rule, do_said}
 use Rattle.scenario_reader.specs.line.Send.{send_rule, send_said}
 use Rattle.scenario_reader.specs.line.Table.{may_stand, line_word, judge_as, MayAdd}
-use Rattle.scenario_reader.proofs.DraftFacts.{draft_begins, draft_more, complete_draft}
-use Rattle.scenario_reader.proofs.PassFacts.{all_pass, both_pass, judged_ok, made_some, name_passes, new_name_passes, stated_ok, unless_passes, used_name_passes}
-use Rattle.scenario_reader.proofs.SayFacts.{may_add}
+use Rattle.scenario_reader.proofs.DraftBecomesPlan.{draft_begins, draft_more, complete_draft}
+use Rattle.scenario_reader.proofs.PassingLines.{all_pass, both_pass, judged_ok, made_some, name_passes, new_name_passes, stated_ok, unless_passes, used_name_passes}
+use Rattle.scenario_reader.proofs.PassedLinesAdd.{may_add}
 use Rattle.scenario_reader.proofs.kind.QuotaForm.{quota_few}
 
 -- ---- what a line names

@@ -10,14 +10,14 @@ use Rattle.call_script.specs.Splits.{entry_link, groups_in}
 use Rattle.call_script.specs.Tasks.{network_of}
 use Rattle.call_script.specs.declared.entries.LinkEntry.{LinkEntry}
 use Rattle.call_script.specs.declared.entries.RequestEntry.{RequestEntry}
-use Rattle.call_script.proofs.FitFacts.{plan-fits}
+use Rattle.call_script.proofs.PlansFit.{plan-fits}
 use Rattle.scenario_reader.specs.BothWays.{IsFoundRoute}
 use Rattle.scenario_reader.specs.FoundRoutes.{IsLeastRoute}
 use Rattle.scenario_reader.specs.Nodes.{AreNumbered}
 use Rattle.scenario_reader.specs.ReadPlans.{GoesByLeastWalk, RequestsGetTheLeastRoutes}
 use Rattle.scenario_reader.proofs.FoundNodes.{found-nodes}
 use Rattle.scenario_reader.proofs.LeastRoutes.{finds_least_routes}
-use Rattle.scenario_reader.proofs.NodeFacts.{named-equal}
+use Rattle.scenario_reader.proofs.NodesByNumber.{named-equal}
 use Rattle.scenario_reader.proofs.ReadNames.{what-is-readable}
 
 few-links : (parts : PlanParts) → IsPlan parts → length parts.links ≤ 32

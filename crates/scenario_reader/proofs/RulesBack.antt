@@ -8,7 +8,7 @@ use Rattle.scenario_reader.specs.Causes.{Rule, unless, first_cause, judged, stat
 use Rattle.scenario_reader.specs.Forms.{is_among, name_rule, new_name_rule, used_name_rule}
 use Rattle.scenario_reader.specs.declared.cause.Cause.{Cause}
 use Rattle.scenario_reader.specs.declared.cause.Cause.TheVariants as cause
-use Rattle.scenario_reader.proofs.PassFacts.{RulesPass}
+use Rattle.scenario_reader.proofs.PassingLines.{RulesPass}
 
 -- rules that pass each pass together
 pub pass_all : (rules : List Rule) → RulesPass rules → first_cause rules ≡ None

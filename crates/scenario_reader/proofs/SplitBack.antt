@@ -8,7 +8,7 @@ use Rattle.net_units.specs.LevelBounds.{bound_at}
 use Rattle.net_units.specs.Numbers.{link_number}
 use Rattle.net_units.specs.Text.{is_name}
 use Rattle.traffic_contract.specs.Admission.{total}
-use Rattle.traffic_contract.proofs.AdmissionFacts.{total-append}
+use Rattle.traffic_contract.proofs.AdmissionTest.{total-append}
 use Rattle.link_steps.specs.Lists.{Each}
 use Rattle.link_steps.specs.Room.{all_from}
 use Rattle.link_steps.specs.Shape.{blocking_of}

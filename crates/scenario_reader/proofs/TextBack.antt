@@ -21,7 +21,7 @@ use Rattle.call_script.specs.declared.schedule.Schedule.{Schedule}
 use Rattle.call_script.specs.declared.version.Version.{Version}
 use Rattle.link_steps.proofs.ListParts.{Each-at, Each-by_place}
 use Rattle.call_script.proofs.Growing.{version-in, version-from, names-in, names-from, ranges-in, few-in, few-from}
-use Rattle.call_script.proofs.RuleFacts.{each-of, keeps-rules, used-in, unclosed-in, moves-in}
+use Rattle.call_script.proofs.RulesAreKept.{each-of, keeps-rules, used-in, unclosed-in, moves-in}
 use Rattle.scenario_reader.specs.BothWays.{AreNamed, unnumbered, APlansTextIsRead, ATextIsOfOnePlan}
 use Rattle.scenario_reader.specs.Drafts.{Said, nothing_said, is_complete, parts_said, schedule_said}
 use Rattle.scenario_reader.specs.Kept.{IsScheduleOf}

@@ -12,7 +12,7 @@ use Rattle.net_units.specs.declared.numbers.ChanNo.{ChanNo}
 use Rattle.net_units.specs.declared.numbers.LinkNo.{LinkNo}
 use Rattle.hop_reservation.specs.declared.route.Hop.{Hop}
 use Rattle.link_steps.specs.Lists.{Each}
-use Rattle.link_steps.proofs.ListFacts.{Each-append}
+use Rattle.link_steps.proofs.SearchAndFilter.{Each-append}
 use Rattle.call_script.specs.Growing.{with_its_op, add_op, last_ops, IsOpenedThere, KeepSoFar}
 use Rattle.call_script.specs.Parts.{PlanParts, parts_with, Opening, opened_by, opening_of, FollowsLink}
 use Rattle.call_script.specs.Plans.{HasTerms}
@@ -26,16 +26,16 @@ use Rattle.call_script.specs.declared.roles.Role.{Role}
 use Rattle.call_script.specs.declared.roles.Role.TheVariants as role
 use Rattle.call_script.specs.declared.version.Version.{Version}
 use Rattle.link_steps.proofs.ListParts.{Each-at}
-use Rattle.call_script.proofs.GrowthFacts.{get-before, added-last, last-of}
+use Rattle.call_script.proofs.OneMoreOperation.{get-before, added-last, last-of}
 use Rattle.call_script.proofs.Growing.{few-in, open-keeps, send-keeps, close-keeps, pour-keeps, move-keeps, length-more}
-use Rattle.call_script.proofs.OpeningFacts.{opened-has}
-use Rattle.call_script.proofs.OwnerFacts.{after-has, apart-none}
+use Rattle.call_script.proofs.OpeningsInOrder.{opened-has}
+use Rattle.call_script.proofs.OneOwner.{after-has, apart-none}
 use Rattle.call_script.specs.Rules.{request_has_version}
 use Rattle.scenario_reader.specs.BothWays.{AreNodesNamed, IsFoundRoute}
 use Rattle.scenario_reader.specs.BothWays.{HasNames}
 use Rattle.scenario_reader.specs.Drafts.{Said, link_named, if_own, is_used, is_joined_to}
 use Rattle.scenario_reader.specs.line.Move.{may_join}
-use Rattle.scenario_reader.proofs.KeptFacts.{use_of, closing_uses}
+use Rattle.scenario_reader.proofs.KeptBesideDraft.{use_of, closing_uses}
 use Rattle.scenario_reader.specs.line.Operation.{op_fields, op_lines}
 use Rattle.scenario_reader.specs.Fields.{lines_if}
 use Rattle.scenario_reader.specs.line.Request.{open_fields}
@@ -53,7 +53,7 @@ use Rattle.scenario_reader.proofs.kind.CloseBack.{close_read}
 use Rattle.scenario_reader.proofs.kind.MoveBack.{move_read}
 use Rattle.scenario_reader.proofs.kind.PourBack.{pour_read}
 use Rattle.scenario_reader.proofs.SaysBack.{Reads}
-use Rattle.net_units.proofs.NumberFacts.{same-link, same-channel}
+use Rattle.net_units.proofs.KnownByNumber.{same-link, same-channel}
 
 -- ---- lists
 

@@ -19,7 +19,7 @@ use Rattle.setup_protocol.specs.Setup.{Accepts, Denies, Progress, Reserving, Und
 use Rattle.setup_protocol.specs.State.{with_offers}
 use Rattle.setup_protocol.specs.declared.request.Request.{Request}
 use Rattle.setup_protocol.specs.declared.verdict.Deny.{Deny as Denial}
-use Rattle.setup_protocol.proofs.ProgressFacts.{progress-on_the_way, progress-tested}
+use Rattle.setup_protocol.proofs.SetupAdvances.{progress-on_the_way, progress-tested}
 
 -- ---- what a hop holds
 

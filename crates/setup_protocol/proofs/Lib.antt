@@ -1,10 +1,10 @@
-pub mod AskFacts
+pub mod SetupAsksFit
 pub mod HopAsks
-pub mod LawFacts
-pub mod ProgressFacts
-pub mod RouteFacts
+pub mod SettledRequest
+pub mod SetupAdvances
+pub mod RouteLevels
 pub mod SetupReplies
-pub mod WayBackFacts
-pub mod FitFacts
+pub mod AskedOnceMore
+pub mod RelaxesFit
 pub mod HopHolds
 pub mod StepHolds

@@ -8,7 +8,7 @@ use Rattle.net_units.specs.LevelBounds.{bound_at, levels_within}
 use Rattle.net_units.specs.Numbers.{level_number}
 use Rattle.net_units.specs.declared.numbers.ChanNo.{ChanNo}
 use Rattle.net_units.specs.declared.numbers.Level.{Level}
-use Rattle.net_units.proofs.BoundFacts.{bounds_parts, within_count, largest_within}
+use Rattle.net_units.proofs.BoundsInOrder.{bounds_parts, within_count, largest_within}
 use Rattle.traffic_contract.specs.Contract.{Traffic}
 use Rattle.link_steps.specs.declared.replies.Phase.TheVariants.{Tentative}
 use Rattle.link_steps.specs.declared.replies.Refusal.{Refusal}
@@ -22,8 +22,8 @@ use Rattle.link_steps.specs.Replies.{reserve_rules, best_offer, reserve_reply_in
 use Rattle.link_steps.specs.Room.{Room, room_of}
 use Rattle.link_steps.specs.Split.{Link}
 use Rattle.link_steps.specs.Reservation.{Reservation, is_of}
-use Rattle.link_steps.proofs.LevelFacts.{level_of-number}
-use Rattle.link_steps.proofs.ReplyFacts.{may-reach}
+use Rattle.link_steps.proofs.LevelByNumber.{level_of-number}
+use Rattle.link_steps.proofs.ReservationFound.{may-reach}
 use Rattle.link_steps.proofs.RuleCases.{rules-fact, unless-some}
 use Rattle.setup_protocol.specs.Setup.{is_reserve_refusal}
 

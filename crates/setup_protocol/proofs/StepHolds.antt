@@ -11,10 +11,10 @@ use Rattle.net_units.specs.LevelBounds.{bound_at, levels_within}
 use Rattle.net_units.specs.Numbers.{level_number}
 use Rattle.net_units.specs.declared.numbers.Level.{Level}
 use Rattle.net_units.specs.declared.numbers.LinkNo.{LinkNo}
-use Rattle.net_units.proofs.BoundFacts.{bound_at-rising, bounds_parts, within_count}
+use Rattle.net_units.proofs.BoundsInOrder.{bound_at-rising, bounds_parts, within_count}
 use Rattle.hop_reservation.specs.Offers.{AreLevels, next_levels, next_bound}
 use Rattle.hop_reservation.specs.declared.route.Hop.{Hop}
-use Rattle.hop_reservation.proofs.OfferFacts.{next_levels-at, next_bound-at}
+use Rattle.hop_reservation.proofs.OneMoreOffer.{next_levels-at, next_bound-at}
 use Rattle.link_steps.specs.declared.asks.Ask.{Ask}
 use Rattle.link_steps.specs.declared.asks.Ask.TheVariants.{Relax, Deny}
 use Rattle.link_steps.specs.declared.replies.Refusal.{Refusal}
@@ -23,19 +23,19 @@ use Rattle.link_steps.specs.declared.replies.Reply.TheVariants as Is
 use Rattle.link_steps.specs.Levels.{level_of}
 use Rattle.link_steps.specs.Replies.{relax_reply}
 use Rattle.link_steps.specs.Reservation.{Reservation, tentative, committed}
-use Rattle.link_steps.proofs.LevelFacts.{level_of-number}
+use Rattle.link_steps.proofs.LevelByNumber.{level_of-number}
 use Rattle.relaxation.specs.Allotment.{allotted}
 use Rattle.relaxation.specs.Laws.{HaveBounds, AreWithinReach}
-use Rattle.relaxation.proofs.LawFacts.{allotted-fit, AreWithinReach-at}
+use Rattle.relaxation.proofs.RouteAllotment.{allotted-fit, AreWithinReach-at}
 use Rattle.setup_protocol.specs.Requests.{kind_of, jitter_of}
 use Rattle.setup_protocol.specs.Setup.{Progress, Reserving, is_offer, level_in, reach_in, offers_in, after_offers, reach_after, undoing, relaxing, asked, hop_link, reserve_of, relax_of, bound_if, bound_given, next_ask, progress_of, is_expected, is_reserve_refusal, answers_reserve}
 use Rattle.setup_protocol.specs.State.{with_offers, after_reserve, advance}
 use Rattle.setup_protocol.specs.declared.request.Request.{Request}
 use Rattle.setup_protocol.specs.declared.verdict.Deny.{Deny as Denial}
-use Rattle.setup_protocol.proofs.AskFacts.{HaveBounds-at}
+use Rattle.setup_protocol.proofs.SetupAsksFit.{HaveBounds-at}
 use Rattle.setup_protocol.proofs.HopAsks.{AskedAt, asked-at}
 use Rattle.setup_protocol.proofs.HopHolds.{bounds_in, reach_at, reach_bound, IsTent, IsComm, HopStands, View, OnWay, Back, Forth, view, undo-stands, relax-stands, offers-stands, undo-says, relax-says, up-kept, tent-kept}
-use Rattle.setup_protocol.proofs.ProgressFacts.{offers-other, offers-more, after-other, reach-more, progress-advances}
+use Rattle.setup_protocol.proofs.SetupAdvances.{offers-other, offers-more, after-other, reach-more, progress-advances}
 use Rattle.setup_protocol.proofs.SetupReplies.{IsReserved, relax-tentative}
 
 -- ---- what is asked, and of which hop

@@ -6,11 +6,11 @@ use Rattle.std.proofs.lemmas.List.{map-id}
 use Rattle.std.proofs.lemmas.List.Sorted.{IsPermutation-refl, IsPermutation-sym}
 use Rattle.std.proofs.lemmas.Option.{same_Some}
 use Rattle.link_steps.specs.Lists.{Each}
-use Rattle.link_steps.proofs.ListFacts.{Each-append, Each-if}
+use Rattle.link_steps.proofs.SearchAndFilter.{Each-append, Each-if}
 use Rattle.step_stamp.specs.Lists.{Has, Differ, up_to}
-use Rattle.step_stamp.proofs.ListFacts.{differ_both, each_has, has_each}
-use Rattle.shared_network.proofs.GatherFacts.{up_to-has}
-use Rattle.shared_network.proofs.PermutedFacts.{differ-permuted, each-permuted}
+use Rattle.step_stamp.proofs.ListMembers.{differ_both, each_has, has_each}
+use Rattle.shared_network.proofs.SeatsJoined.{up_to-has}
+use Rattle.shared_network.proofs.PermutedLists.{differ-permuted, each-permuted}
 
 -- ---- numbers from 0 on
 

@@ -18,7 +18,7 @@ use Rattle.link_steps.specs.declared.asks.Ask.{Ask}
 use Rattle.link_steps.specs.declared.asks.Ask.TheVariants.{Submit}
 use Rattle.link_steps.specs.declared.replies.Reply.{Reply}
 use Rattle.link_steps.specs.declared.replies.Reply.TheVariants as Is
-use Rattle.link_steps.proofs.ReplyFacts.{submit-tells}
+use Rattle.link_steps.proofs.ReservationFound.{submit-tells}
 use Rattle.channel_laws.specs.Reservations.{held_by}
 use Rattle.channel_laws.proofs.SendReplies.{found-at-hop}
 use Rattle.link_ledger.specs.Own.{own_at}

@@ -30,7 +30,7 @@ use Rattle.channel_laws.specs.Laws.{held_after}
 use Rattle.channel_laws.specs.Unsent.{IsUnsent, NoneSent, IsPlanned, FewCancelled}
 use Rattle.channel_laws.proofs.EntryLaws.{packets-may-move}
 use Rattle.channel_laws.specs.Reservations.{held_by}
-use Rattle.link_steps.proofs.ListFacts.{Each-append, Each-filter, Each-map}
+use Rattle.link_steps.proofs.SearchAndFilter.{Each-append, Each-filter, Each-map}
 use Rattle.link_steps.proofs.ListParts.{Each-at, Each-parts}
 use Rattle.link_ledger.specs.Journals.{marks_in, done_in, history_in, journal_of}
 use Rattle.link_ledger.specs.Order.{AreInOrder}
@@ -38,12 +38,12 @@ use Rattle.link_ledger.specs.Own.{own_mark, own_entry, own_at}
 use Rattle.link_ledger.specs.Owners.{OwnsAsk, IsOwner}
 use Rattle.link_ledger.specs.Tokens.{Token, Steps}
 use Rattle.link_ledger.specs.declared.entries.OwnEntry.{OwnEntry}
-use Rattle.link_ledger.proofs.JournalFacts.{past_after, history-more, journal-told}
-use Rattle.link_ledger.proofs.OwnFacts.{one_at, rest_none}
+use Rattle.link_ledger.proofs.JournalGrowth.{past_after, history-more, journal-told}
+use Rattle.link_ledger.proofs.OwnStaysExact.{one_at, rest_none}
 use Rattle.shared_network.specs.Holds.{Hold, Free, Holds, hold_with, hold_of, IsHeld}
 use Rattle.shared_network.specs.Ready.{MayStep}
 use Rattle.shared_network.specs.Shifts.{NoneSubmitted}
-use Rattle.shared_network.proofs.HoldFacts.{hold-more, held-next, held-rest, off-marks, past-parts, history-told}
+use Rattle.shared_network.proofs.HoldsByOwner.{hold-more, held-next, held-rest, off-marks, past-parts, history-told}
 use Rattle.shared_network.proofs.UnsentMarks.{AreUnsent, owner-unsent, others-unsent, history-unsent}
 
 -- the reply is that of the rules where the link holds this

@@ -1,29 +1,29 @@
-pub mod CountFacts
-mod OpeningFacts
+pub mod NumbersFromZero
+mod NetworkOpened
 pub mod LinkNumbers
-pub mod PassFacts
-mod StepFacts
-mod GatherFacts
+pub mod CallsInTurn
+mod PassAfterStep
+mod SeatsJoined
 pub mod ActorOrder
-mod ClosingFacts
-pub mod PermutedFacts
+mod ToldAtClosing
+pub mod PermutedLists
 mod NumberOrder
-mod HoldFacts
+mod HoldsByOwner
 mod UnsentMarks
 mod HoldSteps
 mod ContractKept
 pub mod StillHolds
-mod ContractFacts
+mod HeldOnContract
 mod MoveSteps
-mod ShiftFacts
-pub mod SubmittedFacts
-pub mod PlannedFacts
+mod MoveGoesOn
+pub mod SubmitsOfCalls
+pub mod LastPlanned
 mod SetupGoes
-mod CallFacts
-mod TeardownFacts
+mod SetupUnderWay
+mod TeardownGoesOn
 mod RoundReplies
 mod OwnRounds
 mod RoundTicks
 mod RoundSteps
 mod OtherChannels
-pub mod WorkedFacts
+pub mod WorkedNetworks

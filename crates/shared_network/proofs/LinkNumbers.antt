@@ -11,7 +11,7 @@ use Rattle.link_steps.specs.declared.shape.LinkShape.{LinkShape}
 use Rattle.step_stamp.specs.Lists.{up_to}
 use Rattle.link_ledger.specs.Tokens.{shape_at}
 use Rattle.shared_network.specs.Sight.{FitsAt}
-use Rattle.shared_network.proofs.CountFacts.{up_to-get, up_to-length}
+use Rattle.shared_network.proofs.NumbersFromZero.{up_to-get, up_to-length}
 
 -- as many elements as numbers
 pub numbered-length : {X : Type 0} (number : X → ℕ) (xs : List X) (n : ℕ) → map number xs ≡ up_to n → length xs ≡ n

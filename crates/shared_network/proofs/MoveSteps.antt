@@ -14,7 +14,7 @@ use Rattle.channel_move.specs.Stages.{stage_after, joining_after}
 use Rattle.channel_move.specs.declared.mover.Stage.{Stage}
 use Rattle.channel_move.specs.declared.mover.Stage.TheVariants.{Leaving, Joining, Releasing}
 use Rattle.channel_move.specs.declared.shifted.Shifted.{Shifted}
-use Rattle.channel_move.proofs.MoveFacts.{HopAsked, MoveAsks, AsksFirst, AsksSubmit, AsksRest, move-asks, rest-length}
+use Rattle.channel_move.proofs.AskByStage.{HopAsked, MoveAsks, AsksFirst, AsksSubmit, AsksRest, move-asks, rest-length}
 
 -- ---- stages
 

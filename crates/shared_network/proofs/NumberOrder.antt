@@ -5,10 +5,10 @@ use Rattle.std.specs.List.Sorted.{IsNonDecreasingBy}
 use Rattle.std.proofs.lemmas.Bool.{cases_eq}
 use Rattle.std.proofs.lemmas.List.{length-map}
 use Rattle.link_steps.specs.Lists.{Each}
-use Rattle.link_steps.proofs.ListFacts.{Each-map}
+use Rattle.link_steps.proofs.SearchAndFilter.{Each-map}
 use Rattle.step_stamp.specs.Lists.{Has, Differ, up_to}
-use Rattle.step_stamp.proofs.ListFacts.{each_has, has_each}
-use Rattle.shared_network.proofs.ClosingFacts.{map-has}
+use Rattle.step_stamp.proofs.ListMembers.{each_has, has_each}
+use Rattle.shared_network.proofs.ToldAtClosing.{map-has}
 
 -- each number is at least `low`, and above the one before
 abbrev RisesBy : ℕ → List ℕ → Type 0

@@ -11,20 +11,20 @@ use Rattle.link_steps.specs.declared.asks.Ask.{Ask}
 use Rattle.link_steps.specs.declared.asks.Ask.TheVariants.{Release}
 use Rattle.link_steps.specs.declared.replies.Reply.{Reply}
 use Rattle.link_steps.specs.Split.{Link}
-use Rattle.link_steps.proofs.ListFacts.{Each-append}
+use Rattle.link_steps.proofs.SearchAndFilter.{Each-append}
 use Rattle.setup_protocol.specs.Setup.{next_ask, progress_of}
 use Rattle.setup_protocol.specs.Teardown.{first_count, next_release}
 use Rattle.setup_protocol.specs.declared.request.Request.{Request}
 use Rattle.setup_protocol.proofs.HopAsks.{of-hop, of-setup}
 use Rattle.channel_laws.specs.Asks.{IsOff}
 use Rattle.channel_move.specs.Moving.{Move, next_of_move}
-use Rattle.channel_move.proofs.MoveFacts.{MoveAsks, AsksFirst, AsksSubmit, AsksRest, move-asks, move-ask-is}
+use Rattle.channel_move.proofs.AskByStage.{MoveAsks, AsksFirst, AsksSubmit, AsksRest, move-asks, move-ask-is}
 use Rattle.link_ledger.specs.declared.entries.OwnEntry.{OwnEntry}
 use Rattle.link_ledger.specs.Tokens.{Token, Steps}
 use Rattle.shared_network.specs.Calls.{HasNone, Follows, HoldsRoute, IsEstablished, OthersStay, hold_at}
 use Rattle.shared_network.specs.Holds.{Free, Holds}
 use Rattle.shared_network.specs.Sight.{IsSend}
-use Rattle.shared_network.proofs.CallFacts.{each-follows}
+use Rattle.shared_network.proofs.SetupUnderWay.{each-follows}
 use Rattle.shared_network.proofs.StillHolds.{IsStill, none-still, none-hold, send-still, route-stays}
 
 -- ---- entries that don't name it

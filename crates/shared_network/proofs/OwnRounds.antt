@@ -14,13 +14,13 @@ use Rattle.link_steps.specs.Scan.{clock_of}
 use Rattle.link_steps.specs.Split.{Link, SplitFits}
 use Rattle.link_steps.specs.declared.replies.Entry.{Entry as Done}
 use Rattle.link_steps.specs.declared.replies.Reply.{Reply}
-use Rattle.link_steps.proofs.ChangeFacts.{Each-passes}
-use Rattle.link_steps.proofs.ListFacts.{Each-both, Each-filter, Each-if, Each-map, Each-mapped}
+use Rattle.link_steps.proofs.FoundElements.{Each-passes}
+use Rattle.link_steps.proofs.SearchAndFilter.{Each-both, Each-filter, Each-if, Each-map, Each-mapped}
 use Rattle.link_steps.proofs.ListParts.{Each-at}
 use Rattle.step_stamp.specs.Lists.{Has}
 use Rattle.step_stamp.specs.Views.{known_of}
 use Rattle.step_stamp.specs.declared.marks.Mark.{Mark}
-use Rattle.step_stamp.proofs.ListFacts.{each_has, has_left, has_right, has_each, has_kept, has_passed}
+use Rattle.step_stamp.proofs.ListMembers.{each_has, has_left, has_right, has_each, has_kept, has_passed}
 use Rattle.tick_plane.specs.Planes.{flight_in}
 use Rattle.link_ledger.specs.Journals.{mark_in, done_in, history_entry_of, marks_in, history_in, journal_of, told_after}
 use Rattle.link_ledger.specs.Own.{own_at, own_entry}
@@ -31,11 +31,11 @@ use Rattle.link_ledger.specs.declared.entries.OwnEntry.{OwnEntry}
 use Rattle.shared_network.specs.Calls.{reply_in}
 use Rattle.shared_network.specs.Planes.{is_round, rounds_in}
 use Rattle.shared_network.specs.Ready.{KnowsLink, MayStep}
-use Rattle.shared_network.proofs.ClosingFacts.{map-has}
+use Rattle.shared_network.proofs.ToldAtClosing.{map-has}
 use Rattle.shared_network.proofs.RoundReplies.{AsksBelow, MayFly, round-flies}
 use Rattle.link_steps.proofs.ListParts.{Each-reverse}
-use Rattle.link_steps.proofs.ClockFacts.{clock_of-most}
-use Rattle.step_stamp.proofs.MarkFacts.{rises-length}
+use Rattle.link_steps.proofs.ClockAdvances.{clock_of-most}
+use Rattle.step_stamp.proofs.RisingStamps.{rises-length}
 
 -- ---- lists turned round
 

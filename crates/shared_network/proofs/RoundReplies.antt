@@ -18,18 +18,18 @@ use Rattle.link_steps.specs.Scan.{clock_of, scan_of}
 use Rattle.link_steps.specs.Service.{leaves_at}
 use Rattle.link_steps.specs.Split.{Link, SplitFits}
 use Rattle.link_steps.proofs.LegalAdmissible.{legal-admissible}
-use Rattle.link_steps.proofs.ListFacts.{Each-find, Each-if}
+use Rattle.link_steps.proofs.SearchAndFilter.{Each-find, Each-if}
 use Rattle.channel_laws.specs.Asks.{IsOff}
 use Rattle.channel_laws.specs.Departing.{ticked}
 use Rattle.channel_laws.specs.Reservations.{IsArriveReply}
 use Rattle.channel_laws.proofs.ArriveReplies.{arrive-told, of-arrive}
-use Rattle.channel_laws.proofs.SentFacts.{sent-facts, sent-fits, tick-answer}
+use Rattle.channel_laws.proofs.SentInTime.{sent-facts, sent-fits, tick-answer}
 use Rattle.tick_plane.specs.declared.flight.Flight.{Flight}
 use Rattle.tick_plane.specs.Planes.{Plane, is_due, next_due, ask_due, plane_ask, flight_in, answers_arrive, answers_tick, plane_expects, IsDueLater}
 use Rattle.link_ledger.specs.Owners.{OwnsAsk, NextBelow, IsBelow}
 use Rattle.shared_network.specs.Planes.{is_round}
 use Rattle.channel_laws.proofs.NextLinks.{NamesNext, history-nexts, sent-next}
-use Rattle.tick_plane.proofs.FlightFacts.{asks-due, flight-in}
+use Rattle.tick_plane.proofs.PlaneFlights.{asks-due, flight-in}
 
 -- a flight to a link below a number, whose packet may arrive
 pub record MayFly (n : ℕ) (flight : Flight) : Type 0 where

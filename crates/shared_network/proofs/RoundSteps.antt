@@ -23,14 +23,14 @@ use Rattle.shared_network.specs.Calls.{Follows, reply_in}
 use Rattle.shared_network.specs.Planes.{is_round, rounds_in, next_round, IsPlanes, MakesRound}
 use Rattle.shared_network.specs.Ready.{MayStep}
 use Rattle.step_stamp.specs.Views.{known_of}
-use Rattle.shared_network.proofs.CallFacts.{follows-more}
-use Rattle.net_units.proofs.NumberFacts.{same-link}
+use Rattle.shared_network.proofs.SetupUnderWay.{follows-more}
+use Rattle.net_units.proofs.KnownByNumber.{same-link}
 use Rattle.shared_network.proofs.OwnRounds.{rounds-fly}
 use Rattle.shared_network.proofs.RoundReplies.{MayFly, MayAsk, plane-may, plane-expected, round-later}
 use Rattle.shared_network.proofs.RoundTicks.{tick-clock}
-use Rattle.shared_network.proofs.StepFacts.{adds-one}
+use Rattle.shared_network.proofs.PassAfterStep.{adds-one}
 use Rattle.link_steps.proofs.ListParts.{Each-at, Each-reverse}
-use Rattle.tick_plane.proofs.FlightFacts.{plane-flights}
+use Rattle.tick_plane.proofs.PlaneFlights.{plane-flights}
 
 module _ (table : TableId) (owners : List ActorNo) (links : List Link) (pass : Token) (plane : KeptPlane) (splits : Each SplitFits links) (may : MayStep table owners links pass) (links_are : plane.links ≡ length links) (within : plane.at.ticked < plane.links) (few : plane.links ≤ 32) (is : IsPlanes (length links) plane pass.own) (to : LinkNo) (ask : Ask) (asks : plane_ask plane.rounds plane.at ≡ Some (to, ask)) where
   flies : Each (MayFly (length links)) plane.at.flights

@@ -14,8 +14,8 @@ use Rattle.link_steps.specs.declared.replies.Reply.{Reply}
 use Rattle.link_steps.specs.Scan.{clock_with, clock_of}
 use Rattle.tick_plane.specs.declared.flight.Flight.{Flight}
 use Rattle.tick_plane.specs.Planes.{Plane, next_due, ask_due, flight_in, plane_ask, plane_with, plane_of}
-use Rattle.tick_plane.proofs.FlightFacts.{asks-due}
-use Rattle.tick_plane.proofs.RoundFacts.{ticks_made, tick-clocks, other-clocks, ticked-with}
+use Rattle.tick_plane.proofs.PlaneFlights.{asks-due}
+use Rattle.tick_plane.proofs.TicksPerLink.{ticks_made, tick-clocks, other-clocks, ticked-with}
 use Rattle.link_ledger.specs.Journals.{mark_in, done_in, marks_in, history_in}
 use Rattle.link_ledger.specs.Own.{own_at}
 use Rattle.link_ledger.specs.declared.entries.Entry.{Entry}

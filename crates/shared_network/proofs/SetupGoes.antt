@@ -8,7 +8,7 @@ use Rattle.net_units.specs.declared.numbers.ChanNo.{ChanNo}
 use Rattle.hop_reservation.specs.Offers.{AreLevels}
 use Rattle.hop_reservation.specs.Routes.{link_of}
 use Rattle.hop_reservation.specs.declared.route.Hop.{Hop}
-use Rattle.hop_reservation.proofs.OfferFacts.{AreLevels-push}
+use Rattle.hop_reservation.proofs.OneMoreOffer.{AreLevels-push}
 use Rattle.link_steps.specs.Admissible.{MayAnswer}
 use Rattle.link_steps.specs.Levels.{level_of}
 use Rattle.link_steps.specs.Replies.{deny_reply, relax_reply, reply_at}
@@ -22,19 +22,19 @@ use Rattle.relaxation.specs.Laws.{AreWithinReach}
 use Rattle.setup_protocol.specs.Setup.{Reserving, is_offer, level_in, offers_in, after_offers, reach_after, undoing, relaxing, asked, reserve_of, bound_given, next_ask, progress_of, is_expected}
 use Rattle.setup_protocol.specs.declared.request.Request.{Request}
 use Rattle.setup_protocol.specs.declared.verdict.Deny.{Deny as Denial}
-use Rattle.setup_protocol.proofs.ProgressFacts.{offers-other, offers-more}
+use Rattle.setup_protocol.proofs.SetupAdvances.{offers-other, offers-more}
 use Rattle.channel_laws.specs.Reservations.{held_by}
 use Rattle.link_steps.proofs.ListParts.{Each-at}
 use Rattle.link_ledger.specs.Tokens.{IsLink}
 use Rattle.link_ledger.specs.Own.{own_at}
 use Rattle.link_ledger.specs.declared.entries.OwnEntry.{OwnEntry}
-use Rattle.link_ledger.proofs.OwnFacts.{one_at, none_at}
+use Rattle.link_ledger.proofs.OwnStaysExact.{one_at, none_at}
 use Rattle.shared_network.specs.Calls.{hold_at}
 use Rattle.setup_protocol.specs.Hops.{IsHopOf, RequestFits}
 use Rattle.shared_network.specs.Holds.{Hold, Free, Holds, reserved, denied, hold_with, hold_of, IsHeld}
-use Rattle.shared_network.proofs.HoldFacts.{hold-more}
+use Rattle.shared_network.proofs.HoldsByOwner.{hold-more}
 use Rattle.shared_network.proofs.HoldSteps.{AnswersOf}
-use Rattle.hop_reservation.proofs.RouteFacts.{index-apart}
+use Rattle.hop_reservation.proofs.DistinctLinks.{index-apart}
 use Rattle.setup_protocol.proofs.HopAsks.{AskedAt}
 use Rattle.setup_protocol.proofs.SetupReplies.{IsReserved, reserve-reply, deny-tentative}
 use Rattle.setup_protocol.proofs.StepHolds.{SetupAsks, Reserves, GivesBack, Relaxes, setup-asks, relax_at, relax-told, Changes, offer_of, RouteStands, RouteGoes, back-tent, forth-tent, back-goes, forth-goes, way-free, refused-goes, offer-goes}

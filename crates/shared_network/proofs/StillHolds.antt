@@ -14,7 +14,7 @@ use Rattle.link_steps.specs.Reservation.{tentative, committed}
 use Rattle.link_steps.specs.declared.asks.Ask.{Ask}
 use Rattle.link_steps.specs.declared.asks.Ask.TheVariants.{Reserve, Relax, Deny, Release, Arrive, Tick}
 use Rattle.link_steps.specs.declared.replies.Reply.{Reply}
-use Rattle.link_steps.proofs.ListFacts.{Each-filter, Each-if}
+use Rattle.link_steps.proofs.SearchAndFilter.{Each-filter, Each-if}
 use Rattle.channel_laws.specs.Asks.{IsOff}
 use Rattle.link_ledger.specs.Own.{own_at}
 use Rattle.link_ledger.specs.declared.entries.OwnEntry.{OwnEntry}

@@ -8,7 +8,7 @@ use Rattle.link_steps.specs.Lists.{Each}
 use Rattle.link_steps.specs.declared.asks.Ask.{Ask}
 use Rattle.link_steps.specs.declared.asks.Ask.TheVariants.{Submit}
 use Rattle.link_steps.specs.declared.replies.Entry.{Entry as Done}
-use Rattle.link_steps.proofs.ListFacts.{Each-if, Each-map, Each-mapped}
+use Rattle.link_steps.proofs.SearchAndFilter.{Each-if, Each-map, Each-mapped}
 use Rattle.link_steps.proofs.ListParts.{Each-reverse}
 use Rattle.step_stamp.specs.Marks.{marks_of}
 use Rattle.step_stamp.specs.declared.marks.Mark.{Mark}
@@ -17,7 +17,7 @@ use Rattle.channel_laws.specs.Unsent.{IsUnsent, NoneSent}
 use Rattle.link_ledger.specs.Journals.{mark_in, done_in, marks_in, history_in}
 use Rattle.link_ledger.specs.Owners.{OwnsAsk, IsOwner}
 use Rattle.link_ledger.specs.declared.entries.Entry.{Entry}
-use Rattle.shared_network.proofs.HoldFacts.{off-ask, off-marks}
+use Rattle.shared_network.proofs.HoldsByOwner.{off-ask, off-marks}
 
 abbrev pub AreUnsent : ℕ → List Mark → Type 0
 AreUnsent c ms = Each (λ (m : Mark). IsUnsent c m.ask) ms

@@ -9,7 +9,7 @@ use mathlib.Core.List.{IsPrefix}
 use Rattle.atomic_table.specs.Table.{Joins}
 use Rattle.net_units.specs.Numbers.{actor_number}
 use Rattle.link_steps.specs.Lists.{Each}
-use Rattle.link_steps.proofs.ListFacts.{Each-if, Each-append}
+use Rattle.link_steps.proofs.SearchAndFilter.{Each-if, Each-append}
 use Rattle.step_stamp.specs.declared.marks.Drawn.{Drawn}
 use Rattle.step_stamp.specs.declared.marks.Mark.{Mark}
 use Rattle.step_stamp.specs.declared.views.Opening.{Opening}
@@ -20,11 +20,11 @@ use Rattle.step_stamp.specs.Marks.{StampsRise, NoTwice, by_actor, of_actor, long
 use Rattle.step_stamp.specs.Rule.{Tally, Begins, Fits, Learnt}
 use Rattle.step_stamp.specs.Seats.{Settled, Gathered}
 use Rattle.step_stamp.specs.Views.{shelf, shelf_of, known_of, first_of, settled, merged, gathered, nobody}
-use Rattle.step_stamp.proofs.ListFacts.{has_left, has_right, has_split, each_has, filter_none, differ_both, differ_last, begins_nothing}
-use Rattle.step_stamp.proofs.MarkFacts.{longer_both, longer_whole, longer_other}
+use Rattle.step_stamp.proofs.ListMembers.{has_left, has_right, has_split, each_has, filter_none, differ_both, differ_last, begins_nothing}
+use Rattle.step_stamp.proofs.RisingStamps.{longer_both, longer_whole, longer_other}
 use Rattle.step_stamp.proofs.Meeting.{most_left, most_right, drawn_left, drawn_right}
-use Rattle.step_stamp.proofs.ShelfFacts.{shelf_cases, shelf_here, shelf_else, shelf_made, shelf_none, no_known, no_shelf}
-use Rattle.step_stamp.proofs.ViewFacts.{Law, no_shelf_seen, stays, moves, joins_all, acts_live, acts_some}
+use Rattle.step_stamp.proofs.NewestShelf.{shelf_cases, shelf_here, shelf_else, shelf_made, shelf_none, no_known, no_shelf}
+use Rattle.step_stamp.proofs.RuleThroughChanges.{Law, no_shelf_seen, stays, moves, joins_all, acts_live, acts_some}
 
 -- a view has drawn nothing of an actor that another view has
 none_of : (t : Tally) (a j other : ℕ) (u : View) → Fits t j u → t.owner a ≡ other → (other ≡ j → ⊥) → of_actor a u.drawn ≡ []

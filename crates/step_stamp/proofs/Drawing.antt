@@ -10,7 +10,7 @@ use lib.ListN.{get_elem?}
 use Rattle.atomic_table.specs.Table.{Me, Act, Valid, carried_after, keeps, Allows}
 use Rattle.net_units.specs.Numbers.{actor_number}
 use Rattle.link_steps.specs.Lists.{Each}
-use Rattle.link_steps.proofs.ListFacts.{Each-if, Each-append}
+use Rattle.link_steps.proofs.SearchAndFilter.{Each-if, Each-append}
 use Rattle.step_stamp.specs.declared.marks.Drawn.{Drawn}
 use Rattle.step_stamp.specs.declared.marks.Mark.{Mark}
 use Rattle.step_stamp.specs.declared.views.Opening.{Opening}
@@ -20,11 +20,11 @@ use Rattle.step_stamp.specs.Marks.{by_actor, of_actor, drawn_for}
 use Rattle.step_stamp.specs.Placing.{hand_at}
 use Rattle.step_stamp.specs.Rule.{Tally, HasSeen, Fits, HoldsList, HoldsActor, KeepsRule}
 use Rattle.step_stamp.specs.Views.{known_of, drew}
-use Rattle.step_stamp.proofs.ListFacts.{has_left, has_right, each_has, length-passed}
-use Rattle.step_stamp.proofs.MarkFacts.{numbered-append, no_twice_more, most_drawn}
-use Rattle.step_stamp.proofs.PlacingFacts.{hand_here, hand_was, hand_else, placed_drawn, numbered_most}
-use Rattle.step_stamp.proofs.StandFacts.{stands_set}
-use Rattle.step_stamp.proofs.ViewFacts.{Law, views_set, acts_live, acts_some}
+use Rattle.step_stamp.proofs.ListMembers.{has_left, has_right, each_has, length-passed}
+use Rattle.step_stamp.proofs.RisingStamps.{numbered-append, no_twice_more, most_drawn}
+use Rattle.step_stamp.proofs.MarkPlaces.{hand_here, hand_was, hand_else, placed_drawn, numbered_most}
+use Rattle.step_stamp.proofs.ViewsRemain.{stands_set}
+use Rattle.step_stamp.proofs.RuleThroughChanges.{Law, views_set, acts_live, acts_some}
 
 -- ---- what each actor has drawn after a draw by one
 

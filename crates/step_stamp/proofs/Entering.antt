@@ -6,7 +6,7 @@ use Rattle.std.proofs.Math.Nat.{le-max_right, max-le, max-eq_right}
 use mathlib.Core.List.{IsPrefix}
 use Rattle.atomic_table.specs.Table.{Splits, Joins}
 use Rattle.link_steps.specs.Lists.{Each}
-use Rattle.link_steps.proofs.ListFacts.{Each-append}
+use Rattle.link_steps.proofs.SearchAndFilter.{Each-append}
 use Rattle.step_stamp.specs.declared.marks.Drawn.{Drawn}
 use Rattle.step_stamp.specs.declared.marks.Mark.{Mark}
 use Rattle.step_stamp.specs.declared.views.Opening.{Opening}
@@ -18,13 +18,13 @@ use Rattle.step_stamp.specs.Placing.{hand_at}
 use Rattle.step_stamp.specs.Rule.{Tally, Begins, HasList, Fits, HoldsList, HoldsActor}
 use Rattle.step_stamp.specs.Seats.{EntersMark}
 use Rattle.step_stamp.specs.Views.{shelf, shelf_of, known_of, emptied, handed, entered, nobody}
-use Rattle.step_stamp.proofs.ListFacts.{begins_nothing, begins_itself, begins_longer}
-use Rattle.step_stamp.proofs.MarkFacts.{rises-append}
+use Rattle.step_stamp.proofs.ListMembers.{begins_nothing, begins_itself, begins_longer}
+use Rattle.step_stamp.proofs.RisingStamps.{rises-append}
 use Rattle.step_stamp.proofs.Meeting.{most_left, drawn_left, still_lone}
-use Rattle.step_stamp.proofs.ShelfFacts.{shelf_cases, shelf_here}
-use Rattle.step_stamp.proofs.PlacingFacts.{hand_was, hand_here, hand_else, hand_set, hand_before, hand_end, hand_beyond, at_short, placed_moved, placed_entered}
-use Rattle.step_stamp.proofs.StandFacts.{length-set, stands_joined}
-use Rattle.step_stamp.proofs.ViewFacts.{Law, splits, copy_fits, nobody_fits, views_set, other_view, acts_live, acts_some, lists_live}
+use Rattle.step_stamp.proofs.NewestShelf.{shelf_cases, shelf_here}
+use Rattle.step_stamp.proofs.MarkPlaces.{hand_was, hand_here, hand_else, hand_set, hand_before, hand_end, hand_beyond, at_short, placed_moved, placed_entered}
+use Rattle.step_stamp.proofs.ViewsRemain.{length-set, stands_joined}
+use Rattle.step_stamp.proofs.RuleThroughChanges.{Law, splits, copy_fits, nobody_fits, views_set, other_view, acts_live, acts_some, lists_live}
 
 -- the lists with one mark more at link l
 with_mark : ℕ → Mark → (ℕ → List Mark) → ℕ → List Mark

@@ -8,7 +8,7 @@ use lib.ListN.{get_elem?}
 use Rattle.atomic_table.specs.Table.{Me, keeps, Allows}
 use Rattle.atomic_table.proofs.Lists.{set_again}
 use Rattle.net_units.specs.Numbers.{actor_number}
-use Rattle.link_steps.proofs.ListFacts.{Each-if}
+use Rattle.link_steps.proofs.SearchAndFilter.{Each-if}
 use Rattle.step_stamp.specs.declared.marks.Drawn.{Drawn}
 use Rattle.step_stamp.specs.declared.marks.Mark.{Mark}
 use Rattle.step_stamp.specs.declared.views.Opening.{Opening}
@@ -18,11 +18,11 @@ use Rattle.step_stamp.specs.Marks.{StampsRise, drawn_marks, by_actor, of_actor, 
 use Rattle.step_stamp.specs.Placing.{hand_at}
 use Rattle.step_stamp.specs.Rule.{Fits, HoldsList, HoldsActor, KeepsRule, Learnt}
 use Rattle.step_stamp.specs.Views.{known_of, first_of, second_of, saw}
-use Rattle.step_stamp.proofs.ListFacts.{has_prefix, each_has, has_passed, has_kept, passes_test, filter_none, prefixes}
-use Rattle.step_stamp.proofs.MarkFacts.{numbered_rise, draws_filter, same_stamp, no_twice, most_drawn}
-use Rattle.step_stamp.proofs.PlacingFacts.{hand_set, placed_same}
-use Rattle.step_stamp.proofs.StandFacts.{stands_set}
-use Rattle.step_stamp.proofs.ViewFacts.{Law, views_set, acts_live, acts_some}
+use Rattle.step_stamp.proofs.ListMembers.{has_prefix, each_has, has_passed, has_kept, passes_test, filter_none, prefixes}
+use Rattle.step_stamp.proofs.RisingStamps.{numbered_rise, draws_filter, same_stamp, no_twice, most_drawn}
+use Rattle.step_stamp.proofs.MarkPlaces.{hand_set, placed_same}
+use Rattle.step_stamp.proofs.ViewsRemain.{stands_set}
+use Rattle.step_stamp.proofs.RuleThroughChanges.{Law, views_set, acts_live, acts_some}
 
 -- what a view has drawn was drawn
 pub drawn_of : (about : Opening) (words : List ℕ) (views : List View) (id : ℕ) (v : View) (h : KeepsRule about words views) → get_elem? views id ≡ some v → (d : Drawn) → Has d v.drawn → Has d h.tally.draws

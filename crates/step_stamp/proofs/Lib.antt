@@ -1,13 +1,13 @@
-pub mod ListFacts
-pub mod MarkFacts
-pub mod ShelfFacts
-mod PlacingFacts
-mod StandFacts
-mod ViewFacts
+pub mod ListMembers
+pub mod RisingStamps
+pub mod NewestShelf
+mod MarkPlaces
+mod ViewsRemain
+mod RuleThroughChanges
 mod Learning
 mod Drawing
 mod Meeting
 mod Entering
 mod OpeningSteps
 mod Closing
-mod OnceFacts
+mod EachStampOnce

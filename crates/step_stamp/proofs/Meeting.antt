@@ -6,7 +6,7 @@ use Rattle.std.proofs.Math.Nat.{le-max_left, le-max_right, max-le}
 use mathlib.Core.List.{IsPrefix}
 use Rattle.atomic_table.specs.Table.{Splits, Joins}
 use Rattle.link_steps.specs.Lists.{Each}
-use Rattle.link_steps.proofs.ListFacts.{Each-if}
+use Rattle.link_steps.proofs.SearchAndFilter.{Each-if}
 use Rattle.step_stamp.specs.declared.marks.Drawn.{Drawn}
 use Rattle.step_stamp.specs.declared.marks.Mark.{Mark}
 use Rattle.step_stamp.specs.declared.views.Opening.{Opening}
@@ -18,10 +18,10 @@ use Rattle.step_stamp.specs.Placing.{hand_at}
 use Rattle.step_stamp.specs.Rule.{Begins, OfOneLink, Learnt}
 use Rattle.step_stamp.specs.Seats.{Meets}
 use Rattle.step_stamp.specs.Views.{shelf, known_of, second_of, shown, entered, taken, nobody}
-use Rattle.step_stamp.proofs.MarkFacts.{longer_both, longer_whole, longer_second, in_their_order}
-use Rattle.step_stamp.proofs.ShelfFacts.{shelf_cases, shelf_here, shelf_else, known_shown}
-use Rattle.step_stamp.proofs.PlacingFacts.{placed_same}
-use Rattle.step_stamp.proofs.ViewFacts.{Law, hands_cut, splits, joins, copy_fits, acts_live, acts_some, lists_live}
+use Rattle.step_stamp.proofs.RisingStamps.{longer_both, longer_whole, longer_second, in_their_order}
+use Rattle.step_stamp.proofs.NewestShelf.{shelf_cases, shelf_here, shelf_else, known_shown}
+use Rattle.step_stamp.proofs.MarkPlaces.{placed_same}
+use Rattle.step_stamp.proofs.RuleThroughChanges.{Law, hands_cut, splits, joins, copy_fits, acts_live, acts_some, lists_live}
 
 -- stamps that the one or the other had seen are at most what is seen after a join, those of drawn marks too
 pub most_left : (v w : View) (ms : List Mark) → Each (λ (m : Mark). m.stamp ≤ v.seen) ms → Each (λ (m : Mark). m.stamp ≤ max v.seen w.seen) ms

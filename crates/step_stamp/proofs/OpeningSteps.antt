@@ -8,7 +8,7 @@ use Rattle.atomic_table.specs.Seated.{TableId}
 use Rattle.atomic_table.specs.Table.{Splits}
 use Rattle.net_units.specs.Numbers.{actor_number}
 use Rattle.link_steps.specs.Lists.{Each}
-use Rattle.link_steps.proofs.ListFacts.{Each-append}
+use Rattle.link_steps.proofs.SearchAndFilter.{Each-append}
 use Rattle.step_stamp.specs.declared.marks.Drawn.{Drawn}
 use Rattle.step_stamp.specs.declared.seats.LinkSeat.{LinkSeat}
 use Rattle.step_stamp.specs.declared.seats.PassSeat.{PassSeat}
@@ -22,11 +22,11 @@ use Rattle.step_stamp.specs.Opening.{IsNewLink, IsNewPass, AreLinks, ArePasses, 
 use Rattle.step_stamp.specs.Rule.{Tally, Begins, HasList, HasActor, Fits, Stands, HoldsList, HoldsActor, KeepsRule}
 use Rattle.step_stamp.specs.Seats.{link_table, pass_table, link_view, pass_view, seat_link, seat_actor, list_of}
 use Rattle.step_stamp.specs.Views.{shelf, shelf_of, known_of, first_view, new_link, less_link, new_pass, less_actor}
-use Rattle.step_stamp.proofs.ListFacts.{has_kept, has_passed, differ_kept, begins_nothing}
-use Rattle.step_stamp.proofs.ShelfFacts.{shelf_cases, shelf_here, no_known, no_shelf}
-use Rattle.step_stamp.proofs.PlacingFacts.{hand_more, no_hand}
-use Rattle.step_stamp.proofs.StandFacts.{length-set, stands_cut, stands_end}
-use Rattle.step_stamp.proofs.ViewFacts.{Law, views_end, no_shelf_seen, hands_on, acts_live, acts_some, lists_live}
+use Rattle.step_stamp.proofs.ListMembers.{has_kept, has_passed, differ_kept, begins_nothing}
+use Rattle.step_stamp.proofs.NewestShelf.{shelf_cases, shelf_here, no_known, no_shelf}
+use Rattle.step_stamp.proofs.MarkPlaces.{hand_more, no_hand}
+use Rattle.step_stamp.proofs.ViewsRemain.{length-set, stands_cut, stands_end}
+use Rattle.step_stamp.proofs.RuleThroughChanges.{Law, views_end, no_shelf_seen, hands_on, acts_live, acts_some, lists_live}
 
 -- ---- numbers below n, and without one
 

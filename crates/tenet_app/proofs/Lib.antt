@@ -1,11 +1,11 @@
-pub mod PlayFacts
+pub mod PlayDue
 pub mod AuditDue
-pub mod AnswerFacts
-pub mod LoadFacts
+pub mod WrittenAnswers
+pub mod LoadDue
 pub mod RaceTexts
-pub mod RaceFacts
+pub mod RaceWritten
 pub mod RaceLaws
 pub mod OneRace
 pub mod StepCause
 pub mod RaceAgain
-pub mod WordFacts
+pub mod WorkerWords

@@ -11,7 +11,7 @@ use Rattle.call_script.specs.declared.schedule.Schedule.{Schedule}
 use Rattle.channel_report.specs.Report.{report_of}
 use Rattle.interleave_core.specs.schedules.Schedules.{turns_of, repeated, FollowsTurns, PlayedBy, IsPlayed}
 use Rattle.race_run.specs.Turns.{IsWritable}
-use Rattle.race_run.proofs.TurnFacts.{turns-first}
+use Rattle.race_run.proofs.OneMoreTurn.{turns-first}
 use Rattle.run_record.specs.declared.done.Done.{Done}
 use Rattle.scenario_reader.specs.BothWays.{SameSchedule, ReadsAs, unnumbered}
 use Rattle.scenario_reader.specs.Kept.{IsDo, IsScheduleOf}
@@ -23,7 +23,7 @@ use Rattle.scenario_reader.proofs.TextBack.{text_is_read}
 use Rattle.tenet_app.specs.Again.{EveryRaceIsPlayedAgain, RacesArePlayedAgain}
 use Rattle.tenet_app.specs.Playing.{IsDueFor, Reports}
 use Rattle.tenet_app.specs.declared.status.Status.TheVariants as status
-use Rattle.tenet_app.proofs.PlayFacts.{at-bytes}
+use Rattle.tenet_app.proofs.PlayDue.{at-bytes}
 
 -- ---- the turns of a schedule don't depend on the numbers of its lines
 

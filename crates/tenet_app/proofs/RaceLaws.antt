@@ -8,7 +8,7 @@ use Rattle.tenet_app.specs.Racing.{race_text, IsDueForRace, RacesDone, Races, Du
 use Rattle.tenet_app.specs.declared.status.Status.{Status}
 use Rattle.tenet_app.specs.declared.status.Status.TheVariants as status
 use Rattle.tenet_app.proofs.OneRace.{one-text}
-use Rattle.tenet_app.proofs.PlayFacts.{at-bytes}
+use Rattle.tenet_app.proofs.PlayDue.{at-bytes}
 use Rattle.tenet_app.proofs.StepCause.{never-missing}
 
 -- ---- one status

@@ -1,10 +1,10 @@
-pub mod CalmFacts
-mod CarriedFacts
-mod ComingFacts
-mod DueFacts
-mod FirstFacts
-pub mod FlightFacts
-mod RestFacts
-pub mod RoundFacts
-mod TickFacts
-pub mod WindowFacts
+pub mod CalmRounds
+mod FlightPerKey
+mod ComingInOrder
+mod FirstDueFlight
+mod WithoutFirst
+pub mod PlaneFlights
+mod RestOfRound
+pub mod TicksPerLink
+mod TicksLeft
+pub mod AskedInWindow

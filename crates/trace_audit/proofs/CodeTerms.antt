@@ -12,7 +12,7 @@ use Rattle.call_script.specs.declared.entries.RequestEntry.{RequestEntry}
 use Rattle.run_record.specs.declared.rows.HopRow.{HopRow}
 use Rattle.call_script.specs.Accepted.{AreAccepted}
 use Rattle.trace_audit.specs.Terms.{levels_given, terms_at, terms_in_route, terms_of_row}
-use Rattle.trace_audit.proofs.TermFacts.{given-at}
+use Rattle.trace_audit.proofs.RowTerms.{given-at}
 
 pub none-requested : (plan : PlanParts) (levels : List (Option Levels)) (row : HopRow) → slice_get plan.requests (channel_number row.chan) ≡ None → None ≡ terms_of_row plan levels row
 unfolding terms_of_row terms_at

@@ -9,14 +9,14 @@ use Rattle.std.specs.Prelude.{nat_eq, reverse}
 use Rattle.net_units.specs.Numbers.{link_number, actor_number, channel_number}
 use Rattle.hop_reservation.specs.Routes.{IsRoute, link_of}
 use Rattle.hop_reservation.specs.declared.route.Hop.{Hop}
-use Rattle.hop_reservation.proofs.RouteFacts.{index-apart}
+use Rattle.hop_reservation.proofs.DistinctLinks.{index-apart}
 use Rattle.link_steps.specs.declared.asks.Ask.{Ask}
 use Rattle.link_steps.specs.declared.asks.Ask.TheVariants.{Reserve, Relax, Deny}
 use Rattle.link_steps.specs.declared.replies.Reply.{Reply}
 use Rattle.link_steps.specs.declared.replies.Reply.TheVariants as Is
 use Rattle.setup_protocol.specs.Setup.{is_offer, level_in, offers_in, next_ask}
 use Rattle.setup_protocol.specs.declared.request.Request.{Request}
-use Rattle.setup_protocol.proofs.ProgressFacts.{offers-more, offers-other}
+use Rattle.setup_protocol.proofs.SetupAdvances.{offers-more, offers-other}
 use Rattle.channel_laws.specs.Asks.{IsReserve, IsOff, IsMild}
 use Rattle.call_script.specs.Fits.{NetworkFits}
 use Rattle.call_script.specs.Owners.{OwnedFully, AllOwned}

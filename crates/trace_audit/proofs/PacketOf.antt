@@ -16,7 +16,7 @@ use Rattle.link_steps.proofs.PacketRows.{Among-passes}
 use Rattle.setup_protocol.specs.Hops.{RequestFits}
 use Rattle.setup_protocol.specs.Setup.{Outcome, Accepts, Denies, offers_in, verdict_of}
 use Rattle.setup_protocol.specs.declared.request.Request.{Request}
-use Rattle.setup_protocol.proofs.LawFacts.{accepted-passed}
+use Rattle.setup_protocol.proofs.SettledRequest.{accepted-passed}
 use Rattle.channel_laws.specs.Channels.{is_of_channel}
 use Rattle.call_script.specs.Owners.{OwnedFully, TaskOff, IsUnnamed}
 use Rattle.call_script.specs.Parts.{PlanParts}
@@ -25,9 +25,9 @@ use Rattle.call_script.specs.Tasks.{Network, request_of, tasks_of, script_of, ne
 use Rattle.call_script.specs.declared.entries.RequestEntry.{RequestEntry}
 use Rattle.call_script.specs.declared.operations.Op.{Op}
 use Rattle.call_script.specs.declared.tasks.Task.{Task}
-use Rattle.call_script.proofs.FitFacts.{request-fits, plan-fits}
-use Rattle.call_script.proofs.OperationFacts.{tasks-hold}
-use Rattle.call_script.proofs.OwnerFacts.{owned-by}
+use Rattle.call_script.proofs.PlansFit.{request-fits, plan-fits}
+use Rattle.call_script.proofs.OperationTable.{tasks-hold}
+use Rattle.call_script.proofs.OneOwner.{owned-by}
 use Rattle.run_record.specs.declared.done.Done.{Done}
 use Rattle.interleave_core.specs.channels.Hops.{packets_on, ChannelAsked}
 use Rattle.interleave_core.specs.channels.Paths.{HopAt, packets_at}

@@ -9,19 +9,19 @@ use Rattle.std.specs.Prelude.{nat_eq, filter, reverse}
 use Rattle.net_units.specs.Numbers.{link_number, channel_number}
 use Rattle.net_units.specs.declared.levels.Levels.{Levels}
 use Rattle.hop_reservation.specs.declared.route.Hop.{Hop}
-use Rattle.hop_reservation.proofs.RouteFacts.{index-apart}
+use Rattle.hop_reservation.proofs.DistinctLinks.{index-apart}
 use Rattle.link_steps.specs.declared.replies.Entry.{Entry}
 use Rattle.link_steps.specs.Lists.{Each, Among}
 use Rattle.link_steps.specs.Service.{Arrival}
-use Rattle.link_steps.proofs.ListFacts.{Among-filter, Each-among, Each-if, filter-same}
-use Rattle.link_steps.proofs.ChangeFacts.{Each-from_among}
+use Rattle.link_steps.proofs.SearchAndFilter.{Among-filter, Each-among, Each-if, filter-same}
+use Rattle.link_steps.proofs.FoundElements.{Each-from_among}
 use Rattle.channel_laws.specs.Channels.{HopTerms, AllOfferTerms, offers_to, tick_of_packet, AreNumberedAfter}
 use Rattle.call_script.specs.Parts.{PlanParts}
 use Rattle.call_script.specs.Plans.{IsPlan}
 use Rattle.call_script.specs.Tasks.{network_of}
 use Rattle.call_script.specs.declared.entries.RequestEntry.{RequestEntry}
-use Rattle.call_script.proofs.FitFacts.{plan-fits}
-use Rattle.call_script.proofs.OwnerFacts.{all-owned}
+use Rattle.call_script.proofs.PlansFit.{plan-fits}
+use Rattle.call_script.proofs.OneOwner.{all-owned}
 use Rattle.run_record.specs.Runs.{part_of}
 use Rattle.run_record.specs.declared.done.Done.{Done}
 use Rattle.run_record.specs.declared.rows.HopRow.{HopRow}
@@ -30,10 +30,10 @@ use Rattle.interleave_core.specs.runs.Runs.{IsRun}
 use Rattle.trace_audit.specs.Above.{is_at, rows_at, tick_of}
 use Rattle.trace_audit.specs.Departures.{AreCounted}
 use Rattle.trace_audit.specs.RunLevels.{AreLevelsOf}
-use Rattle.trace_audit.proofs.OrderFacts.{at-parts}
+use Rattle.trace_audit.proofs.TableInOrder.{at-parts}
 use Rattle.trace_audit.proofs.RunRows.{is_over, run-leaves}
 use Rattle.trace_audit.proofs.RunSound.{RowIs, row-is, departures_of}
-use Rattle.trace_audit.proofs.SortFacts.{counted-above}
+use Rattle.trace_audit.proofs.SortedRows.{counted-above}
 use Rattle.trace_audit.proofs.Turns.{IsInTurn, AreInTurn}
 
 -- ---- rows of one channel

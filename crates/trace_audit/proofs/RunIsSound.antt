@@ -11,7 +11,7 @@ use Rattle.net_units.specs.Numbers.{link_number, channel_number}
 use Rattle.net_units.specs.declared.levels.Levels.{Levels}
 use Rattle.traffic_contract.specs.Eligible.{eligible, earliest_tick}
 use Rattle.hop_reservation.specs.declared.route.Hop.{Hop}
-use Rattle.hop_reservation.proofs.RouteFacts.{index-apart}
+use Rattle.hop_reservation.proofs.DistinctLinks.{index-apart}
 use Rattle.link_steps.specs.declared.asks.Ask.TheVariants.{Arrive}
 use Rattle.link_steps.specs.declared.asks.Packet.{Packet}
 use Rattle.link_steps.specs.declared.replies.Entry.{Entry}
@@ -22,9 +22,9 @@ use Rattle.link_steps.specs.Regulator.{waits_until}
 use Rattle.link_steps.specs.Scan.{clock_of}
 use Rattle.link_steps.specs.Service.{Arrival, leaves_at}
 use Rattle.link_steps.specs.Split.{Link}
-use Rattle.link_steps.proofs.ListFacts.{Among-filter, Each-among}
+use Rattle.link_steps.proofs.SearchAndFilter.{Among-filter, Each-among}
 use Rattle.link_steps.proofs.ListParts.{Among-turned}
-use Rattle.link_steps.proofs.ChangeFacts.{Each-from_among}
+use Rattle.link_steps.proofs.FoundElements.{Each-from_among}
 use Rattle.link_steps.proofs.PacketRows.{Among-passes}
 use Rattle.channel_laws.specs.Channels.{HopTerms, is_of_channel, channel_packets, tick_of_packet, AreNumberedAfter}
 use Rattle.channel_laws.proofs.DepartedCount.{start-among}
@@ -33,8 +33,8 @@ use Rattle.call_script.specs.Parts.{PlanParts}
 use Rattle.call_script.specs.Plans.{IsPlan}
 use Rattle.call_script.specs.Tasks.{network_of}
 use Rattle.call_script.specs.declared.entries.RequestEntry.{RequestEntry}
-use Rattle.call_script.proofs.FitFacts.{plan-fits}
-use Rattle.call_script.proofs.OwnerFacts.{all-owned}
+use Rattle.call_script.proofs.PlansFit.{plan-fits}
+use Rattle.call_script.proofs.OneOwner.{all-owned}
 use Rattle.run_record.specs.Rows.{row_of, links_of, rows_of}
 use Rattle.run_record.specs.Runs.{part_of}
 use Rattle.run_record.specs.declared.done.Done.{Done}
@@ -51,7 +51,7 @@ use Rattle.trace_audit.specs.Checks.{IsSound}
 use Rattle.trace_audit.specs.Departures.{HasNear, ticks_before, IsDeparture, AreDepartures}
 use Rattle.trace_audit.specs.RunLevels.{AreLevelsOf}
 use Rattle.trace_audit.specs.Terms.{hop_terms, prop_of, prop_before, bound_of, bound_before}
-use Rattle.trace_audit.proofs.OrderFacts.{at-parts}
+use Rattle.trace_audit.proofs.TableInOrder.{at-parts}
 use Rattle.trace_audit.proofs.PacketOf.{own-channel}
 use Rattle.trace_audit.proofs.RunDeparts.{HasPacket, numbers-above, ticks-front, counted-le, turn-at, same-entry, hop-link, asked-past, counted}
 use Rattle.trace_audit.proofs.RunRows.{part-among, arrival-told, told-departs, sent-at, run-split}

@@ -22,7 +22,7 @@ use Rattle.link_steps.specs.Replies.{arrive_to, reply_at, reply_to}
 use Rattle.link_steps.specs.Rows.{Row}
 use Rattle.link_steps.specs.Scan.{clock_of, scan_of, is_row_of}
 use Rattle.link_steps.specs.Split.{Link}
-use Rattle.link_steps.proofs.ListFacts.{Each-if, Each-among, Each-without_first, Each-find}
+use Rattle.link_steps.proofs.SearchAndFilter.{Each-if, Each-among, Each-without_first, Each-find}
 use Rattle.link_steps.proofs.ListParts.{Among-right}
 use Rattle.call_script.specs.Fits.{NetworkFits}
 use Rattle.call_script.specs.Tasks.{Network}
@@ -32,11 +32,11 @@ use Rattle.run_record.specs.declared.done.Done.{Done}
 use Rattle.run_record.specs.declared.rows.HopRow.{HopRow}
 use Rattle.tick_plane.specs.declared.flight.Flight.{Flight}
 use Rattle.tick_plane.specs.Planes.{Plane, is_due, next_due, ask_due, flight_to, flight_in, plane_with, plane_of}
-use Rattle.tick_plane.proofs.FlightFacts.{made-flights}
+use Rattle.tick_plane.proofs.PlaneFlights.{made-flights}
 use Rattle.interleave_core.specs.runs.Runs.{plane_no, plane_at, IsNext, IsRun}
 use Rattle.interleave_core.proofs.Delays.HopLaw.{flight-passes}
-use Rattle.interleave_core.proofs.Tasks.CallerFacts.{IsCallers, standing-asks}
-use Rattle.interleave_core.proofs.Flights.FlightFacts.{run-flights}
+use Rattle.interleave_core.proofs.Tasks.CallerAsksFit.{IsCallers, standing-asks}
+use Rattle.interleave_core.proofs.Flights.FlightOrigins.{run-flights}
 use Rattle.interleave_core.proofs.Replies.Replying.{asks-answered}
 use Rattle.interleave_core.proofs.Channels.SentRows.{sent-by}
 use Rattle.channel_laws.proofs.NumberedPackets.{HasNumber, packets-have_numbers}
@@ -46,7 +46,7 @@ use Rattle.interleave_core.specs.channels.Flights.{FlightsStand}
 use Rattle.call_script.specs.Owners.{AllOwned}
 use Rattle.call_script.specs.Scripts.{standing}
 use Rattle.channel_laws.specs.Departing.{ticked, gone_of, TickSends, SendsOwn, SendsOther}
-use Rattle.channel_laws.proofs.SentFacts.{sent-facts, tick-answer}
+use Rattle.channel_laws.proofs.SentInTime.{sent-facts, tick-answer}
 use Rattle.link_steps.specs.Replies.{sent_of, tick_reply}
 use Rattle.link_steps.specs.Scan.{starts_of}
 use Rattle.link_steps.specs.Service.{Start, leaves_at}
@@ -55,7 +55,7 @@ use Rattle.interleave_core.proofs.Channels.ChainLaw.{is-tick}
 use Rattle.interleave_core.proofs.Flights.LegLaw.{quiet-clock, entry-tick}
 use Rattle.channel_laws.specs.Channels.{HopTerms, AllOfferTerms, offers_to}
 use Rattle.trace_audit.specs.Departures.{AreCounted}
-use Rattle.trace_audit.proofs.PathFacts.{filter-append}
+use Rattle.trace_audit.proofs.WholeRoute.{filter-append}
 use Rattle.trace_audit.proofs.Turns.{arrive-answer}
 
 -- ---- an entry of a run, where it was made

@@ -18,7 +18,7 @@ use Rattle.link_steps.specs.Service.{Arrival, Start, leaves_at}
 use Rattle.link_steps.specs.Split.{Link}
 use Rattle.link_steps.proofs.HopHolds.{guaranteed}
 use Rattle.link_steps.specs.Lists.{Among}
-use Rattle.link_steps.proofs.ListFacts.{Each-among}
+use Rattle.link_steps.proofs.SearchAndFilter.{Each-among}
 use Rattle.link_steps.proofs.ListParts.{comes-from, Among-reverse}
 use Rattle.link_steps.proofs.Departures.{starts-eligible}
 use Rattle.link_steps.proofs.PacketRows.{Among-passes}
@@ -31,8 +31,8 @@ use Rattle.call_script.specs.Parts.{PlanParts}
 use Rattle.call_script.specs.Plans.{IsPlan}
 use Rattle.call_script.specs.Splits.{entry_link, groups_in}
 use Rattle.call_script.specs.Tasks.{network_of}
-use Rattle.call_script.proofs.FitFacts.{plan-fits}
-use Rattle.call_script.proofs.OwnerFacts.{all-owned}
+use Rattle.call_script.proofs.PlansFit.{plan-fits}
+use Rattle.call_script.proofs.OneOwner.{all-owned}
 use Rattle.run_record.specs.Rows.{row_of, hop_among, links_of, departures_in}
 use Rattle.run_record.specs.Runs.{part_of}
 use Rattle.run_record.specs.declared.done.Done.{Done}
@@ -47,9 +47,9 @@ use Rattle.trace_audit.specs.RunLevels.{AreLevelsOf}
 use Rattle.trace_audit.specs.Terms.{hop_terms, rate_of, terms_at, over_link, terms_of_row}
 use Rattle.trace_audit.proofs.HopOrder.{offers-in-order, hop-number}
 use Rattle.trace_audit.proofs.PacketOf.{PacketOf, packet-of}
-use Rattle.trace_audit.proofs.PathFacts.{terms-given}
+use Rattle.trace_audit.proofs.WholeRoute.{terms-given}
 use Rattle.trace_audit.proofs.RunRows.{departure-told, sent-at, run-split}
-use Rattle.trace_audit.proofs.TermFacts.{IsGiven, given-at}
+use Rattle.trace_audit.proofs.RowTerms.{IsGiven, given-at}
 
 -- ---- the packet of a row
 

@@ -13,21 +13,21 @@ use Rattle.link_steps.specs.Lists.{Among}
 use Rattle.link_steps.specs.Replies.{reply_to, tick_reply}
 use Rattle.link_steps.specs.Scan.{clock_of, clock_with, scan_of, starts_of}
 use Rattle.link_steps.specs.Service.{Arrival, Start}
-use Rattle.link_steps.proofs.ChangeFacts.{Each-from_among}
+use Rattle.link_steps.proofs.FoundElements.{Each-from_among}
 use Rattle.link_steps.proofs.Departures.{starts-eligible}
-use Rattle.link_steps.proofs.ListFacts.{Each-among}
+use Rattle.link_steps.proofs.SearchAndFilter.{Each-among}
 use Rattle.link_steps.proofs.ListParts.{Among-reverse}
 use Rattle.link_steps.proofs.PacketRows.{Among-passes}
-use Rattle.link_steps.proofs.RuleFacts.{scan-patient}
-use Rattle.channel_laws.proofs.SentFacts.{tick-answer}
+use Rattle.link_steps.proofs.RulesAsMeant.{scan-patient}
+use Rattle.channel_laws.proofs.SentInTime.{tick-answer}
 use Rattle.call_script.specs.Fits.{NetworkFits}
 use Rattle.call_script.specs.Owners.{AllOwned}
 use Rattle.call_script.specs.Parts.{PlanParts}
 use Rattle.call_script.specs.Plans.{IsPlan}
 use Rattle.call_script.specs.Scripts.{standing}
 use Rattle.call_script.specs.Tasks.{Network, network_of}
-use Rattle.call_script.proofs.FitFacts.{plan-fits}
-use Rattle.call_script.proofs.OwnerFacts.{all-owned}
+use Rattle.call_script.proofs.PlansFit.{plan-fits}
+use Rattle.call_script.proofs.OneOwner.{all-owned}
 use Rattle.run_record.specs.Rows.{IsEarly, departures_in, in_order, rows_by}
 use Rattle.run_record.specs.Runs.{part_of, replies_to}
 use Rattle.run_record.specs.SmallRows.{IsSmall}
@@ -40,14 +40,14 @@ use Rattle.interleave_core.proofs.Flights.LegLaw.{quiet-clock}
 use Rattle.interleave_core.proofs.Replies.Replying.{asks-answered}
 use Rattle.interleave_core.proofs.Runs.PartLaws.{clocks-follow}
 use Rattle.interleave_core.proofs.Runs.RunLegal.{caller-next, part-off, part-on, plane-next, run-stands}
-use Rattle.interleave_core.proofs.Tasks.CallerFacts.{IsCallers, standing-asks}
+use Rattle.interleave_core.proofs.Tasks.CallerAsksFit.{IsCallers, standing-asks}
 use Rattle.trace_audit.specs.Above.{is_at, rows_at}
 use Rattle.trace_audit.specs.RunLevels.{AreLevelsOf, EveryTickIsEarly, RowsOfRunsAreSmall}
-use Rattle.trace_audit.proofs.PathFacts.{filter-append}
+use Rattle.trace_audit.proofs.WholeRoute.{filter-append}
 use Rattle.trace_audit.proofs.RunDeparts.{counted, counted-le, rows-over}
 use Rattle.trace_audit.proofs.RunRows.{asks-tick, departures-more, is_over, no-tick, off-link, run-split, ticked-clock}
 use Rattle.trace_audit.proofs.RunSound.{departures_of, row-is}
-use Rattle.trace_audit.proofs.SortFacts.{order-among}
+use Rattle.trace_audit.proofs.SortedRows.{order-among}
 
 -- ---- the clocks of a run
 

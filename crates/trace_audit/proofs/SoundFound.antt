@@ -9,7 +9,7 @@ use Rattle.trace_audit.specs.Checks.{AllPass, IsSound, finding_below, finding_of
 use Rattle.trace_audit.specs.RunLevels.{AuditsOfRunsFindNothing}
 use Rattle.trace_audit.specs.declared.finding.Finding.TheVariants.{Sound}
 use Rattle.trace_audit.proofs.RunIsSound.{run-is_sound}
-use Rattle.trace_audit.proofs.StandFacts.{finding-step}
+use Rattle.trace_audit.proofs.KeptMatchesRows.{finding-step}
 
 -- the rows above some of a sound table pass
 passes-above : (plan : PlanParts) (levels : List (Option Levels)) (front back : List HopRow) → AllPass plan levels (front ++ back) → AllPass plan levels back

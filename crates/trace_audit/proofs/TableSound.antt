@@ -7,9 +7,9 @@ use Rattle.net_units.specs.Numbers.{channel_number}
 use Rattle.net_units.specs.declared.levels.Levels.{Levels}
 use Rattle.traffic_contract.specs.Eligible.{eligible}
 use Rattle.link_steps.specs.Lists.{Each, Among}
-use Rattle.link_steps.proofs.ListFacts.{Among-filter, Each-among}
+use Rattle.link_steps.proofs.SearchAndFilter.{Among-filter, Each-among}
 use Rattle.link_steps.proofs.ListParts.{Among-left, Among-right, Among-reverse, Among-turned, Each-parts}
-use Rattle.link_steps.proofs.ChangeFacts.{Each-from_among}
+use Rattle.link_steps.proofs.FoundElements.{Each-from_among}
 use Rattle.link_steps.proofs.PacketRows.{Among-passes}
 use Rattle.call_script.specs.Parts.{PlanParts}
 use Rattle.run_record.specs.Rows.{in_order}
@@ -17,11 +17,11 @@ use Rattle.run_record.specs.declared.rows.HopRow.{HopRow}
 use Rattle.trace_audit.specs.Above.{is_at, rows_at, row_at, ticks_above, tick_of, hop_before, packet_before}
 use Rattle.trace_audit.specs.Checks.{is_there, goes_on, is_next_packet, follows_row, follows, is_in_order, has_size_of, fits_size, is_not_sooner, arrives_from, arrives, may_go_from, is_eligible, fault_with, fault_under, fault_of, AllPass}
 use Rattle.trace_audit.specs.Departures.{AreCounted, HasNear, IsDeparture, AreDepartures}
-use Rattle.trace_audit.proofs.OrderFacts.{IsBelow, AreNumbered, at-parts, near-found, none-before, found-among}
-use Rattle.trace_audit.proofs.PathFacts.{filter-append, filter-reverse, map-reverse}
-use Rattle.trace_audit.proofs.SortFacts.{Climbs, AllRise, counted-above, counted-rise, rise-apart, order-climbs, order-among, among-order, rows-stay, not-both, one-place}
-use Rattle.trace_audit.proofs.StandFacts.{there-found}
-use Rattle.trace_audit.proofs.TermFacts.{row-known}
+use Rattle.trace_audit.proofs.TableInOrder.{IsBelow, AreNumbered, at-parts, near-found, none-before, found-among}
+use Rattle.trace_audit.proofs.WholeRoute.{filter-append, filter-reverse, map-reverse}
+use Rattle.trace_audit.proofs.SortedRows.{Climbs, AllRise, counted-above, counted-rise, rise-apart, order-climbs, order-among, among-order, rows-stay, not-both, one-place}
+use Rattle.trace_audit.proofs.KeptMatchesRows.{there-found}
+use Rattle.trace_audit.proofs.RowTerms.{row-known}
 
 -- ---- a table cut at a row
 

@@ -25,14 +25,14 @@ use Rattle.link_steps.specs.Scan.{Scan, clock_with, clock_of, scan_of, is_row_of
 use Rattle.link_steps.specs.Service.{Arrival, here_at}
 use Rattle.link_steps.specs.Sources.{source_step, source_tick, step_of, packet_of, taken_by, source_packets, arrival_at}
 use Rattle.link_steps.proofs.LegalChannels.{DifferInChannel, legal-channels, differ-filter}
-use Rattle.link_steps.proofs.ListFacts.{Each-append, Each-filter, Each-find, Each-if}
-use Rattle.link_steps.proofs.ReplyFacts.{arrive-tells}
-use Rattle.link_steps.proofs.RefusalFacts.{kept-rule}
+use Rattle.link_steps.proofs.SearchAndFilter.{Each-append, Each-filter, Each-find, Each-if}
+use Rattle.link_steps.proofs.ReservationFound.{arrive-tells}
+use Rattle.link_steps.proofs.RulesPassed.{kept-rule}
 use Rattle.link_steps.specs.Refusals.{first_hop, uncommitted, wrong_number, past_count, big, full}
 use Rattle.link_steps.specs.Reservation.{Reservation}
 use Rattle.channel_laws.specs.Channels.{HopTerms, is_of_channel, channel_packets, tick_of_packet, channel_of, offers_with, offers_to, AllOfferTerms, RowTells, IsElsewhere, IsOnly, IsFree, HasOneRow}
 use Rattle.channel_laws.proofs.ChannelRows.{arrive-number, packets-on, packets-off, tick-packets, tick-free, others-elsewhere, sources-elsewhere, packet-elsewhere, row-of, find-passes, legal-stands}
-use Rattle.link_steps.proofs.EffectFacts.{packets-by}
+use Rattle.link_steps.proofs.EntryEffects.{packets-by}
 
 -- where a packet came from: a source, or the link before, from when it is due
 pub data CameFrom (terms : HopTerms) (c : ℕ) (h : List Entry) (p : Arrival) (due : ℕ) : Type 0 where

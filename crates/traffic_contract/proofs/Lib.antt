@@ -1,9 +1,9 @@
-pub mod ContractFacts
-pub mod KeepingFacts
+pub mod BurstIsPositive
+pub mod PartsKeepContract
 pub mod NewestFirst
-pub mod EligibleFacts
-pub mod WindowFacts
+pub mod LeastEligibleTick
+pub mod WindowsAreBounded
 pub mod LongerWindows
-pub mod AdmissionFacts
-pub mod LoadFacts
+pub mod AdmissionTest
+pub mod LoadLimits
 mod Worked

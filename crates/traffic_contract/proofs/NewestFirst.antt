@@ -6,8 +6,8 @@ use Rattle.std.proofs.lemmas.List.{get_or-drop, get_or_append_left, get_or_push,
 use Rattle.std.specs.Prelude.{reverse}
 use Rattle.traffic_contract.specs.Contract.{Traffic, IsContract, burst_of}
 use Rattle.traffic_contract.specs.Keeping.{Spaced, Keeps, keeps, starts_before, may_follow, keeps_newest_first}
-use Rattle.traffic_contract.proofs.ContractFacts.{burst-least}
-use Rattle.traffic_contract.proofs.KeepingFacts.{Decides-keeps, Keeps-prefix}
+use Rattle.traffic_contract.proofs.BurstIsPositive.{burst-least}
+use Rattle.traffic_contract.proofs.PartsKeepContract.{Decides-keeps, Keeps-prefix}
 
 -- a list, newest first, starts early enough exactly where its first entry, if there is one, does
 pub starts_before-tells : (t least : ℕ) (past : List ℕ) → Decides (starts_before t least past) (0 < length past → get_or past 0 0 + least ≤ t)

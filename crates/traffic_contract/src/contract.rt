@@ -163,7 +163,7 @@ impl Contract {
 }
 
 // Whether entries that stand `gap` places apart are at least `least` ticks apart.
-#[tactic(auto, using(crate::proofs::KeepingFacts::spacing))]
+#[tactic(auto, using(crate::proofs::PartsKeepContract::spacing))]
 fn is_spaced(ticks: &[u64], gap: usize, least: u64) -> bool
     ensures { result ≡ are_spaced gap least ticks.now }
 {

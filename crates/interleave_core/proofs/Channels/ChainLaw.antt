@@ -31,7 +31,7 @@ use Rattle.interleave_core.specs.runs.Runs.{IsNext, IsRun}
 use Rattle.call_script.specs.Scripts.{Learnt, Standing, standing}
 use Rattle.channel_laws.proofs.ChannelRows.{own-count, find-passes}
 use Rattle.channel_laws.proofs.HoldFates.{Fate, FateOpen, TellsAll, NotCommitted, held-released, released-count}
-use Rattle.hop_reservation.proofs.RouteFacts.{index-apart}
+use Rattle.hop_reservation.proofs.DistinctLinks.{index-apart}
 use Rattle.setup_protocol.proofs.HopHolds.{IsComm, IsTail, HopStands, reserved_of}
 use Rattle.interleave_core.proofs.Channels.RowsFollow.{held_at, held-here, hop-reply, same-held}
 use Rattle.call_script.specs.Owners.{OwnedFully}

@@ -19,7 +19,7 @@ use Rattle.link_steps.specs.Rows.{Row}
 use Rattle.link_steps.specs.Scan.{clock_of, scan_of}
 use Rattle.link_steps.proofs.LegalChannels.{legal-channels}
 use Rattle.link_steps.proofs.LegalOrder.{legal-order}
-use Rattle.link_steps.proofs.ListFacts.{Each-find}
+use Rattle.link_steps.proofs.SearchAndFilter.{Each-find}
 use Rattle.setup_protocol.specs.Hops.{RequestFits}
 use Rattle.setup_protocol.specs.Setup.{asked}
 use Rattle.setup_protocol.specs.declared.request.Request.{Request}
@@ -31,7 +31,7 @@ use Rattle.call_script.specs.Tasks.{Network}
 use Rattle.run_record.specs.Runs.{part_of}
 use Rattle.interleave_core.specs.runs.Runs.{IsNext, IsRun}
 use Rattle.channel_laws.proofs.ChannelRows.{own-count, legal-free}
-use Rattle.interleave_core.proofs.Flights.FlightFacts.{part-grows}
+use Rattle.interleave_core.proofs.Flights.FlightOrigins.{part-grows}
 use Rattle.channel_laws.proofs.HoldFates.{Fate, FateOpen, FateClosing, FateGone, NoSecond, TellsAll, NotCommitted, fate-after, first-quiet}
 use Rattle.interleave_core.proofs.Channels.ChannelsAt.{stands-at}
 use Rattle.interleave_core.proofs.Channels.RowsFollow.{held_at, hop-may}

@@ -7,7 +7,7 @@ use Rattle.std.specs.List.{slice_get}
 use Rattle.std.specs.Prelude.{nat_eq, nat_lt}
 use Rattle.net_units.specs.Numbers.{link_number, actor_number, channel_number}
 use Rattle.net_units.specs.declared.Kind.TheVariants.{Jitter}
-use Rattle.net_units.proofs.BoundFacts.{bound_least}
+use Rattle.net_units.proofs.BoundsInOrder.{bound_least}
 use Rattle.link_steps.specs.declared.asks.Ask.{Ask}
 use Rattle.link_steps.specs.declared.asks.Ask.TheVariants.{Reserve, Arrive}
 use Rattle.link_steps.specs.declared.asks.Packet.{Packet}
@@ -24,7 +24,7 @@ use Rattle.link_steps.specs.Service.{Arrival, Start, leaves_at}
 use Rattle.link_steps.specs.SourceGuarantee.{arrival_of}
 use Rattle.link_steps.proofs.HopHolds.{guaranteed}
 use Rattle.link_steps.proofs.LegalOrder.{IsCarried, legal-order}
-use Rattle.link_steps.proofs.ListFacts.{Each-among}
+use Rattle.link_steps.proofs.SearchAndFilter.{Each-among}
 use Rattle.link_steps.proofs.SourceHistory.{source-guarantee}
 use Rattle.setup_protocol.specs.Hops.{RequestFits}
 use Rattle.setup_protocol.specs.Laws.{KeepsRequest}
@@ -62,9 +62,9 @@ use Rattle.interleave_core.specs.channels.Kept.{VerdictSums}
 use Rattle.interleave_core.specs.runs.Laws.{EveryRunIsGuaranteed}
 use Rattle.interleave_core.proofs.Channels.HopsAt.{hop-at, HaveLevelsAt}
 use Rattle.interleave_core.proofs.Channels.ChannelsAt.{packets-numbered, packet-offered}
-use Rattle.link_steps.proofs.ChangeFacts.{Each-from_among}
+use Rattle.link_steps.proofs.FoundElements.{Each-from_among}
 use Rattle.hop_reservation.specs.Offers.{delay_over}
-use Rattle.hop_reservation.proofs.OfferFacts.{AreLevels-at}
+use Rattle.hop_reservation.proofs.OneMoreOffer.{AreLevels-at}
 use Rattle.interleave_core.proofs.Tasks.TaskAsks.{entry-off}
 
 -- ---- an accepted channel

@@ -11,8 +11,8 @@ use Rattle.setup_protocol.specs.Hops.{RequestFits}
 use Rattle.setup_protocol.specs.Setup.{Outcome, Accepts, verdict_of, offers_in, after_offers, on_the_way, undoing, relaxing, after_test, settled_in, reach_after}
 use Rattle.setup_protocol.specs.declared.request.Request.{Request}
 use Rattle.setup_protocol.specs.declared.verdict.Deny.{Deny}
-use Rattle.setup_protocol.proofs.LawFacts.{accepted-keep}
-use Rattle.setup_protocol.proofs.ProgressFacts.{progress-on_the_way, progress-tested}
+use Rattle.setup_protocol.proofs.SettledRequest.{accepted-keep}
+use Rattle.setup_protocol.proofs.SetupAdvances.{progress-on_the_way, progress-tested}
 use Rattle.call_script.specs.Fits.{NetworkFits}
 use Rattle.call_script.specs.Owners.{OwnedFully}
 use Rattle.call_script.specs.Scripts.{Standing, standing, outcome_in}
@@ -25,7 +25,7 @@ use Rattle.interleave_core.specs.runs.Runs.{IsRun}
 use Rattle.interleave_core.proofs.Replies.RunCloses.{owned-once}
 use Rattle.interleave_core.proofs.Replies.RunGoes.{opens-once}
 use Rattle.interleave_core.proofs.Runs.RunLegal.{answered-may}
-use Rattle.interleave_core.proofs.Tasks.CallerFacts.{offers-go-on}
+use Rattle.interleave_core.proofs.Tasks.CallerAsksFit.{offers-go-on}
 use Rattle.interleave_core.proofs.Tasks.EachSetup.{SetupAt, Before, Under, After, KeptBySetup, each-setup}
 
 undone-sum : (left : ℕ) (deny : Deny) (levels : List ℕ) (delay : ℕ) → settled_in (undoing left deny) ≡ Some (Accepts levels delay) → ⊥

@@ -17,8 +17,8 @@ use Rattle.link_steps.specs.Rows.{Row, row_terms}
 use Rattle.link_steps.specs.Scan.{Scan, scan_of, is_row_of, arrived_packet, without_expired, with_sources, with_best, after_tick, after}
 use Rattle.link_steps.specs.Service.{here_at}
 use Rattle.link_steps.proofs.AdmissionHolds.{find-terms, rows_after-terms}
-use Rattle.link_steps.proofs.EffectFacts.{packets-by}
-use Rattle.link_steps.proofs.ListFacts.{Each-find}
+use Rattle.link_steps.proofs.EntryEffects.{packets-by}
+use Rattle.link_steps.proofs.SearchAndFilter.{Each-find}
 use Rattle.setup_protocol.specs.declared.request.Request.{Request}
 use Rattle.run_record.specs.declared.done.Done.{Done}
 use Rattle.channel_laws.specs.Channels.{channel_packets, channel_of, offers_to, IsElsewhere, IsOnly}

@@ -8,7 +8,7 @@ use Rattle.net_units.specs.Numbers.{link_number, level_number}
 use Rattle.hop_reservation.specs.Offers.{AreLevels, delay_over}
 use Rattle.hop_reservation.specs.Routes.{IsRoute, link_of}
 use Rattle.hop_reservation.specs.declared.route.Hop.{Hop}
-use Rattle.hop_reservation.proofs.RouteFacts.{index-apart}
+use Rattle.hop_reservation.proofs.DistinctLinks.{index-apart}
 use Rattle.link_steps.specs.declared.asks.Ask.{Ask}
 use Rattle.link_steps.specs.declared.asks.Ask.TheVariants.{Deny}
 use Rattle.link_steps.specs.declared.replies.Phase.TheVariants.{Tentative, Committed}

@@ -15,7 +15,7 @@ use Rattle.link_steps.specs.Replies.{reply_to, tick_reply}
 use Rattle.link_steps.specs.Scan.{clock_with, clock_of, scan_of, starts_of}
 use Rattle.link_steps.specs.Service.{Arrival, Start, is_busy, is_waiting, first_in_line, add_start, serve_tick, starts_below}
 use Rattle.link_steps.specs.Lists.{Among}
-use Rattle.link_steps.proofs.ServiceFacts.{starts_below-append}
+use Rattle.link_steps.proofs.ServiceStarts.{starts_below-append}
 use Rattle.run_record.specs.declared.done.Done.{Done}
 use Rattle.call_script.specs.Fits.{NetworkFits}
 use Rattle.call_script.specs.Tasks.{Network}
@@ -26,7 +26,7 @@ use Rattle.interleave_core.proofs.Flights.LegLaw.{quiet-clock, entry-tick}
 use Rattle.channel_laws.proofs.DepartedCount.{history-from}
 use Rattle.interleave_core.proofs.Runs.RunLegal.{part-on, part-admissible, by-part}
 use Rattle.channel_laws.specs.Departing.{ticked}
-use Rattle.channel_laws.proofs.SentFacts.{sent-facts, tick-answer}
+use Rattle.channel_laws.proofs.SentInTime.{sent-facts, tick-answer}
 use Rattle.interleave_core.specs.channels.Sent.{SentBy, TicksTellWhatHasLeft}
 
 best-more : (best : Option Arrival) (t : ℕ) (starts : List Start) (s : Start) → Among s starts → Among s (add_start best t starts)

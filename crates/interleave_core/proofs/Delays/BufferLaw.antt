@@ -11,7 +11,7 @@ use Rattle.traffic_contract.specs.Contract.{most_in}
 use Rattle.traffic_contract.specs.Keeping.{Keeps}
 use Rattle.traffic_contract.specs.Window.{is_in_window, count_in}
 use Rattle.traffic_contract.proofs.LongerWindows.{most_in-mono}
-use Rattle.traffic_contract.proofs.WindowFacts.{count_in-le}
+use Rattle.traffic_contract.proofs.WindowsAreBounded.{count_in-le}
 use Rattle.link_steps.specs.declared.asks.Ask.TheVariants.{Arrive}
 use Rattle.link_steps.specs.declared.asks.Packet.{Packet}
 use Rattle.link_steps.specs.declared.replies.Phase.{Phase}
@@ -24,7 +24,7 @@ use Rattle.link_steps.specs.Rows.{Row}
 use Rattle.link_steps.specs.Scan.{clock_of, scan_of, is_row_of, starts_of}
 use Rattle.link_steps.specs.Service.{Arrival, Start, here_at, is_here, starts_below}
 use Rattle.link_steps.proofs.HopHolds.{guaranteed}
-use Rattle.link_steps.proofs.ListFacts.{Each-among, Each-filter}
+use Rattle.link_steps.proofs.SearchAndFilter.{Each-among, Each-filter}
 use Rattle.setup_protocol.specs.Hops.{RequestFits}
 use Rattle.setup_protocol.specs.declared.request.Request.{Request}
 use Rattle.run_record.specs.declared.done.Done.{Done}

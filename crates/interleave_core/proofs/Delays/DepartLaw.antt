@@ -15,7 +15,7 @@ use Rattle.link_steps.specs.Scan.{clock_of, starts_of}
 use Rattle.link_steps.specs.Service.{Arrival, has_departed, starts_below}
 use Rattle.link_steps.proofs.HopHolds.{guaranteed}
 use Rattle.link_steps.specs.Lists.{Among}
-use Rattle.link_steps.proofs.ListFacts.{Each-among}
+use Rattle.link_steps.proofs.SearchAndFilter.{Each-among}
 use Rattle.setup_protocol.specs.Hops.{RequestFits}
 use Rattle.setup_protocol.specs.declared.request.Request.{Request}
 use Rattle.run_record.specs.declared.done.Done.{Done}
@@ -28,7 +28,7 @@ use Rattle.tick_plane.specs.Planes.{is_due}
 use Rattle.run_record.specs.Runs.{part_of}
 use Rattle.interleave_core.specs.runs.Runs.{plane_at, IsRun}
 use Rattle.channel_laws.proofs.ChannelRows.{legal-free}
-use Rattle.interleave_core.proofs.Flights.FlightFacts.{run-flights}
+use Rattle.interleave_core.proofs.Flights.FlightOrigins.{run-flights}
 use Rattle.interleave_core.proofs.Flights.FlightQueue.{IsQueue}
 use Rattle.channel_laws.proofs.Places.{place-of, tick-at}
 use Rattle.interleave_core.proofs.Channels.ChannelsAt.{packet-offered, stands-at}
@@ -85,7 +85,7 @@ first-rises network request first run j k fits is asked upto within =
           (let stands = stands-at network request run 0 first.hop (link_number first.hop.link) first.link fits is asked first.stands refl first.linked in
           let once = asked.once (link_number first.hop.link) in
           let has = stands.known (omega (arith, once, some)) in
-          let keeps : Keeps (terms_at request 0).contract (reverse has.row.ticks) = (Decides-keeps_newest_first (terms_at request 0).contract has.row.ticks (Rattle.traffic_contract.proofs.ContractFacts.burst-least (terms_at request 0).contract has.tells.valid)).0 has.tells.keeps in
+          let keeps : Keeps (terms_at request 0).contract (reverse has.row.ticks) = (Decides-keeps_newest_first (terms_at request 0).contract has.row.ticks (Rattle.traffic_contract.proofs.BurstIsPositive.burst-least (terms_at request 0).contract has.tells.valid)).0 has.tells.keeps in
           rises (terms_at request 0).contract.xmin (hop_ticks network request 0 first run) j k (subst (Spaced 1 (terms_at request 0).contract.xmin) has.tells.eligible keeps.neighbours) upto within)
       | inr none ↦
           (let free = legal-free first.link.shape (terms_at request 0) (channel_number request.chan) (part_of (link_number first.hop.link) run) (part-admissible network run (link_number first.hop.link) first.link fits is first.linked) (omega (arith, none)) in
@@ -107,7 +107,7 @@ hop-departed network request levels run first i at k fits sound asked is have ta
     let level = Each-among (λ q. q.level ≡ get_or levels i 0) p _ (have.at i at) among in
     let bound : bound_at at.link.shape.bounds p.level ≡ bound_at at.link.shape.bounds (get_or levels i 0) = ap (bound_at at.link.shape.bounds) level in
     let more = delay-more network request levels i at (let n = have.count in let inside = slice_get_within request.route i at.hop at.stands in omega (arith, n, inside)) in
-    let there = (Rattle.link_steps.proofs.ListFacts.Among-filter (is_of_channel (channel_number request.chan)) p (packets_on at.link (link_number at.hop.link) run) among) in
+    let there = (Rattle.link_steps.proofs.SearchAndFilter.Among-filter (is_of_channel (channel_number request.chan)) p (packets_on at.link (link_number at.hop.link) run) among) in
     let legal = part-admissible network run (link_number at.hop.link) at.link fits is at.linked in
     let few = channel-few at.link.shape (channel_number request.chan) p (Each-among (HasNumber at.link.shape.bounds) p _ (packets-have_numbers at.link.shape (part_of (link_number at.hop.link) run) legal) there.0) there.1 in
     (Each-among (HasLeftInTime at.link.shape (clock_of (part_of (link_number at.hop.link) run)) (starts_of at.link.shape (part_of (link_number at.hop.link) run))) p _ (guaranteed at.link.shape (part_of (link_number at.hop.link) run) legal).in_time there.0).gone few

@@ -16,8 +16,8 @@ use Rattle.net_units.specs.declared.numbers.LinkNo.{LinkNo}
 use Rattle.traffic_contract.specs.Contract.{Traffic, IsContract}
 use Rattle.traffic_contract.specs.Eligible.{IsEligible, eligible}
 use Rattle.traffic_contract.specs.Keeping.{Keeps, keeps_newest_first}
-use Rattle.traffic_contract.proofs.ContractFacts.{burst-least}
-use Rattle.traffic_contract.proofs.EligibleFacts.{eligible-is}
+use Rattle.traffic_contract.proofs.BurstIsPositive.{burst-least}
+use Rattle.traffic_contract.proofs.LeastEligibleTick.{eligible-is}
 use Rattle.traffic_contract.proofs.NewestFirst.{Decides-keeps_newest_first}
 use Rattle.hop_reservation.specs.Routes.{link_of}
 use Rattle.hop_reservation.specs.declared.route.Hop.{Hop}
@@ -34,7 +34,7 @@ use Rattle.link_steps.specs.Rows.{Row}
 use Rattle.link_steps.specs.Scan.{Scan, clock_of, scan_of, is_row_of, arrived_packet, with_arrival, after_tick, after}
 use Rattle.link_steps.specs.Service.{Arrival}
 use Rattle.link_steps.proofs.LegalChannels.{legal-channels}
-use Rattle.link_steps.proofs.ListFacts.{Each-among, Each-find}
+use Rattle.link_steps.proofs.SearchAndFilter.{Each-among, Each-find}
 use Rattle.setup_protocol.specs.Hops.{RequestFits}
 use Rattle.setup_protocol.specs.Requests.{kind_of}
 use Rattle.setup_protocol.specs.Setup.{hop_link}
@@ -50,16 +50,16 @@ use Rattle.run_record.specs.Runs.{part_of}
 use Rattle.interleave_core.specs.runs.Runs.{plane_at, IsNext, IsRun}
 use Rattle.channel_laws.proofs.ChannelRows.{packets-on, packets-off, row-of, find-passes, arrive-number, tick-none, tick-free, legal-free}
 use Rattle.interleave_core.proofs.Channels.ChannelsAt.{stands-at, packet-offered}
-use Rattle.hop_reservation.proofs.RouteFacts.{index-apart}
+use Rattle.hop_reservation.proofs.DistinctLinks.{index-apart}
 use Rattle.channel_laws.proofs.Places.{place-of, row-keeps}
 use Rattle.link_steps.proofs.PacketRows.{Among-passes}
-use Rattle.interleave_core.proofs.Flights.FlightFacts.{part-grows, run-flights}
+use Rattle.interleave_core.proofs.Flights.FlightOrigins.{part-grows, run-flights}
 use Rattle.interleave_core.proofs.Delays.HopStep.{IsTimed, eligible-after, timed-none, timed-later, timed-append, timed-more}
 use Rattle.interleave_core.proofs.Runs.RunLegal.{RunStands, clock_at, run-stands, part-admissible, by-part, arrive-due}
 use Rattle.interleave_core.specs.channels.Flights.{FlightsStand}
 use Rattle.link_steps.proofs.ListParts.{Each-parts}
-use Rattle.link_steps.proofs.ClockFacts.{clock_with-later}
-use Rattle.link_steps.proofs.EffectFacts.{packets-by}
+use Rattle.link_steps.proofs.ClockAdvances.{clock_with-later}
+use Rattle.link_steps.proofs.EntryEffects.{packets-by}
 
 -- ---- lists
 

@@ -11,9 +11,9 @@ use Rattle.link_steps.specs.Lists.{Each, Among}
 use Rattle.link_steps.specs.Scan.{clock_of, starts_of}
 use Rattle.link_steps.specs.Service.{Start, leaves_at}
 use Rattle.link_steps.proofs.HopHolds.{guaranteed}
-use Rattle.link_steps.proofs.ChangeFacts.{Each-from_among}
-use Rattle.link_steps.proofs.ListFacts.{Each-among}
-use Rattle.link_steps.proofs.ServiceFacts.{starts-fact}
+use Rattle.link_steps.proofs.FoundElements.{Each-from_among}
+use Rattle.link_steps.proofs.SearchAndFilter.{Each-among}
+use Rattle.link_steps.proofs.ServiceStarts.{starts-fact}
 use Rattle.setup_protocol.specs.Hops.{RequestFits}
 use Rattle.setup_protocol.specs.Requests.{kind_of}
 use Rattle.setup_protocol.specs.declared.request.Request.{Request}

@@ -9,7 +9,7 @@ use Rattle.net_units.specs.LevelBounds.{bound_at}
 use Rattle.net_units.specs.Numbers.{link_number, channel_number}
 use Rattle.hop_reservation.specs.Offers.{delay_over}
 use Rattle.hop_reservation.specs.declared.route.Hop.{Hop}
-use Rattle.hop_reservation.proofs.OfferFacts.{delay_over-push}
+use Rattle.hop_reservation.proofs.OneMoreOffer.{delay_over-push}
 use Rattle.setup_protocol.specs.Hops.{RequestFits}
 use Rattle.setup_protocol.specs.declared.request.Request.{Request}
 use Rattle.run_record.specs.declared.done.Done.{Done}

@@ -22,7 +22,7 @@ use Rattle.link_steps.specs.Replies.{reply_to, tick_reply}
 use Rattle.link_steps.specs.Rows.{Row}
 use Rattle.link_steps.specs.Scan.{Scan, clock_with, clock_of, scan_of, is_row_of, arrived_packet, after}
 use Rattle.link_steps.specs.Service.{Arrival}
-use Rattle.link_steps.proofs.ListFacts.{Each-among}
+use Rattle.link_steps.proofs.SearchAndFilter.{Each-among}
 use Rattle.setup_protocol.specs.Hops.{RequestFits}
 use Rattle.setup_protocol.specs.Setup.{hop_link}
 use Rattle.setup_protocol.specs.declared.request.Request.{Request}
@@ -37,13 +37,13 @@ use Rattle.run_record.specs.Runs.{entry_of, part_of, replies_to}
 use Rattle.interleave_core.specs.runs.Runs.{plane_no, plane_at, IsNext, IsRun}
 use Rattle.call_script.specs.Scripts.{standing}
 use Rattle.channel_laws.proofs.ChannelRows.{packets-off, row-of, find-passes}
-use Rattle.interleave_core.proofs.Tasks.CallerFacts.{IsCallers, standing-asks}
+use Rattle.interleave_core.proofs.Tasks.CallerAsksFit.{IsCallers, standing-asks}
 use Rattle.interleave_core.proofs.Flights.FlightQueue.{IsQueue, queue-head, queue-skips, queue-other}
 use Rattle.channel_laws.proofs.SizeLaw.{legal-within}
 use Rattle.interleave_core.proofs.Delays.HopLaw.{TwoHops, arrive-comes, from-near, next-link, far-ticks}
 use Rattle.interleave_core.proofs.Channels.ChannelsAt.{packet-offered}
 use Rattle.link_steps.proofs.PacketRows.{Among-passes}
-use Rattle.hop_reservation.proofs.RouteFacts.{index-apart}
+use Rattle.hop_reservation.proofs.DistinctLinks.{index-apart}
 use Rattle.channel_laws.proofs.DepartedCount.{gone-quiet, start-among, more-legal, level-channel}
 use Rattle.channel_laws.proofs.NumberedPackets.{HasNumber, packets-have_numbers}
 use Rattle.interleave_core.specs.channels.Flights.{IsPunctual}
@@ -51,8 +51,8 @@ use Rattle.interleave_core.proofs.Flights.Punctual.{run-punctual}
 use Rattle.interleave_core.proofs.Flights.QueueTicks.{leg, QueueOf, SendsTo, queue-ticks}
 use Rattle.interleave_core.proofs.Runs.RunLegal.{plane-next, caller-next, plane-off, plane-by, part-on, part-off, run-stands, part-admissible, by-part, arrive-due}
 use Rattle.channel_laws.specs.Departing.{ticked, gone_of}
-use Rattle.channel_laws.proofs.SentFacts.{sent-facts, tick-answer}
-use Rattle.link_steps.proofs.EffectFacts.{packets-by}
+use Rattle.channel_laws.proofs.SentInTime.{sent-facts, tick-answer}
+use Rattle.link_steps.proofs.EntryEffects.{packets-by}
 use Rattle.interleave_core.proofs.Tasks.EachSetup.{is-run}
 
 -- how many packets of the channel the far hop has taken

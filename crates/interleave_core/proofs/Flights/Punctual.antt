@@ -16,10 +16,10 @@ use Rattle.link_steps.specs.Lists.{Each}
 use Rattle.link_steps.specs.Replies.{tick_reply, reply_to}
 use Rattle.link_steps.specs.Scan.{clock_of, scan_of}
 use Rattle.link_steps.specs.Service.{leaves_at}
-use Rattle.link_steps.proofs.ListFacts.{Each-append, Each-if, Each-both, Each-without_first}
+use Rattle.link_steps.proofs.SearchAndFilter.{Each-append, Each-if, Each-both, Each-without_first}
 use Rattle.run_record.specs.declared.done.Done.{Done}
 use Rattle.interleave_core.specs.channels.Flights.{IsPunctual}
-use Rattle.interleave_core.proofs.Flights.FlightFacts.{run-flights}
+use Rattle.interleave_core.proofs.Flights.FlightOrigins.{run-flights}
 use Rattle.interleave_core.specs.runs.Laws.{NoFlightIsLate}
 use Rattle.call_script.specs.Fits.{NetworkFits}
 use Rattle.call_script.specs.Tasks.{Network}
@@ -30,7 +30,7 @@ use Rattle.interleave_core.specs.runs.Runs.{plane_no, plane_at, IsNext, IsRun}
 use Rattle.interleave_core.proofs.Runs.RunLegal.{part-may, RunStands, clock_at, plane-next, run-stands, by-actor}
 use Rattle.channel_laws.specs.Departing.{IsSent}
 use Rattle.channel_laws.proofs.ArriveReplies.{arrive-told, of-arrive}
-use Rattle.channel_laws.proofs.SentFacts.{sent-facts, tick-answer}
+use Rattle.channel_laws.proofs.SentInTime.{sent-facts, tick-answer}
 
 -- none found means that none passes
 not-due : (t : ℕ) (flights : List Flight) → find (is_due t) flights ≡ None → Each (λ flight. is_due t flight ≡ false) flights

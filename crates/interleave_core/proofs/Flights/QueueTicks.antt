@@ -15,7 +15,7 @@ use Rattle.link_steps.specs.Rows.{Row}
 use Rattle.link_steps.specs.Scan.{clock_of, scan_of}
 use Rattle.link_steps.specs.Service.{Arrival, leaves_at}
 use Rattle.link_steps.specs.Lists.{Among}
-use Rattle.link_steps.proofs.ListFacts.{Each-among}
+use Rattle.link_steps.proofs.SearchAndFilter.{Each-among}
 use Rattle.channel_laws.specs.Channels.{HopTerms, is_of_channel, channel_packets, RowTells}
 use Rattle.tick_plane.specs.declared.flight.Flight.{Flight}
 use Rattle.tick_plane.specs.Planes.{flight_to, flight_in}

@@ -10,7 +10,7 @@ use Rattle.std.specs.Prelude.{find, nat_eq, nat_lt}
 use Rattle.net_units.specs.LevelBounds.{bound_at}
 use Rattle.net_units.specs.Numbers.{link_number, channel_number, level_number}
 use Rattle.net_units.specs.declared.numbers.ChanNo.{ChanNo}
-use Rattle.net_units.proofs.BoundFacts.{bound_least}
+use Rattle.net_units.proofs.BoundsInOrder.{bound_least}
 use Rattle.hop_reservation.specs.Routes.{link_of}
 use Rattle.link_steps.specs.declared.asks.Ask.TheVariants.{Arrive}
 use Rattle.link_steps.specs.declared.asks.Packet.{Packet}
@@ -24,8 +24,8 @@ use Rattle.link_steps.specs.Rows.{Row}
 use Rattle.link_steps.specs.Scan.{clock_of, scan_of, is_row_of}
 use Rattle.link_steps.specs.Service.{Arrival}
 use Rattle.link_steps.proofs.LegalOrder.{legal-order}
-use Rattle.link_steps.proofs.LegalRowFacts.{IsInOrder}
-use Rattle.link_steps.proofs.ListFacts.{Each-find}
+use Rattle.link_steps.proofs.RowsInOrder.{IsInOrder}
+use Rattle.link_steps.proofs.SearchAndFilter.{Each-find}
 use Rattle.setup_protocol.specs.Hops.{RequestFits}
 use Rattle.setup_protocol.specs.Setup.{hop_link}
 use Rattle.setup_protocol.specs.declared.request.Request.{Request}
@@ -218,7 +218,7 @@ arrives-at network request done past packet fits sound asked run next arrives ch
     let mine : is_of_channel (channel_number request.chan) from.taken ≡ true = and_from (nat_eq (channel_number from.taken.chan) (channel_number request.chan)) (nat_lt 0 from.taken.number) (eq-eqb (channel_number from.taken.chan) (channel_number request.chan) own) (lt-ltb 0 from.taken.number from.numbered) in
     let row = packet-offered network request past from.n from.link from.taken fits run asked sound from.linked mine from.among in
     let packets : Among from.taken (channel_packets (channel_number request.chan) (packets_on from.link from.n past)) = Among-passes (is_of_channel (channel_number request.chan)) from.taken (packets_on from.link from.n past) mine from.among in
-    let named : from.taken.next ≡ option_map hop_link (slice_get request.route (suc row.route.index)) = Rattle.link_steps.proofs.ListFacts.Each-among (λ p. p.next ≡ (terms_at request row.route.index).next) from.taken _ row.row.tells.nexts packets in
+    let named : from.taken.next ≡ option_map hop_link (slice_get request.route (suc row.route.index)) = Rattle.link_steps.proofs.SearchAndFilter.Each-among (λ p. p.next ≡ (terms_at request row.route.index).next) from.taken _ row.row.tells.nexts packets in
     let after = next-link (slice_get request.route (suc row.route.index)) comes.flight.to (sym named ∙ from.next) in
     let within = slice_get_within request.route (suc row.route.index) after.0 after.1 in
     let far = hop-at network request (suc row.route.index) sound within in

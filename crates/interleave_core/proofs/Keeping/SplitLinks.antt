@@ -6,7 +6,7 @@ use Rattle.link_steps.proofs.ListParts.{Each-at}
 use Rattle.link_steps.specs.Split.{Link, Split, SplitFits, whole}
 use Rattle.link_steps.specs.declared.quota.Quota.{Quota}
 use Rattle.link_steps.specs.declared.shape.LinkShape.{LinkShape}
-use Rattle.call_script.proofs.FitFacts.{plan-fits}
+use Rattle.call_script.proofs.PlansFit.{plan-fits}
 use Rattle.call_script.specs.Parts.{PlanParts}
 use Rattle.call_script.specs.Plans.{IsPlan}
 use Rattle.call_script.specs.Splits.{split_by, split_if, entry_link, groups_in}

@@ -24,12 +24,12 @@ use Rattle.link_steps.specs.Rows.{Row, SourcePacket, row_terms, left_at}
 use Rattle.link_steps.specs.Scan.{Scan, clock_of, scan_of, is_row_of, is_row_at_hop, names_first_hop, relax_row, close_row, arrived_row, with_arrival, without_expired, with_sources, with_best, after_tick, after}
 use Rattle.link_steps.specs.Service.{Arrival, here_at}
 use Rattle.link_steps.specs.Sources.{SourceStep, Rests, row_after, rows_after, step_of, taken_by}
-use Rattle.link_steps.proofs.ChangeFacts.{Each-change_found}
+use Rattle.link_steps.proofs.FoundElements.{Each-change_found}
 use Rattle.link_steps.proofs.LegalChannels.{DifferInChannel, legal-channels}
 use Rattle.link_steps.proofs.LegalOrder.{legal-order}
-use Rattle.link_steps.proofs.LegalRowFacts.{IsInOrder, IsMade}
-use Rattle.link_steps.proofs.ReplyFacts.{phase-is}
-use Rattle.link_steps.proofs.ListFacts.{Each-append, Each-filter, Each-find, Each-if, Each-change_first, Each-without_first, find-map}
+use Rattle.link_steps.proofs.RowsInOrder.{IsInOrder, IsMade}
+use Rattle.link_steps.proofs.ReservationFound.{phase-is}
+use Rattle.link_steps.proofs.SearchAndFilter.{Each-append, Each-filter, Each-find, Each-if, Each-change_first, Each-without_first, find-map}
 use Rattle.channel_laws.specs.Channels.{HopTerms, channel_of, offers_with, offers_to, IsElsewhere}
 use Rattle.channel_laws.specs.Reservations.{held_by}
 use Rattle.channel_laws.proofs.ChannelRows.{find-passes, legal-free, others-elsewhere, row-at-hop}
@@ -37,7 +37,7 @@ use Rattle.channel_laws.proofs.HoldFates.{released-count, relaxed-tent}
 use Rattle.channel_laws.proofs.SendReplies.{found-at-hop}
 use Rattle.interleave_core.specs.channels.Moves.{cancelled_with, cancelled_in, left_of, left_in}
 use Rattle.link_steps.specs.Effects.{Effect, Ticks, with_effect}
-use Rattle.link_steps.proofs.EffectFacts.{each-history}
+use Rattle.link_steps.proofs.EntryEffects.{each-history}
 
 -- ---- without an offer
 

@@ -11,7 +11,7 @@ use Rattle.channel_move.specs.Moving.{shifted_in, told_by, first_told}
 use Rattle.channel_move.specs.declared.shifted.Shifted.{Shifted}
 use Rattle.channel_move.specs.Stages.{stage_after}
 use Rattle.channel_move.specs.declared.mover.Stage.TheVariants.{Joining, Releasing}
-use Rattle.channel_move.proofs.MoveFacts.{MoveAsks, AsksFirst, AsksSubmit, AsksRest, move-asks}
+use Rattle.channel_move.proofs.AskByStage.{MoveAsks, AsksFirst, AsksSubmit, AsksRest, move-asks}
 use Rattle.link_steps.specs.declared.asks.Ask.{Ask}
 use Rattle.link_steps.specs.declared.asks.Ask.TheVariants.{Submit}
 use Rattle.link_steps.specs.declared.replies.Reply.{Reply}

@@ -14,7 +14,7 @@ use Rattle.channel_move.specs.Moving.{asked_at, shifted_in, told_by}
 use Rattle.channel_move.specs.declared.shifted.Shifted.{Shifted}
 use Rattle.channel_move.specs.Stages.{stage_after}
 use Rattle.channel_move.specs.declared.mover.Stage.TheVariants.{Joining, Releasing}
-use Rattle.channel_move.proofs.MoveFacts.{HopAsked, MoveAsks, AsksFirst, AsksSubmit, AsksRest, move-asks}
+use Rattle.channel_move.proofs.AskByStage.{HopAsked, MoveAsks, AsksFirst, AsksSubmit, AsksRest, move-asks}
 use Rattle.link_steps.specs.declared.asks.Ask.{Ask}
 use Rattle.link_steps.specs.declared.asks.Ask.TheVariants.{Submit, Release}
 use Rattle.link_steps.specs.declared.replies.Reply.{Reply}
@@ -36,7 +36,7 @@ use Rattle.run_record.specs.declared.done.Done.{Done}
 use Rattle.interleave_core.specs.channels.Moves.{last_with, last_planned, EveryMoveTakesTheLast}
 use Rattle.interleave_core.specs.channels.Paths.{HopAt}
 use Rattle.interleave_core.specs.runs.Runs.{IsRun}
-use Rattle.interleave_core.proofs.Tasks.OnceFacts.{once-asked}
+use Rattle.interleave_core.proofs.Tasks.SingleAskTask.{once-asked}
 use Rattle.interleave_core.proofs.Replies.Replying.{moves-plan}
 use Rattle.interleave_core.proofs.Replies.ClosingStands.{off-unsent}
 use Rattle.interleave_core.proofs.Replies.RunCloses.{setup-unsent, others-off}

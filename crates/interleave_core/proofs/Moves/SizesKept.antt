@@ -16,10 +16,10 @@ use Rattle.link_steps.specs.Lists.{Each, Among}
 use Rattle.link_steps.specs.Replies.{reply_at, submit_to}
 use Rattle.link_steps.specs.Rows.{Row, left_at}
 use Rattle.link_steps.specs.Scan.{clock_of, scan_of, is_row_at_hop}
-use Rattle.link_steps.proofs.ListFacts.{Each-among, Each-find}
-use Rattle.link_steps.proofs.ChangeFacts.{Each-from_among}
+use Rattle.link_steps.proofs.SearchAndFilter.{Each-among, Each-find}
+use Rattle.link_steps.proofs.FoundElements.{Each-from_among}
 use Rattle.link_steps.proofs.ListParts.{Each-at}
-use Rattle.link_steps.proofs.ReplyFacts.{submit-tells}
+use Rattle.link_steps.proofs.ReservationFound.{submit-tells}
 use Rattle.channel_laws.proofs.SizeLaw.{NamesContract, legal-sizes}
 use Rattle.setup_protocol.specs.Hops.{RequestFits}
 use Rattle.setup_protocol.specs.Setup.{Outcome, verdict_of}
@@ -35,7 +35,7 @@ use Rattle.run_record.specs.declared.done.Done.{Done}
 use Rattle.interleave_core.specs.channels.Hops.{terms_at, ChannelAsked}
 use Rattle.interleave_core.specs.runs.Runs.{IsNext, IsRun}
 use Rattle.interleave_core.proofs.Channels.HopsAt.{hop-at}
-use Rattle.interleave_core.proofs.Tasks.OnceFacts.{once-asked}
+use Rattle.interleave_core.proofs.Tasks.SingleAskTask.{once-asked}
 use Rattle.channel_laws.proofs.UnsentPlans.{row-at-hop}
 use Rattle.interleave_core.proofs.Channels.RowsFollow.{hop-reply}
 use Rattle.interleave_core.proofs.Replies.RunCloses.{owned-once}

@@ -6,7 +6,7 @@ use Rattle.std.specs.Prelude.{filter, find, nat_eq, if◌then◌else◌}
 use Rattle.net_units.specs.Numbers.{channel_number}
 use Rattle.net_units.specs.declared.numbers.ChanNo.{ChanNo}
 use Rattle.traffic_contract.specs.Admission.{total}
-use Rattle.traffic_contract.proofs.AdmissionFacts.{total-append, total-push}
+use Rattle.traffic_contract.proofs.AdmissionTest.{total-append, total-push}
 use Rattle.link_steps.specs.declared.asks.Ask.{Ask}
 use Rattle.link_steps.specs.declared.asks.Ask.TheVariants.{Reserve, Relax, Deny, Submit, Release, Arrive, Tick}
 use Rattle.link_steps.specs.declared.asks.Packet.{Packet}
@@ -26,11 +26,11 @@ use Rattle.link_steps.specs.Rows.{Row, SourcePacket, new_row, row_terms, left_at
 use Rattle.link_steps.specs.Scan.{Scan, plan_row, close_row, clock_of, scan_of, is_row_of, is_row_at_hop, names_first_hop, arrived_row, with_arrival, without_expired, with_sources, with_best, after_tick, after}
 use Rattle.link_steps.specs.Service.{Arrival, here_at}
 use Rattle.link_steps.specs.Sources.{SourceStep, Rests, row_after, rows_after, step_of, taken_by}
-use Rattle.link_steps.proofs.ChangeFacts.{total-filter-both}
+use Rattle.link_steps.proofs.FoundElements.{total-filter-both}
 use Rattle.link_steps.proofs.LegalOrder.{legal-order}
-use Rattle.link_steps.proofs.LegalRowFacts.{IsInOrder}
-use Rattle.link_steps.proofs.ListFacts.{Each-find, find-map}
-use Rattle.link_steps.proofs.ReplyFacts.{deny-tells}
+use Rattle.link_steps.proofs.RowsInOrder.{IsInOrder}
+use Rattle.link_steps.proofs.SearchAndFilter.{Each-find, find-map}
+use Rattle.link_steps.proofs.ReservationFound.{deny-tells}
 use Rattle.channel_laws.specs.Channels.{channel_of}
 use Rattle.channel_laws.proofs.ChannelRows.{find-passes}
 use Rattle.interleave_core.specs.channels.Moves.{planned_with, planned_in, cancelled_with, cancelled_in, offered_of, left_of, NonePlannedIsLost}

@@ -1,5 +1,5 @@
 -- Where the owner of a request stands on its way from setting it up to closing it, and what an entry of another channel leaves of that.
-use Rattle.call_script.proofs.OwnerFacts.{closes-sends, sends-used}
+use Rattle.call_script.proofs.OneOwner.{closes-sends, sends-used}
 use Rattle.std.specs.Prelude.{◌&&◌}
 use Rattle.net_units.specs.declared.numbers.ChanNo.{ChanNo}
 use Rattle.channel_move.specs.Moving.{first_told}

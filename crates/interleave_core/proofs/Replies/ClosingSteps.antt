@@ -5,10 +5,10 @@ use Rattle.channel_move.specs.Stages.{stage_after, joining_after}
 use Rattle.channel_move.specs.declared.mover.Stage.{Stage}
 use Rattle.channel_move.specs.declared.mover.Stage.TheVariants.{Releasing}
 use Rattle.channel_move.specs.declared.shifted.Shifted.{Shifted}
-use Rattle.channel_move.proofs.MoveFacts.{HopAsked, MoveAsks, AsksFirst, AsksSubmit, AsksRest, move-asks, rest-length}
+use Rattle.channel_move.proofs.AskByStage.{HopAsked, MoveAsks, AsksFirst, AsksSubmit, AsksRest, move-asks, rest-length}
 use Rattle.link_steps.specs.Rows.{Row}
 use Rattle.link_steps.specs.Scan.{is_row_at_hop, names_first_hop, clock_of, scan_of}
-use Rattle.link_steps.proofs.ListFacts.{Each-find}
+use Rattle.link_steps.proofs.SearchAndFilter.{Each-find}
 use Rattle.channel_laws.specs.Channels.{channel_of}
 use Rattle.channel_laws.proofs.SizeLaw.{NamesContract, legal-sizes}
 use Rattle.channel_laws.proofs.SendReplies.{found-at-hop, submit-committed, release-committed}
@@ -50,9 +50,9 @@ use Rattle.interleave_core.proofs.Channels.RowsFollow.{held-elsewhere, hop-reply
 use Rattle.channel_laws.specs.Reservations.{IsSendReply, IsReleased}
 use Rattle.channel_laws.specs.Asks.{IsOff}
 use Rattle.setup_protocol.proofs.HopAsks.{asked-at, first-named}
-use Rattle.interleave_core.proofs.Tasks.OnceFacts.{once-asked}
+use Rattle.interleave_core.proofs.Tasks.SingleAskTask.{once-asked}
 use Rattle.interleave_core.proofs.Replies.ClosingStands.{AllComm, Unsent, FreshFirst, left_in, left_by, IsUnjoined, ClosesAt, Early, Denied, Fresh, Open, Closing, MovingFrom, MovingOnto, Over, comm-later, unsent-later, established-own, left-established, off-established, denied-from, open-from, fresh-from, send-later}
-use Rattle.call_script.proofs.OwnerFacts.{closes-sends, sends-used}
+use Rattle.call_script.proofs.OneOwner.{closes-sends, sends-used}
 use Rattle.interleave_core.proofs.Tasks.TaskAsks.{task-off, off-from}
 use Rattle.interleave_core.proofs.Replies.OwnerKinds.{OwnKind, NoRelease, off-leaving, stage-told, onto-stays, send-stays, stage-some, OwnSend, OwnSetup, OwnAside, OwnOff, OwnClose}
 

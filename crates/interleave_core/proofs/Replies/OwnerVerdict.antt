@@ -5,8 +5,8 @@ use Rattle.std.proofs.lemmas.Option.{same_Some}
 use Rattle.std.specs.List.{slice_get}
 use Rattle.net_units.specs.Numbers.{actor_number, channel_number}
 use Rattle.setup_protocol.specs.Setup.{Outcome, verdict_of}
-use Rattle.call_script.proofs.FitFacts.{request-fits}
-use Rattle.call_script.proofs.OwnerFacts.{owned-by}
+use Rattle.call_script.proofs.PlansFit.{request-fits}
+use Rattle.call_script.proofs.OneOwner.{owned-by}
 use Rattle.call_script.specs.Parts.{PlanParts}
 use Rattle.call_script.specs.Plans.{IsPlan}
 use Rattle.call_script.specs.Scripts.{moved_off, outcome_in, standing_of}
@@ -17,7 +17,7 @@ use Rattle.channel_move.specs.declared.shifted.Shifted.{Shifted}
 use Rattle.interleave_core.specs.channels.Moves.{moved_in}
 use Rattle.interleave_core.specs.runs.Runs.{IsRun}
 use Rattle.interleave_core.specs.replies.Verdicts.{setup_replies}
-use Rattle.interleave_core.proofs.Keeping.ActorFacts.{plane-number}
+use Rattle.interleave_core.proofs.Keeping.KeptActors.{plane-number}
 use Rattle.interleave_core.proofs.Keeping.Lookups.{held}
 use Rattle.interleave_core.proofs.Replies.VerdictHolds.{verdicts-follow}
 use Rattle.run_record.specs.Runs.{replies_to}

@@ -3,7 +3,7 @@ use Rattle.std.proofs.Common.{◌++◌, Bool, arith, ◌≡◌, ℕ, ◌⊎◌, 
 use Rattle.std.proofs.lemmas.Option.{slice_get_within, same_Some}
 use Rattle.std.specs.Prelude.{find, nat_le, ◌≤◌, nat_eq}
 use Rattle.hop_reservation.specs.Routes.{link_of}
-use Rattle.channel_move.proofs.MoveFacts.{HopAsked, MoveAsks, AsksFirst, AsksSubmit, AsksRest, move-asks, move-ask-is}
+use Rattle.channel_move.proofs.AskByStage.{HopAsked, MoveAsks, AsksFirst, AsksSubmit, AsksRest, move-asks, move-ask-is}
 use Rattle.channel_laws.proofs.ChannelRows.{find-passes}
 use Rattle.channel_laws.proofs.SendReplies.{found-at-hop, best-answered, of-released}
 use Rattle.channel_laws.specs.Reservations.{held_by, IsSendReply, IsReleased, IsArriveReply}
@@ -59,8 +59,8 @@ use Rattle.interleave_core.proofs.Replies.ClosingSteps.{IsUsualReply, IfReleased
 use Rattle.interleave_core.proofs.Replies.RunCloses.{owned-once, step-usual, step-closes}
 use Rattle.interleave_core.proofs.Replies.RunGoes.{setup-expected}
 use Rattle.setup_protocol.proofs.HopAsks.{of-hop}
-use Rattle.channel_laws.proofs.SentFacts.{tick-answer}
-use Rattle.interleave_core.proofs.Tasks.OnceFacts.{once-asked, packets-hold}
+use Rattle.channel_laws.proofs.SentInTime.{tick-answer}
+use Rattle.interleave_core.proofs.Tasks.SingleAskTask.{once-asked, packets-hold}
 use Rattle.interleave_core.proofs.Runs.EachRun.{head-same, OwnStep, at-step}
 use Rattle.interleave_core.proofs.Tasks.TaskAsks.{off-standing}
 use Rattle.interleave_core.proofs.Tasks.OwnTasks.{opens-own, own-task}

@@ -22,12 +22,12 @@ use Rattle.call_script.specs.declared.tasks.Task.TheVariants.{Opens, Closes, Mov
 use Rattle.call_script.specs.Tasks.{Network}
 use Rattle.run_record.specs.Runs.{part_of, replies_to}
 use Rattle.interleave_core.specs.runs.Runs.{IsNext, IsRun}
-use Rattle.interleave_core.proofs.Tasks.CallerFacts.{StandingFits}
+use Rattle.interleave_core.proofs.Tasks.CallerAsksFit.{StandingFits}
 use Rattle.interleave_core.proofs.Channels.RowsFollow.{setup-goes}
 use Rattle.interleave_core.proofs.Replies.RunGoes.{OwnedOnce, owned-asked, GoesAt, goes-rows, step-stands, step-goes}
 use Rattle.channel_laws.specs.Asks.{IsOff}
 use Rattle.interleave_core.proofs.Replies.ClosingStands.{FirstOff, AllComm, FreshFirst, ClosesAt, Early, Denied, Fresh, Open, Closing, MovingFrom, MovingOnto, Over, comm-later, unsent-more, unsent-later, closes-later, each-sends, early-from, denied-from, open-from, fresh-from}
-use Rattle.call_script.proofs.OwnerFacts.{closes-sends}
+use Rattle.call_script.proofs.OneOwner.{closes-sends}
 use Rattle.interleave_core.proofs.Replies.ClosingSteps.{fresh-off, off-step, send-step, close-step, from-step, onto-step, open-next, StepNext, IsUsualReply}
 use Rattle.interleave_core.proofs.Tasks.EachSetup.{OpenedOnce}
 use Rattle.interleave_core.proofs.Tasks.TaskAsks.{IsOther, off-other, task-off, off-from, entry-off}

@@ -12,12 +12,12 @@ use Rattle.link_steps.specs.Lists.{Each}
 use Rattle.link_steps.specs.Reservation.{Reservation, is_phase}
 use Rattle.link_steps.specs.Scan.{clock_of, scan_of}
 use Rattle.link_steps.proofs.LegalChannels.{legal-channels}
-use Rattle.link_steps.proofs.ListFacts.{Each-if}
+use Rattle.link_steps.proofs.SearchAndFilter.{Each-if}
 use Rattle.setup_protocol.specs.Hops.{RequestFits}
 use Rattle.setup_protocol.specs.Setup.{Outcome, Accepts, Denies, Progress, Reserving, Undoing, Relaxing, Settled, offers_in, reach_after, next_ask, progress_of, verdict_of, is_expected}
 use Rattle.setup_protocol.specs.declared.request.Request.{Request}
 use Rattle.setup_protocol.proofs.HopHolds.{IsTent, IsComm, HopStands, reserved_of, IsTail}
-use Rattle.setup_protocol.proofs.ProgressFacts.{progress-none}
+use Rattle.setup_protocol.proofs.SetupAdvances.{progress-none}
 use Rattle.channel_laws.specs.Asks.{IsOff, IsMild}
 use Rattle.channel_laws.specs.Channels.{channel_packets}
 use Rattle.channel_laws.specs.Reservations.{held_by, IsOpen, ComesOf, Stays, Closed}
@@ -38,7 +38,7 @@ use Rattle.interleave_core.proofs.Channels.RowLevels.{levels-held, none-comes}
 use Rattle.interleave_core.proofs.Channels.RowsFollow.{held_at, SetupRows, setup-goes, KeptTerms, AfterRows, Settles, setup-settles, held-here}
 use Rattle.interleave_core.proofs.Runs.EachRun.{OwnStep}
 use Rattle.interleave_core.proofs.Runs.RunLegal.{part-on, part-off, run-stands, part-admissible, by-part}
-use Rattle.interleave_core.proofs.Tasks.CallerFacts.{StandingFits}
+use Rattle.interleave_core.proofs.Tasks.CallerAsksFit.{StandingFits}
 use Rattle.interleave_core.proofs.Tasks.EachSetup.{OpenedOnce, OpensOnce, SetupAt, Before, Under, After, KeptBySetup, is-run, each-setup}
 use Rattle.interleave_core.proofs.Tasks.SetupOnce.{channel-asked}
 use Rattle.interleave_core.proofs.Tasks.TaskAsks.{IsOther, off-other, entry-off}

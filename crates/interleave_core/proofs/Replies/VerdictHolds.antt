@@ -11,7 +11,7 @@ use Rattle.channel_laws.specs.Asks.{IsMild}
 use Rattle.setup_protocol.specs.Setup.{Outcome, Progress, Settled, asked, progress_of, settled_in, verdict_of}
 use Rattle.setup_protocol.specs.declared.request.Request.{Request}
 use Rattle.setup_protocol.proofs.HopAsks.{of-setup}
-use Rattle.setup_protocol.proofs.ProgressFacts.{none-settled}
+use Rattle.setup_protocol.proofs.SetupAdvances.{none-settled}
 use Rattle.call_script.specs.Scripts.{Standing, standing, outcome_in}
 use Rattle.call_script.specs.Tasks.{Network}
 use Rattle.call_script.specs.declared.tasks.Task.{Task}

@@ -16,14 +16,14 @@ use Rattle.call_script.specs.Scripts.{Learnt, Standing, task_ask, takes_step, re
 use Rattle.call_script.specs.Tasks.{Network}
 use Rattle.call_script.specs.declared.tasks.Task.{Task}
 use Rattle.call_script.specs.declared.tasks.Task.TheVariants.{Moves}
-use Rattle.call_script.proofs.ReadyFacts.{ready-keeps}
+use Rattle.call_script.proofs.TaskBegins.{ready-keeps}
 use Rattle.tick_plane.specs.declared.flight.Flight.{Flight}
 use Rattle.tick_plane.specs.Planes.{next_due, ask_due}
 use Rattle.run_record.specs.Runs.{replies_to}
 use Rattle.run_record.specs.declared.done.Done.{Done}
 use Rattle.interleave_core.specs.runs.Runs.{plane_no, plane_at, IsNext, IsRun}
 use Rattle.interleave_core.proofs.Runs.RunLegal.{plane-next, caller-next, replies-by, replies-off, owner-asks}
-use Rattle.interleave_core.proofs.Tasks.CallerFacts.{standing-more}
+use Rattle.interleave_core.proofs.Tasks.CallerAsksFit.{standing-more}
 
 -- ---- the tasks that are left
 

@@ -7,7 +7,7 @@ use Rattle.std.specs.List.{slice_get}
 use Rattle.std.specs.Prelude.{filter, nat_eq, nat_lt}
 use Rattle.net_units.specs.Numbers.{link_number}
 use Rattle.link_steps.specs.Lists.{Each, Among}
-use Rattle.link_steps.proofs.ListFacts.{Each-among}
+use Rattle.link_steps.proofs.SearchAndFilter.{Each-among}
 use Rattle.interleave_core.specs.runs.Weave.{Stamped, put, put_all, woven_of, IsUnder, Falls, IsUnlike, AreStampedApart, PairsApart, AreOf, InOne, StandsIn}
 
 each-put : (P : Stamped → Type 0) (x : Stamped) (xs : List Stamped) → P x → Each P xs → Each P (put x xs)

@@ -1,6 +1,6 @@
 -- The part of a run on each link is a legal history of that link.
 use Rattle.channel_laws.proofs.FewLeft.{few-cancelled}
-use Rattle.interleave_core.proofs.Tasks.CallerFacts.{IfRelease, FewShifted, few-told, IsCallers, StandingFits, standing-asks, begun-fits, replied-fits}
+use Rattle.interleave_core.proofs.Tasks.CallerAsksFit.{IfRelease, FewShifted, few-told, IsCallers, StandingFits, standing-asks, begun-fits, replied-fits}
 use Rattle.std.proofs.Common.{◌≡◌, ◌≢◌, ℕ, suc, ◌+◌, ◌<◌, ◌≤◌, cond, List, [], ◌∷◌, length, Option, Some, None, refl, sym, ap, ◌∙◌, subst, inl, inr, arith, lit<}
 use Rattle.std.proofs.Math.Nat.{lt_of_le_of_lt}
 use Rattle.std.proofs.lemmas.Bool.{cases_Bool, cond_both, eqb-true, eqb-false, eq-eqb, ne_eqb, le-ltb}
@@ -23,7 +23,7 @@ use Rattle.link_steps.specs.Replies.{tick_reply, reply_to}
 use Rattle.link_steps.specs.Scan.{clock_with, clock_of, scan_of}
 use Rattle.link_steps.proofs.LegalAdmissible.{may-answer, legal-has, legal-admissible}
 use Rattle.channel_laws.specs.Asks.{MayReplyTo}
-use Rattle.link_steps.proofs.ListFacts.{Each-find}
+use Rattle.link_steps.proofs.SearchAndFilter.{Each-find}
 use Rattle.run_record.specs.declared.done.Done.{Done}
 use Rattle.call_script.specs.Fits.{TaskFits, NetworkFits}
 use Rattle.call_script.specs.declared.tasks.Task.{Task}
@@ -34,9 +34,9 @@ use Rattle.tick_plane.specs.Planes.{Plane, is_due, next_due, ask_due, plane_ask,
 use Rattle.run_record.specs.Runs.{entry_of, replies_to, part_of}
 use Rattle.interleave_core.specs.runs.Runs.{plane_no, plane_at, next_for, IsNext, IsRun}
 use Rattle.link_steps.proofs.ListParts.{Each-at}
-use Rattle.channel_laws.proofs.SentFacts.{sent-facts, sent-fits, tick-answer}
-use Rattle.tick_plane.proofs.FlightFacts.{AsksDue, asks-due, flight-in, flights-with}
-use Rattle.tick_plane.proofs.RoundFacts.{tick-clocks, other-clocks, ticked-with}
+use Rattle.channel_laws.proofs.SentInTime.{sent-facts, sent-fits, tick-answer}
+use Rattle.tick_plane.proofs.PlaneFlights.{AsksDue, asks-due, flight-in, flights-with}
+use Rattle.tick_plane.proofs.TicksPerLink.{tick-clocks, other-clocks, ticked-with}
 
 -- the clock of a link where the plane stands so
 abbrev pub clock_at : Plane → ℕ → ℕ

@@ -6,19 +6,19 @@ use Rattle.net_units.specs.Numbers.{actor_number}
 use Rattle.net_units.specs.declared.numbers.ActorNo.{ActorNo}
 use Rattle.net_units.specs.declared.numbers.LinkNo.{LinkNo}
 use Rattle.link_steps.specs.declared.asks.Ask.{Ask}
-use Rattle.call_script.proofs.FitFacts.{plan-fits}
+use Rattle.call_script.proofs.PlansFit.{plan-fits}
 use Rattle.call_script.specs.Fits.{NetworkFits}
 use Rattle.call_script.specs.Parts.{PlanParts}
 use Rattle.call_script.specs.Plans.{IsPlan}
 use Rattle.call_script.specs.Tasks.{Network, network_of}
 use Rattle.interleave_core.specs.runs.Runs.{plane_no, next_for, IsRun, step, run_from}
 use Rattle.interleave_core.specs.schedules.Schedules.{HaveSteps, FollowsTurns, repeated}
-use Rattle.interleave_core.proofs.Keeping.ActorFacts.{plane-number}
+use Rattle.interleave_core.proofs.Keeping.KeptActors.{plane-number}
 use Rattle.interleave_core.proofs.Tasks.StepCounts.{first-most, steps-most}
-use Rattle.interleave_core.proofs.Keeping.StepFacts.{callers-few}
+use Rattle.interleave_core.proofs.Keeping.CoreStep.{callers-few}
 use Rattle.interleave_core.proofs.Runs.RunLegal.{replies-by, replies-off}
 use Rattle.interleave_core.proofs.Runs.RunOf.{step-run}
-use Rattle.interleave_core.proofs.Tasks.TurnFacts.{steps-end}
+use Rattle.interleave_core.proofs.Tasks.StepsRunOut.{steps-end}
 use Rattle.run_record.specs.Runs.{replies_to}
 use Rattle.run_record.specs.declared.done.Done.{Done}
 

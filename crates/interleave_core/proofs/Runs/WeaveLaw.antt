@@ -8,7 +8,7 @@ use Rattle.std.specs.Prelude.{filter}
 use Rattle.net_units.specs.Numbers.{link_number, actor_number}
 use Rattle.link_steps.specs.Legal.{IsLegal}
 use Rattle.link_steps.specs.Lists.{Each}
-use Rattle.link_steps.proofs.ListFacts.{Among-filter}
+use Rattle.link_steps.proofs.SearchAndFilter.{Among-filter}
 use Rattle.link_steps.proofs.PacketRows.{Among-passes}
 use Rattle.call_script.specs.Tasks.{Network}
 use Rattle.run_record.specs.Runs.{is_by, part_of}

@@ -19,7 +19,7 @@ use Rattle.call_script.specs.Scripts.{Learnt, Settles, Standing, newest, settled
 use Rattle.call_script.specs.Tasks.{Network}
 use Rattle.call_script.specs.declared.tasks.Task.{Task}
 use Rattle.call_script.specs.declared.tasks.Task.TheVariants.{Opens, Sends, Closes, Moves}
-use Rattle.call_script.proofs.ReadyFacts.{ready-keeps}
+use Rattle.call_script.proofs.TaskBegins.{ready-keeps}
 use Rattle.run_record.specs.Runs.{replies_to}
 use Rattle.run_record.specs.declared.done.Done.{Done}
 use Rattle.interleave_core.specs.runs.Runs.{IsNext, IsRun}

@@ -1,6 +1,6 @@
 -- Every ask of a run goes to a link of the network. A caller asks hops of its routes, and links at which it pours; the plane
 -- ticks links of the network, and lets packets arrive at the next links of rows, which reserves have named.
-use Rattle.channel_move.proofs.MoveFacts.{HopAsked, MoveAsks, AsksFirst, AsksSubmit, AsksRest, move-asks}
+use Rattle.channel_move.proofs.AskByStage.{HopAsked, MoveAsks, AsksFirst, AsksSubmit, AsksRest, move-asks}
 use Rattle.call_script.specs.Scripts.{move_between, packets_ask, first_ask, ask_at, script_ask, standing, task_ask}
 use Rattle.std.proofs.Common.{◌≡◌, ℕ, suc, ◌-◌, ◌<◌, List, [], ◌∷◌, length, Option, Some, None, refl, sym, ap, ◌∙◌, subst, inl, inr, option_map, arith}
 use Rattle.std.proofs.lemmas.Bool.{cases_Bool, eqb-true, eqb-false}
@@ -19,7 +19,7 @@ use Rattle.link_steps.specs.Lists.{Each}
 use Rattle.link_steps.specs.Replies.{tick_reply, reply_to}
 use Rattle.link_steps.specs.Scan.{Scan, clock_of, scan_of}
 use Rattle.link_steps.specs.Split.{Link}
-use Rattle.link_steps.proofs.ListFacts.{Each-find}
+use Rattle.link_steps.proofs.SearchAndFilter.{Each-find}
 use Rattle.setup_protocol.specs.Setup.{Progress, Reserving, Undoing, Relaxing, Settled, asked, asked_of, hop_link, progress_of}
 use Rattle.setup_protocol.specs.declared.request.Request.{Request}
 use Rattle.call_script.specs.Fits.{TaskFits, NetworkFits}
@@ -37,9 +37,9 @@ use Rattle.link_steps.proofs.ListParts.{Each-at}
 use Rattle.interleave_core.proofs.Runs.RunLegal.{asked-plane, asked-caller, caller-next, plane-next, link_at-number, run-stands, by-part, by-actor}
 use Rattle.channel_laws.proofs.NextLinks.{NamesNext, NextsAre, after-nexts, sent-next}
 use Rattle.setup_protocol.proofs.HopAsks.{asked-at}
-use Rattle.tick_plane.proofs.FlightFacts.{asks-due, flight-in, flights-with}
-use Rattle.channel_laws.proofs.SentFacts.{tick-answer}
-use Rattle.interleave_core.proofs.Tasks.OnceFacts.{once-asked, packets-hold}
+use Rattle.tick_plane.proofs.PlaneFlights.{asks-due, flight-in, flights-with}
+use Rattle.channel_laws.proofs.SentInTime.{tick-answer}
+use Rattle.interleave_core.proofs.Tasks.SingleAskTask.{once-asked, packets-hold}
 
 -- a link that comes next, if there is one, is there
 abbrev NextLinked : List Link → Option LinkNo → Type 0

@@ -25,10 +25,10 @@ use Rattle.call_script.specs.declared.roles.Role.{Role}
 use Rattle.call_script.specs.declared.roles.Role.TheVariants as role
 use Rattle.link_steps.proofs.ListParts.{Each-at}
 use Rattle.call_script.proofs.Growing.{few-in, ranges-in}
-use Rattle.call_script.proofs.LoadFacts.{load-append}
-use Rattle.call_script.proofs.OpeningFacts.{opened-has}
-use Rattle.call_script.proofs.OwnerFacts.{any-later, twice-not}
-use Rattle.call_script.proofs.RuleFacts.{each-of, fresh-some, is_fresh, keeps-rules, moves-in, unclosed-in, used-in}
+use Rattle.call_script.proofs.ScriptLoads.{load-append}
+use Rattle.call_script.proofs.OpeningsInOrder.{opened-has}
+use Rattle.call_script.proofs.OneOwner.{any-later, twice-not}
+use Rattle.call_script.proofs.RulesAreKept.{each-of, fresh-some, is_fresh, keeps-rules, moves-in, unclosed-in, used-in}
 use Rattle.std.proofs.Math.Bool.{or-true}
 
 -- ---- operations by their kinds

@@ -17,7 +17,7 @@ use Rattle.link_steps.specs.declared.shape.LinkShape.{LinkShape}
 use Rattle.channel_laws.specs.Asks.{MayReplyTo, IsReserve, IsMild}
 use Rattle.setup_protocol.specs.Setup.{Outcome, is_offer, level_in, offers_in, after_offers, reach_after, on_the_way, asked, reserve_of, next_ask}
 use Rattle.setup_protocol.specs.declared.request.Request.{Request}
-use Rattle.setup_protocol.proofs.ProgressFacts.{after-other, offers-more, progress-on_the_way, progress-tested}
+use Rattle.setup_protocol.proofs.SetupAdvances.{after-other, offers-more, progress-on_the_way, progress-tested}
 use Rattle.run_record.specs.declared.done.Done.{Done}
 use Rattle.channel_laws.specs.Channels.{HopTerms, offers_with, offers_to, OffersTerms, AllOfferTerms}
 use Rattle.call_script.specs.Fits.{NetworkFits}
@@ -29,9 +29,9 @@ use Rattle.run_record.specs.Runs.{part_of, replies_to}
 use Rattle.interleave_core.specs.runs.Runs.{IsRun}
 use Rattle.channel_laws.proofs.OfferAnswers.{offer-answers}
 use Rattle.interleave_core.proofs.Keeping.Lookups.{held}
-use Rattle.interleave_core.proofs.Tasks.CallerFacts.{undone-asks, tested-asks}
+use Rattle.interleave_core.proofs.Tasks.CallerAsksFit.{undone-asks, tested-asks}
 use Rattle.interleave_core.proofs.Tasks.EachSetup.{OpensOnce, SetupAt, Before, Under, After, KeptBySetup, each-setup}
-use Rattle.hop_reservation.proofs.RouteFacts.{index-apart}
+use Rattle.hop_reservation.proofs.DistinctLinks.{index-apart}
 use Rattle.interleave_core.proofs.Runs.RunLegal.{answered-may, part-on, part-off, by-part}
 use Rattle.setup_protocol.proofs.HopAsks.{asked-at}
 

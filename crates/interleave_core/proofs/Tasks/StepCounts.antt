@@ -13,7 +13,7 @@ use Rattle.hop_reservation.specs.declared.route.Hop.{Hop}
 use Rattle.link_steps.proofs.ListParts.{Each-at}
 use Rattle.setup_protocol.specs.declared.request.Request.{Request}
 use Rattle.traffic_contract.specs.Admission.{total}
-use Rattle.call_script.proofs.RuleFacts.{keeps-rules}
+use Rattle.call_script.proofs.RulesAreKept.{keeps-rules}
 use Rattle.call_script.specs.Fits.{NetworkFits}
 use Rattle.call_script.specs.Parts.{PlanParts, openings_in}
 use Rattle.call_script.specs.Plans.{HasTerms, IsPlan}
@@ -31,9 +31,9 @@ use Rattle.call_script.specs.declared.tasks.Task.TheVariants.{Opens, Sends, Clos
 use Rattle.interleave_core.specs.runs.Runs.{plane_no, next_for, IsRun, step}
 use Rattle.interleave_core.specs.runs.Turns.{caller_most, most_left, most_over}
 use Rattle.interleave_core.proofs.Tasks.OpsFew.{carries, channels_in, kinds-few}
-use Rattle.interleave_core.proofs.Schedules.PlayFacts.{step-some}
+use Rattle.interleave_core.proofs.Schedules.CorePlaysSchedule.{step-some}
 use Rattle.interleave_core.proofs.Runs.RunOf.{step-is}
-use Rattle.interleave_core.proofs.Tasks.TurnFacts.{from-step-most, steps-end}
+use Rattle.interleave_core.proofs.Tasks.StepsRunOut.{from-step-most, steps-end}
 use Rattle.run_record.specs.Runs.{is_by, replies_to}
 use Rattle.run_record.specs.declared.done.Done.{Done}
 use Rattle.tick_plane.specs.Planes.{plane_of}

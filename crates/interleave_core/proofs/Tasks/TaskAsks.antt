@@ -9,7 +9,7 @@ use Rattle.link_steps.specs.declared.asks.Ask.TheVariants.{Reserve, Relax, Deny,
 use Rattle.link_steps.specs.declared.replies.Reply.{Reply}
 use Rattle.link_steps.specs.Lists.{Each}
 use Rattle.channel_laws.specs.Asks.{IsOff, IsMild}
-use Rattle.channel_move.proofs.MoveFacts.{move-ask-is}
+use Rattle.channel_move.proofs.AskByStage.{move-ask-is}
 use Rattle.setup_protocol.specs.Setup.{progress_of}
 use Rattle.setup_protocol.proofs.HopAsks.{of-hop, of-setup}
 use Rattle.call_script.specs.Owners.{TaskOff}
@@ -17,11 +17,11 @@ use Rattle.call_script.specs.Scripts.{Learnt, packets_ask, move_between, task_as
 use Rattle.call_script.specs.Tasks.{Network}
 use Rattle.call_script.specs.declared.tasks.Task.{Task}
 use Rattle.call_script.specs.declared.tasks.Task.TheVariants.{Opens, Sends, Closes, Moves}
-use Rattle.call_script.proofs.ReadyFacts.{ready-keeps}
+use Rattle.call_script.proofs.TaskBegins.{ready-keeps}
 use Rattle.run_record.specs.declared.done.Done.{Done}
 use Rattle.interleave_core.specs.runs.Runs.{IsNext}
 use Rattle.interleave_core.proofs.Runs.EachRun.{MovesAlike, each-left, each-standing, first-asks, entry-asks}
-use Rattle.interleave_core.proofs.Tasks.OnceFacts.{once-asked, packets-hold, packets-off}
+use Rattle.interleave_core.proofs.Tasks.SingleAskTask.{once-asked, packets-hold, packets-off}
 
 -- ---- tasks that name another channel
 

@@ -12,7 +12,7 @@ use Rattle.link_steps.specs.Replies.{reply_to}
 use Rattle.call_script.specs.Fits.{NetworkFits}
 use Rattle.call_script.specs.Tasks.{Network}
 use Rattle.tick_plane.specs.Planes.{Plane, plane_ask, plane_after, next_due}
-use Rattle.tick_plane.proofs.CalmFacts.{none-yet, after-still, asks-tick}
+use Rattle.tick_plane.proofs.CalmRounds.{none-yet, after-still, asks-tick}
 use Rattle.run_record.specs.Runs.{entry_of, replies_to, part_of}
 use Rattle.run_record.specs.declared.done.Done.{Done}
 use Rattle.interleave_core.specs.schedules.Quiet.{quiet_step, quiet_round, quiet_rounds, the_plane, rested, RestsFor, GoesOnAtRest, QuietRoundsGoOn}
@@ -20,7 +20,7 @@ use Rattle.interleave_core.specs.runs.Runs.{plane_no, plane_at, IsNext, IsRun}
 use Rattle.interleave_core.specs.schedules.Schedules.{repeated, FollowsTurns}
 use Rattle.interleave_core.specs.schedules.Standing.{StepsTo}
 use Rattle.interleave_core.proofs.Keeping.Lookups.{held}
-use Rattle.interleave_core.proofs.Schedules.PlayFacts.{step-follows, follows-start, follows-again}
+use Rattle.interleave_core.proofs.Schedules.CorePlaysSchedule.{step-follows, follows-start, follows-again}
 use Rattle.interleave_core.proofs.Runs.RunLegal.{asked-plane, link_at-number, part-on, part-off, plane-by, replies-off}
 use Rattle.interleave_core.proofs.Runs.RunOf.{step-is}
 

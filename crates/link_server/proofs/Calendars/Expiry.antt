@@ -4,7 +4,7 @@ use Rattle.std.proofs.lemmas.Bool.{eq-eqb, ne_eqb}
 use Rattle.std.proofs.lemmas.List.{length-map, get_or-map}
 use Rattle.link_server.proofs.Words.{remove, if◌then◌else◌, filter, channel_number, key_of, IsDistinct, KeptRow, kept_stays, Each, reservation_in, row_in, is_served_row_of, summed, IsPlaceOf, ServedRow}
 use Rattle.link_steps.specs.Hold.{hold_ended}
-use Rattle.rcsp_admission.proofs.KeyFacts.{distinct-later}
+use Rattle.rcsp_admission.proofs.OneRowPerKey.{distinct-later}
 
 -- the row at a place is its channel's, and the only one
 pub place-distinct : (rows : List ServedRow) (i : ℕ) (d : ServedRow) → IsDistinct (map summed rows) → i < length rows → IsPlaceOf (get_or rows i d).chan rows i

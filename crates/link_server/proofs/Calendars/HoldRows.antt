@@ -4,16 +4,16 @@ use Rattle.std.proofs.lemmas.Bool.{cases_Bool, cases_lt, eq-eqb, eqb-true, le-le
 use Rattle.std.proofs.lemmas.List.{map_push, get_or_default}
 use Rattle.std.proofs.lemmas.List.Folds.{list_any_none}
 use Rattle.link_server.proofs.Words.{remove, if◌then◌else◌, filter, nat_eq, nat_le, channel_number, last_bound, ChanNo, newest, Closing, KeptRow, kept_stays, Each, is_phase, Entry, Schedule, TakesDue, row_in, IsAbsent, IsPlaceOf, ServedRow}
-use Rattle.traffic_contract.proofs.AdmissionFacts.{total-push}
+use Rattle.traffic_contract.proofs.AdmissionTest.{total-push}
 use Rattle.link_steps.specs.Hold.{hold_ended}
-use Rattle.link_steps.proofs.ListFacts.{Each-append, Each-if, Each-both, filter-all}
+use Rattle.link_steps.proofs.SearchAndFilter.{Each-append, Each-if, Each-both, filter-all}
 use Rattle.link_server.specs.Holds.{is_open, open_count, open_in, tells_end, IsListed, AreListed, HasEnded, StaysIfOf}
 use Rattle.link_server.specs.Index.{channel_in, channels_in, IsIndex}
 use Rattle.std.proofs.lemmas.List.Edits.{length-remove, get_or-remove_below, get_or-remove_above}
 use Rattle.link_server.proofs.Calendars.Holds.{listed-without}
 use Rattle.link_server.proofs.Calendars.Expiry.{each-without, each-set}
-use Rattle.link_server.proofs.RowFacts.Totals.{rows-few, row-part, row-set, row-gone}
-use Rattle.link_server.proofs.RowFacts.Index.{one-place}
+use Rattle.link_server.proofs.RowsOfTable.Totals.{rows-few, row-part, row-set, row-gone}
+use Rattle.link_server.proofs.RowsOfTable.Index.{one-place}
 
 -- ---- which rows an entry that is due tells of
 

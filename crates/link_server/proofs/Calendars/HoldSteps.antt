@@ -6,7 +6,7 @@ use Rattle.link_steps.specs.declared.replies.Refusal.TheVariants.{Stray}
 use Rattle.link_steps.specs.declared.replies.Why.TheVariants.{PastCount}
 use Rattle.link_steps.specs.Kept.{KeptRow, kept_step, kept_after_step, kept_rows_after}
 use Rattle.link_steps.specs.Refusals.{first_hop, uncommitted, wrong_number, past_count, big}
-use Rattle.link_steps.proofs.RefusalFacts.{unless-none}
+use Rattle.link_steps.proofs.RulesPassed.{unless-none}
 use Rattle.link_server.specs.Holds.{is_open, open_count, open_in, IsListed, AreListed}
 use Rattle.link_server.specs.Strays.{stray}
 use Rattle.link_server.proofs.Replies.Arrive.{rule-kept}

@@ -5,8 +5,8 @@ use Rattle.std.proofs.lemmas.List.Folds.{list_any-append}
 use Rattle.link_server.proofs.Words.{list_any, nat_eq, nat_le, last_bound, newest, Phase, Tentative, Committed, Closing, KeptRow, kept_stays, is_phase, not_in_phase, Entry}
 use Rattle.link_steps.specs.Hold.{hold_ended}
 use Rattle.link_steps.specs.declared.replies.Refusal.TheVariants.{NotInPhase}
-use Rattle.link_steps.proofs.RefusalFacts.{unless-none}
-use Rattle.link_steps.proofs.ReplyFacts.{phase-is}
+use Rattle.link_steps.proofs.RulesPassed.{unless-none}
+use Rattle.link_steps.proofs.ReservationFound.{phase-is}
 use Rattle.link_server.specs.Holds.{is_open, tells_end, IsListed, EndsBy}
 use Rattle.link_server.proofs.Calendars.HoldEnds.{open-phase}
 

@@ -4,10 +4,10 @@ use Rattle.std.proofs.lemmas.Bool.{cases_Bool, eqb-true, eq-eqb, false≢true}
 use Rattle.std.proofs.lemmas.List.{nil_from_length, map_push, get_or_default}
 use Rattle.link_server.proofs.Words.{remove, channel_number, ChanNo, Closing, KeptRow, Each, is_phase, SourcePacket, planned_from, is_for, Schedule, TakesDue, row_in, IsAbsent, IsPlaceOf, ServedRow}
 use Rattle.std.specs.Prelude.{if◌then◌else◌, find, filter, is_none, nat_eq}
-use Rattle.traffic_contract.proofs.AdmissionFacts.{total-push}
-use Rattle.link_steps.proofs.ListFacts.{Each-append, Each-filter, Each-if}
+use Rattle.traffic_contract.proofs.AdmissionTest.{total-push}
+use Rattle.link_steps.proofs.SearchAndFilter.{Each-append, Each-filter, Each-if}
 use Rattle.link_server.specs.Index.{channel_in, channels_in, IsIndex}
-use Rattle.link_server.proofs.RowFacts.Index.{one-place}
+use Rattle.link_server.proofs.RowsOfTable.Index.{one-place}
 use Rattle.link_server.specs.Planned.{IsPlannedFrom, first_tick}
 use Rattle.link_server.specs.KeyedList.{AreRising}
 use Rattle.link_server.specs.Plans.{is_entry_of, IsTold, is_idle, idle_count, idle_in, is_turn, ArePlanned, AreCalled, IsPlaceOfKey, RestsIfOf}
@@ -16,7 +16,7 @@ use Rattle.link_server.proofs.Calendars.HoldRows.{each-place}
 use Rattle.link_server.proofs.Calendars.Expiry.{each-at, each-without, each-set}
 use Rattle.link_server.proofs.Calendars.Plans.{told-without, other-entry, resting-entry}
 use Rattle.link_server.proofs.Calendars.Quiet.{planned-quiet}
-use Rattle.link_server.proofs.RowFacts.Totals.{rows-few, row-part, row-set, row-gone, rows-left}
+use Rattle.link_server.proofs.RowsOfTable.Totals.{rows-few, row-part, row-set, row-gone, rows-left}
 
 -- ---- which row an entry that is due tells of
 

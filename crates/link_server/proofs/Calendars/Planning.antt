@@ -4,7 +4,7 @@ use Rattle.std.proofs.lemmas.Bool.{eqb-true, eq-eqb, ne_eqb, lt-leb}
 use Rattle.link_server.proofs.Words.{nat_eq, find, Each, busy}
 use Rattle.link_steps.specs.declared.replies.Refusal.TheVariants.{Busy}
 use Rattle.link_steps.proofs.AccountOfRows.{left_at-planned}
-use Rattle.link_steps.proofs.RefusalFacts.{unless-none}
+use Rattle.link_steps.proofs.RulesPassed.{unless-none}
 use Rattle.link_steps.specs.Rows.{SourcePacket, planned_from, is_for, left_at}
 use Rattle.link_server.specs.Planned.{IsPlannedFrom, first_tick, size_of}
 

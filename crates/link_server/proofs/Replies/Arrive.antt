@@ -11,12 +11,12 @@ use Rattle.link_steps.specs.Refusals.{RefusalRule, first_refusal, first_hop, unc
 use Rattle.link_steps.specs.Regulator.{eligible_next}
 use Rattle.link_steps.specs.Replies.{arrive_reply}
 use Rattle.link_steps.proofs.Account.{same-kept}
-use Rattle.link_steps.proofs.RefusalFacts.{unless-none}
+use Rattle.link_steps.proofs.RulesPassed.{unless-none}
 use Rattle.link_server.specs.Packets.{arrival_in}
 use Rattle.link_server.specs.Sound.{IsSound}
 use Rattle.link_server.specs.Strays.{first_rule, stray}
 use Rattle.link_steps.specs.Lists.{change_first}
-use Rattle.link_server.proofs.RowFacts.Placed.{each-changed}
+use Rattle.link_server.proofs.RowsOfTable.Placed.{each-changed}
 use Rattle.link_server.proofs.Sound.Numbers.{rows-upto}
 
 -- the first of some rules that applies is the refusal; where none does the rules after them are tried

@@ -8,7 +8,7 @@ use Rattle.link_steps.specs.Kept.{Kept, KeptRow, kept_reply, kept_after, with_ke
 use Rattle.link_steps.specs.Replies.{release_reply, count_at_release, cancelled_at_release}
 use Rattle.link_steps.specs.Lists.{change_first}
 use Rattle.link_server.specs.Changes.{IsRowAtHop}
-use Rattle.link_server.proofs.RowFacts.Placed.{hop-changed}
+use Rattle.link_server.proofs.RowsOfTable.Placed.{hop-changed}
 
 -- a release that is told no count names a first hop
 pub names-is : (upstream : Option ℕ) (none : Bool) → is_some upstream ≡ not none → none ≡ names_first_hop upstream

@@ -4,21 +4,21 @@ use Rattle.std.proofs.Common.{◌≡◌, ℕ, suc, ◌+◌, ◌≤◌, List, [],
 use Rattle.std.proofs.lemmas.List.{map_push}
 use Rattle.std.proofs.lemmas.List.Elements.{All-push}
 use Rattle.link_server.proofs.Words.{channel_number, level_number, Offer, LinkShape, find, ReserveFits, Reservation, admitted, tentative, server_of, KeptTable, ServedRow, Offered, Wanted}
-use Rattle.traffic_contract.proofs.AdmissionFacts.{Decides-admits}
+use Rattle.traffic_contract.proofs.AdmissionTest.{Decides-admits}
 use Rattle.traffic_contract.specs.Admission.{Passes, admits, with_row}
 use Rattle.rcsp_admission.specs.Sums.{Sums, Held, Holds, held_at, admitted_rows}
 use Rattle.link_steps.specs.Buffer.{slots_of, free_units}
 use Rattle.link_steps.specs.Kept.{Kept, KeptRow, is_kept_of, kept_terms, kept_after, new_kept}
 use Rattle.link_server.specs.Rows.{row_in, summed, IsWithinLevels, AreWithin}
 use Rattle.link_server.specs.Changes.{MayAdd}
-use Rattle.link_steps.proofs.RuleFacts.{need-kept}
-use Rattle.link_steps.proofs.ReplyFacts.{may-reach}
+use Rattle.link_steps.proofs.RulesAsMeant.{need-kept}
+use Rattle.link_steps.proofs.ReservationFound.{may-reach}
 use Rattle.link_server.specs.Sound.{IsSound, most_places}
 use Rattle.link_server.specs.Wants.{ask_for, MayHold}
-use Rattle.link_server.proofs.RowFacts.Places.{terms-none, kept-none}
+use Rattle.link_server.proofs.RowsOfTable.Places.{terms-none, kept-none}
 use Rattle.link_server.proofs.Sound.Numbers.{most_places-push}
 use Rattle.link_server.proofs.Sound.Setup.{sound-reserve}
-use Rattle.link_server.proofs.RowFacts.Sums.{absent-new, same-admission}
+use Rattle.link_server.proofs.RowsOfTable.Sums.{absent-new, same-admission}
 
 -- the terms of the row
 abbrev pub held_terms : Wanted → Offered → Reservation

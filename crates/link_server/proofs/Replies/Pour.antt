@@ -10,7 +10,7 @@ use Rattle.std.proofs.lemmas.List.{append-nil}
 use Rattle.link_server.proofs.Replies.Account.{queue-same}
 use Rattle.link_server.specs.Planned.{size_of}
 use Rattle.link_server.proofs.Calendars.Planning.{after-none, none-left}
-use Rattle.net_units.proofs.NumberFacts.{same-channel}
+use Rattle.net_units.proofs.KnownByNumber.{same-channel}
 
 -- the account with another best-effort plan
 abbrev pub with_plan : Kept → List SourcePacket → Kept

@@ -1,10 +1,10 @@
 -- What the numbers of a sound account leave to count on while a tick is made: there is a place for each packet that the
 -- sources bring, and each count can go on.
 use Rattle.std.proofs.Common.{◌≡◌, ℕ, suc, ◌+◌, ◌^◌, ◌<◌, ◌≤◌, List, [], ◌∷◌, ◌++◌, length, arith, length-append}
-use Rattle.traffic_contract.proofs.AdmissionFacts.{total-append, total-filter-le}
+use Rattle.traffic_contract.proofs.AdmissionTest.{total-append, total-filter-le}
 use Rattle.link_server.proofs.Words.{total, newest, LinkShape, slots_of, Each, SourcePacket, Arrival}
 use Rattle.link_steps.specs.Kept.{Kept, KeptRow, kept_stays, kept_waiting, kept_best, from_sources, brought}
-use Rattle.link_steps.proofs.ListFacts.{Each-both, Each-if}
+use Rattle.link_steps.proofs.SearchAndFilter.{Each-both, Each-if}
 use Rattle.link_server.specs.Planned.{IsPlannedFrom}
 use Rattle.link_server.specs.Sources.{IsReady}
 use Rattle.link_server.specs.Sound.{of_channels, places_of, all_places_of, places, most_places, AreAhead, IsSoundRow, IsSound}

@@ -4,7 +4,7 @@ use Rattle.std.proofs.lemmas.Bool.{cases_eq, cond_both, eq-eqb, ne_eqb}
 use Rattle.std.proofs.lemmas.List.Elements.{filter-append}
 use Rattle.link_server.proofs.Words.{filter, Each, Arrival, lead_with}
 use Rattle.link_steps.specs.Buffer.{has_lead, held_packets}
-use Rattle.link_steps.proofs.ListFacts.{Each-if, filter-none}
+use Rattle.link_steps.proofs.SearchAndFilter.{Each-if, filter-none}
 use Rattle.link_server.specs.Sound.{AreNumberedWithin, IsSoundPacket}
 use Rattle.link_steps.proofs.PacketRows.{lead_with-later}
 

@@ -4,7 +4,7 @@ use Rattle.std.proofs.lemmas.Bool.{cases_eq, cond_both, leb-true, eq-eqb}
 use Rattle.link_server.proofs.Words.{filter, KeptRow, lead_with}
 use Rattle.link_steps.specs.Lists.{change_first, without_first, Each}
 use Rattle.link_steps.specs.Rows.{SourcePacket, planned_from, is_from, left_at}
-use Rattle.link_steps.proofs.ListFacts.{Each-append, Each-filter, Each-if, Each-change_first, Each-without_first}
+use Rattle.link_steps.proofs.SearchAndFilter.{Each-append, Each-filter, Each-if, Each-change_first, Each-without_first}
 use Rattle.link_server.specs.Sound.{HasSize, AreAhead, IsApartFrom, HaveOwnLeads}
 use Rattle.link_steps.proofs.PacketRows.{lead_with-later}
 

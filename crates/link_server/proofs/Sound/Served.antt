@@ -6,7 +6,7 @@ use Rattle.link_server.proofs.Words.{filter, LinkShape, is_best, Each}
 use Rattle.std.specs.Option.{ForSome}
 use Rattle.link_steps.specs.Kept.{Kept, leaves_by, still_on, is_other, still_here}
 use Rattle.link_steps.specs.Service.{Arrival, Start, leaves_at}
-use Rattle.link_steps.proofs.ListFacts.{Each-filter}
+use Rattle.link_steps.proofs.SearchAndFilter.{Each-filter}
 use Rattle.link_server.specs.Sound.{of_channels, AreNumberedWithin, AreAhead, IsSoundPacket, IsRunning, IsSoundRow, IsSound}
 use Rattle.link_server.proofs.Sound.Packets.{HasLead, packets-lead, numbered-filter}
 use Rattle.link_server.proofs.Sound.Service.{LeavesOne, one-leaves, left-places}

@@ -6,10 +6,10 @@ use Rattle.link_server.proofs.Words.{filter, find, nat_eq, total, LinkShape, Kep
 use Rattle.std.specs.Option.{ForSome}
 use Rattle.link_steps.specs.Buffer.{has_lead, held_packets}
 use Rattle.link_steps.specs.Service.{Arrival, Start, first_in_line}
-use Rattle.link_steps.proofs.ChangeFacts.{Each-passes}
-use Rattle.link_steps.proofs.ListFacts.{Each-both, Each-filter, Each-if, filter-all}
-use Rattle.link_steps.proofs.ServiceFacts.{first_in_line-fact}
-use Rattle.traffic_contract.proofs.LoadFacts.{ceil_quotient-some}
+use Rattle.link_steps.proofs.FoundElements.{Each-passes}
+use Rattle.link_steps.proofs.SearchAndFilter.{Each-both, Each-filter, Each-if, filter-all}
+use Rattle.link_steps.proofs.ServiceStarts.{first_in_line-fact}
+use Rattle.traffic_contract.proofs.LoadLimits.{ceil_quotient-some}
 use Rattle.link_server.specs.Sound.{places_of, places, AreNumberedWithin, IsApartFrom, HaveOwnLeads, IsSoundPacket, has_arrival_number, IsRunning}
 use Rattle.link_server.proofs.Sound.Packets.{HasLead, numbered-above}
 

@@ -2,11 +2,11 @@
 use Rattle.std.proofs.Common.{◌≡◌, ℕ, suc, ◌+◌, ◌≤◌, Bool, true, List, [], ◌∷◌, ◌++◌, length, map, Option, Some, refl, ap, ◌∙◌, arith}
 use Rattle.link_server.proofs.Words.{find, level_number, ChanNo, Level, Traffic, IsContract, Relax, Deny, Submit, Release, Pour, Reply, LinkShape, whole, MayOffer, SourcePacket, planned_from, names_first_hop, Arrival}
 use Rattle.std.specs.Option.{option_map}
-use Rattle.net_units.proofs.BoundFacts.{bound_at-rising}
+use Rattle.net_units.proofs.BoundsInOrder.{bound_at-rising}
 use Rattle.net_units.specs.LevelBounds.{bound_at}
 use Rattle.net_units.specs.declared.Kind.{Kind}
 use Rattle.net_units.specs.declared.numbers.LinkNo.{LinkNo}
-use Rattle.traffic_contract.proofs.AdmissionFacts.{total-le}
+use Rattle.traffic_contract.proofs.AdmissionTest.{total-le}
 use Rattle.traffic_contract.proofs.LongerWindows.{most_in-mono}
 use Rattle.link_steps.specs.declared.replies.Reply.TheVariants as Is
 use Rattle.link_steps.specs.Buffer.{slots_of, stay_in, held_packets}
@@ -15,9 +15,9 @@ use Rattle.link_steps.specs.Legal.{ReserveFits, RelaxFits, SubmitFits}
 use Rattle.link_steps.specs.Lists.{change_first, without_first, Each}
 use Rattle.link_steps.specs.Replies.{relax_reply, submit_reply, release_reply}
 use Rattle.link_steps.specs.Reservation.{Reservation, tentative, committed, is_of}
-use Rattle.link_steps.proofs.ChangeFacts.{Each-change_found}
-use Rattle.link_steps.proofs.ListFacts.{Each-append, Each-find, Each-without_first, find-map, total-change_first-le, total-without_first-le}
-use Rattle.link_steps.proofs.ReplyFacts.{may-reach, FitsOffer, relax-tells, submit-tells, release-tells, pour-tells}
+use Rattle.link_steps.proofs.FoundElements.{Each-change_found}
+use Rattle.link_steps.proofs.SearchAndFilter.{Each-append, Each-find, Each-without_first, find-map, total-change_first-le, total-without_first-le}
+use Rattle.link_steps.proofs.ReservationFound.{may-reach, FitsOffer, relax-tells, submit-tells, release-tells, pour-tells}
 use Rattle.link_server.specs.Sound.{of_channels, best_count, places_of, all_places_of, places, most_places, AreAhead, HaveOwnLeads, IsSoundRow, IsSound}
 use Rattle.link_server.proofs.Sound.Best.{both-count}
 use Rattle.link_server.proofs.Sound.Rows.{AreApart-without_first, AreApart-push, AreApart-changed, planned-ahead}

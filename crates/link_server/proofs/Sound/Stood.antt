@@ -3,9 +3,9 @@
 use Rattle.std.proofs.Common.{◌≡◌, ℕ, zero, suc, ◌+◌, ◌*◌, ◌^◌, ◌<◌, ◌≤◌, List, [], ◌∷◌, length, map, take, ⊎_elim, sym, ap, subst, arith}
 use Rattle.std.proofs.Math.Nat.{mul-le-mul_right}
 use Rattle.std.proofs.lemmas.Bool.{cases_lt}
-use Rattle.net_units.proofs.BoundFacts.{bound_least}
+use Rattle.net_units.proofs.BoundsInOrder.{bound_least}
 use Rattle.link_server.proofs.Words.{level_number, total, newest, Ask, Phase, Tentative, Committed, Closing, Reply, Offer, LinkShape, AskFits, ReserveFits, Each, Reservation, clock_of, scan_of, whole, LinkState, Offered, Wanted, kept_in}
-use Rattle.traffic_contract.proofs.LoadFacts.{most_in-some}
+use Rattle.traffic_contract.proofs.LoadLimits.{most_in-some}
 use Rattle.traffic_contract.specs.Contract.{IsContract, most_in, burst_of}
 use Rattle.link_steps.specs.declared.replies.Entry.{Entry}
 use Rattle.link_steps.specs.Admissible.{IsAdmissible}
@@ -20,9 +20,9 @@ use Rattle.link_server.specs.Sound.{IsSoundRow}
 use Rattle.link_server.specs.Sources.{IsReady}
 use Rattle.link_server.specs.Stood.{IsStood}
 use Rattle.link_server.specs.Wants.{ask_for, MayHold}
-use Rattle.link_server.proofs.ChosenFacts.{terms-stand, wanted-admissible}
+use Rattle.link_server.proofs.ChosenLevel.{terms-stand, wanted-admissible}
 use Rattle.link_server.proofs.Sound.Numbers.{rows-ready, rows-upto}
-use Rattle.link_server.proofs.StepFacts.{rows-have, step-admissible}
+use Rattle.link_server.proofs.EveryHistoryAgrees.{rows-have, step-admissible}
 
 -- ---- every state stands
 

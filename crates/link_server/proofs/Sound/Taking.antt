@@ -6,14 +6,14 @@ use Rattle.std.proofs.lemmas.List.Folds.{find-append}
 use Rattle.std.proofs.lemmas.Option.{same_Some}
 use Rattle.std.specs.Option.{option_or}
 use Rattle.link_server.proofs.Words.{find, total, Arrive, Packet, Reply, LinkShape, slots_of, held_packets, whole, Arrival, Start, lead_with, arrival_at}
-use Rattle.traffic_contract.proofs.AdmissionFacts.{total-le}
+use Rattle.traffic_contract.proofs.AdmissionTest.{total-le}
 use Rattle.traffic_contract.specs.Eligible.{eligible}
 use Rattle.link_steps.specs.declared.replies.Reply.TheVariants as Is
 use Rattle.link_steps.specs.Kept.{Kept, KeptRow, kept_with, is_kept_of, kept_arrive, kept_arrived_tick, kept_arrived_row, kept_arrived, kept_with_arrival, kept_reply, kept_after}
 use Rattle.link_steps.specs.Legal.{PacketFits}
 use Rattle.link_steps.specs.Lists.{change_first, Each}
-use Rattle.link_steps.proofs.ListFacts.{Each-append, Each-find, Each-if}
-use Rattle.link_steps.proofs.ReplyFacts.{arrive-tells}
+use Rattle.link_steps.proofs.SearchAndFilter.{Each-append, Each-find, Each-if}
+use Rattle.link_steps.proofs.ReservationFound.{arrive-tells}
 use Rattle.link_server.specs.Sound.{places_of, places, of_channels, IsSoundPacket, has_arrival_number, IsRunning, IsSoundRow, IsSound}
 use Rattle.link_server.proofs.Sound.Packets.{packets-lead, numbered-append, held-more, held-taken}
 use Rattle.link_server.proofs.Sound.Best.{held-channels, channels-more, channels-lead, best-more}

@@ -9,7 +9,7 @@ use Rattle.link_server.specs.Plans.{IsTold, idle_count, idle_in, is_turn, ArePla
 use Rattle.link_server.proofs.Calendars.HoldRows.{each-place}
 use Rattle.link_server.proofs.Calendars.Plans.{told-quiet}
 use Rattle.link_server.proofs.Waiting.Rising.{rising-below, rising-next, none-first, none-between}
-use Rattle.link_server.proofs.RowFacts.Totals.{row-set}
+use Rattle.link_server.proofs.RowsOfTable.Totals.{row-set}
 use Rattle.link_server.proofs.Sourcing.Rows.{HaveStepped, none-stepped, quiet-up-to}
 
 -- ---- the packets

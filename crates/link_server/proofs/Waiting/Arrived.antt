@@ -8,7 +8,7 @@ use Rattle.std.proofs.lemmas.List.Recursion.{is_sum_by}
 use Rattle.std.proofs.lemmas.List.Sorted.{sum_by-IsPermutation, IsPermutation-cons, IsPermutation-middle, IsPermutation-trans}
 use Rattle.std.specs.List.{sum_by}
 use Rattle.link_server.proofs.Words.{IsPermutation, filter, find, is_other, Each, Arrival, Start}
-use Rattle.link_steps.proofs.ListFacts.{Each-append, Each-filter, Each-from, Each-if, filter-all, filter-none}
+use Rattle.link_steps.proofs.SearchAndFilter.{Each-append, Each-filter, Each-from, Each-if, filter-all, filter-none}
 use Rattle.link_server.specs.Arrived.{all_here, arrived, HaveOwnNumbers, IsNumbered, AreNumbered}
 use Rattle.link_server.specs.Sound.{AreNumberedWithin, has_arrival_number}
 use Rattle.link_server.proofs.Sound.Packets.{numbered-append}

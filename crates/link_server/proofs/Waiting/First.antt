@@ -3,7 +3,7 @@ use Rattle.std.proofs.Common.{◌≡◌, ℕ, List, [], ◌++◌, Option, Some, 
 use Rattle.std.proofs.lemmas.List.Sorted.{IsPermutation-trans}
 use Rattle.link_server.proofs.Words.{IsPermutation, Entry, HeldPacket}
 use Rattle.slab.specs.Slab.{Slab, Updates}
-use Rattle.link_steps.proofs.ListFacts.{Each-append}
+use Rattle.link_steps.proofs.SearchAndFilter.{Each-append}
 use Rattle.link_server.specs.Keys.{packet_at, packets_at, queues_at, keys_of, AreKeyed, AreInOrder}
 use Rattle.link_server.specs.Line.{IsAfter, AreAfter, IsNext}
 use Rattle.link_server.specs.Queues.{joined, first_of, after_first}

@@ -6,8 +6,8 @@ use Rattle.std.proofs.lemmas.Option.{same_Some}
 use Rattle.link_server.proofs.Words.{filter, find, is_eligible_by, Each, HeldPacket}
 use Rattle.link_steps.specs.Quiet.{IsEligibleFrom}
 use Rattle.link_steps.specs.Service.{Arrival, goes_before, sooner, first_in_line}
-use Rattle.link_steps.proofs.ListFacts.{Each-if, Each-map, Each-both, Each-filter, filter-none}
-use Rattle.link_steps.proofs.ServiceFacts.{first_in_line-fact}
+use Rattle.link_steps.proofs.SearchAndFilter.{Each-if, Each-map, Each-both, Each-filter, filter-none}
+use Rattle.link_steps.proofs.ServiceStarts.{first_in_line-fact}
 use Rattle.link_server.specs.Arrived.{arrived, HaveOwnNumbers, AreNumbered}
 use Rattle.link_server.specs.Line.{AreAfter, AreFrom, IsBehind}
 use Rattle.link_server.specs.Packets.{arrival_in, here_in}

@@ -6,7 +6,7 @@ use Rattle.std.proofs.lemmas.List.{append-nil}
 use Rattle.std.proofs.lemmas.List.Sorted.{IsPermutation-middle}
 use Rattle.std.proofs.lemmas.Option.{same_Some}
 use Rattle.link_server.proofs.Words.{IsPermutation, Each, HeldPacket}
-use Rattle.link_steps.proofs.ListFacts.{Each-append, Each-if, Each-both}
+use Rattle.link_steps.proofs.SearchAndFilter.{Each-append, Each-if, Each-both}
 use Rattle.link_server.specs.Keys.{AreInOrder}
 use Rattle.link_server.specs.Line.{AreAfter, IsAfter, IsBehind, IsNext}
 use Rattle.link_server.specs.Queues.{joined, first_of, after_first, pushed}

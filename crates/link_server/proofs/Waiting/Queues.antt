@@ -6,7 +6,7 @@ use Rattle.link_server.proofs.Words.{IsPermutation, Each}
 use Rattle.std.specs.List.{All}
 use Rattle.std.specs.Option.{option_map, option_to_list}
 use Rattle.static_priority.specs.Queues.{head_from, left_of}
-use Rattle.link_steps.proofs.ListFacts.{Each-append}
+use Rattle.link_steps.proofs.SearchAndFilter.{Each-append}
 use Rattle.link_server.specs.Queues.{joined, first_of, after_first, pushed}
 
 module _ {X : Type 0} where

@@ -6,8 +6,8 @@ use Rattle.link_steps.specs.declared.replies.Sent.{Sent}
 use Rattle.link_steps.specs.Kept.{is_eligible_by, is_other, start_at, served, departs, best_departs, still_here, still_on}
 use Rattle.link_steps.specs.Replies.{sent_of}
 use Rattle.link_steps.specs.Service.{Arrival, Start, leaves_at, first_in_line}
-use Rattle.link_steps.proofs.ServiceFacts.{first_in_line-fact}
-use Rattle.traffic_contract.proofs.LoadFacts.{ceil_quotient-some}
+use Rattle.link_steps.proofs.ServiceStarts.{first_in_line-fact}
+use Rattle.traffic_contract.proofs.LoadLimits.{ceil_quotient-some}
 use Rattle.link_server.specs.declared.queue.held_packet.Running.{Running}
 use Rattle.link_server.specs.Packets.{on_in, start_in}
 use Rattle.link_server.specs.Serving.{ServiceGoesOn, CanServe}

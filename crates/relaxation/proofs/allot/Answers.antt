@@ -2,7 +2,7 @@
 use Rattle.std.proofs.Common.{◌-◌, subst, sym, ap, ◌∙◌}
 use Rattle.relaxation.specs.Allotment.{allotment}
 use Rattle.relaxation.specs.Laws.{AreWithinReach, KeepBounds}
-use Rattle.relaxation.proofs.LawFacts.{allotted-fit}
+use Rattle.relaxation.proofs.RouteAllotment.{allotted-fit}
 use Rattle.relaxation.proofs.allot.Goals as goal
 
 pub returns-clause-reach : goal.returns-clause-reach

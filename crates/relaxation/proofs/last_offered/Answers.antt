@@ -1,7 +1,7 @@
 use Rattle.std.proofs.Common.{◌≡◌, ◌-◌, Some, length, get_or, subst, sym, ◌∙◌, ap, arith}
 use Rattle.std.specs.List.{slice_get}
 use Rattle.net_units.specs.LevelBounds.{bound_at}
-use Rattle.relaxation.proofs.ShareFacts.{bound_at_end-at}
+use Rattle.relaxation.proofs.SlackShares.{bound_at_end-at}
 use Rattle.relaxation.proofs.last_offered.Goals as goal
 
 pub returns : goal.returns

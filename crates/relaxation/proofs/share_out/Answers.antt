@@ -6,7 +6,7 @@ use Rattle.net_units.specs.Numbers.{level_number}
 use Rattle.net_units.specs.LevelBounds.{bound_at}
 use Rattle.relaxation.specs.Allotment.{allotment, limit_before, relaxed}
 use Rattle.relaxation.specs.Laws.{HaveBounds}
-use Rattle.relaxation.proofs.ShareFacts.{bound-in_delay, limit-last, limit-none, limit-kept, share-step, allotment-none, put-none, put-one, bounds-none, bounds-one}
+use Rattle.relaxation.proofs.SlackShares.{bound-in_delay, limit-last, limit-none, limit-kept, share-step, allotment-none, put-none, put-one, bounds-none, bounds-one}
 use Rattle.relaxation.proofs.share_out.Goals as goal
 
 pub loop-place-init : goal.loop-place-init

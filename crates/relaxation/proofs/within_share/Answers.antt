@@ -2,9 +2,9 @@
 use Rattle.std.proofs.Common.{◌+◌, refl, ◌∙◌, ap, arith}
 use Rattle.net_units.specs.Numbers.{level_number}
 use Rattle.net_units.specs.LevelBounds.{bound_at, levels_within}
-use Rattle.net_units.proofs.BoundFacts.{bound_at-rising}
+use Rattle.net_units.proofs.BoundsInOrder.{bound_at-rising}
 use Rattle.relaxation.specs.Allotment.{capped}
-use Rattle.relaxation.proofs.HopFacts.{up_to-least, relaxed_level}
+use Rattle.relaxation.proofs.HopAllotment.{up_to-least, relaxed_level}
 use Rattle.relaxation.proofs.within_share.Goals as goal
 
 pub returns-clause-least : goal.returns-clause-least

@@ -13,8 +13,8 @@ use Rattle.scenario_reader.specs.Fields.{field_at}
 use Rattle.scenario_reader.specs.Forms.{new_name_rule}
 use Rattle.scenario_reader.specs.line.Caller.{is_caller_line, names_group, member_rule, group_in, caller_rule, MayPutCaller}
 use Rattle.scenario_reader.proofs.kind.CallerForm.{group_version}
-use Rattle.scenario_reader.proofs.BeforeFacts.{headed_is, some_items}
-use Rattle.scenario_reader.proofs.PassFacts.{all_pass, unless_passes, new_name_passes, not_said}
+use Rattle.scenario_reader.proofs.ReadBefore.{headed_is, some_items}
+use Rattle.scenario_reader.proofs.PassingLines.{all_pass, unless_passes, new_name_passes, not_said}
 use Rattle.scenario_reader.proofs.kind.GroupMay.{group_there}
 use Rattle.scenario_reader.specs.declared.cause.Cause.TheVariants as cause
 

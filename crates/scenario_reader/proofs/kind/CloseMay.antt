@@ -11,8 +11,8 @@ use Rattle.scenario_reader.specs.line.Using.{is_closed_request}
 use Rattle.scenario_reader.specs.line.Close.{close_form, close_rule, close_of, close_said}
 use Rattle.scenario_reader.specs.Kept.{IsDraft}
 use Rattle.scenario_reader.specs.line.Operation.{MayPutOp}
-use Rattle.scenario_reader.proofs.BeforeFacts.{longer_than_none, linked_by}
-use Rattle.scenario_reader.proofs.PassFacts.{all_pass, made_some}
+use Rattle.scenario_reader.proofs.ReadBefore.{longer_than_none, linked_by}
+use Rattle.scenario_reader.proofs.PassingLines.{all_pass, made_some}
 use Rattle.scenario_reader.proofs.kind.UsingMay.{opened_channel}
 use Rattle.scenario_reader.specs.declared.cause.Cause.TheVariants as cause
 

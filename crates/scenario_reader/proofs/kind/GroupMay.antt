@@ -11,8 +11,8 @@ use Rattle.scenario_reader.specs.Fields.{field_at}
 use Rattle.scenario_reader.specs.Forms.{has_form, new_name_rule}
 use Rattle.scenario_reader.specs.line.Table.{is_before_callers}
 use Rattle.scenario_reader.specs.line.Group.{group_form, group_rule, MayPutGroup}
-use Rattle.scenario_reader.proofs.PassFacts.{all_pass, unless_passes, new_name_passes, made_some}
-use Rattle.scenario_reader.proofs.BeforeFacts.{stands_before, said_groups}
+use Rattle.scenario_reader.proofs.PassingLines.{all_pass, unless_passes, new_name_passes, made_some}
+use Rattle.scenario_reader.proofs.ReadBefore.{stands_before, said_groups}
 use Rattle.scenario_reader.specs.declared.cause.Cause.TheVariants as cause
 
 pub group_may : (version : Version) (said : Said) (fields : List (List ℕ)) → said.version ≡ Some version

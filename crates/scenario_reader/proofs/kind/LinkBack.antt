@@ -6,7 +6,7 @@ use Rattle.std.proofs.lemmas.List.{drop_all, length-map}
 use Rattle.net_units.specs.Numbers.{link_number, link_at}
 use Rattle.net_units.specs.Quotient.{ceil_quotient}
 use Rattle.net_units.specs.LevelBounds.{bound_at}
-use Rattle.net_units.proofs.BoundFacts.{AreBounds, bounds_parts}
+use Rattle.net_units.proofs.BoundsInOrder.{AreBounds, bounds_parts}
 use Rattle.traffic_contract.specs.declared.admission.Test.{Test}
 use Rattle.traffic_contract.specs.declared.admission.Test.TheVariants.{Whole, Least}
 use Rattle.call_script.specs.Rules.{link_has_version, link_names}
@@ -21,7 +21,7 @@ use Rattle.scenario_reader.specs.Entries.{LinkNumbers, has_bounds, shape_of}
 use Rattle.scenario_reader.specs.Fields.{field_at, are_fields}
 use Rattle.scenario_reader.specs.Forms.{is_among, has_form, name_rule, new_name_rule, number_rule}
 use Rattle.scenario_reader.specs.line.Link.{is_link_line, bound_fields, best_in, link_numbers, link_numbers_rule, best_rule, bound_numbers_rule, link_fields_rule, link_rule, link_said, bounds_fields, link_fields, best_fields}
-use Rattle.scenario_reader.proofs.ShapeFacts.{link_is, shape_is}
+use Rattle.scenario_reader.proofs.ShapeOfNumbers.{link_is, shape_is}
 use Rattle.scenario_reader.proofs.NumberText.{value-decimal, decimal_passes, decimals_pass, values-decimals}
 use Rattle.scenario_reader.proofs.RulesBack.{pass_all, unless_holds, name_back, new_name_back, stated_back}
 use Rattle.scenario_reader.proofs.FieldText.{name_field, number_field}

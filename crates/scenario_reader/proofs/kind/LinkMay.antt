@@ -21,9 +21,9 @@ use Rattle.scenario_reader.specs.Fields.{field_at}
 use Rattle.scenario_reader.specs.Forms.{has_form, name_rule, new_name_rule}
 use Rattle.scenario_reader.specs.line.Link.{MayPutLink, plain_form, is_link_line, best_in, link_numbers, link_fields_rule, link_numbers_rule, best_rule, bound_numbers_rule, bound_fields, link_rule, link_with, link_said}
 use Rattle.scenario_reader.proofs.kind.LinkForm.{plain_best}
-use Rattle.scenario_reader.proofs.PassFacts.{all_pass, unless_passes, new_name_passes, made_some, no_items, not_said}
-use Rattle.scenario_reader.proofs.ShapeFacts.{IsShape}
-use Rattle.scenario_reader.proofs.BeforeFacts.{headed_is}
+use Rattle.scenario_reader.proofs.PassingLines.{all_pass, unless_passes, new_name_passes, made_some, no_items, not_said}
+use Rattle.scenario_reader.proofs.ShapeOfNumbers.{IsShape}
+use Rattle.scenario_reader.proofs.ReadBefore.{headed_is}
 use Rattle.scenario_reader.specs.declared.cause.Cause.TheVariants as cause
 
 -- the shape of numbers has them

@@ -18,10 +18,10 @@ use Rattle.scenario_reader.specs.line.Using.{is_over_request, load_rule}
 use Rattle.scenario_reader.specs.line.Move.{move_form, may_join, carried, move_rule, move_between, move_said}
 use Rattle.scenario_reader.specs.Kept.{IsDraft}
 use Rattle.scenario_reader.specs.line.Operation.{MayPutOp}
-use Rattle.scenario_reader.proofs.BeforeFacts.{longer_than_none, linked_by}
-use Rattle.scenario_reader.proofs.NamedFacts.{own_is}
-use Rattle.scenario_reader.proofs.OwnFacts.{own_opened}
-use Rattle.scenario_reader.proofs.PassFacts.{all_pass, unless_passes}
+use Rattle.scenario_reader.proofs.ReadBefore.{longer_than_none, linked_by}
+use Rattle.scenario_reader.proofs.NamedByPlace.{own_is}
+use Rattle.scenario_reader.proofs.OwnOpenings.{own_opened}
+use Rattle.scenario_reader.proofs.PassingLines.{all_pass, unless_passes}
 use Rattle.scenario_reader.proofs.kind.UsingMay.{still_open, own_at, load_passes}
 use Rattle.call_script.specs.declared.operations.Op.TheVariants as op
 use Rattle.scenario_reader.specs.declared.cause.Cause.TheVariants as cause

@@ -19,9 +19,9 @@ use Rattle.scenario_reader.specs.line.Using.{packets_rule, load_rule}
 use Rattle.scenario_reader.specs.line.Pour.{pour_form, pour_rule, pour_over, pour_said}
 use Rattle.scenario_reader.specs.Kept.{IsDraft}
 use Rattle.scenario_reader.specs.line.Operation.{MayPutOp}
-use Rattle.scenario_reader.proofs.BeforeFacts.{longer_than_none, linked_by}
+use Rattle.scenario_reader.proofs.ReadBefore.{longer_than_none, linked_by}
 use Rattle.scenario_reader.proofs.kind.RequestMay.{link_found}
-use Rattle.scenario_reader.proofs.PassFacts.{all_pass, unless_passes, made_some}
+use Rattle.scenario_reader.proofs.PassingLines.{all_pass, unless_passes, made_some}
 use Rattle.scenario_reader.proofs.kind.UsingMay.{packets_pass, load_passes}
 use Rattle.scenario_reader.specs.declared.cause.Cause.TheVariants as cause
 

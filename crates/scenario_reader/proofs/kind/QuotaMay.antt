@@ -21,10 +21,10 @@ use Rattle.scenario_reader.specs.line.Table.{is_before_callers, MayAdd}
 use Rattle.scenario_reader.specs.Kept.{IsDraft}
 use Rattle.scenario_reader.specs.line.Quota.{quota_form, load_fields, in_eight, quota_of, quota_in, loads_rule, quota_numbers_rule, is_new_quota, is_fit_quota, quota_rule, quota_on, quota_said}
 use Rattle.scenario_reader.specs.declared.item.Item.{Item}
-use Rattle.scenario_reader.proofs.BeforeFacts.{stands_before, said_groups}
+use Rattle.scenario_reader.proofs.ReadBefore.{stands_before, said_groups}
 use Rattle.scenario_reader.proofs.kind.GroupMay.{group_there}
 use Rattle.scenario_reader.proofs.kind.RequestMay.{link_found}
-use Rattle.scenario_reader.proofs.PassFacts.{all_pass, unless_passes, number_passes, made_some}
+use Rattle.scenario_reader.proofs.PassingLines.{all_pass, unless_passes, number_passes, made_some}
 use Rattle.scenario_reader.specs.declared.cause.Cause.TheVariants as cause
 use Rattle.scenario_reader.specs.declared.item.Item.TheVariants as item
 

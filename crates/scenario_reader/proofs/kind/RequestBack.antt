@@ -12,7 +12,7 @@ use Rattle.traffic_contract.specs.Contract.{Traffic, IsContract, burst_of}
 use Rattle.traffic_contract.specs.Refusal.{first_bad}
 use Rattle.hop_reservation.specs.Routes.{IsRoute, fault_in}
 use Rattle.hop_reservation.specs.declared.route.Hop.{Hop}
-use Rattle.hop_reservation.proofs.RouteFacts.{none-from_route}
+use Rattle.hop_reservation.proofs.DistinctLinks.{none-from_route}
 use Rattle.link_steps.specs.Lists.{Each}
 use Rattle.setup_protocol.specs.declared.request.Control.{Control}
 use Rattle.setup_protocol.specs.declared.request.Control.TheVariants.{Rate, Jitter}
@@ -21,7 +21,7 @@ use Rattle.call_script.specs.declared.version.Version.{Version}
 use Rattle.call_script.specs.Rules.{request_has_version, request_names, is_joined, request_in_range, control_in_range}
 use Rattle.call_script.specs.declared.entries.LinkEntry.{LinkEntry}
 use Rattle.call_script.specs.declared.entries.RequestEntry.{RequestEntry}
-use Rattle.call_script.proofs.RuleFacts.{from-low}
+use Rattle.call_script.proofs.RulesAreKept.{from-low}
 use Rattle.scenario_reader.specs.Causes.{unless}
 use Rattle.scenario_reader.specs.Decimal.{value_of}
 use Rattle.scenario_reader.specs.Drafts.{Said, last_caller, link_named, route_over}
@@ -33,7 +33,7 @@ use Rattle.scenario_reader.specs.declared.form.Part.{Part}
 use Rattle.scenario_reader.specs.BothWays.{AreNodesNamed, IsFoundRoute}
 use Rattle.scenario_reader.specs.Nodes.{AreNumbered, is_node, route_between}
 use Rattle.scenario_reader.proofs.FoundNodes.{found-nodes}
-use Rattle.scenario_reader.proofs.ShapeFacts.{actor_is, channel_is}
+use Rattle.scenario_reader.proofs.ShapeOfNumbers.{actor_is, channel_is}
 use Rattle.scenario_reader.proofs.NumberText.{value-decimal, decimal_passes}
 use Rattle.scenario_reader.proofs.RulesBack.{pass_all, unless_holds, new_name_back, used_name_back, name_no_word, judged_back}
 use Rattle.scenario_reader.proofs.FieldText.{name_field, number_field}

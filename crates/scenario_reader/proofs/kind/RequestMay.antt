@@ -8,7 +8,7 @@ use Rattle.net_units.specs.Numbers.{link_number}
 use Rattle.net_units.specs.Limits.{is_within}
 use Rattle.hop_reservation.specs.Routes.{fault_in, IsRoute}
 use Rattle.hop_reservation.specs.declared.route.Hop.{Hop}
-use Rattle.hop_reservation.proofs.RouteFacts.{route-from_none}
+use Rattle.hop_reservation.proofs.DistinctLinks.{route-from_none}
 use Rattle.link_steps.specs.Lists.{Each}
 use Rattle.call_script.specs.Parts.{FollowsLink}
 use Rattle.call_script.specs.Rules.{is_named, request_names, has_link, is_joined, control_in_range}
@@ -21,13 +21,13 @@ use Rattle.scenario_reader.specs.Fields.{field_at}
 use Rattle.scenario_reader.specs.Forms.{new_name_rule, number_rule}
 use Rattle.scenario_reader.specs.Kept.{IsDraft}
 use Rattle.scenario_reader.specs.line.Request.{MayPutOpen, is_open_line, is_found, nodes_in, found_in, route_in, node_rule, nodes_rule, way_fields_rule, between_rule, way_rule, route_fields, after_route, has_jitter, control_in, contract_told, contract_of, hops_in, terms_rule, jitter_rule, open_fields_rule, is_way, open_limits_rule, open_rule, request_said}
-use Rattle.scenario_reader.proofs.BeforeFacts.{headed_is, some_items, longer_than_none}
-use Rattle.scenario_reader.proofs.PassFacts.{all_pass, both_pass, used_name_passes, unless_passes, new_name_passes, number_passes, contract_passes, not_said}
+use Rattle.scenario_reader.proofs.ReadBefore.{headed_is, some_items, longer_than_none}
+use Rattle.scenario_reader.proofs.PassingLines.{all_pass, both_pass, used_name_passes, unless_passes, new_name_passes, number_passes, contract_passes, not_said}
 use Rattle.call_script.proofs.Growing.{few-in}
 use Rattle.call_script.specs.Versions.{has_found_routes}
 use Rattle.scenario_reader.specs.Nodes.{is_node}
 use Rattle.scenario_reader.proofs.kind.RequestForm.{found_version}
-use Rattle.scenario_reader.proofs.NodeFacts.{found-route, named-equal}
+use Rattle.scenario_reader.proofs.NodesByNumber.{found-route, named-equal}
 use Rattle.scenario_reader.specs.declared.cause.Cause.TheVariants as cause
 
 -- links with the numbers of their places

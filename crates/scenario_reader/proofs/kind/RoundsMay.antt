@@ -8,8 +8,8 @@ use Rattle.scenario_reader.specs.Drafts.{Said, rounds_of}
 use Rattle.scenario_reader.specs.Fields.{field_at}
 use Rattle.scenario_reader.specs.Forms.{has_form, number_rule}
 use Rattle.scenario_reader.specs.line.Rounds.{rounds_form, rounds_rule, are_few_ticks, tail_form, tail_rule, MayPutRounds, MayPutTail}
-use Rattle.scenario_reader.proofs.BeforeFacts.{headed_is, some_items, is_some_said}
-use Rattle.scenario_reader.proofs.PassFacts.{unless_passes, all_pass, number_passes, not_said}
+use Rattle.scenario_reader.proofs.ReadBefore.{headed_is, some_items, is_some_said}
+use Rattle.scenario_reader.proofs.PassingLines.{unless_passes, all_pass, number_passes, not_said}
 use Rattle.scenario_reader.specs.declared.cause.Cause.TheVariants as cause
 
 pub rounds_may : (version : Version) (said : Said) (fields : List (List ℕ)) → said.version ≡ Some version → (not (nat_eq (length said.links) 0) && is_none said.rounds) ≡ true

@@ -24,7 +24,7 @@ use Rattle.scenario_reader.specs.Forms.{has_form, used_name_rule, number_rule}
 use Rattle.scenario_reader.specs.Grammar.{judge}
 use Rattle.scenario_reader.specs.line.Schedule.{is_plane, actor_rule, actor_named, do_form, do_rule, do_said, do_fields, schedule_fields, schedule_lines}
 use Rattle.scenario_reader.specs.Kept.{IsDo}
-use Rattle.scenario_reader.proofs.ShapeFacts.{actor_is}
+use Rattle.scenario_reader.proofs.ShapeOfNumbers.{actor_is}
 use Rattle.scenario_reader.proofs.FieldText.{name_field, number_field}
 use Rattle.scenario_reader.proofs.NamedBack.{position_back}
 use Rattle.scenario_reader.proofs.NumberText.{value-decimal, decimal_passes}

@@ -13,8 +13,8 @@ use Rattle.scenario_reader.specs.Drafts.{Said, caller_named}
 use Rattle.scenario_reader.specs.Fields.{field_at}
 use Rattle.scenario_reader.specs.Forms.{has_form, number_rule}
 use Rattle.scenario_reader.specs.line.Schedule.{do_form, is_plane, actor_rule, actor_named, actor_said, do_rule, do_by, do_said, MayPutSchedule, MayPutDo}
-use Rattle.scenario_reader.proofs.BeforeFacts.{headed_is, is_some_said}
-use Rattle.scenario_reader.proofs.PassFacts.{made_some, all_pass, number_passes}
+use Rattle.scenario_reader.proofs.ReadBefore.{headed_is, is_some_said}
+use Rattle.scenario_reader.proofs.PassingLines.{made_some, all_pass, number_passes}
 use Rattle.scenario_reader.specs.declared.cause.Cause.TheVariants as cause
 
 pub schedule_may : (version : Version) (said : Said) → said.version ≡ Some version → (is_some said.tail && not said.written) ≡ true → MayPutSchedule said

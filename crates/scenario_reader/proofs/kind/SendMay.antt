@@ -15,8 +15,8 @@ use Rattle.scenario_reader.specs.line.Send.{send_form, send_rule, send_on, send_
 use Rattle.scenario_reader.specs.line.Using.{packets_rule, is_over_request, load_rule}
 use Rattle.scenario_reader.specs.Kept.{IsDraft}
 use Rattle.scenario_reader.specs.line.Operation.{MayPutOp}
-use Rattle.scenario_reader.proofs.BeforeFacts.{longer_than_none, linked_by}
-use Rattle.scenario_reader.proofs.PassFacts.{all_pass, made_some}
+use Rattle.scenario_reader.proofs.ReadBefore.{longer_than_none, linked_by}
+use Rattle.scenario_reader.proofs.PassingLines.{all_pass, made_some}
 use Rattle.scenario_reader.proofs.kind.UsingMay.{packets_pass, still_open, own_at, load_passes}
 use Rattle.scenario_reader.specs.declared.cause.Cause.TheVariants as cause
 

@@ -8,7 +8,7 @@ use Rattle.net_units.specs.declared.numbers.ChanNo.{ChanNo}
 use Rattle.call_script.specs.Growing.{last_ops}
 use Rattle.call_script.specs.Rules.{load_in, packets_in_range, is_in}
 use Rattle.call_script.specs.declared.entries.RequestEntry.{RequestEntry}
-use Rattle.call_script.proofs.RuleFacts.{packets-fit}
+use Rattle.call_script.proofs.RulesAreKept.{packets-fit}
 use Rattle.scenario_reader.specs.Causes.{unless}
 use Rattle.scenario_reader.specs.Drafts.{Said, own_request, is_closed, is_left}
 use Rattle.scenario_reader.specs.Forms.{number_rule}

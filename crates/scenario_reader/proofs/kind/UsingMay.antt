@@ -14,10 +14,10 @@ use Rattle.scenario_reader.specs.Fields.{field_at}
 use Rattle.scenario_reader.specs.Forms.{number_rule}
 use Rattle.scenario_reader.specs.line.Using.{packets_rule, is_closed_request, is_over_request, load_rule}
 use Rattle.scenario_reader.specs.Kept.{IsDraft}
-use Rattle.scenario_reader.proofs.NamedFacts.{own_is}
+use Rattle.scenario_reader.proofs.NamedByPlace.{own_is}
 use Rattle.scenario_reader.proofs.kind.RequestMay.{from_range}
-use Rattle.scenario_reader.proofs.OwnFacts.{own_opened}
-use Rattle.scenario_reader.proofs.PassFacts.{all_pass, unless_passes}
+use Rattle.scenario_reader.proofs.OwnOpenings.{own_opened}
+use Rattle.scenario_reader.proofs.PassingLines.{all_pass, unless_passes}
 use Rattle.call_script.specs.declared.roles.Role.TheVariants as role
 use Rattle.scenario_reader.specs.declared.cause.Cause.TheVariants as cause
 

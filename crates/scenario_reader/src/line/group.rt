@@ -70,7 +70,7 @@ impl Draft {
 }
 
 // The place of a name among these, from 0.
-#[tactic(auto, using(crate::proofs::NameFacts::place_there))]
+#[tactic(auto, using(crate::proofs::NameLookup::place_there))]
 fn place_of(names: &[Name], name: &Name) -> Option<usize>
     ensures place { result ≡ position (is_named name.now) names.now }
     ensures within { IfSome result (λ place. place < length names.now) }
@@ -79,7 +79,7 @@ fn place_of(names: &[Name], name: &Name) -> Option<usize>
 }
 
 // Whether a name is one of these.
-#[tactic(auto, using(crate::proofs::NameFacts::known_there))]
+#[tactic(auto, using(crate::proofs::NameLookup::known_there))]
 fn has_name(names: &[Name], name: &Name) -> bool
     ensures { result ≡ is_among names.now name.now }
 {

@@ -1,4 +1,4 @@
-use Rattle.call_script.proofs.FitFacts.{plan-fits}
+use Rattle.call_script.proofs.PlansFit.{plan-fits}
 use Rattle.call_script.proofs.laws.every_plan_fits.Goals as goal
 
 pub returns : goal.returns

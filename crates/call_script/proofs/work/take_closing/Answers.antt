@@ -1,6 +1,6 @@
 -- The teardown goes on.
 use Rattle.std.proofs.Common.{◌≡◌, true, false, length}
-use Rattle.call_script.proofs.WorkFacts.{closing-goes-on, below-unless}
+use Rattle.call_script.proofs.WorkByReplies.{closing-goes-on, below-unless}
 use Rattle.call_script.proofs.work.take_closing.Goals as goal
 
 pub returns-in-Some-clause-taken : goal.returns-in-Some-clause-taken

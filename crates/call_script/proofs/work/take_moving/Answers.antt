@@ -1,6 +1,6 @@
 -- The move goes on.
 use Rattle.std.proofs.Common.{refl, sym}
-use Rattle.call_script.proofs.WorkFacts.{moving-goes-on}
+use Rattle.call_script.proofs.WorkByReplies.{moving-goes-on}
 use Rattle.call_script.proofs.work.take_moving.Goals as goal
 
 pub returns-in-None-clause-taken : goal.returns-in-None-clause-taken

@@ -1,6 +1,6 @@
 -- The setup goes on.
 use Rattle.std.proofs.Common.{sym}
-use Rattle.call_script.proofs.WorkFacts.{opening-goes-on}
+use Rattle.call_script.proofs.WorkByReplies.{opening-goes-on}
 use Rattle.call_script.proofs.work.take_opening.Goals as goal
 
 pub returns-in-None-clause-taken : goal.returns-in-None-clause-taken

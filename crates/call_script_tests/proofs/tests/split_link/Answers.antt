@@ -1,7 +1,7 @@
 -- The one quota has no load after its levels.
 use Rattle.std.proofs.Common.{◌∙◌, ◌∷◌, ◌++◌, [], List, ap}
 use Rattle.link_steps.specs.declared.quota.Quota.{Quota}
-use Rattle.one_link_plans.proofs.OneLinkFacts.{one-leaves}
+use Rattle.one_link_plans.proofs.OneLinkFits.{one-leaves}
 use Rattle.call_script_tests.proofs.tests.split_link.Goals as goal
 
 pub returns : goal.returns

@@ -6,8 +6,8 @@ use Rattle.channel_report.specs.Sources.{first_link, is_made}
 use Rattle.run_record.specs.Rows.{rows_of}
 use Rattle.interleave_core.proofs.Keeping.Lookups.{found-at}
 use Rattle.channel_report.specs.Channels.{established_line, told_channel}
-use Rattle.channel_report.proofs.ChannelFacts.{first-within, route-some, offered-is, refused-is, established-is}
-use Rattle.channel_report.proofs.LineFacts.{found-item}
+use Rattle.channel_report.proofs.EstablishedLine.{first-within, route-some, offered-is, refused-is, established-is}
+use Rattle.channel_report.proofs.LinesByItem.{found-item}
 use Rattle.channel_report.proofs.LinkTallies.{nothing}
 use Rattle.channel_report.proofs.channel_lines.established_line.Goals as goal
 

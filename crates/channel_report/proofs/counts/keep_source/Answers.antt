@@ -1,7 +1,7 @@
 use Rattle.std.proofs.Common.{◌<◌, length, ap, ◌∙◌, arith}
 use Rattle.channel_report.specs.Sources.{chan_of}
 use Rattle.channel_report.proofs.ChannelTallies.{sources-more, sources-same, tally-few}
-use Rattle.channel_report.proofs.LineFacts.{found-item, on-ok}
+use Rattle.channel_report.proofs.LinesByItem.{found-item, on-ok}
 use Rattle.channel_report.proofs.counts.keep_source.Goals as goal
 
 pub keep-requires : goal.keep-requires

@@ -1,7 +1,7 @@
 use Rattle.std.proofs.Common.{sym, ◌∙◌, [], ◌∷◌}
 use Rattle.net_units.specs.Numbers.{channel_number}
 use Rattle.interleave_core.proofs.Keeping.Lookups.{found-at}
-use Rattle.channel_report.proofs.DelayFacts.{by-place, if-none, if-some}
+use Rattle.channel_report.proofs.DelaysRowByRow.{by-place, if-none, if-some}
 use Rattle.channel_report.proofs.delay_tally.delay_of.Goals as goal
 
 pub returns-clause-some : goal.returns-clause-some

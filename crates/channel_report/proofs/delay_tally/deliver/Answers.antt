@@ -1,7 +1,7 @@
 use Rattle.std.proofs.Common.{◌<◌, length, sym, ap, ◌∙◌, arith}
 use Rattle.channel_report.specs.Delays.{delay_by}
-use Rattle.channel_report.proofs.DelayFacts.{delays-more, delays-same, tally-few}
-use Rattle.channel_report.proofs.LineFacts.{found-item}
+use Rattle.channel_report.proofs.DelaysRowByRow.{delays-more, delays-same, tally-few}
+use Rattle.channel_report.proofs.LinesByItem.{found-item}
 use Rattle.channel_report.proofs.delay_tally.deliver.Goals as goal
 
 pub deliver-requires : goal.deliver-requires

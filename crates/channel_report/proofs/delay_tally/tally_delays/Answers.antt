@@ -2,7 +2,7 @@ use Rattle.std.proofs.Common.{length, take, reverse, refl, sym, ap, subst, â—Œâˆ
 use Rattle.std.proofs.lemmas.List.{length-replicate}
 use Rattle.channel_report.specs.DelayTallies.{AreDelayTallies}
 use Rattle.channel_report.specs.Delays.{first_in, nearer}
-use Rattle.channel_report.proofs.DelayFacts.{none-delivered, bare-item, front-more, first-more, front-few}
+use Rattle.channel_report.proofs.DelaysRowByRow.{none-delivered, bare-item, front-more, first-more, front-few}
 use Rattle.channel_report.proofs.delay_tally.tally_delays.Goals as goal
 
 pub loop-row-init : goal.loop-row-init

@@ -1,7 +1,7 @@
 use Rattle.std.proofs.Common.{◌≡◌, ◌<◌, ◌≤◌, length, get_or}
 use Rattle.run_record.specs.Runs.{part_of}
 use Rattle.channel_report.specs.Links.{link_line, told_link}
-use Rattle.channel_report.proofs.LineFacts.{found-item, line-at}
+use Rattle.channel_report.proofs.LinesByItem.{found-item, line-at}
 use Rattle.channel_report.proofs.LinkTallies.{nothing}
 use Rattle.text_writer.proofs.TextsTold.{all-told, item-failed, item-told}
 use Rattle.channel_report.proofs.link_lines.tell_links.Goals as goal

@@ -2,7 +2,7 @@ use Rattle.std.proofs.Common.{◌∷◌, [], ◌++◌, ap, refl, ◌∙◌, stri
 use Rattle.std.specs.Fmt.{decimal}
 use Rattle.std.specs.List.{flat_map}
 use Rattle.net_units.specs.Allotted.{levels_of}
-use Rattle.channel_report.proofs.LineFacts.{accepted-parts, on-ok}
+use Rattle.channel_report.proofs.LinesByItem.{accepted-parts, on-ok}
 use Rattle.channel_report.proofs.request_lines.push_accepted.Goals as goal
 
 pub returns : goal.returns

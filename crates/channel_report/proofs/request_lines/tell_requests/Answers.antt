@@ -2,7 +2,7 @@ use Rattle.std.proofs.Common.{◌≡◌, ◌<◌, length, get_or, ap}
 use Rattle.std.specs.Prelude.{option_map}
 use Rattle.setup_protocol.specs.State.{outcome_of}
 use Rattle.channel_report.specs.Verdicts.{request_line, verdict_line}
-use Rattle.channel_report.proofs.LineFacts.{found-item}
+use Rattle.channel_report.proofs.LinesByItem.{found-item}
 use Rattle.text_writer.proofs.TextsTold.{item-failed, item-told}
 use Rattle.channel_report.proofs.request_lines.tell_requests.Goals as goal
 

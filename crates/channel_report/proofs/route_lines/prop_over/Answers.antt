@@ -1,5 +1,5 @@
 use Rattle.std.proofs.Common.{arith}
-use Rattle.channel_report.proofs.RouteFacts.{prop-more}
+use Rattle.channel_report.proofs.RouteLine.{prop-more}
 use Rattle.channel_report.proofs.route_lines.prop_over.Goals as goal
 
 pub loop-place-preserved : goal.loop-place-preserved

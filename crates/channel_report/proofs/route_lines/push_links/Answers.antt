@@ -1,5 +1,5 @@
 use Rattle.std.proofs.Common.{◌++◌, ◌∷◌, string_bytes, ap, ◌∙◌, arith}
-use Rattle.channel_report.proofs.RouteFacts.{hops-more, hops-all}
+use Rattle.channel_report.proofs.RouteLine.{hops-more, hops-all}
 use Rattle.channel_report.proofs.route_lines.push_links.Goals as goal
 
 pub loop-index-preserved : goal.loop-index-preserved

@@ -4,7 +4,7 @@ use Rattle.std.specs.Prelude.{option_map}
 use Rattle.interleave_core.proofs.Keeping.Lookups.{held}
 use Rattle.run_record.specs.Rows.{rows_of}
 use Rattle.setup_protocol.specs.State.{outcome_of}
-use Rattle.channel_report.proofs.SummaryFacts.{few-more, sums-more}
+use Rattle.channel_report.proofs.SumsOverRequests.{few-more, sums-more}
 use Rattle.channel_report.proofs.summary.sum_up.Goals as goal
 use Rattle.call_script.proofs.Walks.{read-at}
 

@@ -5,7 +5,7 @@ use Rattle.link_steps.specs.declared.replies.Reply.{Reply}
 use Rattle.run_record.specs.Rows.{rows_by}
 use Rattle.run_record.specs.declared.done.Done.{Done}
 use Rattle.channel_report.specs.Ends.{AreKept, is_kept}
-use Rattle.channel_report.proofs.KeptFacts.{row-kept, row-left, row-none}
+use Rattle.channel_report.proofs.RowsStayKept.{row-kept, row-left, row-none}
 use Rattle.channel_report.proofs.tally.keep_row.Goals as goal
 
 -- the rows are those of the entry

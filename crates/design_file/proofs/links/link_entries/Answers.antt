@@ -1,4 +1,4 @@
-use Rattle.design_file.proofs.LinkFacts.{no-links, links-more, all-links}
+use Rattle.design_file.proofs.LinksOneByOne.{no-links, links-more, all-links}
 use Rattle.design_file.proofs.links.link_entries.Goals as goal
 
 pub loop-link-init : goal.loop-link-init

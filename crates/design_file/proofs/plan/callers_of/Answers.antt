@@ -1,7 +1,7 @@
 use Rattle.std.proofs.Common.{List, ap, ◌∙◌, ◌++◌, ◌∷◌, []}
 use Rattle.call_script.specs.Parts.{openings_in, openings_of}
 use Rattle.call_script.specs.declared.entries.CallerEntry.{CallerEntry}
-use Rattle.design_file.proofs.PlanFacts.{opens-alone}
+use Rattle.design_file.proofs.DesignIsPlan.{opens-alone}
 use Rattle.design_file.proofs.plan.callers_of.Goals as goal
 
 pub returns : goal.returns

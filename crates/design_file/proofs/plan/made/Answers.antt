@@ -4,8 +4,8 @@ use Rattle.link_steps.specs.Lists.{Each}
 use Rattle.call_script.specs.Parts.{opening_of}
 use Rattle.design_file.specs.Rounded.{IsLinkOf}
 use Rattle.design_file.specs.Planned.{AreRequestsOf, IsOfTheCaller, IsPlanOf, IsRequestOf}
-use Rattle.design_file.proofs.PlanFacts.{may-be-planned}
-use Rattle.design_file.proofs.RequestFacts.{of-the-caller}
+use Rattle.design_file.proofs.DesignIsPlan.{may-be-planned}
+use Rattle.design_file.proofs.RequestsOneByOne.{of-the-caller}
 use Rattle.design_file.proofs.plan.made.Goals as goal
 
 pub new-requires : goal.new-requires

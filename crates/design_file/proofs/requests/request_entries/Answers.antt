@@ -1,4 +1,4 @@
-use Rattle.design_file.proofs.RequestFacts.{no-requests, requests-more, all-requests}
+use Rattle.design_file.proofs.RequestsOneByOne.{no-requests, requests-more, all-requests}
 use Rattle.design_file.proofs.requests.request_entries.Goals as goal
 
 pub loop-stream-init : goal.loop-stream-init

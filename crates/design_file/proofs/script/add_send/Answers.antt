@@ -1,6 +1,6 @@
 use Rattle.std.proofs.Common.{ap, refl, ◌∙◌}
 use Rattle.call_script.specs.Parts.{openings_in}
-use Rattle.design_file.proofs.PlanFacts.{opens-no-more}
+use Rattle.design_file.proofs.DesignIsPlan.{opens-no-more}
 use Rattle.design_file.proofs.script.add_send.Goals as goal
 
 pub returns : goal.returns

@@ -1,6 +1,6 @@
 use Rattle.std.proofs.Common.{ap, ◌∙◌}
 use Rattle.call_script.specs.Parts.{openings_in}
-use Rattle.design_file.proofs.PlanFacts.{opens_all}
+use Rattle.design_file.proofs.DesignIsPlan.{opens_all}
 use Rattle.design_file.proofs.script.script.Goals as goal
 
 pub loop-stream-init : goal.loop-stream-init

@@ -3,7 +3,7 @@ use Rattle.std.specs.List.{AllZip}
 use Rattle.link_steps.specs.Lists.{Each}
 use Rattle.call_script.specs.Parts.{FollowsLink}
 use Rattle.design_file.specs.Planned.{IsHopOver}
-use Rattle.design_file.proofs.LinkFacts.{route-follows}
+use Rattle.design_file.proofs.LinksOneByOne.{route-follows}
 use Rattle.design_file.proofs.ListSteps.{zipped-more, zipped-all}
 use Rattle.design_file.proofs.ways.route_over.Goals as goal
 

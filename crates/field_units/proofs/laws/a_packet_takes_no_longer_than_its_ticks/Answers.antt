@@ -3,7 +3,7 @@ use Rattle.std.proofs.Math.Nat.{mul_assoc, mul_comm, mul-le-mul_left, mul-le-mul
 use Rattle.net_units.specs.Quotient.{ceil_quotient}
 use Rattle.net_units.specs.Limits.{most_rate}
 use Rattle.field_units.specs.Rounding.{second, units_a_tick}
-use Rattle.field_units.proofs.TickFacts.{ceil_quotient-over}
+use Rattle.field_units.proofs.RoundedTicks.{ceil_quotient-over}
 use Rattle.field_units.proofs.laws.a_packet_takes_no_longer_than_its_ticks.Goals as goal
 
 pub returns : goal.returns

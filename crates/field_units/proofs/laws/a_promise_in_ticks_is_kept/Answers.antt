@@ -2,7 +2,7 @@ use Rattle.std.proofs.Common.{◌+◌, ◌*◌, ◌/◌, ◌<◌, ◌≤◌, ari
 use Rattle.std.proofs.lemmas.Nat.{le-div}
 use Rattle.std.proofs.Math.Nat.{add-mul, mul-le-mul_right, one-le-mul}
 use Rattle.field_units.specs.Moments.{tick_of}
-use Rattle.field_units.proofs.TickFacts.{ceil_quotient-under, whole_ticks-fit}
+use Rattle.field_units.proofs.RoundedTicks.{ceil_quotient-under, whole_ticks-fit}
 use Rattle.field_units.proofs.laws.a_promise_in_ticks_is_kept.Goals as goal
 
 pub returns : goal.returns

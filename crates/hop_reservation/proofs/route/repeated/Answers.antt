@@ -1,6 +1,6 @@
 -- A turn ends the search at a link that has occurred before, and goes on after any other.
 use Rattle.std.proofs.Common.{sym, ◌∙◌}
-use Rattle.hop_reservation.proofs.RouteFacts.{repeated-found, repeated-goes_on, repeated-none_left}
+use Rattle.hop_reservation.proofs.DistinctLinks.{repeated-found, repeated-goes_on, repeated-none_left}
 use Rattle.hop_reservation.proofs.route.repeated.Goals as goal
 
 pub returns-then-stands_in : goal.returns-then-stands_in

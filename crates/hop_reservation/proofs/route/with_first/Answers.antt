@@ -1,5 +1,5 @@
 use Rattle.std.proofs.Common.{◌++◌, length, drop, replicate, ap, ◌∙◌}
-use Rattle.hop_reservation.proofs.RouteFacts.{filled-is}
+use Rattle.hop_reservation.proofs.DistinctLinks.{filled-is}
 use Rattle.hop_reservation.proofs.route.with_first.Goals as goal
 
 pub returns : goal.returns

@@ -5,7 +5,7 @@ use Rattle.std.proofs.lemmas.Option.{slice_get_read}
 use Rattle.std.specs.List.{slice_get}
 use Rattle.call_script.specs.Splits.{groups_in}
 use Rattle.call_script.specs.Tasks.{network_of}
-use Rattle.interleave_core.proofs.Keeping.LinkFacts.{LinksMade, one-made, all-made}
+use Rattle.interleave_core.proofs.Keeping.KeptLinks.{LinksMade, one-made, all-made}
 use Rattle.interleave_core.proofs.links.new_links.Goals as goal
 
 pub new_link-requires : goal.new_link-requires

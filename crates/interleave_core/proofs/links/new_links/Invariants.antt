@@ -1,6 +1,6 @@
 use Rattle.std.proofs.Common.{◌≡◌, length}
 use Rattle.call_script.specs.Splits.{groups_in}
-use Rattle.interleave_core.proofs.Keeping.LinkFacts.{LinksMade}
+use Rattle.interleave_core.proofs.Keeping.KeptLinks.{LinksMade}
 use Rattle.interleave_core.proofs.links.new_links.Given as goal
 
 -- one link an entry so far

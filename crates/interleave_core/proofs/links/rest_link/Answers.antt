@@ -7,7 +7,7 @@ use Rattle.link_steps.specs.Quiet.{quiet_reply, quiet_ticks}
 use Rattle.link_steps.specs.Replies.{reply_to}
 use Rattle.link_steps.specs.declared.asks.Ask.TheVariants.{Tick}
 use Rattle.interleave_core.proofs.Keeping.Lookups.{get-set-same}
-use Rattle.interleave_core.proofs.Watched.RestFacts.{first-told, one-tick}
+use Rattle.interleave_core.proofs.Watched.RestedRounds.{first-told, one-tick}
 use Rattle.interleave_core.proofs.links.rest_link.Goals as goal
 
 pub returns-clause-legal : goal.returns-clause-legal

@@ -4,7 +4,7 @@ use Rattle.link_quota.specs.Any.{any_clock}
 use Rattle.link_quota.specs.declared.any_link.AnyLink.{AnyLink}
 use Rattle.link_steps.proofs.ListParts.{Each-at}
 use Rattle.interleave_core.specs.schedules.Resting.{HasRested, RestsBy}
-use Rattle.interleave_core.proofs.Watched.RestFacts.{rested-more, next-stays, all-rested}
+use Rattle.interleave_core.proofs.Watched.RestedRounds.{rested-more, next-stays, all-rested}
 use Rattle.interleave_core.proofs.links.rest_links.Goals as goal
 
 pub loop-link-init : goal.loop-link-init

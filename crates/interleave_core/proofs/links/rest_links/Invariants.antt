@@ -1,4 +1,4 @@
-use Rattle.interleave_core.proofs.Watched.RestFacts.{HaveRestedTo}
+use Rattle.interleave_core.proofs.Watched.RestedRounds.{HaveRestedTo}
 use Rattle.interleave_core.proofs.links.rest_links.Given as goal
 
 -- the links so far have rested

@@ -1,6 +1,6 @@
 -- One more link rests for as many ticks.
 use Rattle.std.proofs.Common.{arith}
-use Rattle.interleave_core.proofs.Watched.RestFacts.{least-more}
+use Rattle.interleave_core.proofs.Watched.RestedRounds.{least-more}
 use Rattle.interleave_core.proofs.links.ticks_at_rest.Goals as goal
 
 pub loop-link-preserved : goal.loop-link-preserved

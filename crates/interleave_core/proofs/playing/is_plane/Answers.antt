@@ -1,11 +1,11 @@
 -- The actor of the number after those of the callers is the plane.
 use Rattle.std.proofs.Common.{◌≡◌, length, sym, ap, ◌∙◌, arith}
 use Rattle.std.proofs.lemmas.Bool.{eqb-true}
-use Rattle.net_units.proofs.NumberFacts.{same-actor}
+use Rattle.net_units.proofs.KnownByNumber.{same-actor}
 use Rattle.net_units.specs.Numbers.{actor_number}
 use Rattle.call_script.specs.Tasks.{network_of}
 use Rattle.interleave_core.specs.schedules.Quiet.{the_plane}
-use Rattle.interleave_core.proofs.Keeping.PlaneFacts.{own-number}
+use Rattle.interleave_core.proofs.Keeping.NextPlaneStep.{own-number}
 use Rattle.interleave_core.proofs.playing.is_plane.Goals as goal
 
 pub returns : goal.returns

@@ -1,7 +1,7 @@
 -- Some steps more, until none is left. A run is too short for the loop to end before.
 use Rattle.std.proofs.Common.{refl, ◌∙◌, arith}
-use Rattle.interleave_core.proofs.Watched.StrideFacts.{least-none, least-more, out-now}
-use Rattle.interleave_core.proofs.Watched.WatchFacts.{never-ending}
+use Rattle.interleave_core.proofs.Watched.WatchedStrides.{least-none, least-more, out-now}
+use Rattle.interleave_core.proofs.Watched.WatchedSteps.{never-ending}
 use Rattle.interleave_core.proofs.playing.make_all.Goals as goal
 
 pub loop-init : goal.loop-init

@@ -1,6 +1,6 @@
 use Rattle.std.proofs.Common.{◌≡◌, List}
 use Rattle.interleave_core.specs.schedules.Watching.{WatchStands}
-use Rattle.interleave_core.proofs.Watched.StrideFacts.{PlaysAtLeast}
+use Rattle.interleave_core.proofs.Watched.WatchedStrides.{PlaysAtLeast}
 use Rattle.run_record.specs.declared.done.Done.{Done}
 use Rattle.interleave_core.proofs.playing.make_all.Given as goal
 

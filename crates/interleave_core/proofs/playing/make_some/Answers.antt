@@ -1,7 +1,7 @@
 -- A step is one turn.
 use Rattle.std.proofs.Common.{sym, ◌∙◌}
-use Rattle.interleave_core.proofs.Watched.StrideFacts.{plays-once}
-use Rattle.interleave_core.proofs.Watched.WatchFacts.{plays-none, plays-one}
+use Rattle.interleave_core.proofs.Watched.WatchedStrides.{plays-once}
+use Rattle.interleave_core.proofs.Watched.WatchedSteps.{plays-none, plays-one}
 use Rattle.interleave_core.proofs.playing.make_some.Goals as goal
 
 pub returns-in_ok-make_watched-in-Some-clause-plays : goal.returns-in_ok-make_watched-in-Some-clause-plays

@@ -1,7 +1,7 @@
 -- One more actor has played out.
 use Rattle.std.proofs.Common.{◌≡◌, length, refl, ap, ◌∙◌, arith}
-use Rattle.interleave_core.proofs.Keeping.StepFacts.{callers-few}
-use Rattle.interleave_core.proofs.Watched.WatchFacts.{none-yet, one-out}
+use Rattle.interleave_core.proofs.Keeping.CoreStep.{callers-few}
+use Rattle.interleave_core.proofs.Watched.WatchedSteps.{none-yet, one-out}
 use Rattle.interleave_core.proofs.playing.play_all.Goals as goal
 
 pub loop-number-init : goal.loop-number-init

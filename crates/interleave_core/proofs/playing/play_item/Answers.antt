@@ -2,9 +2,9 @@
 use Rattle.std.proofs.Common.{◌+◌, ◌-◌, refl, ◌∙◌, arith}
 use Rattle.call_script.specs.Tasks.{network_of}
 use Rattle.interleave_core.specs.declared.playing.PlayFault.TheVariants.{Step}
-use Rattle.interleave_core.proofs.Schedules.PlayFacts.{item-stops}
-use Rattle.interleave_core.proofs.Watched.StrideFacts.{none-made, plays-more, plays-same}
-use Rattle.interleave_core.proofs.Watched.WatchFacts.{plays-none}
+use Rattle.interleave_core.proofs.Schedules.CorePlaysSchedule.{item-stops}
+use Rattle.interleave_core.proofs.Watched.WatchedStrides.{none-made, plays-more, plays-same}
+use Rattle.interleave_core.proofs.Watched.WatchedSteps.{plays-none}
 use Rattle.interleave_core.proofs.playing.play_item.Goals as goal
 
 pub loop-left-init : goal.loop-left-init

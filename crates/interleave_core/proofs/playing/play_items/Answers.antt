@@ -2,8 +2,8 @@
 use Rattle.std.proofs.Common.{refl, ◌∙◌}
 use Rattle.std.proofs.lemmas.Result.{err_from_is_err_and}
 use Rattle.call_script.specs.Tasks.{network_of}
-use Rattle.interleave_core.proofs.Schedules.PlayFacts.{items-stop}
-use Rattle.interleave_core.proofs.Watched.WatchFacts.{items-begin, items-on}
+use Rattle.interleave_core.proofs.Schedules.CorePlaysSchedule.{items-stop}
+use Rattle.interleave_core.proofs.Watched.WatchedSteps.{items-begin, items-on}
 use Rattle.interleave_core.proofs.playing.play_items.Goals as goal
 
 pub loop-item-init : goal.loop-item-init

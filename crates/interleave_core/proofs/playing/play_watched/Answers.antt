@@ -2,7 +2,7 @@
 use Rattle.std.proofs.Common.{sym, ap, subst, ◌∙◌}
 use Rattle.interleave_core.specs.schedules.Watching.{IsPlayedSeen}
 use Rattle.interleave_core.specs.declared.engine.Engine.{Engine}
-use Rattle.interleave_core.proofs.Watched.WatchFacts.{played-items, played-all}
+use Rattle.interleave_core.proofs.Watched.WatchedSteps.{played-items, played-all}
 use Rattle.interleave_core.proofs.playing.play_watched.Goals as goal
 use Rattle.interleave_core.proofs.playing.play_watched.Goals.{then-schedule+in_ok-play_items, else-schedule+in_ok-play_all}
 

@@ -1,8 +1,8 @@
 -- The plane's number is the one after those of the callers.
 use Rattle.std.proofs.Common.{length, sym, ap, ◌∙◌, arith}
 use Rattle.net_units.specs.Numbers.{actor_at}
-use Rattle.interleave_core.proofs.Keeping.ActorFacts.{plane-number}
-use Rattle.interleave_core.proofs.Keeping.StepFacts.{callers-few}
+use Rattle.interleave_core.proofs.Keeping.KeptActors.{plane-number}
+use Rattle.interleave_core.proofs.Keeping.CoreStep.{callers-few}
 use Rattle.interleave_core.proofs.quiet.plane_of.Goals as goal
 
 pub actor_of-requires : goal.actor_of-requires

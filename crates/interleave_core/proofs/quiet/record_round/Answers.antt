@@ -1,8 +1,8 @@
 -- One more tick is recorded.
 use Rattle.std.proofs.Common.{◌-◌, ◌∷◌, reverse, refl, ap, ◌∙◌}
 use Rattle.interleave_core.specs.schedules.Quiet.{quiet_step}
-use Rattle.interleave_core.proofs.Keeping.StepFacts.{recorded}
-use Rattle.interleave_core.proofs.Watched.StrideFacts.{none-more, round-more}
+use Rattle.interleave_core.proofs.Keeping.CoreStep.{recorded}
+use Rattle.interleave_core.proofs.Watched.WatchedStrides.{none-more, round-more}
 use Rattle.interleave_core.proofs.quiet.record_round.Goals as goal
 
 pub loop-number-init : goal.loop-number-init

@@ -1,7 +1,7 @@
 -- One more round is recorded.
 use Rattle.std.proofs.Common.{◌+◌, reverse, refl, ap, ◌∙◌}
 use Rattle.interleave_core.specs.schedules.Quiet.{quiet_round}
-use Rattle.interleave_core.proofs.Watched.StrideFacts.{no-rounds, rounds-more}
+use Rattle.interleave_core.proofs.Watched.WatchedStrides.{no-rounds, rounds-more}
 use Rattle.interleave_core.proofs.quiet.record_rounds.Goals as goal
 
 pub loop-passed-init : goal.loop-passed-init

@@ -1,6 +1,6 @@
 -- The plane makes what it asks next, in each run that both stand for, or it asks nothing.
 use Rattle.std.proofs.Common.{◌∙◌}
-use Rattle.interleave_core.proofs.Keeping.PlaneFacts.{plane-asked}
+use Rattle.interleave_core.proofs.Keeping.NextPlaneStep.{plane-asked}
 use Rattle.interleave_core.proofs.rounds.make_asked.Goals as goal
 
 pub step_watched-requires : goal.step_watched-requires

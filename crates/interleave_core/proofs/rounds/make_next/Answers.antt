@@ -1,5 +1,5 @@
 -- The plane makes the tick that it asks for next, in each run that both stand for.
-use Rattle.interleave_core.proofs.Keeping.PlaneFacts.{tick-asked}
+use Rattle.interleave_core.proofs.Keeping.NextPlaneStep.{tick-asked}
 use Rattle.interleave_core.proofs.rounds.make_next.Goals as goal
 
 pub make_tick-requires : goal.make_tick-requires

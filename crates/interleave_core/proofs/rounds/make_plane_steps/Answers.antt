@@ -1,6 +1,6 @@
 -- There are links to divide by.
 use Rattle.std.proofs.Common.{length, ap, arith}
-use Rattle.interleave_core.proofs.Watched.StrideFacts.{links-some}
+use Rattle.interleave_core.proofs.Watched.WatchedStrides.{links-some}
 use Rattle.interleave_core.proofs.rounds.make_plane_steps.Goals as goal
 
 pub nonzero_div-most : goal.nonzero_div-most

@@ -2,8 +2,8 @@
 use Rattle.std.proofs.Common.{refl, ◌∙◌, arith}
 use Rattle.call_script.specs.Tasks.{network_of}
 use Rattle.interleave_core.specs.schedules.Quiet.{the_plane}
-use Rattle.interleave_core.proofs.Watched.StrideFacts.{none-made}
-use Rattle.interleave_core.proofs.Watched.WatchFacts.{plays-none, plays-one, plays-again}
+use Rattle.interleave_core.proofs.Watched.WatchedStrides.{none-made}
+use Rattle.interleave_core.proofs.Watched.WatchedSteps.{plays-none, plays-one, plays-again}
 use Rattle.interleave_core.proofs.rounds.make_round.Goals as goal
 
 pub loop-made-init : goal.loop-made-init

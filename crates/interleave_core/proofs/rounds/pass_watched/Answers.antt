@@ -5,8 +5,8 @@ use Rattle.link_steps.specs.declared.asks.Ask.TheVariants.{Tick}
 use Rattle.link_steps.specs.Quiet.{quiet_reply}
 use Rattle.interleave_core.specs.schedules.PlaneSteps.{plane_step}
 use Rattle.interleave_core.specs.schedules.Quiet.{the_plane}
-use Rattle.interleave_core.proofs.Keeping.PlaneFacts.{makes-step, plane-gets}
-use Rattle.interleave_core.proofs.Watched.WatchFacts.{about, goes-on}
+use Rattle.interleave_core.proofs.Keeping.NextPlaneStep.{makes-step, plane-gets}
+use Rattle.interleave_core.proofs.Watched.WatchedSteps.{about, goes-on}
 use Rattle.interleave_core.proofs.rounds.pass_watched.Goals as goal
 
 pub pass_link-requires-clause-about : goal.pass_link-requires-clause-about

@@ -2,8 +2,8 @@
 use Rattle.std.proofs.Common.{refl, ◌∙◌, arith}
 use Rattle.call_script.specs.Tasks.{network_of}
 use Rattle.interleave_core.specs.schedules.Quiet.{the_plane}
-use Rattle.interleave_core.proofs.Watched.StrideFacts.{least-none, least-more, out-now}
-use Rattle.interleave_core.proofs.Watched.WatchFacts.{never-ending}
+use Rattle.interleave_core.proofs.Watched.WatchedStrides.{least-none, least-more, out-now}
+use Rattle.interleave_core.proofs.Watched.WatchedSteps.{never-ending}
 use Rattle.interleave_core.proofs.rounds.play_plane.Goals as goal
 
 pub loop-init : goal.loop-init

@@ -2,7 +2,7 @@ use Rattle.std.proofs.Common.{◌≡◌, List}
 use Rattle.call_script.specs.Tasks.{network_of}
 use Rattle.interleave_core.specs.schedules.Quiet.{the_plane}
 use Rattle.interleave_core.specs.schedules.Watching.{WatchStands}
-use Rattle.interleave_core.proofs.Watched.StrideFacts.{PlaysAtLeast}
+use Rattle.interleave_core.proofs.Watched.WatchedStrides.{PlaysAtLeast}
 use Rattle.run_record.specs.declared.done.Done.{Done}
 use Rattle.interleave_core.proofs.rounds.play_plane.Given as goal
 

@@ -1,6 +1,6 @@
 -- It rests for fewer rounds too.
 use Rattle.std.proofs.Common.{arith}
-use Rattle.interleave_core.proofs.Watched.RestFacts.{fewer-engine}
+use Rattle.interleave_core.proofs.Watched.RestedRounds.{fewer-engine}
 use Rattle.interleave_core.proofs.rounds.rounds_at_most.Goals as goal
 
 pub returns-clause-rests : goal.returns-clause-rests

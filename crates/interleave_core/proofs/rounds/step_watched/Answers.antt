@@ -3,8 +3,8 @@ use Rattle.std.proofs.Common.{refl}
 use Rattle.call_script.specs.Tasks.{network_of}
 use Rattle.interleave_core.specs.schedules.PlaneSteps.{plane_step}
 use Rattle.interleave_core.specs.schedules.Quiet.{the_plane}
-use Rattle.interleave_core.proofs.Keeping.PlaneFacts.{makes-step, plane-gets}
-use Rattle.interleave_core.proofs.Watched.WatchFacts.{about, goes-on}
+use Rattle.interleave_core.proofs.Keeping.NextPlaneStep.{makes-step, plane-gets}
+use Rattle.interleave_core.proofs.Watched.WatchedSteps.{about, goes-on}
 use Rattle.interleave_core.proofs.rounds.step_watched.Goals as goal
 
 pub ask_link-requires : goal.ask_link-requires

@@ -1,5 +1,5 @@
 -- The engine makes the step for each run that both stand for, and it is seen after that run.
-use Rattle.interleave_core.proofs.Watched.WatchFacts.{about, next-seen, goes-on}
+use Rattle.interleave_core.proofs.Watched.WatchedSteps.{about, next-seen, goes-on}
 use Rattle.interleave_core.proofs.watching.make_watched.Goals as goal
 
 pub make-requires : goal.make-requires

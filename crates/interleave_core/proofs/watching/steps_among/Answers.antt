@@ -1,7 +1,7 @@
 -- The entry at hand is of the actor, or it isn't.
 use Rattle.std.proofs.Common.{sym, ◌∙◌, refl, arith}
 use Rattle.run_record.specs.Runs.{replies_to}
-use Rattle.interleave_core.proofs.Keeping.StepFacts.{steps-same, steps-other}
+use Rattle.interleave_core.proofs.Keeping.CoreStep.{steps-same, steps-other}
 use Rattle.interleave_core.proofs.watching.steps_among.Goals as goal
 use Rattle.interleave_core.proofs.watching.steps_among.Goals.{then-get, else-get}
 

@@ -1,5 +1,5 @@
 -- The rounds are turns of the plane, and the watcher has seen them.
-use Rattle.interleave_core.proofs.Watched.StrideFacts.{plays-rest, rest-seen}
+use Rattle.interleave_core.proofs.Watched.WatchedStrides.{plays-rest, rest-seen}
 use Rattle.interleave_core.proofs.watching.stride_watched.Goals as goal
 
 pub returns-clause-plays : goal.returns-clause-plays

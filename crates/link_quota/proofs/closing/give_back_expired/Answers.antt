@@ -5,7 +5,7 @@ use Rattle.std.specs.Prelude.{not, is_some, slice_get}
 use Rattle.link_server.specs.Held.{reservations_held, seen_of}
 use Rattle.link_quota.specs.Closing.{AreLowered}
 use Rattle.link_quota.specs.Places.{HavePart, AreRaisedBy}
-use Rattle.link_quota.proofs.AnewFacts.{take-all}
+use Rattle.link_quota.proofs.SharesRowByRow.{take-all}
 use Rattle.link_quota.proofs.ClosingShares.{lowered-none, lowered-more, lowered-same, part-gone}
 use Rattle.link_quota.proofs.closing.give_back_expired.Goals as goal
 use Rattle.link_quota.proofs.closing.give_back_expired.Goals.{then-is_none, else-is_none}

@@ -1,7 +1,7 @@
 -- A row that wasn't closing and is so now is listed.
 use Rattle.std.proofs.Common.{◌≡◌, ℕ, ◌+◌, true, Some, rules, refl, sym, ap, ◌∙◌, arith}
 use Rattle.traffic_contract.specs.Admission.{total}
-use Rattle.traffic_contract.proofs.AdmissionFacts.{total-push}
+use Rattle.traffic_contract.proofs.AdmissionTest.{total-push}
 use Rattle.link_steps.specs.declared.replies.Phase.TheVariants.{Closing}
 use Rattle.link_steps.specs.Reservation.{is_phase}
 use Rattle.link_server.specs.declared.held_row.HeldRow.{HeldRow}

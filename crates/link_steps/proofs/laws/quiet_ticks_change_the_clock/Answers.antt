@@ -1,4 +1,4 @@
-use Rattle.link_steps.proofs.QuietFacts.{quiet-ticks}
+use Rattle.link_steps.proofs.QuietTicks.{quiet-ticks}
 use Rattle.link_steps.proofs.laws.quiet_ticks_change_the_clock.Goals as goal
 
 pub returns : goal.returns

@@ -1,4 +1,4 @@
-use Rattle.link_steps.proofs.RuleFacts.{legal-answered, legal-determined}
+use Rattle.link_steps.proofs.RulesAsMeant.{legal-answered, legal-determined}
 use Rattle.link_steps.proofs.laws.replies_are_determined.Goals as goal
 
 pub returns : goal.returns

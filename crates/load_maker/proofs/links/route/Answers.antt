@@ -1,5 +1,5 @@
 -- Links in a row are a route.
-use Rattle.load_maker.proofs.MakeFacts.{never, route-there}
+use Rattle.load_maker.proofs.LoopsMakeLoad.{never, route-there}
 use Rattle.load_maker.proofs.links.route.Goals as goal
 
 pub unreachable-requires : goal.unreachable-requires

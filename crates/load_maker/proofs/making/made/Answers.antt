@@ -1,6 +1,6 @@
 -- One more caller; and the parts are those of a plan.
 use Rattle.std.proofs.Common.{◌∙◌}
-use Rattle.load_maker.proofs.MakeFacts.{nobody-yet, no-callers, caller-requests, caller-entries, requests-few, parts-are, plan-of, unbroken}
+use Rattle.load_maker.proofs.LoopsMakeLoad.{nobody-yet, no-callers, caller-requests, caller-entries, requests-few, parts-are, plan-of, unbroken}
 use Rattle.load_maker.proofs.making.made.Goals as goal
 
 pub loop-caller-init : goal.loop-caller-init

@@ -1,6 +1,6 @@
 -- A letter and a number are a name.
 use Rattle.std.proofs.Common.{◌∙◌}
-use Rattle.load_maker.proofs.MakeFacts.{never, named}
+use Rattle.load_maker.proofs.LoopsMakeLoad.{never, named}
 use Rattle.load_maker.proofs.script.request_name.Goals as goal
 
 pub unreachable-requires : goal.unreachable-requires

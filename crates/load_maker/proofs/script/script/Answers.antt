@@ -1,6 +1,6 @@
 -- One more request, if it is the caller's.
 use Rattle.std.proofs.Common.{◌∙◌, length, ap, refl}
-use Rattle.load_maker.proofs.MakeFacts.{no-requests, no-ops, no-draws, draws-more, chan-small, place-small, requests-more, ops-more, requests-stay, ops-stay}
+use Rattle.load_maker.proofs.LoopsMakeLoad.{no-requests, no-ops, no-draws, draws-more, chan-small, place-small, requests-more, ops-more, requests-stay, ops-stay}
 use Rattle.load_maker.specs.Made.{request_entry_of}
 use Rattle.load_maker.proofs.script.script.Goals as goal
 use Rattle.load_maker.proofs.script.script.Goals.{then-n-from+in_ok-add_request+in_ok-push_ops, else-n-from}

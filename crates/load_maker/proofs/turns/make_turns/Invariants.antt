@@ -1,5 +1,5 @@
 use Rattle.std.proofs.Common.{◌≡◌}
-use Rattle.load_maker.proofs.SeenFacts.{TurnsSoFar}
+use Rattle.load_maker.proofs.WatchedTurns.{TurnsSoFar}
 use Rattle.load_maker.proofs.turns.make_turns.Given as goal
 
 -- the steps so far were made by turns, and this is where the circle goes on

@@ -1,7 +1,7 @@
 -- Nobody has a step left after the turns that were made.
 use Rattle.std.proofs.Common.{sym, subst}
 use Rattle.interleave_core.specs.schedules.Standing.{CallersStand}
-use Rattle.interleave_core.proofs.Watched.WatchFacts.{engine-guaranteed}
+use Rattle.interleave_core.proofs.Watched.WatchedSteps.{engine-guaranteed}
 use Rattle.load_maker.proofs.turns.take_watched_turns.Goals as goal
 
 pub make_turns-requires : goal.make_turns-requires

@@ -3,7 +3,7 @@ use Rattle.std.proofs.Common.{◌≡◌, None, subst, sym, ◌∙◌, arith}
 use Rattle.net_units.specs.Numbers.{actor_number}
 use Rattle.call_script.specs.Tasks.{network_of}
 use Rattle.interleave_core.specs.runs.Runs.{next_for}
-use Rattle.interleave_core.proofs.Schedules.PlayFacts.{step-some}
+use Rattle.interleave_core.proofs.Schedules.CorePlaysSchedule.{step-some}
 use Rattle.load_maker.proofs.TurnLaws.{nobody-left, circle-size, place-few, turn-place, one-more}
 use Rattle.load_maker.proofs.turns.turn.Goals as goal
 

@@ -1,6 +1,6 @@
 use Rattle.step_stamp.specs.Opening.{IsNewLink}
 use Rattle.step_stamp.specs.Seats.{stamps_table}
-use Rattle.lock_bench.proofs.ReadyFacts.{popped, all-unused}
+use Rattle.lock_bench.proofs.SeatsUnused.{popped, all-unused}
 use Rattle.lock_bench.proofs.opening.opened.Goals as goal
 
 pub returns-clause-link : goal.returns-clause-link

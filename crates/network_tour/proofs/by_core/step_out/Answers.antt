@@ -1,6 +1,6 @@
 use Rattle.call_script.specs.Tasks.{network_of}
 use Rattle.interleave_core.specs.schedules.Standing.{run_in}
-use Rattle.interleave_core.proofs.Schedules.PlayFacts.{step-follows, turn-fewer}
+use Rattle.interleave_core.proofs.Schedules.CorePlaysSchedule.{step-follows, turn-fewer}
 use Rattle.network_tour.proofs.by_core.step_out.Goals as goal
 
 -- a step leaves the actor fewer

@@ -1,7 +1,7 @@
 use Rattle.std.proofs.Common.{ap, ◌∙◌}
 use Rattle.net_units.specs.Numbers.{actor_number}
 use Rattle.net_units.specs.declared.numbers.ActorNo.{ActorNo}
-use Rattle.network_tour.proofs.TourFacts.{tour-hops, tour-owner}
+use Rattle.network_tour.proofs.TourConditions.{tour-hops, tour-owner}
 use Rattle.network_tour.proofs.by_network.call.Goals as goal
 
 pub setup-requires-clause-owned : goal.setup-requires-clause-owned

@@ -1,4 +1,4 @@
-use Rattle.network_tour.proofs.TourFacts.{goes-first}
+use Rattle.network_tour.proofs.TourConditions.{goes-first}
 use Rattle.network_tour.proofs.by_network.make.Goals as goal
 
 pub join-called-requires-after_bounds : goal.join-called-requires-after_bounds

@@ -1,8 +1,8 @@
 use Rattle.std.proofs.Common.{length, sym, subst}
 use Rattle.shared_network.specs.Gathering.{AreAll}
-use Rattle.shared_network.proofs.WorkedFacts.{passes-are, seats-are}
+use Rattle.shared_network.proofs.WorkedNetworks.{passes-are, seats-are}
 use Rattle.step_stamp.specs.Opening.{AreLinks}
-use Rattle.network_tour.proofs.TourFacts.{opened-first, opened-second, opened-two, two-all}
+use Rattle.network_tour.proofs.TourConditions.{opened-first, opened-second, opened-two, two-all}
 use Rattle.network_tour.proofs.by_network.run_over.Goals as goal
 
 pub open-requires-clause-seats : goal.open-requires-clause-seats

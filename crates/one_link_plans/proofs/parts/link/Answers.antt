@@ -1,6 +1,6 @@
 -- No quotas leave the levels after the last one unused.
 use Rattle.std.proofs.Common.{rules}
-use Rattle.one_link_plans.proofs.OneLinkFacts.{none-leaves}
+use Rattle.one_link_plans.proofs.OneLinkFits.{none-leaves}
 use Rattle.one_link_plans.proofs.parts.link.Goals as goal
 
 pub returns-clause-is : goal.returns-clause-is

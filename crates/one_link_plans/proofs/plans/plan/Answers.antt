@@ -1,5 +1,5 @@
 -- The parts may be planned.
-use Rattle.one_link_plans.proofs.OneLinkFacts.{split-planned}
+use Rattle.one_link_plans.proofs.OneLinkFits.{split-planned}
 use Rattle.one_link_plans.proofs.plans.plan.Goals as goal
 
 pub new-requires : goal.new-requires

@@ -1,5 +1,5 @@
 -- The parts may be planned.
-use Rattle.one_link_plans.proofs.OneLinkFacts.{two-planned}
+use Rattle.one_link_plans.proofs.OneLinkFits.{two-planned}
 use Rattle.one_link_plans.proofs.plans.plan_of_two.Goals as goal
 
 pub new-requires-2 : goal.new-requires-2

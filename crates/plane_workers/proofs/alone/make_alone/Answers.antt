@@ -1,6 +1,6 @@
 -- Some steps more, until the round begins. A run is too short for the loop to end before.
 use Rattle.std.proofs.Common.{◌+◌, refl, ◌∙◌, arith}
-use Rattle.plane_workers.proofs.MoreFacts.{none-more, more-again, more-few, more-least}
+use Rattle.plane_workers.proofs.StepsAddUp.{none-more, more-again, more-few, more-least}
 use Rattle.plane_workers.proofs.alone.make_alone.Goals as goal
 
 pub loop-init : goal.loop-init

@@ -2,10 +2,10 @@
 use Rattle.std.proofs.Common.{length, refl, sym, ap, ◌∙◌, arith}
 use Rattle.call_script.specs.Tasks.{network_of}
 use Rattle.interleave_core.specs.schedules.Quiet.{the_plane}
-use Rattle.interleave_core.proofs.Watched.RestFacts.{fewer-engine}
-use Rattle.interleave_core.proofs.Watched.StrideFacts.{links-few, links-some}
-use Rattle.plane_workers.proofs.MoreFacts.{step-more, stride-more}
-use Rattle.plane_workers.proofs.RoundFacts.{plane-left}
+use Rattle.interleave_core.proofs.Watched.RestedRounds.{fewer-engine}
+use Rattle.interleave_core.proofs.Watched.WatchedStrides.{links-few, links-some}
+use Rattle.plane_workers.proofs.StepsAddUp.{step-more, stride-more}
+use Rattle.plane_workers.proofs.LinksAtDesks.{plane-left}
 use Rattle.plane_workers.proofs.alone.make_some.Goals as goal
 
 pub pass_gate-requires : goal.pass_gate-requires

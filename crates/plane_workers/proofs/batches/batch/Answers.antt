@@ -12,7 +12,7 @@ use Rattle.plane_workers.specs.Answered.{IsAnswered}
 use Rattle.plane_workers.specs.Batches.{AreAhead, own_asks}
 use Rattle.plane_workers.specs.Desks.{rules_at, stands_at, left_at}
 use Rattle.plane_workers.specs.declared.desk.Desk.{Desk}
-use Rattle.plane_workers.proofs.BatchFacts.{HasAll, desk-link, batch-has, batch-rules, batch-begins, link-of}
+use Rattle.plane_workers.proofs.BatchReplies.{HasAll, desk-link, batch-has, batch-rules, batch-begins, link-of}
 use Rattle.plane_workers.proofs.batches.batch.Goals as goal
 
 pub answer_batch-requires-clause-fits : goal.answer_batch-requires-clause-fits

@@ -15,7 +15,7 @@ use Rattle.interleave_core.proofs.Keeping.Lookups.{held, found-at}
 use Rattle.plane_workers.specs.Batches.{AreAhead, MadeInTurn}
 use Rattle.plane_workers.specs.Desks.{rules_at, stands_at, left_at}
 use Rattle.plane_workers.specs.declared.desk.Desk.{Desk}
-use Rattle.plane_workers.proofs.BatchFacts.{HasAll, has-first, has-rest, made-so, ahead-so, ahead-end, in-turn-more, mapped-same, after-ask, nonempty-left}
+use Rattle.plane_workers.proofs.BatchReplies.{HasAll, has-first, has-rest, made-so, ahead-so, ahead-end, in-turn-more, mapped-same, after-ask, nonempty-left}
 use Rattle.plane_workers.proofs.batches.gather.Goals as goal
 
 pub next_reply-requires-clause-left : goal.next_reply-requires-clause-left

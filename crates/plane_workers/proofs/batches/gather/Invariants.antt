@@ -4,7 +4,7 @@ use Rattle.link_steps.specs.Split.{Link}
 use Rattle.plane_workers.specs.Batches.{AreAhead, MadeInTurn}
 use Rattle.plane_workers.specs.Desks.{rules_at, stands_at, left_at}
 use Rattle.plane_workers.specs.declared.desk.Desk.{Desk}
-use Rattle.plane_workers.proofs.BatchFacts.{HasAll}
+use Rattle.plane_workers.proofs.BatchReplies.{HasAll}
 use Rattle.plane_workers.proofs.batches.gather.Given as goal
 
 -- the replies so far, and the asks that are left

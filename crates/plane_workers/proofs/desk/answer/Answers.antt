@@ -2,7 +2,7 @@
 use Rattle.std.proofs.Common.{List, [], ◌∷◌, ◌++◌, sym, ap, ◌∙◌, subst, arith}
 use Rattle.link_steps.specs.declared.replies.Reply.{Reply}
 use Rattle.plane_workers.specs.Answered.{IsAnswered}
-use Rattle.plane_workers.proofs.AnswerFacts.{none-answered, next-answered, none-ticks, clock-step, ticks-more, ticks-front}
+use Rattle.plane_workers.proofs.AsksInTurn.{none-answered, next-answered, none-ticks, clock-step, ticks-more, ticks-front}
 use Rattle.plane_workers.proofs.desk.answer.Goals as goal
 
 pub loop-ask-init : goal.loop-ask-init

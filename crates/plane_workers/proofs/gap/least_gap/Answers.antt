@@ -3,9 +3,9 @@ use Rattle.std.proofs.Common.{◌+◌, List, ◌∷◌, [], take, sym, subst, ar
 use Rattle.call_script.proofs.Walks.{before-at}
 use Rattle.call_script.specs.declared.entries.RequestEntry.{RequestEntry}
 use Rattle.link_steps.specs.Lists.{Each}
-use Rattle.link_steps.proofs.ListFacts.{Each-append}
+use Rattle.link_steps.proofs.SearchAndFilter.{Each-append}
 use Rattle.plane_workers.specs.Gaps.{IsSpaced}
-use Rattle.plane_workers.proofs.RoundFacts.{each-closer}
+use Rattle.plane_workers.proofs.LinksAtDesks.{each-closer}
 use Rattle.plane_workers.proofs.gap.least_gap.Goals as goal
 
 pub loop-entry-preserved : goal.loop-entry-preserved

@@ -2,7 +2,7 @@
 use Rattle.std.proofs.Common.{length, refl, ap, ◌∙◌}
 use Rattle.net_units.specs.Numbers.{actor_at}
 use Rattle.interleave_core.specs.declared.engine.Engine.{Engine}
-use Rattle.interleave_core.proofs.Watched.WatchFacts.{one-out, played-all}
+use Rattle.interleave_core.proofs.Watched.WatchedSteps.{one-out, played-all}
 use Rattle.plane_workers.proofs.playing.played_watched.Goals as goal
 
 pub make_rounds-requires-clause-stand : goal.make_rounds-requires-clause-stand

@@ -1,14 +1,14 @@
 -- No round yet, and then a part more.
 use Rattle.std.proofs.Common.{◌≡◌, length, refl, sym, ap, ◌∙◌, arith}
 use Rattle.net_units.specs.Numbers.{actor_number, actor_at}
-use Rattle.call_script.proofs.FitFacts.{plan-fits}
+use Rattle.call_script.proofs.PlansFit.{plan-fits}
 use Rattle.call_script.specs.Tasks.{network_of}
 use Rattle.interleave_core.specs.schedules.Quiet.{the_plane}
-use Rattle.interleave_core.proofs.Keeping.ActorFacts.{plane-number}
-use Rattle.interleave_core.proofs.Keeping.StepFacts.{callers-few, has-few}
+use Rattle.interleave_core.proofs.Keeping.KeptActors.{plane-number}
+use Rattle.interleave_core.proofs.Keeping.CoreStep.{callers-few, has-few}
 use Rattle.plane_workers.proofs.GapLaw.{packets-take}
-use Rattle.plane_workers.proofs.MoreFacts.{none-more, more-again, more-out}
-use Rattle.plane_workers.proofs.RoundFacts.{plane-end, plane-of-callers, plan-spaced, rounds-of}
+use Rattle.plane_workers.proofs.StepsAddUp.{none-more, more-again, more-out}
+use Rattle.plane_workers.proofs.LinksAtDesks.{plane-end, plane-of-callers, plan-spaced, rounds-of}
 use Rattle.plane_workers.proofs.rounds.make_rounds.Goals as goal
 
 pub overflow_add-rounds : goal.overflow_add-rounds

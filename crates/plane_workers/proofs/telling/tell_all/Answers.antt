@@ -3,7 +3,7 @@ use Rattle.std.proofs.Common.{refl, ◌∙◌}
 use Rattle.call_script.specs.Tasks.{network_of}
 use Rattle.plane_workers.specs.Desks.{rules_at, stands_at, left_at}
 use Rattle.plane_workers.specs.Seen.{SeenWithin}
-use Rattle.plane_workers.proofs.TellFacts.{comes-none, comes-both}
+use Rattle.plane_workers.proofs.NextWindowStep.{comes-none, comes-both}
 use Rattle.plane_workers.proofs.telling.tell_all.Goals as goal
 
 pub loop-actor-init : goal.loop-actor-init

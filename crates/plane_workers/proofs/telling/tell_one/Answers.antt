@@ -6,8 +6,8 @@ use Rattle.tick_plane.specs.Kept.{KeptPlane}
 use Rattle.tick_plane.specs.Planes.{next_due, plane_after, plane_ask, plane_expects, IsDueLater}
 use Rattle.interleave_core.proofs.Keeping.Lookups.{when-ok}
 use Rattle.plane_workers.specs.Desks.{rules_at, stands_at, left_at}
-use Rattle.plane_workers.proofs.HandFacts.{handed, hand-expected, hand-later, hand-fewer, hand-within, hand-goes, hand-seen}
-use Rattle.plane_workers.proofs.TellFacts.{link-inside, has-reply, more-left, step-left}
+use Rattle.plane_workers.proofs.DeskHandsOut.{handed, hand-expected, hand-later, hand-fewer, hand-within, hand-goes, hand-seen}
+use Rattle.plane_workers.proofs.NextWindowStep.{link-inside, has-reply, more-left, step-left}
 use Rattle.plane_workers.proofs.telling.tell_one.Goals as goal
 
 pub unreachable-requires : goal.unreachable-requires

@@ -1,7 +1,7 @@
 -- Each link may answer what it is asked, and then the window is told.
 use Rattle.std.proofs.Common.{◌≡◌}
 use Rattle.plane_workers.specs.Desks.{rules_at, stands_at, left_at}
-use Rattle.plane_workers.proofs.MakeFacts.{links-few, asks-fit, asks-early, seen-begins, seen-again, on-ok}
+use Rattle.plane_workers.proofs.WholeWindow.{links-few, asks-fit, asks-early, seen-begins, seen-again, on-ok}
 use Rattle.plane_workers.proofs.window.make_window.Goals as goal
 
 pub answer_until-requires-clause-few : goal.answer_until-requires-clause-few

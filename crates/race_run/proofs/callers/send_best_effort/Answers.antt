@@ -1,6 +1,6 @@
 use Rattle.std.proofs.Common.{None, refl}
 use Rattle.call_script.specs.declared.tasks.Task.TheVariants.{Sends}
-use Rattle.race_run.proofs.OpFacts.{here-with}
+use Rattle.race_run.proofs.OperationAtPlace.{here-with}
 use Rattle.race_run.proofs.SendOver.{best-there, best-fits, best-over}
 use Rattle.race_run.proofs.callers.send_best_effort.Goals as goal
 

@@ -1,4 +1,4 @@
-use Rattle.race_run.proofs.MergeFacts.{there-at}
+use Rattle.race_run.proofs.WeaveByStamps.{there-at}
 use Rattle.race_run.proofs.merging.done_at.Goals as goal
 
 pub returns : goal.returns

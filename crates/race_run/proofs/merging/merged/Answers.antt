@@ -1,5 +1,5 @@
 use Rattle.std.proofs.Common.{IfOk, IsPermutation, subst}
-use Rattle.race_run.proofs.MergeFacts.{sources-in-order, sources-joined}
+use Rattle.race_run.proofs.WeaveByStamps.{sources-in-order, sources-joined}
 use Rattle.race_run.proofs.merging.merged.Goals as goal
 
 pub merge-requires : goal.merge-requires

@@ -1,7 +1,7 @@
 use Rattle.std.proofs.Common.{◌∷◌, [], ◌++◌, get_or, ap, ◌∙◌, sym}
 use Rattle.std.proofs.lemmas.List.{get_or_default}
 use Rattle.race_run.specs.declared.merging.Place.{Place}
-use Rattle.race_run.proofs.MergeFacts.{there-next}
+use Rattle.race_run.proofs.WeaveByStamps.{there-next}
 use Rattle.race_run.proofs.merging.recorded.Goals as goal
 
 pub loop-at-preserved : goal.loop-at-preserved

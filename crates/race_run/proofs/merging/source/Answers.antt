@@ -1,5 +1,5 @@
 use Rattle.std.proofs.Common.{[], ◌∷◌, ◌++◌, sym, ap, ◌∙◌}
-use Rattle.race_run.proofs.MergeFacts.{places-none, places-next}
+use Rattle.race_run.proofs.WeaveByStamps.{places-none, places-next}
 use Rattle.race_run.proofs.merging.source.Goals as goal
 
 pub loop-at-init : goal.loop-at-init

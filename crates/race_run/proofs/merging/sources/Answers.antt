@@ -1,5 +1,5 @@
 use Rattle.std.proofs.Common.{sym, ap, map, ◌∙◌}
-use Rattle.race_run.proofs.MergeFacts.{sources-none, sources-next}
+use Rattle.race_run.proofs.WeaveByStamps.{sources-none, sources-next}
 use Rattle.race_run.proofs.merging.sources.Goals as goal
 
 pub loop-number-init : goal.loop-number-init

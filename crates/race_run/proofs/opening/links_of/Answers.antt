@@ -5,10 +5,10 @@ use Rattle.std.specs.List.{slice_get}
 use Rattle.link_quota.specs.Any.{any_rules, AnyStands}
 use Rattle.link_quota.specs.declared.any_link.AnyLink.{AnyLink}
 use Rattle.link_steps.specs.Lists.{Each}
-use Rattle.link_steps.proofs.ListFacts.{Each-append}
+use Rattle.link_steps.proofs.SearchAndFilter.{Each-append}
 use Rattle.call_script.specs.Splits.{entry_link, groups_in}
 use Rattle.call_script.specs.Tasks.{network_of}
-use Rattle.race_run.proofs.OpenFacts.{mapped-more}
+use Rattle.race_run.proofs.OpenedOneByOne.{mapped-more}
 use Rattle.race_run.proofs.opening.links_of.Goals as goal
 
 pub new_link-requires : goal.new_link-requires

@@ -7,9 +7,9 @@ use Rattle.link_ledger.specs.Tokens.{Token}
 use Rattle.race_run.specs.Pieces.{AreNew, MayBegin}
 use Rattle.race_run.specs.Tail.{GoesLast, own_in}
 use Rattle.race_run.specs.Whole.{HasMadeAll}
-use Rattle.race_run.proofs.PieceFacts.{all-begin, last-own, last-plane, made-actors, made-all, made-are_all, made-in_order, made-of}
-use Rattle.race_run.proofs.RaceFacts.{plane-new}
-use Rattle.race_run.proofs.TailFacts.{tail-last}
+use Rattle.race_run.proofs.RacePieces.{all-begin, last-own, last-plane, made-actors, made-all, made-are_all, made-in_order, made-of}
+use Rattle.race_run.proofs.RaceSizes.{plane-new}
+use Rattle.race_run.proofs.TailComesLast.{tail-last}
 use Rattle.race_run.proofs.racing.make_all.Goals as goal
 
 pub unreachable-requires : goal.unreachable-requires

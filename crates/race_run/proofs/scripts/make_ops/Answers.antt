@@ -1,5 +1,5 @@
 use Rattle.std.proofs.Common.{refl, ◌∙◌, arith}
-use Rattle.shared_network.proofs.PassFacts.{goes-none, goes-both}
+use Rattle.shared_network.proofs.CallsInTurn.{goes-none, goes-both}
 use Rattle.race_run.proofs.ScriptEnds.{script-ends}
 use Rattle.race_run.proofs.scripts.make_ops.Goals as goal
 

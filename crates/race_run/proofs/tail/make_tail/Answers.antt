@@ -1,9 +1,9 @@
 use Rattle.std.proofs.Common.{map, arith}
-use Rattle.interleave_core.proofs.Keeping.StepFacts.{has-few}
+use Rattle.interleave_core.proofs.Keeping.CoreStep.{has-few}
 use Rattle.race_run.specs.Tail.{own_in}
-use Rattle.shared_network.proofs.PassFacts.{goes-both}
-use Rattle.race_run.proofs.RaceFacts.{tail-left, tail-made}
-use Rattle.race_run.proofs.TailFacts.{at-same, goes-last}
+use Rattle.shared_network.proofs.CallsInTurn.{goes-both}
+use Rattle.race_run.proofs.RaceSizes.{tail-left, tail-made}
+use Rattle.race_run.proofs.TailComesLast.{at-same, goes-last}
 use Rattle.race_run.proofs.tail.make_tail.Goals as goal
 
 pub overflow_add-all : goal.overflow_add-all

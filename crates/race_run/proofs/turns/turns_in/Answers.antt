@@ -1,6 +1,6 @@
 use Rattle.std.proofs.Common.{[], take, sym, subst}
 use Rattle.race_run.specs.Turns.{AreMaximalRuns, actors_of}
-use Rattle.race_run.proofs.TurnFacts.{runs-none, runs-next}
+use Rattle.race_run.proofs.OneMoreTurn.{runs-none, runs-next}
 use Rattle.race_run.proofs.turns.turns_in.Goals as goal
 
 pub loop-done-init : goal.loop-done-init

@@ -5,10 +5,10 @@ use Rattle.interleave_core.specs.runs.Runs.{IsRun}
 use Rattle.interleave_core.specs.schedules.Schedules.{FollowsTurns, IsActorOf, turns_of}
 use Rattle.race_run.specs.Merging.{AreThere, is_before, places_of, sources_from}
 use Rattle.race_run.specs.Turns.{AreMaximalRuns, IsWritable, actors_of}
-use Rattle.race_run.proofs.MergeFacts.{merge-weaves, whole-sorted, places-all-inside}
-use Rattle.race_run.proofs.RunFacts.{run-follows, run-items, run-guaranteed}
+use Rattle.race_run.proofs.WeaveByStamps.{merge-weaves, whole-sorted, places-all-inside}
+use Rattle.race_run.proofs.RunByActors.{run-follows, run-items, run-guaranteed}
 use Rattle.race_run.proofs.ScheduleCounts.{items-written}
-use Rattle.race_run.proofs.WholeFacts.{whole-run, whole-over}
+use Rattle.race_run.proofs.WeaveIsRun.{whole-run, whole-over}
 use Rattle.race_run.proofs.weaving.woven.Goals as goal
 
 pub merged-requires : goal.merged-requires

@@ -1,7 +1,7 @@
 use Rattle.std.proofs.Common.{[], ◌∷◌, length, sym, ap, subst, arith}
 use Rattle.std.proofs.lemmas.List.{length-append}
 use Rattle.race_run_tests.specs.Worked.{AreNumbered, IsWorkedLink}
-use Rattle.race_run_tests.proofs.WorkedFacts.{numbered-more}
+use Rattle.race_run_tests.proofs.WorkedRaces.{numbered-more}
 use Rattle.race_run_tests.proofs.tests.links.Goals as goal
 
 pub loop-number-preserved : goal.loop-number-preserved

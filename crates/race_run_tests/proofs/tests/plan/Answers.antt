@@ -1,6 +1,6 @@
 use Rattle.std.proofs.Common.{sym, ◌∙◌}
 use Rattle.call_script.specs.declared.version.Version.TheVariants.{One}
-use Rattle.race_run_tests.proofs.WorkedFacts.{worked-planned}
+use Rattle.race_run_tests.proofs.WorkedRaces.{worked-planned}
 use Rattle.race_run_tests.proofs.tests.plan.Goals as goal
 
 pub new-requires : goal.new-requires

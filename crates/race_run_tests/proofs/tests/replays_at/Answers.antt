@@ -1,11 +1,11 @@
 use Rattle.std.proofs.Common.{length, refl, sym, ap, ◌∙◌, subst, arith}
 use Rattle.std.proofs.lemmas.Option.{slice_get_read}
 use Rattle.std.specs.List.{slice_get}
-use Rattle.interleave_core.proofs.Keeping.StepFacts.{has-few}
+use Rattle.interleave_core.proofs.Keeping.CoreStep.{has-few}
 use Rattle.link_ledger.specs.declared.entries.Entry.{Entry}
 use Rattle.link_steps.specs.Legal.{AskFits}
 use Rattle.link_steps.specs.Lists.{Each}
-use Rattle.race_run_tests.proofs.WorkedFacts.{journal-fits, journals-many}
+use Rattle.race_run_tests.proofs.WorkedRaces.{journal-fits, journals-many}
 use Rattle.race_run_tests.proofs.tests.replays_at.Goals as goal
 
 pub offset_bounds-links-number : goal.offset_bounds-links-number

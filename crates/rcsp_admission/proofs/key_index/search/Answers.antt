@@ -4,7 +4,7 @@ use Rattle.std.proofs.lemmas.Bool.{cases_lt, ltb-true, ltb-false}
 use Rattle.std.proofs.lemmas.List.{get_or_default}
 use Rattle.std.proofs.lemmas.List.Sorted.{IsPartitionPoint-from_clause}
 use Rattle.std.specs.Prelude.{nat_lt}
-use Rattle.rcsp_admission.proofs.IndexFacts.{keys-part}
+use Rattle.rcsp_admission.proofs.OnePlacePerKey.{keys-part}
 use Rattle.rcsp_admission.proofs.key_index.search.Goals as goal
 use Rattle.rcsp_admission.proofs.key_index.search.Goals.{else-at-places-via-then-at-places+else-places-at, else-at-places-via-else-at-places}
 

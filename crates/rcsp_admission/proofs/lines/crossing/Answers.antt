@@ -1,7 +1,7 @@
 -- A line that rises by a tick a tick never crosses, none does before it begins, and else the rest of a tick makes up for the beginning.
 use Rattle.std.proofs.Common.{◌+◌, ◌-◌, subst, sym, arith}
 use Rattle.rcsp_admission.specs.Lines.{one_tick, CrossesFrom}
-use Rattle.rcsp_admission.proofs.LineFacts.{crosses-never, crosses-flat, crosses-at}
+use Rattle.rcsp_admission.proofs.LinesBelowWork.{crosses-never, crosses-flat, crosses-at}
 use Rattle.rcsp_admission.proofs.lines.crossing.Goals as goal
 use Rattle.rcsp_admission.proofs.lines.crossing.Goals.{then-slope-ge-ONE_TICK-via-then-slope-ge-ONE_TICK, then-slope-ge-ONE_TICK-via-else-slope-ge-ONE_TICK+then-flat-bound}
 

@@ -1,5 +1,5 @@
 -- A level line stays below the work of longer windows.
-use Rattle.rcsp_admission.proofs.LineFacts.{flat-below, below-later}
+use Rattle.rcsp_admission.proofs.LinesBelowWork.{flat-below, below-later}
 use Rattle.rcsp_admission.proofs.lines.line_of.Goals as goal
 use Rattle.std.proofs.Common.{arith}
 

@@ -3,12 +3,12 @@ use Rattle.std.proofs.Common.{◌≡◌, ℕ, take, arith, subst}
 use Rattle.std.proofs.lemmas.List.{take_all}
 use Rattle.net_units.specs.Numbers.{level_number}
 use Rattle.traffic_contract.specs.Admission.{total, work_in, work_up_to}
-use Rattle.traffic_contract.proofs.AdmissionFacts.{work_up_to-within, work_up_to-above}
+use Rattle.traffic_contract.proofs.AdmissionTest.{work_up_to-within, work_up_to-above}
 use Rattle.rcsp_admission.specs.Lines.{IsBelow}
 use Rattle.rcsp_admission.specs.Sums.{admitted_row}
 use Rattle.rcsp_admission.specs.Kept.{held_of, kept_rows}
-use Rattle.rcsp_admission.proofs.LineFacts.{below-none, below-both, below-same, flat-most}
-use Rattle.rcsp_admission.proofs.RowFacts.{total-take_more, total-take-le}
+use Rattle.rcsp_admission.proofs.LinesBelowWork.{below-none, below-both, below-same, flat-most}
+use Rattle.rcsp_admission.proofs.WorkByRow.{total-take_more, total-take-le}
 use Rattle.rcsp_admission.proofs.lines.line_of_rows.Goals as goal
 use Rattle.rcsp_admission.proofs.lines.line_of_rows.Goals.{then-get, else-get}
 

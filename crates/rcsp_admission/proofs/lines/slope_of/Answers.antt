@@ -2,7 +2,7 @@
 use Rattle.std.proofs.Common.{◌≡◌, ◌∙◌}
 use Rattle.net_units.specs.Quotient.{ceil_quotient}
 use Rattle.traffic_contract.specs.Contract.{burst_of}
-use Rattle.rcsp_admission.proofs.LineFacts.{steep-below}
+use Rattle.rcsp_admission.proofs.LinesBelowWork.{steep-below}
 use Rattle.rcsp_admission.proofs.lines.slope_of.Goals as goal
 
 pub returns-clause-below : goal.returns-clause-below

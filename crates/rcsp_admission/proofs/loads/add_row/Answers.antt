@@ -3,7 +3,7 @@ use Rattle.std.proofs.Common.{◌≡◌, ◌+◌, ◌-◌, ap, ◌∙◌, subst,
 use Rattle.net_units.specs.LevelBounds.{bound_at}
 use Rattle.net_units.specs.Numbers.{level_number}
 use Rattle.rcsp_admission.specs.Loads.{row_at}
-use Rattle.rcsp_admission.proofs.LoadsFacts.{AreRaisedTo, raised-begins, raised-one, work-at}
+use Rattle.rcsp_admission.proofs.RunningLoads.{AreRaisedTo, raised-begins, raised-one, work-at}
 use Rattle.rcsp_admission.proofs.loads.add_row.Goals as goal
 
 pub overflow_add-loads : goal.overflow_add-loads

@@ -3,7 +3,7 @@ use Rattle.std.proofs.Common.{◌≡◌, ◌≤◌, ◌+◌, ◌-◌, ap, ◌∙
 use Rattle.net_units.specs.LevelBounds.{bound_at}
 use Rattle.net_units.specs.Numbers.{level_number}
 use Rattle.rcsp_admission.specs.Loads.{row_at}
-use Rattle.rcsp_admission.proofs.LoadsFacts.{AreLoweredTo, lowered-begins, lowered-one, work-at}
+use Rattle.rcsp_admission.proofs.RunningLoads.{AreLoweredTo, lowered-begins, lowered-one, work-at}
 use Rattle.rcsp_admission.proofs.loads.take_row.Goals as goal
 
 pub loop-index-init : goal.loop-index-init

@@ -1,6 +1,6 @@
 use Rattle.rcsp_admission.specs.Loads.{row_at}
 use Rattle.net_units.specs.Numbers.{level_number}
-use Rattle.rcsp_admission.proofs.LoadsFacts.{AreLoweredTo}
+use Rattle.rcsp_admission.proofs.RunningLoads.{AreLoweredTo}
 use Rattle.rcsp_admission.proofs.loads.take_row.Given as goal
 
 -- the levels seen so far have fallen

@@ -2,10 +2,10 @@
 use Rattle.std.proofs.Common.{arith}
 use Rattle.net_units.specs.Numbers.{level_number}
 use Rattle.traffic_contract.specs.Admission.{work_up_to}
-use Rattle.traffic_contract.proofs.AdmissionFacts.{work_up_to-within, work_up_to-above}
+use Rattle.traffic_contract.proofs.AdmissionTest.{work_up_to-within, work_up_to-above}
 use Rattle.rcsp_admission.specs.Sums.{admitted_row}
 use Rattle.rcsp_admission.specs.Kept.{held_of}
-use Rattle.rcsp_admission.proofs.RowFacts.{total-take_more, total-take-le}
+use Rattle.rcsp_admission.proofs.WorkByRow.{total-take_more, total-take-le}
 use Rattle.rcsp_admission.proofs.rows.work_of.Goals as goal
 use Rattle.rcsp_admission.proofs.rows.work_of.Goals.{then-get, else-get}
 

@@ -1,5 +1,5 @@
 -- The tick at a place is the newest of those from that place on.
-use Rattle.regulator_core.proofs.AnswerFacts.{first_after-found, first_after-none}
+use Rattle.regulator_core.proofs.LatestOfThree.{first_after-found, first_after-none}
 use Rattle.regulator_core.proofs.regulator.first_after_place.Goals as goal
 
 pub returns-in-Some : goal.returns-in-Some

@@ -1,6 +1,6 @@
 -- No kept tick is later than the newest, and the latest of the three ticks is the eligible one.
 use Rattle.std.proofs.Common.{◌-◌, arith}
-use Rattle.regulator_core.proofs.AnswerFacts.{get_or-newest, eligible-latest}
+use Rattle.regulator_core.proofs.LatestOfThree.{get_or-newest, eligible-latest}
 use Rattle.regulator_core.proofs.regulator.least_eligible.Goals as goal
 
 pub first_after_place-after_burst-requires : goal.first_after_place-after_burst-requires

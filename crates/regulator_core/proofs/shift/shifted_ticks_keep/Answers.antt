@@ -1,5 +1,5 @@
 -- Shifted ticks are as far apart as they were.
-use Rattle.regulator_core.proofs.ShiftFacts.{Keeps-shifted_by, keeps_newest_first-shifted_by}
+use Rattle.regulator_core.proofs.ShiftedTicks.{Keeps-shifted_by, keeps_newest_first-shifted_by}
 use Rattle.regulator_core.proofs.shift.shifted_ticks_keep.Goals as goal
 
 pub returns-clause-fact : goal.returns-clause-fact

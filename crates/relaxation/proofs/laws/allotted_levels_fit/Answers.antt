@@ -1,4 +1,4 @@
-use Rattle.relaxation.proofs.LawFacts.{allotted-fit}
+use Rattle.relaxation.proofs.RouteAllotment.{allotted-fit}
 use Rattle.relaxation.proofs.laws.allotted_levels_fit.Goals as goal
 
 pub returns : goal.returns

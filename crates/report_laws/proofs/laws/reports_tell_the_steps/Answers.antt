@@ -1,4 +1,4 @@
-use Rattle.report_laws.proofs.CountFacts.{steps-told}
+use Rattle.report_laws.proofs.CountsOfEntries.{steps-told}
 use Rattle.report_laws.proofs.laws.reports_tell_the_steps.Goals as goal
 
 pub returns : goal.returns

@@ -1,4 +1,4 @@
-use Rattle.report_laws.proofs.OfferedFacts.{offers-told}
+use Rattle.report_laws.proofs.OfferedTicks.{offers-told}
 use Rattle.report_laws.proofs.laws.reports_tell_what_sources_offer.Goals as goal
 
 pub returns : goal.returns

@@ -1,7 +1,7 @@
 use Rattle.std.proofs.Common.{ℕ, rules}
 use Rattle.std.proofs.lemmas.List.Sorted.{answers_always}
 use Rattle.net_units.specs.Numbers.{channel_number}
-use Rattle.run_record.proofs.OrderFacts.{order-sorted}
+use Rattle.run_record.proofs.OneSortedList.{order-sorted}
 use Rattle.run_record.specs.declared.rows.HopRow.{HopRow}
 use Rattle.run_record.proofs.departures.put_in_order.Goals as goal
 

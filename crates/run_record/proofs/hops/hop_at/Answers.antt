@@ -1,7 +1,7 @@
 use Rattle.std.proofs.Common.{◌≤◌, length, sym}
 use Rattle.std.proofs.lemmas.Bool.{ltb-false}
 use Rattle.net_units.specs.Numbers.{channel_number}
-use Rattle.run_record.proofs.HopFacts.{none-at}
+use Rattle.run_record.proofs.OfferPlaces.{none-at}
 use Rattle.run_record.proofs.hops.hop_at.Goals as goal
 
 pub returns-in-None : goal.returns-in-None

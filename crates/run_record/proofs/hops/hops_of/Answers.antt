@@ -1,7 +1,7 @@
 use Rattle.std.proofs.Common.{◌≡◌, ◌+◌, ◌∷◌, [], ◌++◌, take, subst, take_all, refl}
 use Rattle.std.proofs.lemmas.List.{take_more}
 use Rattle.run_record.specs.Hops.{AreHops}
-use Rattle.run_record.proofs.HopFacts.{no-table}
+use Rattle.run_record.proofs.OfferPlaces.{no-table}
 use Rattle.run_record.proofs.hops.hops_of.Goals as goal
 
 pub loop-done-init : goal.loop-done-init

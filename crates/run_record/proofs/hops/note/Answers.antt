@@ -2,7 +2,7 @@ use Rattle.std.proofs.Common.{◌≡◌, ◌<◌, length, sym}
 use Rattle.std.proofs.lemmas.List.{get_or_read}
 use Rattle.net_units.specs.Numbers.{channel_number}
 use Rattle.run_record.specs.Hops.{no_hops}
-use Rattle.run_record.proofs.HopFacts.{hops-more, hops-kept}
+use Rattle.run_record.proofs.OfferPlaces.{hops-more, hops-kept}
 use Rattle.run_record.proofs.hops.note.Goals as goal
 
 pub returns-in_ok-grow-in-Some : goal.returns-in_ok-grow-in-Some

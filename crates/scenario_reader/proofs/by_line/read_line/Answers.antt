@@ -1,5 +1,5 @@
 use Rattle.scenario_reader.specs.ReadSteps.{ReadsLine}
-use Rattle.scenario_reader.proofs.ReadFacts.{cut_reads, end_reads, line_reads, over_reads, passes_fault, refused_reads, tells_handed}
+use Rattle.scenario_reader.proofs.ReadingAhead.{cut_reads, end_reads, line_reads, over_reads, passes_fault, refused_reads, tells_handed}
 use Rattle.scenario_reader.proofs.by_line.read_line.Goals as goal
 
 pub returns-in_err-take_line-in-Ok-Line-clause-reads : goal.returns-in_err-take_line-in-Ok-Line-clause-reads

@@ -2,7 +2,7 @@ use Rattle.std.proofs.Common.{rules, ◌+◌, ◌∙◌, ap, arith}
 use Rattle.std.proofs.lemmas.Bool.{both_ways}
 use Rattle.byte_ends.specs.Cutting.{Cutting}
 use Rattle.scenario_reader.specs.ReadSteps.{TellsLines}
-use Rattle.scenario_reader.proofs.ReadFacts.{at_start, ended, ended_early, foretells_at_start, foretells_next, passes_at_start, passes_next, reads_to_fault, reads_too_many, tells_handed, tells_refused}
+use Rattle.scenario_reader.proofs.ReadingAhead.{at_start, ended, ended_early, foretells_at_start, foretells_next, passes_at_start, passes_next, reads_to_fault, reads_too_many, tells_handed, tells_refused}
 use Rattle.scenario_reader.proofs.by_line.read_lines.Goals as goal
 
 pub loop-lines-init : goal.loop-lines-init

@@ -1,5 +1,5 @@
 use Rattle.std.proofs.Common.{sym, ◌∙◌}
-use Rattle.scenario_reader.proofs.FormFacts.{form_at_end}
+use Rattle.scenario_reader.proofs.FormByField.{form_at_end}
 use Rattle.scenario_reader.proofs.form.has_form.Goals as goal
 
 pub returns : goal.returns

@@ -1,7 +1,7 @@
 use Rattle.std.proofs.Common.{rules}
 use Rattle.scenario_reader.specs.Reading.{PlanRead, reading}
 use Rattle.scenario_reader.specs.ReadSteps.{TellsReading, scenarios}
-use Rattle.scenario_reader.proofs.ReadFacts.{comes_to, complete_end, may_end, tells_handed}
+use Rattle.scenario_reader.proofs.ReadingAhead.{comes_to, complete_end, may_end, tells_handed}
 use Rattle.scenario_reader.proofs.reader.read_plan.Goals as goal
 
 pub into_plan-requires : goal.into_plan-requires

@@ -1,5 +1,5 @@
 use Rattle.std.proofs.Common.{refl, arith}
-use Rattle.scenario_reader.proofs.DecimalFacts.{digit_in, value_more, value_so_far}
+use Rattle.scenario_reader.proofs.DecimalDigits.{digit_in, value_more, value_so_far}
 use Rattle.scenario_reader.proofs.values.value_of.Goals as goal
 
 pub overflow_mul-value : goal.overflow_mul-value

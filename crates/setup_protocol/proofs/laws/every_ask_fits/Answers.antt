@@ -1,4 +1,4 @@
-use Rattle.setup_protocol.proofs.AskFacts.{ask-fits}
+use Rattle.setup_protocol.proofs.SetupAsksFit.{ask-fits}
 use Rattle.setup_protocol.proofs.laws.every_ask_fits.Goals as goal
 
 pub returns : goal.returns

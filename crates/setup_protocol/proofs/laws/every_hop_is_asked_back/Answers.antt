@@ -1,4 +1,4 @@
-use Rattle.setup_protocol.proofs.WayBackFacts.{hops-asked_back}
+use Rattle.setup_protocol.proofs.AskedOnceMore.{hops-asked_back}
 use Rattle.setup_protocol.proofs.laws.every_hop_is_asked_back.Goals as goal
 
 pub returns : goal.returns

@@ -1,7 +1,7 @@
 use Rattle.std.proofs.Common.{arith}
 use Rattle.net_units.specs.Allotted.{levels_of}
 use Rattle.net_units.specs.Numbers.{level_number}
-use Rattle.setup_protocol.proofs.RouteFacts.{level-at}
+use Rattle.setup_protocol.proofs.RouteLevels.{level-at}
 use Rattle.setup_protocol.proofs.setup.bound_allotted.Goals as goal
 
 pub at-requires-in_default : goal.at-requires-in_default

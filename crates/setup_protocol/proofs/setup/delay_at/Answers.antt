@@ -3,8 +3,8 @@ use Rattle.std.proofs.Common.{◌+◌, sym, ap, arith}
 use Rattle.net_units.specs.Allotted.{levels_of}
 use Rattle.net_units.specs.Numbers.{level_number}
 use Rattle.net_units.specs.LevelBounds.{bound_at}
-use Rattle.hop_reservation.proofs.OfferFacts.{delay_over-none}
-use Rattle.setup_protocol.proofs.RouteFacts.{level-at, delay-more}
+use Rattle.hop_reservation.proofs.OneMoreOffer.{delay_over-none}
+use Rattle.setup_protocol.proofs.RouteLevels.{level-at, delay-more}
 use Rattle.setup_protocol.proofs.setup.delay_at.Goals as goal
 
 pub loop-index-init : goal.loop-index-init

@@ -2,7 +2,7 @@
 use Rattle.std.proofs.Common.{length, subst, ap, arith}
 use Rattle.net_units.specs.Allotted.{levels_of}
 use Rattle.setup_protocol.specs.State.{HaveLevels}
-use Rattle.setup_protocol.proofs.RouteFacts.{reach-have}
+use Rattle.setup_protocol.proofs.RouteLevels.{reach-have}
 use Rattle.setup_protocol.proofs.setup.test.Goals as goal
 
 pub relax_on-requires-clause-levels : goal.relax_on-requires-clause-levels

@@ -3,7 +3,7 @@ use Rattle.std.proofs.lemmas.List.{append_assoc, length-append}
 use Rattle.std.specs.Vec.Iter.{into_iter_items}
 use Rattle.link_ledger.specs.Tokens.{Token}
 use Rattle.shared_network.specs.Ready.{MayStep}
-use Rattle.shared_network.proofs.GatherFacts.{gathered-first, gathered-next, given-none, given-more, after}
+use Rattle.shared_network.proofs.SeatsJoined.{gathered-first, gathered-next, given-none, given-more, after}
 use Rattle.shared_network.proofs.closing.gather.Goals as goal
 
 pub loop-pass-init : goal.loop-pass-init

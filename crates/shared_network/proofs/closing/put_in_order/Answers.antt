@@ -7,7 +7,7 @@ use Rattle.link_ledger.specs.declared.entries.Journal.{Journal}
 use Rattle.shared_network.specs.Closing.{number_of}
 use Rattle.shared_network.specs.Gathering.{IsBelow}
 use Rattle.shared_network.proofs.NumberOrder.{ordered-numbers}
-use Rattle.shared_network.proofs.PermutedFacts.{each-permuted, differ-permuted}
+use Rattle.shared_network.proofs.PermutedLists.{each-permuted, differ-permuted}
 use Rattle.shared_network.proofs.closing.put_in_order.Goals as goal
 
 pub returns-clause-order : goal.returns-clause-order

@@ -6,7 +6,7 @@ use Rattle.step_stamp.specs.Lists.{up_to}
 use Rattle.step_stamp.specs.Seats.{pass_view}
 use Rattle.link_ledger.specs.declared.entries.Journal.{Journal}
 use Rattle.shared_network.specs.Gathering.{IsBelow, IsSettled, AreSettled}
-use Rattle.shared_network.proofs.PermutedFacts.{each-permuted}
+use Rattle.shared_network.proofs.PermutedLists.{each-permuted}
 use Rattle.shared_network.proofs.closing.settle.Goals as goal
 
 pub put_in_order-requires-clause-below : goal.put_in_order-requires-clause-below

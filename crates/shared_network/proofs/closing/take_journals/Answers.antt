@@ -3,15 +3,15 @@ use Rattle.std.proofs.lemmas.List.{length-append, map-append}
 use Rattle.std.proofs.lemmas.Option.{slice_get_within}
 use Rattle.net_units.specs.Numbers.{link_number}
 use Rattle.link_steps.specs.Lists.{Each}
-use Rattle.link_steps.proofs.ListFacts.{Each-append}
+use Rattle.link_steps.proofs.SearchAndFilter.{Each-append}
 use Rattle.step_stamp.specs.Lists.{Has, Differ}
 use Rattle.step_stamp.specs.Seats.{pass_view, link_view, seat_link}
 use Rattle.step_stamp.specs.declared.views.View.{View}
-use Rattle.step_stamp.proofs.ListFacts.{has_left, has_right, has_split, differ_both}
+use Rattle.step_stamp.proofs.ListMembers.{has_left, has_right, has_split, differ_both}
 use Rattle.link_ledger.specs.declared.entries.Journal.{Journal}
 use Rattle.shared_network.specs.Closing.{number_of}
 use Rattle.shared_network.specs.Gathering.{IsBelow, IsSettled}
-use Rattle.shared_network.proofs.GatherFacts.{settled-next}
+use Rattle.shared_network.proofs.SeatsJoined.{settled-next}
 use Rattle.shared_network.proofs.closing.take_journals.Goals as goal
 
 pub loop-link-preserved : goal.loop-link-preserved

@@ -5,7 +5,7 @@ use Rattle.step_stamp.specs.Lists.{Has, Differ}
 use Rattle.step_stamp.specs.Seats.{pass_table, pass_view}
 use Rattle.shared_network.specs.Closing.{number_of}
 use Rattle.shared_network.specs.Gathering.{IsBelow, IsSettled}
-use Rattle.shared_network.proofs.GatherFacts.{StaysGathered}
+use Rattle.shared_network.proofs.SeatsJoined.{StaysGathered}
 use Rattle.shared_network.proofs.closing.take_journals.Given as goal
 
 -- some journals are there, of different links, whose lists the joined seat has; of the other links it knows what it knew

@@ -7,8 +7,8 @@ use Rattle.link_steps.specs.Lists.{Each}
 use Rattle.link_steps.specs.Split.{Link}
 use Rattle.step_stamp.specs.Seats.{seat_link}
 use Rattle.shared_network.specs.Sight.{IsUnusedLink}
-use Rattle.shared_network.proofs.CountFacts.{none-left}
-use Rattle.shared_network.proofs.OpeningFacts.{Locking, locking-start, locking-left, locking-link, locking-next, locking-end}
+use Rattle.shared_network.proofs.NumbersFromZero.{none-left}
+use Rattle.shared_network.proofs.NetworkOpened.{Locking, locking-start, locking-left, locking-link, locking-next, locking-end}
 use Rattle.shared_network.proofs.network.lock_all.Goals as goal
 
 pub loop-link-init : goal.loop-link-init

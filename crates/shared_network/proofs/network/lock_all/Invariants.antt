@@ -4,7 +4,7 @@ use Rattle.net_units.specs.Numbers.{link_number}
 use Rattle.link_steps.specs.Lists.{Each}
 use Rattle.step_stamp.specs.Seats.{seat_link}
 use Rattle.shared_network.specs.Sight.{IsUnusedLink}
-use Rattle.shared_network.proofs.OpeningFacts.{Locking}
+use Rattle.shared_network.proofs.NetworkOpened.{Locking}
 use Rattle.shared_network.proofs.network.lock_all.Given as goal
 
 -- so many links are locked, and these seats and links are left

@@ -3,11 +3,11 @@ use Rattle.std.proofs.lemmas.List.{map-append, append_assoc}
 use Rattle.std.specs.Vec.Iter.{into_iter_items}
 use Rattle.net_units.specs.Numbers.{actor_number}
 use Rattle.link_steps.specs.Lists.{Each}
-use Rattle.link_steps.proofs.ListFacts.{Each-append}
+use Rattle.link_steps.proofs.SearchAndFilter.{Each-append}
 use Rattle.step_stamp.specs.Opening.{IsNewPass}
 use Rattle.step_stamp.specs.Seats.{seat_actor}
 use Rattle.shared_network.specs.Ready.{IsNew}
-use Rattle.shared_network.proofs.OpeningFacts.{pass-new}
+use Rattle.shared_network.proofs.NetworkOpened.{pass-new}
 use Rattle.shared_network.proofs.network.passes_of.Goals as goal
 
 pub loop-seat-preserved : goal.loop-seat-preserved

@@ -3,7 +3,7 @@ use Rattle.std.specs.List.{slice_get}
 use Rattle.net_units.specs.Numbers.{actor_number}
 use Rattle.net_units.specs.declared.numbers.ActorNo.{ActorNo}
 use Rattle.link_steps.specs.Split.{Link}
-use Rattle.shared_network.proofs.WorkedFacts.{owner-is, over-hops}
+use Rattle.shared_network.proofs.WorkedNetworks.{owner-is, over-hops}
 use Rattle.shared_network_tests.proofs.calls.played.Goals as goal
 
 pub calls-requires-clause-owned : goal.calls-requires-clause-owned

@@ -1,6 +1,6 @@
 use Rattle.std.proofs.Common.{sym, subst}
 use Rattle.shared_network.specs.Gathering.{AreAll}
-use Rattle.shared_network.proofs.WorkedFacts.{two-backwards}
+use Rattle.shared_network.proofs.WorkedNetworks.{two-backwards}
 use Rattle.shared_network_tests.proofs.closing.closed_backwards.Goals as goal
 
 pub close-requires-clause-all : goal.close-requires-clause-all

@@ -2,7 +2,7 @@ use Rattle.std.proofs.Common.{length, sym, ap, ◌∙◌, subst, arith}
 use Rattle.setup_protocol.specs.Laws.{is_accepted}
 use Rattle.setup_protocol.specs.State.{outcome_of}
 use Rattle.shared_network.specs.Calls.{HasNone}
-use Rattle.shared_network.proofs.WorkedFacts.{may-move}
+use Rattle.shared_network.proofs.WorkedNetworks.{may-move}
 use Rattle.shared_network_tests.proofs.moves.plan.Goals as goal
 
 pub setup-requires-2-clause-new : goal.setup-requires-2-clause-new

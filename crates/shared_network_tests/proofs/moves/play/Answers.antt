@@ -1,6 +1,6 @@
 use Rattle.std.proofs.Common.{length, ap, sym, ◌∙◌}
 use Rattle.tick_plane.specs.Kept.{KeptPlane}
-use Rattle.shared_network.proofs.WorkedFacts.{planes-first}
+use Rattle.shared_network.proofs.WorkedNetworks.{planes-first}
 use Rattle.shared_network_tests.proofs.moves.play.Goals as goal
 
 pub loop-init : goal.loop-init

@@ -1,6 +1,6 @@
 use Rattle.std.proofs.Common.{sym, subst}
 use Rattle.shared_network.specs.Gathering.{AreAll}
-use Rattle.shared_network.proofs.WorkedFacts.{one-all}
+use Rattle.shared_network.proofs.WorkedNetworks.{one-all}
 use Rattle.shared_network_tests.proofs.networks.close_for_one.Goals as goal
 
 pub close-requires-clause-all : goal.close-requires-clause-all

@@ -1,5 +1,5 @@
 use Rattle.std.proofs.Common.{sym, ◌∙◌, arith, length}
-use Rattle.shared_network.proofs.WorkedFacts.{seats-are, passes-are, first-new, first-actor}
+use Rattle.shared_network.proofs.WorkedNetworks.{seats-are, passes-are, first-new, first-actor}
 use Rattle.shared_network_tests.proofs.networks.open_for_one.Goals as goal
 
 pub open-requires-clause-seats : goal.open-requires-clause-seats

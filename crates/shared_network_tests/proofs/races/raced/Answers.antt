@@ -6,7 +6,7 @@ use Rattle.link_steps.specs.Lists.{Each}
 use Rattle.link_steps.specs.Split.{Link}
 use Rattle.shared_network.specs.Worked.{IsJob}
 use Rattle.shared_network_tests.specs.declared.calls.Job.{Job}
-use Rattle.shared_network.proofs.WorkedFacts.{new-job}
+use Rattle.shared_network.proofs.WorkedNetworks.{new-job}
 use Rattle.shared_network_tests.proofs.races.raced.Goals as goal
 
 pub set_up_all-requires-after_bounds : goal.set_up_all-requires-after_bounds

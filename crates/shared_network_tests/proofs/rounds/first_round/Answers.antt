@@ -1,6 +1,6 @@
 use Rattle.std.proofs.Common.{length, ap, ◌∙◌}
 use Rattle.tick_plane.specs.Kept.{KeptPlane}
-use Rattle.shared_network.proofs.WorkedFacts.{planes-first}
+use Rattle.shared_network.proofs.WorkedNetworks.{planes-first}
 use Rattle.shared_network_tests.proofs.rounds.first_round.Goals as goal
 
 pub plane_step-requires-clause-planes : goal.plane_step-requires-clause-planes

@@ -1,4 +1,4 @@
-use Rattle.step_stamp.proofs.OnceFacts.{each_once}
+use Rattle.step_stamp.proofs.EachStampOnce.{each_once}
 use Rattle.step_stamp.proofs.laws.each_stands_once.Goals as goal
 
 pub returns : goal.returns

@@ -1,5 +1,5 @@
 use Rattle.std.proofs.Common.{◌∙◌}
-use Rattle.tenet_app.proofs.AnswerFacts.{part-of-front}
+use Rattle.tenet_app.proofs.WrittenAnswers.{part-of-front}
 use Rattle.tenet_app.proofs.auditing.tell.Goals as goal
 
 pub returns-clause-tells : goal.returns-clause-tells

@@ -5,7 +5,7 @@ use Rattle.call_script.specs.Tasks.{network_of}
 use Rattle.channel_report.specs.Tallied.{IsTalliedRun}
 use Rattle.interleave_core.specs.schedules.Standing.{IsGuaranteedRun}
 use Rattle.load_maker.specs.TurnRuns.{IsTurnsRun}
-use Rattle.tenet_app.proofs.LoadFacts.{plan-summarized}
+use Rattle.tenet_app.proofs.LoadDue.{plan-summarized}
 use Rattle.tenet_app.proofs.making.summarize.Goals as goal
 
 pub write_tallied_summary-requires : goal.write_tallied_summary-requires

@@ -6,7 +6,7 @@ use Rattle.channel_report.specs.Report.{report_of}
 use Rattle.interleave_core.specs.schedules.Schedules.{IsPlayed}
 use Rattle.interleave_core.specs.schedules.Standing.{IsGuaranteedRun}
 use Rattle.tenet_app.specs.Playing.{WritesReport}
-use Rattle.tenet_app.proofs.AnswerFacts.{of-report, of-missing}
+use Rattle.tenet_app.proofs.WrittenAnswers.{of-report, of-missing}
 use Rattle.tenet_app.proofs.playing.answer.Goals as goal
 
 pub report_tallied-requires : goal.report_tallied-requires

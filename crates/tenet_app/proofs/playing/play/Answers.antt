@@ -1,6 +1,6 @@
 use Rattle.std.proofs.Common.{subst}
 use Rattle.call_script.specs.Plans.{IsPlan}
-use Rattle.tenet_app.proofs.AnswerFacts.{plays-plan, plays-refused}
+use Rattle.tenet_app.proofs.WrittenAnswers.{plays-plan, plays-refused}
 use Rattle.tenet_app.proofs.playing.play.Goals as goal
 
 pub returns-in-Ok-clause-plays : goal.returns-in-Ok-clause-plays

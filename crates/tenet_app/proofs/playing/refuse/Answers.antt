@@ -1,6 +1,6 @@
 use Rattle.std.proofs.Common.{◌∙◌, refl}
 use Rattle.tenet_app.specs.Playing.{FrontTold}
-use Rattle.tenet_app.proofs.AnswerFacts.{part-of-front}
+use Rattle.tenet_app.proofs.WrittenAnswers.{part-of-front}
 use Rattle.tenet_app.proofs.playing.refuse.Goals as goal
 
 pub returns-clause-tells : goal.returns-clause-tells

@@ -1,6 +1,6 @@
 use Rattle.std.proofs.Common.{subst}
 use Rattle.tenet_app.specs.Racing.{AnswersRace}
-use Rattle.tenet_app.proofs.RaceFacts.{plan-raced, none-raced}
+use Rattle.tenet_app.proofs.RaceWritten.{plan-raced, none-raced}
 use Rattle.tenet_app.proofs.racing.race.Goals as goal
 
 pub returns-in-Ok-clause-races : goal.returns-in-Ok-clause-races

@@ -1,7 +1,7 @@
 use Rattle.std.proofs.Common.{inr, refl, subst}
 use Rattle.text_writer.specs.Telling.{IsWhy}
 use Rattle.tenet_app.specs.Racing.{IsRaceOf}
-use Rattle.tenet_app.proofs.RaceFacts.{front-of-race}
+use Rattle.tenet_app.proofs.RaceWritten.{front-of-race}
 use Rattle.tenet_app.proofs.racing.tell.Goals as goal
 
 pub returns-in-Ok-write_race-clause-answers : goal.returns-in-Ok-write_race-clause-answers

@@ -1,4 +1,4 @@
-use Rattle.tenet_app.proofs.AnswerFacts.{part-of-front}
+use Rattle.tenet_app.proofs.WrittenAnswers.{part-of-front}
 use Rattle.tenet_app.proofs.racing.write_line.Goals as goal
 
 pub returns-in-Err : goal.returns-in-Err

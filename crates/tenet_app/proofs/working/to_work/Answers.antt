@@ -1,7 +1,7 @@
 -- Fewer words than three, or more than four, ask for no workers.
 use Rattle.std.proofs.Common.{map, string_bytes, arith}
 use Rattle.std.proofs.lemmas.List.{length-map}
-use Rattle.tenet_app.proofs.WordFacts.{work-short, work-long}
+use Rattle.tenet_app.proofs.WorkerWords.{work-short, work-long}
 use Rattle.tenet_app.proofs.working.to_work.Goals as goal
 
 pub returns-in_default-clause-asked : goal.returns-in_default-clause-asked

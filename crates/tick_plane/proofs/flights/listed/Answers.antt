@@ -1,5 +1,5 @@
 -- The key of the next entry has a flight, which comes after the others.
-use Rattle.tick_plane.proofs.CarriedFacts.{carried-at, listed-more}
+use Rattle.tick_plane.proofs.FlightPerKey.{carried-at, listed-more}
 use Rattle.tick_plane.proofs.flights.listed.Goals as goal
 
 pub index-flight-requires : goal.index-flight-requires

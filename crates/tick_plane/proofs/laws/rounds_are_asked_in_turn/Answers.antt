@@ -1,4 +1,4 @@
-use Rattle.tick_plane.proofs.RestFacts.{rounds-turn}
+use Rattle.tick_plane.proofs.RestOfRound.{rounds-turn}
 use Rattle.tick_plane.proofs.laws.rounds_are_asked_in_turn.Goals as goal
 
 pub returns : goal.returns

@@ -1,7 +1,7 @@
 -- No tick yet, one more, and then all.
 use Rattle.std.proofs.Common.{◌≡◌, ◌++◌, ◌-◌, ap, ◌∙◌, arith}
 use Rattle.tick_plane.specs.Rounds.{ticks_from}
-use Rattle.tick_plane.proofs.TickFacts.{ticks-none, ticks-more}
+use Rattle.tick_plane.proofs.TicksLeft.{ticks-none, ticks-more}
 use Rattle.tick_plane.proofs.rest.add_ticks.Goals as goal
 
 pub loop-number-init : goal.loop-number-init

@@ -2,7 +2,7 @@
 use Rattle.std.proofs.Common.{◌≡◌, suc, drop}
 use Rattle.link_steps.specs.Lists.{Each}
 use Rattle.tick_plane.specs.Coming.{IsDueFrom, arrivals_in}
-use Rattle.tick_plane.proofs.ComingFacts.{later-drop, none-more}
+use Rattle.tick_plane.proofs.ComingInOrder.{later-drop, none-more}
 use Rattle.tick_plane.proofs.window.add_arrivals.Goals as goal
 
 pub returns-then-flight-round-clause-asks : goal.returns-then-flight-round-clause-asks

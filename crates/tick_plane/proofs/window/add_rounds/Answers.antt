@@ -2,7 +2,7 @@
 use Rattle.std.proofs.Common.{◌≡◌, suc, ◌+◌, ◌≤◌, List, drop, subst, arith}
 use Rattle.tick_plane.specs.Coming.{AreLeft}
 use Rattle.tick_plane.specs.declared.flight.Flight.{Flight}
-use Rattle.tick_plane.proofs.ComingFacts.{left-none, left-on, rounds-none, rounds-more}
+use Rattle.tick_plane.proofs.ComingInOrder.{left-none, left-on, rounds-none, rounds-more}
 use Rattle.tick_plane.proofs.window.add_rounds.Goals as goal
 
 pub loop-round-init : goal.loop-round-init

@@ -5,7 +5,7 @@ use Rattle.std.proofs.Math.Seq.{take-suc}
 use Rattle.net_units.specs.Numbers.{link_number}
 use Rattle.tick_plane.specs.Coming.{AreByLink}
 use Rattle.tick_plane.specs.declared.flight.Flight.{Flight}
-use Rattle.tick_plane.proofs.ComingFacts.{none-listed, one-listed}
+use Rattle.tick_plane.proofs.ComingInOrder.{none-listed, one-listed}
 use Rattle.tick_plane.proofs.window.by_link.Goals as goal
 
 pub loop-flight-preserved : goal.loop-flight-preserved

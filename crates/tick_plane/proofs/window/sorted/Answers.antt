@@ -4,7 +4,7 @@ use Rattle.std.proofs.lemmas.List.Sorted.{answers_always}
 use Rattle.std.specs.Ordering.{nat_cmp}
 use Rattle.std.specs.List.Sorted.{IsStableByKey}
 use Rattle.tick_plane.specs.declared.flight.Flight.{Flight}
-use Rattle.tick_plane.proofs.ComingFacts.{round_of, left-sorted}
+use Rattle.tick_plane.proofs.ComingInOrder.{round_of, left-sorted}
 use Rattle.tick_plane.proofs.window.sorted.Goals as goal
 
 pub returns : goal.returns

@@ -5,8 +5,8 @@ use Rattle.trace_audit.specs.Checks.{finding_below, fault_of}
 use Rattle.trace_audit.specs.Standing.{Stands}
 use Rattle.trace_audit.specs.declared.finding.Finding.TheVariants.{Fault}
 use Rattle.trace_audit.proofs.SoundFound.{sound-found}
-use Rattle.trace_audit.proofs.StandFacts.{stands-none, table-sound, at-row, finding-step, finding-fault, finding-end}
-use Rattle.trace_audit.proofs.TableFacts.{table-kept}
+use Rattle.trace_audit.proofs.KeptMatchesRows.{stands-none, table-sound, at-row, finding-step, finding-fault, finding-end}
+use Rattle.trace_audit.proofs.SoundTables.{table-kept}
 use Rattle.trace_audit.proofs.auditing.audit.Goals as goal
 
 pub loop-index-init : goal.loop-index-init

@@ -1,5 +1,5 @@
 -- The request may be accepted at that level.
-use Rattle.one_link_plans.proofs.OneLinkFacts.{one-accepted}
+use Rattle.one_link_plans.proofs.OneLinkFits.{one-accepted}
 use Rattle.trace_audit_tests.proofs.tests.found.Goals as goal
 
 pub audit-requires-clause-accepted : goal.audit-requires-clause-accepted

@@ -1,4 +1,4 @@
-use Rattle.traffic_contract.proofs.EligibleFacts.{eligible-exists, eligible-unique}
+use Rattle.traffic_contract.proofs.LeastEligibleTick.{eligible-exists, eligible-unique}
 use Rattle.traffic_contract.proofs.laws.the_eligible_tick_is_the_least.Goals as goal
 
 pub returns-clause-exists : goal.returns-clause-exists

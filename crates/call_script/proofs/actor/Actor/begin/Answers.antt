@@ -4,7 +4,7 @@ use Rattle.std.proofs.lemmas.List.{length-map}
 use Rattle.call_script.specs.Tasks.{request_of}
 use Rattle.call_script.specs.Work.{WorkStands}
 use Rattle.call_script.specs.declared.work.Work.TheVariants as work
-use Rattle.call_script.proofs.ActorFacts.{none-left}
+use Rattle.call_script.proofs.CallerStanding.{none-left}
 use Rattle.call_script.proofs.actor.Actor.begin.Goals as goal
 
 pub returns-in-None-clause-stands : goal.returns-in-None-clause-stands

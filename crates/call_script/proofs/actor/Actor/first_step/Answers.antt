@@ -1,7 +1,7 @@
 -- The operation at hand takes a step, or it doesn't.
 use Rattle.std.proofs.Common.{map, sym, ◌∙◌}
 use Rattle.call_script.specs.Tasks.{request_of}
-use Rattle.call_script.proofs.ActorFacts.{step-here, step-later, step-none}
+use Rattle.call_script.proofs.CallerStanding.{step-here, step-later, step-none}
 use Rattle.call_script.proofs.actor.Actor.first_step.Goals as goal
 
 pub returns-in-Some-clause-some : goal.returns-in-Some-clause-some

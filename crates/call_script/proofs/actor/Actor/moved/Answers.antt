@@ -3,7 +3,7 @@ use Rattle.std.proofs.Common.{ap, sym, ◌∙◌}
 use Rattle.call_script.specs.Channels.{Told}
 use Rattle.call_script.specs.Scripts.{Standing, moved_off}
 use Rattle.call_script.specs.declared.channels.Channel.{Channel}
-use Rattle.call_script.proofs.ActorFacts.{stands-in}
+use Rattle.call_script.proofs.CallerStanding.{stands-in}
 use Rattle.call_script.proofs.actor.Actor.moved.Goals as goal
 
 pub returns : goal.returns

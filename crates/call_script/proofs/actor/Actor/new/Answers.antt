@@ -1,5 +1,5 @@
 -- It stands for no replies.
-use Rattle.call_script.proofs.TakeFacts.{fresh-stands}
+use Rattle.call_script.proofs.CallerTakesReply.{fresh-stands}
 use Rattle.call_script.proofs.actor.Actor.new.Goals as goal
 
 pub returns-clause-stands : goal.returns-clause-stands

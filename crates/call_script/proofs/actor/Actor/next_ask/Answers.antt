@@ -3,7 +3,7 @@ use Rattle.std.proofs.Common.{sym, ap, ◌∙◌}
 use Rattle.call_script.specs.Scripts.{Standing, ask_at, standing}
 use Rattle.call_script.specs.Standing.{requests_of}
 use Rattle.call_script.specs.Tasks.{script_of}
-use Rattle.call_script.proofs.ActorFacts.{stands-in}
+use Rattle.call_script.proofs.CallerStanding.{stands-in}
 use Rattle.call_script.proofs.actor.Actor.next_ask.Goals as goal
 
 pub returns : goal.returns

@@ -3,9 +3,9 @@ use Rattle.std.proofs.Common.{◌∙◌, ap, subst, option_map, IsSome}
 use Rattle.call_script.specs.Scripts.{Standing, ask_at, standing}
 use Rattle.call_script.specs.Standing.{requests_of}
 use Rattle.call_script.specs.Tasks.{script_of}
-use Rattle.call_script.proofs.ActorFacts.{stands-in}
-use Rattle.call_script.proofs.TakeFacts.{learnt-within, turned-on, turned-over, turned-settled}
-use Rattle.call_script.proofs.WorkFacts.{under-way}
+use Rattle.call_script.proofs.CallerStanding.{stands-in}
+use Rattle.call_script.proofs.CallerTakesReply.{learnt-within, turned-on, turned-over, turned-settled}
+use Rattle.call_script.proofs.WorkByReplies.{under-way}
 use Rattle.call_script.proofs.actor.Actor.take.Goals as goal
 
 -- a task is under way

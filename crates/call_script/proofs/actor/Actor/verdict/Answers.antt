@@ -4,7 +4,7 @@ use Rattle.setup_protocol.specs.State.{outcome_of}
 use Rattle.call_script.specs.Channels.{Told}
 use Rattle.call_script.specs.Scripts.{Standing, outcome_in}
 use Rattle.call_script.specs.declared.channels.Channel.{Channel}
-use Rattle.call_script.proofs.ActorFacts.{stands-in}
+use Rattle.call_script.proofs.CallerStanding.{stands-in}
 use Rattle.call_script.proofs.actor.Actor.verdict.Goals as goal
 
 pub returns : goal.returns

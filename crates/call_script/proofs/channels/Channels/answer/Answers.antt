@@ -1,5 +1,5 @@
 use Rattle.std.proofs.Common.{sym, ◌∙◌}
-use Rattle.call_script.proofs.ChannelFacts.{with-answered, with-unplanned}
+use Rattle.call_script.proofs.ChannelsAsLearnt.{with-answered, with-unplanned}
 use Rattle.call_script.proofs.channels.Channels.answer.Goals as goal
 
 pub returns-then-is_planned-clause-told : goal.returns-then-is_planned-clause-told

@@ -4,7 +4,7 @@ use Rattle.net_units.specs.Numbers.{channel_number}
 use Rattle.call_script.specs.Channels.{AreTold}
 use Rattle.call_script.specs.Scripts.{MovedTo}
 use Rattle.call_script.specs.declared.channels.Channel.{Channel}
-use Rattle.call_script.proofs.ChannelFacts.{with-none-shifted, with-some-shifted}
+use Rattle.call_script.proofs.ChannelsAsLearnt.{with-none-shifted, with-some-shifted}
 use Rattle.call_script.proofs.channels.Channels.leave.Goals as goal
 
 pub returns-then-told-ne0-clause-told : goal.returns-then-told-ne0-clause-told

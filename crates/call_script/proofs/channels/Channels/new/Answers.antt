@@ -1,7 +1,7 @@
 -- Each channel is blank.
 use Rattle.std.proofs.Common.{[], replicate, sym, subst}
 use Rattle.call_script.specs.Channels.{AreTold}
-use Rattle.call_script.proofs.ChannelFacts.{none-told}
+use Rattle.call_script.proofs.ChannelsAsLearnt.{none-told}
 use Rattle.call_script.proofs.channels.Channels.new.Goals as goal
 
 pub returns-clause-none : goal.returns-clause-none

@@ -2,7 +2,7 @@ use Rattle.std.proofs.Common.{◌∷◌, sym, subst, refl}
 use Rattle.call_script.specs.Channels.{AreTold}
 use Rattle.call_script.specs.Scripts.{PlannedOn}
 use Rattle.call_script.specs.declared.channels.Channel.{Channel}
-use Rattle.call_script.proofs.ChannelFacts.{with-planned}
+use Rattle.call_script.proofs.ChannelsAsLearnt.{with-planned}
 use Rattle.call_script.proofs.channels.Channels.plan.Goals as goal
 
 pub returns-clause-told : goal.returns-clause-told

@@ -3,7 +3,7 @@ use Rattle.setup_protocol.specs.State.{outcome_of}
 use Rattle.call_script.specs.Channels.{AreTold, told_in}
 use Rattle.call_script.specs.Scripts.{Settles}
 use Rattle.call_script.specs.declared.channels.Channel.{Channel}
-use Rattle.call_script.proofs.ChannelFacts.{with-settled}
+use Rattle.call_script.proofs.ChannelsAsLearnt.{with-settled}
 use Rattle.call_script.proofs.channels.Channels.settle.Goals as goal
 
 pub returns-clause-told : goal.returns-clause-told

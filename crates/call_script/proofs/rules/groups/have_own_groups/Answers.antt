@@ -2,7 +2,7 @@
 use Rattle.std.proofs.Common.{[], ap, sym, ◌∙◌, get_or, not, nat_eq}
 use Rattle.link_steps.specs.declared.quota.Quota.{Quota}
 use Rattle.call_script.specs.Groups.{is_of_new_group}
-use Rattle.call_script.proofs.GroupFacts.{get-here}
+use Rattle.call_script.proofs.GroupRulesStay.{get-here}
 use Rattle.call_script.proofs.Walks.{after-skip, after-stop, any-more, over}
 use Rattle.call_script.proofs.rules.groups.have_own_groups.Goals as goal
 

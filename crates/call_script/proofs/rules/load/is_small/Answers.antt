@@ -4,7 +4,7 @@ use Rattle.std.proofs.lemmas.Bool.{le-leb, lt-leb}
 use Rattle.std.specs.List.{list_all}
 use Rattle.net_units.specs.Limits.{most_packets}
 use Rattle.call_script.specs.Rules.{op_in_range, loads_after, ops_load, ops_over, load_in}
-use Rattle.call_script.proofs.LoadFacts.{over-at-hand, over-past, tests-left, none-within, some-within}
+use Rattle.call_script.proofs.ScriptLoads.{over-at-hand, over-past, tests-left, none-within, some-within}
 use Rattle.call_script.proofs.rules.load.is_small.Goals as goal
 
 pub returns-in-None : goal.returns-in-None

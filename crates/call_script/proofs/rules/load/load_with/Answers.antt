@@ -1,7 +1,7 @@
 -- The load so far and that of the operations left are the whole, until none is left or it is above the limit.
 use Rattle.std.proofs.Common.{◌≡◌, ℕ, ◌+◌, List, drop, sym, ap, ◌∙◌, arith}
 use Rattle.call_script.specs.Rules.{op_in_range, load_of, loads_after, ops_load}
-use Rattle.call_script.proofs.LoadFacts.{load-at-hand, loads-at-hand, load-over, loads-over, tests-left, load-above, load-inside}
+use Rattle.call_script.proofs.ScriptLoads.{load-at-hand, loads-at-hand, load-over, loads-over, tests-left, load-above, load-inside}
 use Rattle.call_script.proofs.rules.load.load_with.Goals as goal
 
 pub returns-then-load-gt-MOST_PACKETS-clause-load : goal.returns-then-load-gt-MOST_PACKETS-clause-load

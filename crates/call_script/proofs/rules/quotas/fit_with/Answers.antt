@@ -2,10 +2,10 @@
 use Rattle.std.proofs.Common.{◌≡◌, ◌+◌, ◌∙◌, ◌∷◌, ◌++◌, [], ℕ, ap, sym, Bool, length, arith}
 use Rattle.std.specs.Prelude.{◌&&◌, nat_le}
 use Rattle.traffic_contract.specs.Admission.{total}
-use Rattle.traffic_contract.proofs.AdmissionFacts.{total-push}
+use Rattle.traffic_contract.proofs.AdmissionTest.{total-push}
 use Rattle.link_steps.specs.Split.{buffer_part}
 use Rattle.call_script.specs.Groups.{level_fits}
-use Rattle.call_script.proofs.GroupFacts.{level-skip, level-stop, levels-over}
+use Rattle.call_script.proofs.GroupRulesStay.{level-skip, level-stop, levels-over}
 use Rattle.call_script.proofs.rules.quotas.fit_with.Goals as goal
 
 pub returns-then-not-level_fits_with : goal.returns-then-not-level_fits_with

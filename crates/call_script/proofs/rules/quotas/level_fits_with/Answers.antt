@@ -3,7 +3,7 @@ use Rattle.std.proofs.Common.{◌≡◌, ℕ, ◌+◌, ◌∙◌, ◌∷◌, ◌
 use Rattle.std.specs.Prelude.{nat_le}
 use Rattle.net_units.specs.Numbers.{level_number}
 use Rattle.traffic_contract.specs.Admission.{total}
-use Rattle.traffic_contract.proofs.AdmissionFacts.{total-push}
+use Rattle.traffic_contract.proofs.AdmissionTest.{total-push}
 use Rattle.link_steps.specs.Shape.{blocking_of}
 use Rattle.link_steps.specs.Split.{level_part}
 use Rattle.call_script.proofs.rules.quotas.level_fits_with.Goals as goal

@@ -4,7 +4,7 @@ use Rattle.std.specs.Prelude.{◌&&◌, nat_le}
 use Rattle.traffic_contract.specs.Admission.{total}
 use Rattle.link_steps.specs.Split.{buffer_part}
 use Rattle.call_script.specs.Groups.{level_fits}
-use Rattle.call_script.proofs.GroupFacts.{level-skip, level-stop, levels-over}
+use Rattle.call_script.proofs.GroupRulesStay.{level-skip, level-stop, levels-over}
 use Rattle.call_script.proofs.rules.quotas.quotas_fit.Goals as goal
 
 pub returns-then-not-level_fits : goal.returns-then-not-level_fits

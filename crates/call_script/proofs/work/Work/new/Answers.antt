@@ -1,7 +1,7 @@
 -- An opening begins with a setup that has an ask left, a send with its one ask.
 use Rattle.std.proofs.Common.{Some, ap, refl, sym}
 use Rattle.hop_reservation.specs.Routes.{IsRoute}
-use Rattle.call_script.proofs.WorkFacts.{fresh-setup}
+use Rattle.call_script.proofs.WorkByReplies.{fresh-setup}
 use Rattle.call_script.proofs.work.Work.new.Goals as goal
 
 pub returns-in-Opens : goal.returns-in-Opens

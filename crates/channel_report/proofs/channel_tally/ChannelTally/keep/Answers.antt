@@ -2,7 +2,7 @@ use Rattle.std.proofs.Common.{refl, sym, ap, ◌∙◌}
 use Rattle.std.proofs.lemmas.Option.{same_Some}
 use Rattle.net_units.specs.Numbers.{channel_number}
 use Rattle.channel_report.specs.Sources.{chan_of}
-use Rattle.channel_report.proofs.SourceFacts.{keeps-cancelled}
+use Rattle.channel_report.proofs.SourceAfterEntry.{keeps-cancelled}
 use Rattle.channel_report.proofs.channel_tally.ChannelTally.keep.Goals as goal
 
 pub returns-in_ok-self-in-Cancels : goal.returns-in_ok-self-in-Cancels

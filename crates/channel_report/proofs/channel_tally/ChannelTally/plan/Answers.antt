@@ -1,6 +1,6 @@
 use Rattle.std.proofs.Common.{◌≡◌, ◌-◌, refl, sym, ◌∙◌, arith, append-nil}
 use Rattle.channel_report.specs.ChannelTallies.{never}
-use Rattle.channel_report.proofs.TickFacts.{made-next, made-end}
+use Rattle.channel_report.proofs.PlannedTicks.{made-next, made-end}
 use Rattle.channel_report.proofs.channel_tally.ChannelTally.plan.Goals as goal
 
 pub loop-planned-init : goal.loop-planned-init

@@ -7,7 +7,7 @@ use Rattle.interleave_core.specs.schedules.Standing.{CallersStand}
 use Rattle.interleave_core.proofs.Runs.RunLength.{run-short}
 use Rattle.channel_report.specs.ChannelTallies.{AreChannelTallies}
 use Rattle.channel_report.specs.Tallies.{AreLinkTallies}
-use Rattle.channel_report.proofs.KeptFacts.{found-delays, kept-rows}
+use Rattle.channel_report.proofs.RowsStayKept.{found-delays, kept-rows}
 use Rattle.channel_report.proofs.findings.Findings.new.Goals as goal
 
 pub returns-clause-found : goal.returns-clause-found

@@ -1,5 +1,5 @@
 use Rattle.std.proofs.Common.{◌+◌, ap, ◌∙◌, arith}
-use Rattle.channel_report.proofs.LinkFacts.{are-small, tally-more}
+use Rattle.channel_report.proofs.CountsPerLink.{are-small, tally-more}
 use Rattle.channel_report.proofs.link_tally.LinkTally.add.Goals as goal
 
 pub overflow_add-self : goal.overflow_add-self

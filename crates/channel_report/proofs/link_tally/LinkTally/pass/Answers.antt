@@ -1,5 +1,5 @@
 use Rattle.std.proofs.Common.{arith}
-use Rattle.channel_report.proofs.LinkFacts.{are-small}
+use Rattle.channel_report.proofs.CountsPerLink.{are-small}
 use Rattle.channel_report.proofs.RestTallies.{tally-passed}
 use Rattle.channel_report.proofs.link_tally.LinkTally.pass.Goals as goal
 

@@ -2,7 +2,7 @@
 use Rattle.std.proofs.Common.{◌≡◌, [], length, replicate, refl, sym, ap, subst, ◌∙◌}
 use Rattle.std.proofs.lemmas.List.{get_or-replicate, length-replicate}
 use Rattle.channel_report.specs.Ends.{AreKept, is_kept}
-use Rattle.channel_report.proofs.KeptFacts.{none-kept}
+use Rattle.channel_report.proofs.RowsStayKept.{none-kept}
 use Rattle.channel_report.proofs.LinkTallies.{nothing, none-counted}
 use Rattle.channel_report.proofs.StepTallies.{no-steps}
 use Rattle.channel_report.proofs.tally.Tally.new.Goals as goal

@@ -7,14 +7,14 @@ use Rattle.link_steps.specs.Quiet.{quiet_reply}
 use Rattle.call_script.specs.Tasks.{network_of}
 use Rattle.interleave_core.specs.schedules.PlaneSteps.{plane_step}
 use Rattle.interleave_core.proofs.Runs.RunLength.{run-short}
-use Rattle.run_record.proofs.HopFacts.{hops-kept}
+use Rattle.run_record.proofs.OfferPlaces.{hops-kept}
 use Rattle.run_record.specs.Hops.{AreHops}
 use Rattle.run_record.specs.Runs.{part_of}
 use Rattle.run_record.specs.declared.done.Done.{Done}
 use Rattle.channel_report.specs.Ends.{AreKept, is_kept}
 use Rattle.channel_report.specs.Tallies.{IsTally}
 use Rattle.channel_report.proofs.ChannelTallies.{sources-same}
-use Rattle.channel_report.proofs.KeptFacts.{row-none}
+use Rattle.channel_report.proofs.RowsStayKept.{row-none}
 use Rattle.channel_report.proofs.LinkTallies.{link-within, part-short, tallies-more}
 use Rattle.channel_report.proofs.tally.TallyWatch.passed.Goals as goal
 

@@ -9,7 +9,7 @@ use Rattle.interleave_core.specs.schedules.PlaneSteps.{plane_step}
 use Rattle.call_script.specs.Parts.{PlanParts}
 use Rattle.interleave_core.specs.schedules.Watching.{IsNextSeen}
 use Rattle.interleave_core.proofs.Runs.RunLength.{run-short}
-use Rattle.run_record.proofs.HopFacts.{hops-kept}
+use Rattle.run_record.proofs.OfferPlaces.{hops-kept}
 use Rattle.run_record.specs.Hops.{AreHops}
 use Rattle.run_record.specs.Runs.{part_of}
 use Rattle.run_record.specs.declared.done.Done.{Done}

@@ -1,7 +1,7 @@
 use Rattle.std.proofs.Common.{◌≡◌, ◌*◌, ◌/◌, min, arith}
 use Rattle.net_units.specs.Limits.{most_rate}
 use Rattle.field_units.specs.Rounding.{second, units_a_tick}
-use Rattle.field_units.proofs.ScaleFacts.{nothing-sent, a-unit-takes}
+use Rattle.field_units.proofs.ScaleThatFits.{nothing-sent, a-unit-takes}
 use Rattle.field_units.proofs.scale.Scale.rate.Goals as goal
 
 pub returns-then-rate-eq0 : goal.returns-then-rate-eq0

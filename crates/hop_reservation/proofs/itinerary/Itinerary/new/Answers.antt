@@ -1,4 +1,4 @@
-use Rattle.hop_reservation.proofs.OfferFacts.{none-offered}
+use Rattle.hop_reservation.proofs.OneMoreOffer.{none-offered}
 use Rattle.hop_reservation.proofs.itinerary.Itinerary.new.Goals as goal
 
 pub invariant_of-result : goal.invariant_of-result

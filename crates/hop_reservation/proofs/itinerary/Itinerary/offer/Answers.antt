@@ -1,7 +1,7 @@
 use Rattle.std.proofs.Common.{◌-◌, length, subst, sym, ap, arith}
 use Rattle.net_units.specs.Allotted.{levels_of}
 use Rattle.hop_reservation.specs.Offers.{IsLevelOf}
-use Rattle.hop_reservation.proofs.OfferFacts.{levels-fit, AreLevels-at}
+use Rattle.hop_reservation.proofs.OneMoreOffer.{levels-fit, AreLevels-at}
 use Rattle.hop_reservation.proofs.itinerary.Itinerary.offer.Goals as goal
 
 pub hop-requires-clause-last : goal.hop-requires-clause-last

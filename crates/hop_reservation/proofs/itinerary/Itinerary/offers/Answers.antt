@@ -1,6 +1,6 @@
 use Rattle.std.proofs.Common.{length, ap, arith}
 use Rattle.net_units.specs.Allotted.{levels_of}
-use Rattle.hop_reservation.proofs.OfferFacts.{levels-fit}
+use Rattle.hop_reservation.proofs.OneMoreOffer.{levels-fit}
 use Rattle.hop_reservation.proofs.itinerary.Itinerary.offers.Goals as goal
 
 pub returns-clause-in_route : goal.returns-clause-in_route

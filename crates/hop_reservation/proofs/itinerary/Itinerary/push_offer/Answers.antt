@@ -3,7 +3,7 @@ use Rattle.std.proofs.Common.{◌+◌, ◌++◌, ◌∷◌, [], ap, sym, ◌∙�
 use Rattle.net_units.specs.Numbers.{level_number}
 use Rattle.net_units.specs.Allotted.{levels_of}
 use Rattle.hop_reservation.specs.Offers.{offered, next_levels, next_bound, IsLevelOf}
-use Rattle.hop_reservation.proofs.OfferFacts.{found-next, next_levels-at, next_bound-at, offers-push}
+use Rattle.hop_reservation.proofs.OneMoreOffer.{found-next, next_levels-at, next_bound-at, offers-push}
 use Rattle.hop_reservation.proofs.itinerary.Itinerary.push_offer.Goals as goal
 
 pub at-requires : goal.at-requires

@@ -1,7 +1,7 @@
 -- What has no fault is a route, and a route has none.
 use Rattle.std.proofs.Common.{◌≡◌, true, false, Some, None, subst, sym, refl, ◌∙◌}
 use Rattle.hop_reservation.specs.Routes.{IsRoute, fault_in}
-use Rattle.hop_reservation.proofs.RouteFacts.{route-from_none, none-from_route, fault-is_repeated, is_filled, take-filled}
+use Rattle.hop_reservation.proofs.DistinctLinks.{route-from_none, none-from_route, fault-is_repeated, is_filled, take-filled}
 use Rattle.hop_reservation.proofs.route.Route.new.Goals as goal
 
 pub invariant_of-result : goal.invariant_of-result

@@ -1,8 +1,8 @@
 -- The numbers of a plan's links and rounds are those of a plane.
 use Rattle.std.proofs.Common.{ap, ◌∙◌, length, arith}
 use Rattle.tick_plane.specs.Kept.{KeptPlane}
-use Rattle.interleave_core.proofs.Keeping.ActorFacts.{plane-made}
-use Rattle.interleave_core.proofs.Keeping.StepFacts.{has-few}
+use Rattle.interleave_core.proofs.Keeping.KeptActors.{plane-made}
+use Rattle.interleave_core.proofs.Keeping.CoreStep.{has-few}
 use Rattle.interleave_core.proofs.actors.Actors.new.Goals as goal
 
 pub overflow_cast-links : goal.overflow_cast-links

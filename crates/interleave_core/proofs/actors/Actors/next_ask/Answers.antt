@@ -2,7 +2,7 @@
 use Rattle.std.proofs.Common.{◌≡◌, ◌<◌, ap, ◌∙◌, length, arith}
 use Rattle.net_units.specs.Numbers.{actor_number}
 use Rattle.run_record.specs.Runs.{replies_to}
-use Rattle.interleave_core.proofs.Keeping.ActorFacts.{plane-asks, caller-asks, none-asks}
+use Rattle.interleave_core.proofs.Keeping.KeptActors.{plane-asks, caller-asks, none-asks}
 use Rattle.interleave_core.proofs.Keeping.Lookups.{found-at}
 use Rattle.interleave_core.proofs.actors.Actors.next_ask.Goals as goal
 

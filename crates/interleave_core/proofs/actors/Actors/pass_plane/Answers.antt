@@ -2,8 +2,8 @@
 use Rattle.std.proofs.Common.{refl, sym, ap, ◌∙◌}
 use Rattle.link_steps.specs.Quiet.{quiet_reply}
 use Rattle.tick_plane.specs.Planes.{plane_after}
-use Rattle.interleave_core.proofs.Keeping.ActorFacts.{plane-left, plane-taken}
-use Rattle.interleave_core.proofs.Keeping.PlaneFacts.{by-plane, quiet-due, quiet-made}
+use Rattle.interleave_core.proofs.Keeping.KeptActors.{plane-left, plane-taken}
+use Rattle.interleave_core.proofs.Keeping.NextPlaneStep.{by-plane, quiet-due, quiet-made}
 use Rattle.interleave_core.proofs.actors.Actors.pass_plane.Goals as goal
 
 pub pass-requires-clause-left : goal.pass-requires-clause-left

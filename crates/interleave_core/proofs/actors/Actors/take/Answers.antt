@@ -1,7 +1,7 @@
 -- The plane takes its reply, or the caller its own.
 use Rattle.std.proofs.Common.{◌≡◌, ◌≢◌, refl, length, ◌∙◌, arith}
 use Rattle.net_units.specs.Numbers.{actor_number}
-use Rattle.interleave_core.proofs.Keeping.ActorFacts.{calls-next, calls-taken}
+use Rattle.interleave_core.proofs.Keeping.KeptActors.{calls-next, calls-taken}
 use Rattle.interleave_core.proofs.actors.Actors.take.Goals as goal
 
 pub take_plane-requires : goal.take_plane-requires

@@ -1,8 +1,8 @@
 -- The plane is left where it stands after the reply, and the callers as they were.
 use Rattle.std.proofs.Common.{refl, sym, ap, ◌∙◌, subst}
 use Rattle.tick_plane.specs.Planes.{next_due, plane_after, plane_expects, IsDueLater}
-use Rattle.interleave_core.proofs.Keeping.ActorFacts.{plane-left, plane-expected, plane-later, plane-taken}
-use Rattle.interleave_core.proofs.Keeping.PlaneFacts.{by-plane}
+use Rattle.interleave_core.proofs.Keeping.KeptActors.{plane-left, plane-expected, plane-later, plane-taken}
+use Rattle.interleave_core.proofs.Keeping.NextPlaneStep.{by-plane}
 use Rattle.interleave_core.proofs.actors.Actors.take_plane.Goals as goal
 
 pub take_expected-requires-clause-left : goal.take_expected-requires-clause-left

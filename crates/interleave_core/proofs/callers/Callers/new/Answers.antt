@@ -1,8 +1,8 @@
 -- One more caller, and then all.
 use Rattle.std.proofs.Common.{sym, ap, subst, ◌∙◌, ◌≡◌, [], ◌∷◌, length, arith}
 use Rattle.std.proofs.lemmas.List.{length-append}
-use Rattle.interleave_core.proofs.Keeping.ActorFacts.{CallersMade, one-made, all-made}
-use Rattle.interleave_core.proofs.Keeping.StepFacts.{callers-few}
+use Rattle.interleave_core.proofs.Keeping.KeptActors.{CallersMade, one-made, all-made}
+use Rattle.interleave_core.proofs.Keeping.CoreStep.{callers-few}
 use Rattle.net_units.specs.Numbers.{actor_number}
 use Rattle.interleave_core.proofs.callers.Callers.new.Goals as goal
 

@@ -1,5 +1,5 @@
 use Rattle.std.proofs.Common.{◌≡◌, length}
-use Rattle.interleave_core.proofs.Keeping.ActorFacts.{CallersMade}
+use Rattle.interleave_core.proofs.Keeping.KeptActors.{CallersMade}
 use Rattle.interleave_core.proofs.callers.Callers.new.Given as goal
 
 -- the callers so far

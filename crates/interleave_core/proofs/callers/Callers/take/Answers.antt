@@ -3,7 +3,7 @@ use Rattle.std.proofs.Common.{◌≢◌, set, ap, ◌∙◌, refl, length, arith
 use Rattle.std.specs.Vec.{with_item}
 use Rattle.net_units.specs.Numbers.{actor_number}
 use Rattle.run_record.specs.Runs.{replies_to}
-use Rattle.interleave_core.proofs.Keeping.ActorFacts.{callers-same, caller-within, caller-left, caller-expected, caller-taken}
+use Rattle.interleave_core.proofs.Keeping.KeptActors.{callers-same, caller-within, caller-left, caller-expected, caller-taken}
 use Rattle.interleave_core.proofs.Keeping.Lookups.{found-at, when-ok}
 use Rattle.interleave_core.proofs.callers.Callers.take.Goals as goal
 

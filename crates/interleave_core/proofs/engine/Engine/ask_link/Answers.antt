@@ -3,12 +3,12 @@ use Rattle.std.proofs.Common.{◌≡◌, ◌∷◌, length, sym, ap, subst, ◌�
 use Rattle.std.proofs.lemmas.List.{with_items_is}
 use Rattle.std.specs.List.{slice_get}
 use Rattle.net_units.specs.Numbers.{actor_number}
-use Rattle.call_script.proofs.FitFacts.{plan-fits}
+use Rattle.call_script.proofs.PlansFit.{plan-fits}
 use Rattle.call_script.specs.Tasks.{network_of}
 use Rattle.interleave_core.specs.schedules.Standing.{LinksStand}
-use Rattle.interleave_core.proofs.Keeping.EngineFacts.{asking-in, both-ok, more-err}
-use Rattle.interleave_core.proofs.Keeping.LinkFacts.{clock-small, links-with}
-use Rattle.interleave_core.proofs.Keeping.StepFacts.{asked-within, fits-at, next-by, links-stepped}
+use Rattle.interleave_core.proofs.Keeping.EngineStep.{asking-in, both-ok, more-err}
+use Rattle.interleave_core.proofs.Keeping.KeptLinks.{clock-small, links-with}
+use Rattle.interleave_core.proofs.Keeping.CoreStep.{asked-within, fits-at, next-by, links-stepped}
 use Rattle.run_record.specs.Runs.{part_of}
 use Rattle.run_record.specs.declared.done.Done.{Done}
 use Rattle.interleave_core.proofs.engine.Engine.ask_link.Goals as goal

@@ -1,7 +1,7 @@
 -- The link has replied, and the actor gets the reply.
 use Rattle.std.proofs.Common.{refl}
-use Rattle.interleave_core.proofs.Keeping.EngineFacts.{on-err}
-use Rattle.interleave_core.proofs.Keeping.PlaneFacts.{makes-step}
+use Rattle.interleave_core.proofs.Keeping.EngineStep.{on-err}
+use Rattle.interleave_core.proofs.Keeping.NextPlaneStep.{makes-step}
 use Rattle.interleave_core.proofs.engine.Engine.make.Goals as goal
 
 pub ask_link-requires : goal.ask_link-requires

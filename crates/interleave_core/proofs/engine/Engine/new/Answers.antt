@@ -1,5 +1,5 @@
 -- Nothing is asked yet.
-use Rattle.interleave_core.proofs.Keeping.StepFacts.{fresh-run}
+use Rattle.interleave_core.proofs.Keeping.CoreStep.{fresh-run}
 use Rattle.interleave_core.proofs.engine.Engine.new.Goals as goal
 
 pub returns : goal.returns

@@ -3,14 +3,14 @@ use Rattle.std.proofs.Common.{◌≡◌, ◌∷◌, length, sym, ap, subst, ◌�
 use Rattle.std.proofs.lemmas.List.{with_items_is}
 use Rattle.std.specs.List.{slice_get}
 use Rattle.net_units.specs.Numbers.{actor_number, link_number}
-use Rattle.call_script.proofs.FitFacts.{plan-fits}
+use Rattle.call_script.proofs.PlansFit.{plan-fits}
 use Rattle.call_script.specs.Tasks.{network_of}
 use Rattle.link_steps.specs.declared.asks.Ask.TheVariants.{Tick}
 use Rattle.link_steps.specs.Quiet.{quiet_reply}
 use Rattle.interleave_core.specs.schedules.Standing.{LinksStand}
-use Rattle.interleave_core.proofs.Keeping.EngineFacts.{asking-in}
-use Rattle.interleave_core.proofs.Keeping.LinkFacts.{clock-small}
-use Rattle.interleave_core.proofs.Keeping.StepFacts.{asked-within, next-by, links-stepped}
+use Rattle.interleave_core.proofs.Keeping.EngineStep.{asking-in}
+use Rattle.interleave_core.proofs.Keeping.KeptLinks.{clock-small}
+use Rattle.interleave_core.proofs.Keeping.CoreStep.{asked-within, next-by, links-stepped}
 use Rattle.run_record.specs.declared.done.Done.{Done}
 use Rattle.interleave_core.proofs.engine.Engine.pass_link.Goals as goal
 

@@ -4,7 +4,7 @@ use Rattle.std.proofs.lemmas.List.{with_items_is}
 use Rattle.link_quota.specs.Any.{any_clock}
 use Rattle.link_steps.specs.Lists.{Each}
 use Rattle.interleave_core.specs.schedules.Resting.{HaveRested}
-use Rattle.interleave_core.proofs.Watched.RestFacts.{all-early, makes-stride}
+use Rattle.interleave_core.proofs.Watched.RestedRounds.{all-early, makes-stride}
 use Rattle.interleave_core.proofs.engine.Engine.stride.Goals as goal
 
 pub rest_links-requires-clause-early : goal.rest_links-requires-clause-early

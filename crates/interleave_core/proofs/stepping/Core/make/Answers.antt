@@ -4,7 +4,7 @@ use Rattle.call_script.specs.Tasks.{network_of}
 use Rattle.interleave_core.specs.runs.Runs.{step}
 use Rattle.interleave_core.specs.schedules.Standing.{IsAboutTo, run_in}
 use Rattle.interleave_core.proofs.Runs.RunOf.{step-is}
-use Rattle.interleave_core.proofs.Keeping.StepFacts.{recorded}
+use Rattle.interleave_core.proofs.Keeping.CoreStep.{recorded}
 use Rattle.interleave_core.proofs.stepping.Core.make.Goals as goal
 
 pub returns-clause-made : goal.returns-clause-made

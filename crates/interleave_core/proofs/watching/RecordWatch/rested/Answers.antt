@@ -1,8 +1,8 @@
 -- The rounds are recorded after the others.
 use Rattle.std.proofs.Common.{length, reverse, sym, ap, ◌∙◌, arith}
-use Rattle.call_script.proofs.FitFacts.{plan-fits}
+use Rattle.call_script.proofs.PlansFit.{plan-fits}
 use Rattle.call_script.specs.Tasks.{network_of}
-use Rattle.interleave_core.proofs.Watched.StrideFacts.{links-are, links-few, on-ok, rested-is}
+use Rattle.interleave_core.proofs.Watched.WatchedStrides.{links-are, links-few, on-ok, rested-is}
 use Rattle.interleave_core.proofs.watching.RecordWatch.rested.Goals as goal
 
 pub overflow_cast-links : goal.overflow_cast-links

@@ -1,6 +1,6 @@
 -- The entry is recorded after the others.
 use Rattle.std.proofs.Common.{◌-◌, ◌∷◌, ap, ◌∙◌}
-use Rattle.interleave_core.proofs.Keeping.StepFacts.{recorded}
+use Rattle.interleave_core.proofs.Keeping.CoreStep.{recorded}
 use Rattle.interleave_core.proofs.watching.RecordWatch.see.Goals as goal
 
 pub returns-clause-seen : goal.returns-clause-seen

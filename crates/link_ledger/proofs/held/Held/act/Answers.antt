@@ -15,8 +15,8 @@ use Rattle.link_ledger.specs.Order.{HeldLink, AreInOrder}
 use Rattle.link_ledger.specs.Own.{Acted}
 use Rattle.link_ledger.specs.Tokens.{IsLink}
 use Rattle.link_ledger.specs.declared.entries.OwnEntry.{OwnEntry}
-use Rattle.link_ledger.proofs.OrderFacts.{early, in_order-same, order-marks}
-use Rattle.link_ledger.proofs.StepFacts.{step-order, step-acted}
+use Rattle.link_ledger.proofs.LinkStaysInOrder.{early, in_order-same, order-marks}
+use Rattle.link_ledger.proofs.StepUnderLock.{step-order, step-acted}
 use Rattle.link_ledger.proofs.held.Held.act.Goals as goal
 
 pub step-requires-clause-early : goal.step-requires-clause-early

@@ -1,4 +1,4 @@
-use Rattle.link_ledger.proofs.OrderFacts.{in_order-new}
+use Rattle.link_ledger.proofs.LinkStaysInOrder.{in_order-new}
 use Rattle.link_ledger.proofs.held.Held.new.Goals as goal
 
 pub invariant_of-result : goal.invariant_of-result

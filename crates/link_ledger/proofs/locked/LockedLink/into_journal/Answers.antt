@@ -1,6 +1,6 @@
 use Rattle.std.proofs.Common.{◌≡◌, map, length, sym, subst, ◌∙◌}
 use Rattle.link_steps.specs.Journals.{IsLegalJournal}
-use Rattle.link_steps.proofs.JournalFacts.{journals-are-histories}
+use Rattle.link_steps.proofs.LegalJournals.{journals-are-histories}
 use Rattle.step_stamp.specs.Seats.{seat_link, list_of, link_view, link_table}
 use Rattle.link_ledger.specs.Journals.{done_in}
 use Rattle.link_ledger.specs.Order.{HeldLink, IsOrdered}

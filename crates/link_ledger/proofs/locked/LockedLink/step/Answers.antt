@@ -8,11 +8,11 @@ use Rattle.step_stamp.specs.Lists.{Has}
 use Rattle.step_stamp.specs.Seats.{pass_table, pass_view}
 use Rattle.step_stamp.specs.declared.seats.PassSeat.{PassSeat}
 use Rattle.step_stamp.specs.declared.views.View.{View}
-use Rattle.step_stamp.proofs.ListFacts.{has_first}
+use Rattle.step_stamp.proofs.ListMembers.{has_first}
 use Rattle.link_ledger.specs.Own.{IsExact, Owns, Acted, own_entry, own_at}
 use Rattle.link_ledger.specs.Tokens.{Token, token_of, KeepsSeat, KeepsToken, ActedAt, Steps}
 use Rattle.link_ledger.specs.declared.entries.OwnEntry.{OwnEntry}
-use Rattle.link_ledger.proofs.OwnFacts.{exact-after, entries-after, owns-after}
+use Rattle.link_ledger.proofs.OwnStaysExact.{exact-after, entries-after, owns-after}
 use Rattle.link_ledger.proofs.locked.LockedLink.step.Goals as goal
 
 pub invariant_of-pass-in-Ok : goal.invariant_of-pass-in-Ok

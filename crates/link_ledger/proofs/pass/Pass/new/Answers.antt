@@ -4,7 +4,7 @@ use Rattle.net_units.specs.declared.numbers.ActorNo.{ActorNo}
 use Rattle.step_stamp.specs.Seats.{knows_of, pass_view}
 use Rattle.link_ledger.specs.Own.{Owns}
 use Rattle.link_ledger.specs.declared.entries.OwnEntry.{OwnEntry}
-use Rattle.link_ledger.proofs.OwnFacts.{entries_none}
+use Rattle.link_ledger.proofs.OwnStaysExact.{entries_none}
 use Rattle.link_ledger.proofs.pass.Pass.new.Goals as goal
 
 pub returns-clause-owns : goal.returns-clause-owns

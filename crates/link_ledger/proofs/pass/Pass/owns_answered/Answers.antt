@@ -4,7 +4,7 @@ use Rattle.step_stamp.specs.declared.seats.PassSeat.{PassSeat}
 use Rattle.link_ledger.specs.Own.{IsExact}
 use Rattle.link_ledger.specs.Tokens.{Token, token_of, KeepsToken}
 use Rattle.link_ledger.specs.declared.entries.OwnEntry.{OwnEntry}
-use Rattle.link_ledger.proofs.AnswerFacts.{answered-owned}
+use Rattle.link_ledger.proofs.RepliesMakeOwn.{answered-owned}
 use Rattle.link_ledger.proofs.pass.Pass.owns_answered.Goals as goal
 
 exact-of : (a : ActorNo) (seat : Option PassSeat) (own : List OwnEntry) (spent : _) (pass : Token) → token_of a seat own spent ≡ pass → pass.has_seat ≡ true → pass.spent ≡ false → KeepsToken a seat own spent → IsExact pass.actor pass.view pass.own

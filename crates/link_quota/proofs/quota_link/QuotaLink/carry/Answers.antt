@@ -10,8 +10,8 @@ use Rattle.link_quota.specs.State.{rules_of}
 use Rattle.link_quota.specs.Stood.{IsLegallyStood}
 use Rattle.link_quota.proofs.ClosingRoom.{room-carried}
 use Rattle.link_quota.proofs.ClosingSteps.{closing-carried}
-use Rattle.link_quota.proofs.StepFacts.{goes-all, same-shape, stood-all, carried-all, carrying-none, carrying-other}
-use Rattle.link_server.proofs.RestFacts.{due-now}
+use Rattle.link_quota.proofs.SplitSteps.{goes-all, same-shape, stood-all, carried-all, carrying-none, carrying-other}
+use Rattle.link_server.proofs.LinkRests.{due-now}
 use Rattle.link_quota.proofs.quota_link.QuotaLink.carry.Goals as goal
 
 pub returns-clause-goes : goal.returns-clause-goes

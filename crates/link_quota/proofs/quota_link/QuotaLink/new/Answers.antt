@@ -6,9 +6,9 @@ use Rattle.link_server.specs.State.{kept_in}
 use Rattle.traffic_contract.specs.Admission.{total}
 use Rattle.link_quota.specs.Closing.{closing_part}
 use Rattle.link_quota.specs.Shares.{AreShares}
-use Rattle.link_quota.proofs.AnewFacts.{AreNoneTo, none-push, shares-none}
-use Rattle.link_quota.proofs.QuotaFacts.{stood-new, held-new}
-use Rattle.link_server.proofs.RestFacts.{due-now}
+use Rattle.link_quota.proofs.SharesRowByRow.{AreNoneTo, none-push, shares-none}
+use Rattle.link_quota.proofs.SomeLegalHistory.{stood-new, held-new}
+use Rattle.link_server.proofs.LinkRests.{due-now}
 use Rattle.link_quota.proofs.quota_link.QuotaLink.new.Goals as goal
 
 pub invariant_of-result : goal.invariant_of-result

@@ -10,7 +10,7 @@ use Rattle.link_steps.specs.Buffer.{need_of}
 use Rattle.link_steps.specs.Levels.{level_of}
 use Rattle.link_steps.specs.Replies.{reserve_reply, reserve_reply_in}
 use Rattle.link_steps.specs.Reservation.{is_of}
-use Rattle.link_steps.proofs.LevelFacts.{level_of-level}
+use Rattle.link_steps.proofs.LevelByNumber.{level_of-level}
 use Rattle.link_server.specs.Held.{reservations_held}
 use Rattle.link_server.specs.State.{kept_in}
 use Rattle.std.specs.List.{slice_index}
@@ -18,8 +18,8 @@ use Rattle.link_quota.specs.Best.{best_of, load_of}
 use Rattle.link_quota.specs.Places.{IsQuotaOf}
 use Rattle.link_quota.specs.Shares.{IsShare}
 use Rattle.link_quota.specs.State.{rules_of}
-use Rattle.link_quota.proofs.QuotaFacts.{stood-within}
-use Rattle.link_quota.proofs.RoomFacts.{room_in, quota-reply, split-wide, split-twice, by-no_level, by-no_buffer, by-offer, seen-found, seen-none}
+use Rattle.link_quota.proofs.SomeLegalHistory.{stood-within}
+use Rattle.link_quota.proofs.GroupRoom.{room_in, quota-reply, split-wide, split-twice, by-no_level, by-no_buffer, by-offer, seen-found, seen-none}
 use Rattle.link_quota.proofs.quota_link.QuotaLink.offer.Goals as goal
 use Rattle.link_quota.proofs.quota_link.QuotaLink.offer.Goals.{Start, Else-smax-shape, After-of_group, In_default, After-from-in-Ok}
 

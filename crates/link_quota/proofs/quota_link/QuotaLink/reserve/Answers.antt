@@ -21,11 +21,11 @@ use Rattle.link_quota.specs.State.{rules_of}
 use Rattle.link_quota.specs.Steps.{GoesOn}
 use Rattle.link_quota.specs.Stood.{IsLegallyStood}
 use Rattle.link_quota.specs.declared.share.Share.{Share}
-use Rattle.link_quota.proofs.QuotaFacts.{stood-goes, stood-same, shares-kept, shares-setup, reserve-legal, refused-enters, offer-may-be, offers-new, offered-none}
+use Rattle.link_quota.proofs.SomeLegalHistory.{stood-goes, stood-same, shares-kept, shares-setup, reserve-legal, refused-enters, offer-may-be, offers-new, offered-none}
 use Rattle.link_quota.proofs.ClosingRoom.{room-more, room-reserved, room-same}
 use Rattle.link_quota.proofs.ClosingSteps.{closing-kept, closing-reserved}
-use Rattle.link_quota.proofs.StepFacts.{on-err, instead-offered, written-back, small-after, small-shares}
-use Rattle.link_server.proofs.RestFacts.{due-now}
+use Rattle.link_quota.proofs.SplitSteps.{on-err, instead-offered, written-back, small-after, small-shares}
+use Rattle.link_server.proofs.LinkRests.{due-now}
 use Rattle.link_quota.proofs.quota_link.QuotaLink.reserve.Goals as goal
 use Rattle.link_quota.proofs.quota_link.QuotaLink.reserve.Goals.{In-Ok, In_ok-reply-in-Ok, In_err-reply-in-Ok}
 

@@ -2,17 +2,17 @@
 use Rattle.std.proofs.Common.{sym, ap, subst, arith}
 use Rattle.link_steps.specs.Kept.{Kept}
 use Rattle.link_steps.specs.Split.{Link, SplitFits}
-use Rattle.link_steps.proofs.QuietFacts.{later-rests, quiet-ticks}
+use Rattle.link_steps.proofs.QuietTicks.{later-rests, quiet-ticks}
 use Rattle.link_server.specs.Resting.{RestsFromClock}
 use Rattle.link_server.specs.State.{kept_in}
-use Rattle.link_server.proofs.StepFacts.{rows-have}
+use Rattle.link_server.proofs.EveryHistoryAgrees.{rows-have}
 use Rattle.std.specs.Vec.{vec_capacity}
 use Rattle.link_quota.specs.Closing.{AreClosing, HasRoomToClose}
 use Rattle.link_quota.specs.Shares.{AreShares}
 use Rattle.link_quota.specs.State.{rules_of}
 use Rattle.link_quota.specs.Stood.{IsLegallyStood}
-use Rattle.link_quota.proofs.QuotaFacts.{held_in}
-use Rattle.link_quota.proofs.RestFacts.{later-stood}
+use Rattle.link_quota.proofs.SomeLegalHistory.{held_in}
+use Rattle.link_quota.proofs.RestKeepsShares.{later-stood}
 use Rattle.link_quota.proofs.quota_link.QuotaLink.rest.Goals as goal
 
 pub invariant_of-self : goal.invariant_of-self

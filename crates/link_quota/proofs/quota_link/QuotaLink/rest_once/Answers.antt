@@ -4,10 +4,10 @@ use Rattle.link_steps.specs.declared.asks.Ask.TheVariants.{Tick}
 use Rattle.link_steps.specs.Quiet.{later_by, quiet_reply}
 use Rattle.link_steps.specs.Split.{Link}
 use Rattle.link_server.specs.State.{kept_in}
-use Rattle.link_server.proofs.StepFacts.{rows-have}
+use Rattle.link_server.proofs.EveryHistoryAgrees.{rows-have}
 use Rattle.link_quota.specs.State.{rules_of}
 use Rattle.link_quota.specs.Steps.{GoesOn}
-use Rattle.link_quota.proofs.RestFacts.{one-goes}
+use Rattle.link_quota.proofs.RestKeepsShares.{one-goes}
 use Rattle.link_quota.proofs.quota_link.QuotaLink.rest_once.Goals as goal
 
 pub rest-requires-clause-rests : goal.rest-requires-clause-rests

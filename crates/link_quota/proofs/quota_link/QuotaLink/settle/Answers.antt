@@ -13,11 +13,11 @@ use Rattle.link_quota.specs.State.{rules_of}
 use Rattle.link_quota.specs.Steps.{GoesOn}
 use Rattle.link_quota.specs.Stood.{IsLegallyStood}
 use Rattle.link_quota.specs.declared.share.Share.{Share}
-use Rattle.link_quota.proofs.QuotaFacts.{goes-on, stood-goes, shares-setup}
+use Rattle.link_quota.proofs.SomeLegalHistory.{goes-on, stood-goes, shares-setup}
 use Rattle.link_quota.proofs.ClosingRoom.{room-settled, place-to-close}
 use Rattle.link_quota.proofs.ClosingSteps.{closing-settled}
-use Rattle.link_quota.proofs.StepFacts.{written-back, settling-other, settling-setup, settling-new, part-before, small-after, small-shares}
-use Rattle.link_server.proofs.RestFacts.{due-now}
+use Rattle.link_quota.proofs.SplitSteps.{written-back, settling-other, settling-setup, settling-new, part-before, small-after, small-shares}
+use Rattle.link_server.proofs.LinkRests.{due-now}
 use Rattle.link_quota.proofs.quota_link.QuotaLink.settle.Goals as goal
 use Rattle.link_quota.proofs.quota_link.QuotaLink.settle.Goals.{In_ok-reply, After-shape-shape, After-held_of-after}
 

@@ -17,7 +17,7 @@ use Rattle.link_quota.specs.Stood.{IsLegallyStood}
 use Rattle.link_quota.specs.declared.share.Share.{Share}
 use Rattle.link_quota.proofs.ClosingRoom.{room-ticked}
 use Rattle.link_quota.proofs.ClosingSteps.{have-gone, shares-lowered, closing-left, closing-ticked}
-use Rattle.link_quota.proofs.StepFacts.{written-back, tick-other, goes-all, same-shape, stood-all, ticked-all}
+use Rattle.link_quota.proofs.SplitSteps.{written-back, tick-other, goes-all, same-shape, stood-all, ticked-all}
 use Rattle.link_quota.proofs.quota_link.QuotaLink.tick.Goals as goal
 use Rattle.link_quota.proofs.quota_link.QuotaLink.tick.Goals.{After-rows_held}
 

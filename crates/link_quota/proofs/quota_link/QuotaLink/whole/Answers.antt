@@ -6,9 +6,9 @@ use Rattle.link_server.specs.State.{kept_in}
 use Rattle.link_quota.specs.Shares.{AreShares}
 use Rattle.link_quota.specs.State.{rules_of}
 use Rattle.link_quota.specs.Stood.{IsLegallyStood}
-use Rattle.link_quota.proofs.QuotaFacts.{shares-unsplit}
-use Rattle.link_quota.proofs.StepFacts.{goes-all-unsplit, instead-unsplit, same-shape, stood-all}
-use Rattle.link_server.proofs.RestFacts.{due-now}
+use Rattle.link_quota.proofs.SomeLegalHistory.{shares-unsplit}
+use Rattle.link_quota.proofs.SplitSteps.{goes-all-unsplit, instead-unsplit, same-shape, stood-all}
+use Rattle.link_server.proofs.LinkRests.{due-now}
 use Rattle.link_quota.proofs.quota_link.QuotaLink.whole.Goals as goal
 
 pub returns-clause-goes : goal.returns-clause-goes

@@ -3,7 +3,7 @@ use Rattle.std.proofs.Common.{◌≡◌, ◌≤◌, ℕ, inl, inr, Option, Some,
 use Rattle.std.specs.Prelude.{IfNone, IfSome, option_copied}
 use Rattle.std.proofs.lemmas.Bool.{cases_lt}
 use Rattle.link_server.specs.KeyedList.{AreKeys, IsUnder, Listed, items_at, position, slot_at}
-use Rattle.link_server.proofs.KeyedListFacts.{held-at, item-at, length-items, some-listed}
+use Rattle.link_server.proofs.KeyedValues.{held-at, item-at, length-items, some-listed}
 use Rattle.link_server.proofs.KeyPlaces.{position-there}
 use Rattle.link_server.proofs.keyed_list.KeyedList.get.Goals as goal
 

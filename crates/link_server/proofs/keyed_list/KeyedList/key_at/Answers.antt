@@ -1,7 +1,7 @@
 -- The key at a place stands there alone.
 use Rattle.std.proofs.Common.{length, ap, sym, ◌∙◌, arith}
 use Rattle.link_server.specs.KeyedList.{position}
-use Rattle.link_server.proofs.KeyedListFacts.{length-items}
+use Rattle.link_server.proofs.KeyedValues.{length-items}
 use Rattle.link_server.proofs.KeyPlaces.{position-is}
 use Rattle.link_server.proofs.keyed_list.KeyedList.key_at.Goals as goal
 

@@ -1,6 +1,6 @@
 -- As many values as keys.
 use Rattle.std.proofs.Common.{arith, ap, length}
-use Rattle.link_server.proofs.KeyedListFacts.{length-items}
+use Rattle.link_server.proofs.KeyedValues.{length-items}
 use Rattle.link_server.proofs.keyed_list.KeyedList.len.Goals as goal
 
 pub returns : goal.returns

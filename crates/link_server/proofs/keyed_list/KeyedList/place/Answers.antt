@@ -3,7 +3,7 @@ use Rattle.std.proofs.Common.{◌≡◌, ◌<◌, ◌≤◌, ℕ, Result, Ok, Er
 use Rattle.std.proofs.lemmas.List.Sorted.{searched}
 use Rattle.std.specs.Prelude.{IsOk, MatchResult}
 use Rattle.link_server.specs.KeyedList.{position}
-use Rattle.link_server.proofs.KeyedListFacts.{key-inside}
+use Rattle.link_server.proofs.KeyedValues.{key-inside}
 use Rattle.link_server.proofs.KeyPlaces.{stamp-found, stamp-inside, stamp-is}
 use Rattle.link_server.proofs.Waiting.Rising.{rising-on}
 use Rattle.link_server.proofs.keyed_list.KeyedList.place.Goals as goal

@@ -2,7 +2,7 @@
 use Rattle.std.proofs.Common.{set, ◌≡◌, ◌+◌, ◌-◌, ◌≤◌, ◌<◌, ℕ, [], ◌∷◌, ◌++◌, length, ap, sym, subst, ◌∙◌, arith}
 use Rattle.std.proofs.lemmas.List.{length-append, length-set}
 use Rattle.link_server.specs.KeyedList.{AreKeys, AreStamps, IsNoneOf, items_at}
-use Rattle.link_server.proofs.KeyedListFacts.{items-came, keys-came, none-yet}
+use Rattle.link_server.proofs.KeyedValues.{items-came, keys-came, none-yet}
 use Rattle.link_server.proofs.KeyPlaces.{stamps-came, stamps-many}
 use Rattle.link_server.proofs.keyed_list.KeyedList.push.Goals as goal
 

@@ -3,7 +3,7 @@ use Rattle.std.proofs.Common.{◌≡◌, ◌<◌, None, IsSome, length, get_or, 
 use Rattle.std.proofs.lemmas.List.Edits.{length-remove}
 use Rattle.slab.specs.Slab.{Updates}
 use Rattle.link_server.specs.KeyedList.{AreKeys, AreStamps, items_at, position, slot_at}
-use Rattle.link_server.proofs.KeyedListFacts.{held-at, item-at, items-left, key-inside, keys-left}
+use Rattle.link_server.proofs.KeyedValues.{held-at, item-at, items-left, key-inside, keys-left}
 use Rattle.link_server.proofs.KeyPlaces.{position-there, stamps-left, stamps-many}
 use Rattle.link_server.proofs.keyed_list.KeyedList.remove.Goals as goal
 use Rattle.link_server.proofs.keyed_list.KeyedList.remove.Goals.{After-place-place, After-remove-3}

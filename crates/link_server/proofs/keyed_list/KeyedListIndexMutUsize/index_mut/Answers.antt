@@ -1,7 +1,7 @@
 -- What is written under the key changes the value at its place and no other.
 use Rattle.std.proofs.Common.{◌<◌, Some, IsSome, length, get_or, set, refl, ap, sym, subst, ◌∙◌}
 use Rattle.link_server.specs.KeyedList.{AreKeys, items_at, position, slot_at}
-use Rattle.link_server.proofs.KeyedListFacts.{held-at, item-at, items-set, key-inside, keys-set}
+use Rattle.link_server.proofs.KeyedValues.{held-at, item-at, items-set, key-inside, keys-set}
 use Rattle.link_server.proofs.KeyPlaces.{position-there}
 use Rattle.link_server.proofs.keyed_list.KeyedListIndexMutUsize.index_mut.Goals as goal
 use Rattle.link_server.proofs.keyed_list.KeyedListIndexMutUsize.index_mut.Goals.{After-index_mut}

@@ -1,7 +1,7 @@
 -- The value under the key stands at its place.
 use Rattle.std.proofs.Common.{IsSome, get_or, ap, subst, ◌∙◌}
 use Rattle.link_server.specs.KeyedList.{position, slot_at}
-use Rattle.link_server.proofs.KeyedListFacts.{held-at, item-at, key-inside}
+use Rattle.link_server.proofs.KeyedValues.{held-at, item-at, key-inside}
 use Rattle.link_server.proofs.KeyPlaces.{position-there}
 use Rattle.link_server.proofs.keyed_list.KeyedListIndexUsize.index.Goals as goal
 

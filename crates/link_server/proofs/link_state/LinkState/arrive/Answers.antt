@@ -6,7 +6,7 @@ use Rattle.link_steps.specs.Kept.{Kept, KeptRow, is_kept_of, kept_reply, kept_af
 use Rattle.link_steps.specs.Refusals.{full}
 use Rattle.link_steps.proofs.AccountOfRows.{eligible-from}
 use Rattle.link_steps.specs.Lists.{change_first}
-use Rattle.link_steps.proofs.ListFacts.{Each-find}
+use Rattle.link_steps.proofs.SearchAndFilter.{Each-find}
 use Rattle.link_server.specs.Packets.{arrival_in}
 use Rattle.link_server.specs.Sound.{IsSound}
 use Rattle.link_server.specs.Sources.{IsReady}
@@ -15,10 +15,10 @@ use Rattle.link_server.specs.Departed.{AreCounted}
 use Rattle.link_server.proofs.Departed.Packets.{counted-arrived}
 use Rattle.link_server.proofs.Departed.Rows.{held-here}
 use Rattle.link_server.proofs.Departed.Tick.{rows-led, sound-led}
-use Rattle.link_server.proofs.RestFacts.{due-now}
+use Rattle.link_server.proofs.LinkRests.{due-now}
 use Rattle.link_server.proofs.Sound.Taking.{sound-arrive}
 use Rattle.link_server.proofs.Sound.Stood.{all-ready, newest-stood, numbers-left, still-stood}
-use Rattle.link_server.proofs.RowFacts.Parts.{at-levels, still-of}
+use Rattle.link_server.proofs.RowsOfTable.Parts.{at-levels, still-of}
 use Rattle.link_server.proofs.link_state.LinkState.arrive.Goals as goal
 use Rattle.link_server.proofs.link_state.LinkState.arrive.Goals.{In-Some, After-take-taken, After-push}
 

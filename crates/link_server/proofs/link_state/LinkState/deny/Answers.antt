@@ -4,8 +4,8 @@ use Rattle.link_server.proofs.Words.{Deny, kept_after, kept_reply, with_kept_row
 use Rattle.link_steps.specs.declared.replies.Reply.TheVariants.{Denied}
 use Rattle.link_server.specs.Sound.{IsSound}
 use Rattle.link_server.proofs.Replies.Setup.{deny-absent, deny-refused, deny-denied, deny-same, deny-kept}
-use Rattle.link_server.proofs.RowFacts.Parts.{still-of}
-use Rattle.link_server.proofs.RestFacts.{due-now}
+use Rattle.link_server.proofs.RowsOfTable.Parts.{still-of}
+use Rattle.link_server.proofs.LinkRests.{due-now}
 use Rattle.link_server.proofs.Sound.Setup.{sound-deny}
 use Rattle.link_server.proofs.Sound.Stood.{still-stood}
 use Rattle.link_server.proofs.link_state.LinkState.deny.Goals as goal

@@ -2,8 +2,8 @@
 use Rattle.std.proofs.Common.{◌≡◌, ◌≤◌, None, Some, ap, ◌∙◌, subst}
 use Rattle.link_server.specs.Held.{reservations_held, seen, seen_at}
 use Rattle.link_server.proofs.Words.{reservation_in, row_in, kept_in}
-use Rattle.link_server.proofs.ChosenFacts.{seen-stand, seen-row, seen-none}
-use Rattle.link_server.proofs.RowFacts.Parts.{at-levels}
+use Rattle.link_server.proofs.ChosenLevel.{seen-stand, seen-row, seen-none}
+use Rattle.link_server.proofs.RowsOfTable.Parts.{at-levels}
 use Rattle.link_server.proofs.link_state.LinkState.held.Goals as goal
 use Rattle.link_server.proofs.link_state.LinkState.held.Goals.{Then-place-len, After-units}
 

@@ -2,7 +2,7 @@
 use Rattle.std.proofs.Common.{◌≡◌, ◌+◌, ◌≤◌, suc, length, refl, sym, ap, ◌∙◌, subst, arith}
 use Rattle.std.specs.Prelude.{Result, Ok, Err, OnErr}
 use Rattle.link_server.proofs.Words.{KeptRow, total, Offer, slots_of, kept_after, account, KeptQueue, KeptTable, reservation_in, row_in, IsWithinLevels, kept_in}
-use Rattle.link_steps.proofs.ReplyFacts.{may-reach}
+use Rattle.link_steps.proofs.ReservationFound.{may-reach}
 use Rattle.link_server.specs.Held.{reservations_held}
 use Rattle.link_server.specs.Resting.{RestsFromClock}
 use Rattle.link_server.specs.Sound.{IsSound, all_places_of, most_places}
@@ -14,13 +14,13 @@ use Rattle.link_server.specs.Departed.{AreCounted}
 use Rattle.link_server.proofs.Departed.Packets.{new-counted}
 use Rattle.link_server.proofs.Departed.Rows.{counted-added, counted-still}
 use Rattle.link_server.proofs.Sound.Packets.{packets-lead}
-use Rattle.link_server.proofs.RestFacts.{due-now}
+use Rattle.link_server.proofs.LinkRests.{due-now}
 use Rattle.link_server.proofs.Sound.Room.{most_places-are}
 use Rattle.link_server.proofs.Sound.Setup.{sound-larger}
-use Rattle.link_server.proofs.StepFacts.{rows-have}
+use Rattle.link_server.proofs.EveryHistoryAgrees.{rows-have}
 use Rattle.link_server.proofs.Sound.Stood.{rows-few, stood-offered}
-use Rattle.link_server.proofs.RowFacts.Sums.{within-reserved}
-use Rattle.link_server.proofs.RowFacts.Parts.{still-of}
+use Rattle.link_server.proofs.RowsOfTable.Sums.{within-reserved}
+use Rattle.link_server.proofs.RowsOfTable.Parts.{still-of}
 use Rattle.link_server.proofs.link_state.LinkState.hold.Goals as goal
 use Rattle.link_server.proofs.link_state.LinkState.hold.Goals.{In_ok-add}
 

@@ -19,8 +19,8 @@ use Rattle.link_server.proofs.Sound.Tick.{sound-tick}
 use Rattle.link_server.proofs.Sound.Stood.{all-ready, still-stood}
 use Rattle.link_server.proofs.Replies.Ticked.{IsServedAs, all-came, tick-replied, tick-kept}
 use Rattle.link_server.specs.Sources.{MayBring, queue_after}
-use Rattle.link_server.proofs.RowFacts.Parts.{still-of}
-use Rattle.link_server.proofs.RowFacts.Ticks.{at-shape, may-bring}
+use Rattle.link_server.proofs.RowsOfTable.Parts.{still-of}
+use Rattle.link_server.proofs.RowsOfTable.Ticks.{at-shape, may-bring}
 use Rattle.link_server.proofs.link_state.LinkState.make_tick.Goals as goal
 use Rattle.link_server.proofs.link_state.LinkState.make_tick.Goals.{After-take_source_packets-full, After-serve-left, After-depart}
 

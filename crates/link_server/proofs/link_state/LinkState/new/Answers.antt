@@ -6,9 +6,9 @@ use Rattle.link_server.specs.Sound.{IsSound}
 use Rattle.link_server.specs.Stood.{IsStood}
 use Rattle.link_server.proofs.Sound.Stood.{nothing-stood}
 use Rattle.link_server.proofs.Replies.Account.{account-nothing}
-use Rattle.link_server.proofs.RestFacts.{due-now}
+use Rattle.link_server.proofs.LinkRests.{due-now}
 use Rattle.link_server.proofs.Sound.Setup.{nothing-sound}
-use Rattle.link_server.proofs.RowFacts.Parts.{of-shape}
+use Rattle.link_server.proofs.RowsOfTable.Parts.{of-shape}
 use Rattle.link_server.proofs.link_state.LinkState.new.Goals as goal
 use Rattle.link_server.proofs.link_state.LinkState.new.Goals.{In_ok-new}
 

@@ -7,7 +7,7 @@ use Rattle.link_server.proofs.Sound.Setup.{sound-pour}
 use Rattle.link_server.proofs.Replies.Pour.{pour-busy, pour-big, pour-planned, pour-same, pour-kept}
 use Rattle.link_server.proofs.Sound.Stood.{still-stood}
 use Rattle.link_server.proofs.Departed.Rows.{counted-still}
-use Rattle.link_server.proofs.RestFacts.{due-now}
+use Rattle.link_server.proofs.LinkRests.{due-now}
 use Rattle.link_server.proofs.link_state.LinkState.pour.Goals as goal
 use Rattle.link_server.proofs.link_state.LinkState.pour.Goals.{After-plan_best}
 

@@ -5,11 +5,11 @@ use Rattle.traffic_contract.specs.Admission.{Server}
 use Rattle.link_server.specs.Changes.{HasRow, MayCommit}
 use Rattle.link_server.specs.Sound.{IsSound}
 use Rattle.link_server.proofs.Departed.Rows.{counted-changed}
-use Rattle.link_server.proofs.RestFacts.{due-now}
+use Rattle.link_server.proofs.LinkRests.{due-now}
 use Rattle.link_server.proofs.Sound.Stood.{still-stood}
-use Rattle.link_server.proofs.RowFacts.Parts.{still-of}
+use Rattle.link_server.proofs.RowsOfTable.Parts.{still-of}
 use Rattle.link_steps.specs.declared.replies.Reply.TheVariants.{Relaxed}
-use Rattle.link_steps.proofs.RefusalFacts.{unfit-none}
+use Rattle.link_steps.proofs.RulesPassed.{unfit-none}
 use Rattle.link_server.proofs.Replies.Setup.{relax-absent, relax-phase, relax-unfit, relax-relaxed, relax-same, relax-kept}
 use Rattle.link_server.proofs.Sound.Setup.{sound-relax, relaxed-slots}
 use Rattle.link_server.proofs.link_state.LinkState.relax.Goals as goal

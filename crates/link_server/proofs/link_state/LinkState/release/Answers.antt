@@ -3,14 +3,14 @@ use Rattle.std.proofs.Common.{◌≡◌, ◌≤◌, Some, None, sym, ap, ◌∙�
 use Rattle.link_server.proofs.Words.{kept_closed, find, Release, is_kept_at_hop, is_kept_of, kept_after, kept_reply, with_kept_rows, names_first_hop, whole, account, KeptTable, row_in, kept_in}
 use Rattle.link_steps.specs.declared.replies.Reply.TheVariants.{Closing}
 use Rattle.link_server.specs.Changes.{IsRowAtHop}
-use Rattle.link_steps.proofs.ListFacts.{Each-find}
+use Rattle.link_steps.proofs.SearchAndFilter.{Each-find}
 use Rattle.link_server.specs.Sources.{IsReady}
 use Rattle.link_server.specs.Sound.{IsSound}
-use Rattle.link_server.proofs.RowFacts.Placed.{hop-found}
+use Rattle.link_server.proofs.RowsOfTable.Placed.{hop-found}
 use Rattle.link_server.proofs.Departed.Rows.{counted-changed}
-use Rattle.link_server.proofs.RestFacts.{due-now}
+use Rattle.link_server.proofs.LinkRests.{due-now}
 use Rattle.link_server.proofs.Sound.Stood.{all-ready, still-stood}
-use Rattle.link_server.proofs.RowFacts.Parts.{still-of}
+use Rattle.link_server.proofs.RowsOfTable.Parts.{still-of}
 use Rattle.link_server.proofs.Replies.Close.{names-is, release-absent, release-phase, release-closes, release-same, release-kept}
 use Rattle.link_server.proofs.Sound.Setup.{sound-release}
 use Rattle.link_server.proofs.link_state.LinkState.release.Goals as goal

@@ -2,10 +2,10 @@
 use Rattle.std.proofs.Common.{◌≡◌, sym, ap, ◌∙◌, subst}
 use Rattle.link_server.proofs.Words.{level_number, reach_of, MayOffer, level_of, Offer, kept_in}
 use Rattle.link_steps.proofs.HopHolds.{hop-guarantee}
-use Rattle.link_steps.proofs.LevelFacts.{level_of-level}
+use Rattle.link_steps.proofs.LevelByNumber.{level_of-level}
 use Rattle.link_server.specs.Held.{reservations_held, reach_at, MayReserve}
-use Rattle.link_server.proofs.ChosenFacts.{offer-admissible, offer-legal}
-use Rattle.link_server.proofs.StepFacts.{rows-have, step-entered}
+use Rattle.link_server.proofs.ChosenLevel.{offer-admissible, offer-legal}
+use Rattle.link_server.proofs.EveryHistoryAgrees.{rows-have, step-entered}
 use Rattle.link_server.proofs.link_state.LinkState.reserve_at.Goals as goal
 use Rattle.link_server.proofs.link_state.LinkState.reserve_at.Goals.{After-hold}
 

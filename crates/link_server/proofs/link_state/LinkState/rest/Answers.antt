@@ -1,9 +1,9 @@
 -- A link that rests keeps all it kept, but for its clock.
 use Rattle.std.proofs.Common.{arith}
 use Rattle.link_server.proofs.Words.{whole, kept_in}
-use Rattle.link_server.proofs.RestFacts.{later-sound, later-stood}
-use Rattle.link_server.proofs.StepFacts.{rows-have}
-use Rattle.link_steps.proofs.QuietFacts.{later-rests, quiet-ticks}
+use Rattle.link_server.proofs.LinkRests.{later-sound, later-stood}
+use Rattle.link_server.proofs.EveryHistoryAgrees.{rows-have}
+use Rattle.link_steps.proofs.QuietTicks.{later-rests, quiet-ticks}
 use Rattle.link_server.proofs.link_state.LinkState.rest.Goals as goal
 
 pub invariant_of-self : goal.invariant_of-self

@@ -2,7 +2,7 @@
 use Rattle.std.proofs.Common.{sym, ap, ◌∙◌, arith}
 use Rattle.link_steps.specs.Kept.{kept_reply, kept_after}
 use Rattle.link_server.proofs.Words.{kept_in}
-use Rattle.link_steps.proofs.QuietFacts.{quiet-after, quiet-tick}
+use Rattle.link_steps.proofs.QuietTicks.{quiet-after, quiet-tick}
 use Rattle.link_server.proofs.link_state.LinkState.rest_once.Goals as goal
 
 pub rest-requires-clause-rests : goal.rest-requires-clause-rests

@@ -2,11 +2,11 @@
 use Rattle.std.proofs.Common.{◌≡◌, ◌≤◌, Some, true, length, sym, ap, ◌∙◌, subst}
 use Rattle.link_server.proofs.Words.{kept_planned, find, Submit, Planned, is_kept_at_hop, kept_after, kept_reply, with_kept_rows, whole, account, KeptTable, row_in, kept_in}
 use Rattle.link_server.specs.Sound.{IsSound}
-use Rattle.link_server.proofs.RowFacts.Placed.{hop-found}
+use Rattle.link_server.proofs.RowsOfTable.Placed.{hop-found}
 use Rattle.link_server.proofs.Departed.Rows.{counted-changed}
-use Rattle.link_server.proofs.RestFacts.{due-now}
+use Rattle.link_server.proofs.LinkRests.{due-now}
 use Rattle.link_server.proofs.Sound.Stood.{still-stood}
-use Rattle.link_server.proofs.RowFacts.Parts.{still-of}
+use Rattle.link_server.proofs.RowsOfTable.Parts.{still-of}
 use Rattle.link_server.proofs.Replies.Setup.{submit-absent, submit-phase, submit-busy, submit-big, submit-planned, submit-same, submit-kept}
 use Rattle.link_server.proofs.Calendars.Planning.{none-left}
 use Rattle.link_server.proofs.Sound.Setup.{sound-submit}

@@ -1,7 +1,7 @@
 -- Each answer is that of the account, and so the legal one of every history that the link stands for.
 use Rattle.std.proofs.Common.{refl}
 use Rattle.link_server.proofs.Words.{kept_in}
-use Rattle.link_server.proofs.StepFacts.{rows-have, reserve-legal, reserve-entered, reserve-instead, reserve-guaranteed}
+use Rattle.link_server.proofs.EveryHistoryAgrees.{rows-have, reserve-legal, reserve-entered, reserve-instead, reserve-guaranteed}
 use Rattle.link_server.proofs.link_state.LinkStateLinkStep.step.Goals as goal
 
 -- ---- a tick

@@ -3,7 +3,7 @@ use Rattle.std.proofs.Common.{◌≡◌, ◌+◌, ◌<◌, ◌≤◌, ◌++◌, 
 use Rattle.std.proofs.lemmas.List.{length-map}
 use Rattle.std.proofs.lemmas.List.Sorted.{IsPermutation-map, length_permutation}
 use Rattle.link_server.proofs.Words.{IsPermutation, filter, is_best, KeptQueue}
-use Rattle.link_steps.proofs.ListFacts.{Each-if, Each-mapped}
+use Rattle.link_steps.proofs.SearchAndFilter.{Each-if, Each-mapped}
 use Rattle.link_server.specs.Arrived.{all_here, arrived, IsNumbered}
 use Rattle.link_server.specs.Line.{waiting_in}
 use Rattle.link_server.specs.Order.{IsNewest}

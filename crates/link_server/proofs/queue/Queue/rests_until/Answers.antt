@@ -2,7 +2,7 @@
 use Rattle.std.proofs.Common.{ap, subst, arith}
 use Rattle.link_server.proofs.Words.{Each, KeptQueue}
 use Rattle.link_server.specs.Planned.{IsPlannedFrom}
-use Rattle.link_server.proofs.RestFacts.{plans-from, service-from}
+use Rattle.link_server.proofs.LinkRests.{plans-from, service-from}
 use Rattle.link_server.proofs.queue.Queue.rests_until.Goals as goal
 
 pub returns-clause-service : goal.returns-clause-service

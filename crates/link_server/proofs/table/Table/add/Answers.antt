@@ -14,13 +14,13 @@ use Rattle.link_server.specs.Rows.{reservation_in, row_in, summed, AreWithin, Is
 use Rattle.link_server.proofs.Calendars.Holds.{phase-listed}
 use Rattle.link_server.proofs.Calendars.HoldRows.{listed-pushed, listed-reserved}
 use Rattle.link_server.proofs.Replies.Holding.{key-new, sums-pass, summed-pushed, within-pushed}
-use Rattle.link_server.proofs.RowFacts.Index.{row-pushed}
-use Rattle.link_server.proofs.RowFacts.Keeping.{keeping-free, keeps-pushed, own-whole, places-few, slots-units}
-use Rattle.link_server.proofs.RowFacts.Places.{kept-none}
+use Rattle.link_server.proofs.RowsOfTable.Index.{row-pushed}
+use Rattle.link_server.proofs.RowsOfTable.Keeping.{keeping-free, keeps-pushed, own-whole, places-few, slots-units}
+use Rattle.link_server.proofs.RowsOfTable.Places.{kept-none}
 use Rattle.link_server.proofs.Calendars.Plans.{told-none}
 use Rattle.link_server.proofs.Calendars.PlanRows.{planned-pushed, planned-reserved}
-use Rattle.link_server.proofs.RowFacts.Sums.{absent-new}
-use Rattle.link_server.proofs.RowFacts.Parts.{as-many, bounds-seen, table-same}
+use Rattle.link_server.proofs.RowsOfTable.Sums.{absent-new}
+use Rattle.link_server.proofs.RowsOfTable.Parts.{as-many, bounds-seen, table-same}
 use Rattle.link_server.proofs.table.Table.add.Goals as goal
 use Rattle.link_server.proofs.table.Table.add.Goals.{After-self, After-push-key}
 

@@ -2,7 +2,7 @@
 use Rattle.std.proofs.Common.{◌≡◌, None, Some, subst}
 use Rattle.std.specs.Prelude.{IfErr, MatchResult}
 use Rattle.link_server.proofs.Words.{level_number, best_level, refused_sum}
-use Rattle.link_server.proofs.RowFacts.Sums.{same-admission}
+use Rattle.link_server.proofs.RowsOfTable.Sums.{same-admission}
 use Rattle.link_server.proofs.table.Table.best.Goals as goal
 
 pub returns-clause-level : goal.returns-clause-level

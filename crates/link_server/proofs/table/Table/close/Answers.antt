@@ -10,12 +10,12 @@ use Rattle.link_server.specs.Holds.{is_open}
 use Rattle.link_server.specs.Planned.{first_tick}
 use Rattle.link_server.proofs.Calendars.Holds.{open-in-phase}
 use Rattle.link_server.proofs.Calendars.HoldRows.{listed-put, open-room}
-use Rattle.link_server.proofs.RowFacts.Keeping.{keeps-closed}
-use Rattle.link_server.proofs.RowFacts.Placed.{changed-mapped}
+use Rattle.link_server.proofs.RowsOfTable.Keeping.{keeps-closed}
+use Rattle.link_server.proofs.RowsOfTable.Placed.{changed-mapped}
 use Rattle.link_server.proofs.Calendars.Plans.{told-none}
 use Rattle.link_server.proofs.Calendars.PlanRows.{planned-set, planned-later, closing-idle}
-use Rattle.link_server.proofs.RestFacts.{listed-later}
-use Rattle.link_server.proofs.RowFacts.Parts.{index-still, has-place, IsRowAt, fixed, fixed_in, parts-still, row-at, table-same}
+use Rattle.link_server.proofs.LinkRests.{listed-later}
+use Rattle.link_server.proofs.RowsOfTable.Parts.{index-still, has-place, IsRowAt, fixed, fixed_in, parts-still, row-at, table-same}
 use Rattle.link_server.proofs.table.Table.close.Goals as goal
 use Rattle.link_server.proofs.table.Table.close.Goals.{After-index_mut-row, After-close}
 

@@ -14,13 +14,13 @@ use Rattle.link_server.specs.Plans.{IsTold}
 use Rattle.link_server.proofs.Calendars.Holds.{in-phase, open-in-phase, phase-listed}
 use Rattle.link_server.proofs.Calendars.HoldRows.{listed-set}
 use Rattle.link_server.proofs.Calendars.Expiry.{each-at}
-use Rattle.link_server.proofs.RowFacts.Index.{index-changed, index-distinct}
-use Rattle.link_server.proofs.RowFacts.Keeping.{keeps-changed, own-whole, relaxed-units, row-held, row-places}
-use Rattle.link_server.proofs.RowFacts.Placed.{changed-mapped}
+use Rattle.link_server.proofs.RowsOfTable.Index.{index-changed, index-distinct}
+use Rattle.link_server.proofs.RowsOfTable.Keeping.{keeps-changed, own-whole, relaxed-units, row-held, row-places}
+use Rattle.link_server.proofs.RowsOfTable.Placed.{changed-mapped}
 use Rattle.link_server.proofs.Calendars.Plans.{told-same}
 use Rattle.link_server.proofs.Calendars.PlanRows.{planned-set, same-idle}
-use Rattle.link_server.proofs.RowFacts.Sums.{place-holds-upto, summed-committed, summed-moved, within-committed}
-use Rattle.link_server.proofs.RowFacts.Parts.{has-place, IsRowAt, bounds-seen, place-only, row-at, table-same}
+use Rattle.link_server.proofs.RowsOfTable.Sums.{place-holds-upto, summed-committed, summed-moved, within-committed}
+use Rattle.link_server.proofs.RowsOfTable.Parts.{has-place, IsRowAt, bounds-seen, place-only, row-at, table-same}
 use Rattle.link_server.proofs.table.Table.commit.Goals as goal
 use Rattle.link_server.proofs.table.Table.commit.Goals.{After-index_mut-row, After-commit, After-hold}
 

@@ -10,8 +10,8 @@ use Rattle.link_server.specs.Packets.{arrival_in}
 use Rattle.link_server.specs.Plans.{ArePlanned}
 use Rattle.link_server.specs.TableParts.{table_seen}
 use Rattle.link_server.proofs.Departed.Rows.{none-departs, one-departs}
-use Rattle.link_server.proofs.RowFacts.Index.{index-others}
-use Rattle.link_server.proofs.RowFacts.Parts.{index-still, fixed, fixed_in, parts-still, table-same}
+use Rattle.link_server.proofs.RowsOfTable.Index.{index-others}
+use Rattle.link_server.proofs.RowsOfTable.Parts.{index-still, fixed, fixed_in, parts-still, table-same}
 use Rattle.link_server.proofs.table.Table.depart.Goals as goal
 use Rattle.link_server.proofs.table.Table.depart.Goals.{After-depart}
 

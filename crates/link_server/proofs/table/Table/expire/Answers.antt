@@ -4,8 +4,8 @@ use Rattle.std.proofs.lemmas.List.{length-map}
 use Rattle.link_server.proofs.Words.{kept_stays, KeptTable, row_in}
 use Rattle.link_server.specs.Plans.{ArePlanned}
 use Rattle.link_server.proofs.Calendars.PlanRows.{planned-left, planned-later}
-use Rattle.link_server.proofs.RowFacts.Totals.{filter-fewer}
-use Rattle.link_server.proofs.RowFacts.Parts.{own-parts}
+use Rattle.link_server.proofs.RowsOfTable.Totals.{filter-fewer}
+use Rattle.link_server.proofs.RowsOfTable.Parts.{own-parts}
 use Rattle.link_server.proofs.table.Table.expire.Goals as goal
 
 pub invariant_of-self : goal.invariant_of-self

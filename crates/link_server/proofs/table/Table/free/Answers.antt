@@ -1,7 +1,7 @@
 -- The free units are those that no row keeps.
 use Rattle.std.proofs.Common.{◌-◌, map, sym, ap, ◌∙◌}
 use Rattle.link_server.proofs.Words.{whole_of, total, kept_units, kept_terms, KeptTable, row_in}
-use Rattle.link_server.proofs.RowFacts.Keeping.{keeping-free}
+use Rattle.link_server.proofs.RowsOfTable.Keeping.{keeping-free}
 use Rattle.link_server.proofs.table.Table.free.Goals as goal
 
 pub returns : goal.returns

@@ -2,8 +2,8 @@
 use Rattle.std.proofs.Common.{map, sym, ap, ◌∙◌, arith}
 use Rattle.link_server.proofs.Words.{whole_of, total, slots_of, KeptTable, reservation_in, row_in}
 use Rattle.link_server.specs.Sound.{all_places_of}
-use Rattle.link_server.proofs.RowFacts.Keeping.{keeping-places}
-use Rattle.link_server.proofs.RowFacts.Parts.{bounds-seen}
+use Rattle.link_server.proofs.RowsOfTable.Keeping.{keeping-places}
+use Rattle.link_server.proofs.RowsOfTable.Parts.{bounds-seen}
 use Rattle.link_server.proofs.table.Table.places_with.Goals as goal
 
 pub returns-clause-value : goal.returns-clause-value

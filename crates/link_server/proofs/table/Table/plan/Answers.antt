@@ -11,9 +11,9 @@ use Rattle.link_server.specs.Planned.{IsPlannedFrom}
 use Rattle.link_server.specs.Plans.{idle_count}
 use Rattle.link_server.proofs.Calendars.Holds.{in-phase, phase-listed, phase-open}
 use Rattle.link_server.proofs.Calendars.HoldRows.{listed-set}
-use Rattle.link_server.proofs.RowFacts.Placed.{changed-mapped}
+use Rattle.link_server.proofs.RowsOfTable.Placed.{changed-mapped}
 use Rattle.link_server.proofs.Calendars.PlanRows.{idle-one, idle-room, plan-ahead, planned-put}
-use Rattle.link_server.proofs.RowFacts.Parts.{index-still, has-place, IsRowAt, fixed, fixed_in, parts-still, row-at, table-same}
+use Rattle.link_server.proofs.RowsOfTable.Parts.{index-still, has-place, IsRowAt, fixed, fixed_in, parts-still, row-at, table-same}
 use Rattle.link_server.proofs.table.Table.plan.Goals as goal
 use Rattle.link_server.proofs.table.Table.plan.Goals.{After-index_mut-row, After-plan}
 

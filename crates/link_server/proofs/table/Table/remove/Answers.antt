@@ -3,14 +3,14 @@ use Rattle.std.proofs.Common.{length, map, refl, sym, ap, ◌∙◌, subst, arit
 use Rattle.std.proofs.lemmas.List.Edits.{length-remove}
 use Rattle.link_server.specs.KeyedList.{position, Listed}
 use Rattle.link_server.specs.Index.{channels_in, IsIndex}
-use Rattle.link_server.proofs.RowFacts.Index.{index-distinct, index-without}
+use Rattle.link_server.proofs.RowsOfTable.Index.{index-distinct, index-without}
 use Rattle.link_server.proofs.Words.{KeptTable, ServedRow, row_in}
 use Rattle.link_server.specs.Departed.{AreCounted, departed_in}
 use Rattle.link_server.proofs.Departed.Rows.{counted-removed}
 use Rattle.link_server.proofs.Calendars.HoldRows.{listed-removed}
-use Rattle.link_server.proofs.RowFacts.Placed.{removed-first, removed-mapped}
+use Rattle.link_server.proofs.RowsOfTable.Placed.{removed-first, removed-mapped}
 use Rattle.link_server.proofs.Calendars.PlanRows.{planned-removed}
-use Rattle.link_server.proofs.RowFacts.Parts.{has-place, own-parts, table-same}
+use Rattle.link_server.proofs.RowsOfTable.Parts.{has-place, own-parts, table-same}
 use Rattle.link_server.proofs.table.Table.remove.Goals as goal
 
 pub held_key-key-requires-clause-held : goal.held_key-key-requires-clause-held

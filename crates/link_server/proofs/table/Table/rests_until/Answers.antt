@@ -1,7 +1,7 @@
 -- The calendars tell until when each row rests.
 use Rattle.std.proofs.Common.{map, sym, ap, subst, arith}
 use Rattle.link_server.proofs.Words.{Each, RowRests, KeptTable, row_in}
-use Rattle.link_server.proofs.RestFacts.{all-from, listed-later, rows-rest}
+use Rattle.link_server.proofs.LinkRests.{all-from, listed-later, rows-rest}
 use Rattle.link_server.proofs.table.Table.rests_until.Goals as goal
 
 pub returns : goal.returns

@@ -3,9 +3,9 @@ use Rattle.std.proofs.Common.{◌≡◌, None, refl, sym, ◌∙◌, subst}
 use Rattle.link_server.specs.KeyedList.{position}
 use Rattle.link_server.proofs.Words.{IfNone, find, is_kept_at_hop, KeptTable}
 use Rattle.link_server.specs.Rows.{is_served_at_hop}
-use Rattle.link_server.proofs.RowFacts.Index.{no-other-hop, no-row-at-hop}
-use Rattle.link_server.proofs.RowFacts.Places.{kept-absent}
-use Rattle.link_server.proofs.RowFacts.Parts.{row-seen}
+use Rattle.link_server.proofs.RowsOfTable.Index.{no-other-hop, no-row-at-hop}
+use Rattle.link_server.proofs.RowsOfTable.Places.{kept-absent}
+use Rattle.link_server.proofs.RowsOfTable.Parts.{row-seen}
 use Rattle.link_server.proofs.table.Table.row_at_hop.Goals as goal
 
 pub returns-in_err-key_of-clause-none : goal.returns-in_err-key_of-clause-none

@@ -4,7 +4,7 @@ use Rattle.link_server.specs.KeyedList.{position}
 use Rattle.link_server.proofs.Words.{IfNone, find, is_kept_of, KeptTable, row_in, ServedRow}
 use Rattle.link_server.specs.Departed.{AreCounted, IsCounted}
 use Rattle.link_server.proofs.Departed.Rows.{counted-at}
-use Rattle.link_server.proofs.RowFacts.Parts.{none-seen, row-seen}
+use Rattle.link_server.proofs.RowsOfTable.Parts.{none-seen, row-seen}
 use Rattle.link_server.proofs.table.Table.row_of.Goals as goal
 
 pub returns-in_err-key-clause-none : goal.returns-in_err-key-clause-none

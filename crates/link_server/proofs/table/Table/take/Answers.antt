@@ -16,11 +16,11 @@ use Rattle.link_server.proofs.Replies.Arrive.{next-number}
 use Rattle.link_server.proofs.Calendars.HoldRows.{listed-put, open-room}
 use Rattle.link_server.proofs.Calendars.HoldSteps.{stray-open}
 use Rattle.link_server.proofs.Calendars.Expiry.{each-at}
-use Rattle.link_server.proofs.RowFacts.Placed.{changed-mapped, found-at}
+use Rattle.link_server.proofs.RowsOfTable.Placed.{changed-mapped, found-at}
 use Rattle.link_server.proofs.Calendars.Plans.{told-same}
 use Rattle.link_server.proofs.Calendars.PlanRows.{planned-set, planned-later, same-idle}
-use Rattle.link_server.proofs.RestFacts.{listed-later}
-use Rattle.link_server.proofs.RowFacts.Parts.{index-still, has-place, IsRowAt, fixed, fixed_in, parts-still, row-at, table-same}
+use Rattle.link_server.proofs.LinkRests.{listed-later}
+use Rattle.link_server.proofs.RowsOfTable.Parts.{index-still, has-place, IsRowAt, fixed, fixed_in, parts-still, row-at, table-same}
 use Rattle.link_server.proofs.table.Table.take.Goals as goal
 use Rattle.link_server.proofs.table.Table.take.Goals.{After-index_mut-row, After-take-taken}
 

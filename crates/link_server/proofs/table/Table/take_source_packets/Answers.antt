@@ -5,9 +5,9 @@ use Rattle.link_server.proofs.Words.{whole_of, KeptTable, row_in}
 use Rattle.link_server.specs.Holds.{AreListed}
 use Rattle.link_server.specs.Keeping.{IsKeeping}
 use Rattle.link_server.proofs.Calendars.HoldSteps.{listed-stepped}
-use Rattle.link_server.proofs.RowFacts.Keeping.{reservations-after}
-use Rattle.link_server.proofs.RestFacts.{listed-later}
-use Rattle.link_server.proofs.RowFacts.Parts.{index-still, as-long, fixed-same, parts-still}
+use Rattle.link_server.proofs.RowsOfTable.Keeping.{reservations-after}
+use Rattle.link_server.proofs.LinkRests.{listed-later}
+use Rattle.link_server.proofs.RowsOfTable.Parts.{index-still, as-long, fixed-same, parts-still}
 use Rattle.link_server.proofs.table.Table.take_source_packets.Goals as goal
 
 pub invariant_of-self : goal.invariant_of-self

@@ -6,14 +6,14 @@ use Rattle.link_server.specs.Holds.{open_count, IsListed, AreListed}
 use Rattle.link_server.specs.Index.{channels_in, IsIndex}
 use Rattle.link_server.specs.KeyedList.{Listed, position}
 use Rattle.link_server.specs.RowParts.{AreParts}
-use Rattle.link_server.proofs.RowFacts.Index.{index-distinct, index-without}
+use Rattle.link_server.proofs.RowsOfTable.Index.{index-distinct, index-without}
 use Rattle.link_server.specs.Sources.{IsReady}
 use Rattle.link_server.proofs.Calendars.HoldRows.{due-taken, others-stay, all-stay}
 use Rattle.link_server.proofs.Calendars.Expiry.{a-row, filter-without, each-without}
 use Rattle.link_server.proofs.Departed.Rows.{counted-removed}
-use Rattle.link_server.proofs.RowFacts.Placed.{removed-mapped}
-use Rattle.link_server.proofs.RowFacts.Totals.{row-gone}
-use Rattle.link_server.proofs.RowFacts.Parts.{own-parts}
+use Rattle.link_server.proofs.RowsOfTable.Placed.{removed-mapped}
+use Rattle.link_server.proofs.RowsOfTable.Totals.{row-gone}
+use Rattle.link_server.proofs.RowsOfTable.Parts.{own-parts}
 use Rattle.link_server.proofs.table.expiry.expire.Goals as goal
 
 pub take_out-requires-clause-parts : goal.take_out-requires-clause-parts

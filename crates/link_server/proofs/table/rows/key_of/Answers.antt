@@ -2,7 +2,7 @@
 use Rattle.std.proofs.Common.{◌∙◌, sym, subst}
 use Rattle.link_server.proofs.Words.{IfNone, IsAbsent}
 use Rattle.link_server.specs.KeyedList.{position}
-use Rattle.link_server.proofs.RowFacts.Index.{absent-past, absent-beyond, absent-other, place-led, is-row-of}
+use Rattle.link_server.proofs.RowsOfTable.Index.{absent-past, absent-beyond, absent-other, place-led, is-row-of}
 use Rattle.link_server.proofs.table.rows.key_of.Goals as goal
 
 pub returns-in_err-key-clause-none : goal.returns-in_err-key-clause-none

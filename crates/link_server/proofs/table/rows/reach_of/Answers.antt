@@ -2,7 +2,7 @@
 use Rattle.std.proofs.Common.{Option, Some, None, refl, arith}
 use Rattle.std.specs.Prelude.{IsSome, IsNone}
 use Rattle.link_server.proofs.Words.{level_number}
-use Rattle.net_units.proofs.BoundFacts.{bound_at-rising}
+use Rattle.net_units.proofs.BoundsInOrder.{bound_at-rising}
 use Rattle.link_server.proofs.table.rows.reach_of.Goals as goal
 
 -- what isn't none is some

@@ -4,10 +4,10 @@ use Rattle.link_server.proofs.Words.{whole_of, channel_number, kept_units, reser
 use Rattle.rcsp_admission.specs.Sums.{Holds, without_key}
 use Rattle.link_server.specs.KeyedList.{position}
 use Rattle.link_server.specs.Keeping.{IsKeeping, places_for}
-use Rattle.link_server.proofs.RowFacts.Keeping.{keeps-removed, row-held, row-places}
-use Rattle.link_server.proofs.RowFacts.Places.{all-without}
-use Rattle.link_server.proofs.RowFacts.Sums.{place-holds, summed-without}
-use Rattle.link_server.proofs.RowFacts.Parts.{place-only}
+use Rattle.link_server.proofs.RowsOfTable.Keeping.{keeps-removed, row-held, row-places}
+use Rattle.link_server.proofs.RowsOfTable.Places.{all-without}
+use Rattle.link_server.proofs.RowsOfTable.Sums.{place-holds, summed-without}
+use Rattle.link_server.proofs.RowsOfTable.Parts.{place-only}
 use Rattle.link_server.proofs.table.rows.take_out.Goals as goal
 use Rattle.link_server.proofs.table.rows.take_out.Goals.{After-index-row}
 

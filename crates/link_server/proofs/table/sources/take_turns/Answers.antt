@@ -2,7 +2,7 @@
 use Rattle.std.proofs.Common.{◌≡◌, ℕ, List, ◌+◌, ◌++◌, ◌<◌, ◌≤◌, suc, length, get_or, set, drop, refl, sym, ap, ◌∙◌, subst, arith}
 use Rattle.link_server.proofs.Words.{kept_packet, kept_after_step, SourceStep, taken_by, dropped_by, Arrival, KeptQueue, row_in, IsWithinLevels, ServedRow}
 use Rattle.std.proofs.lemmas.List.{get_or_past, length-append, length-map, length-set}
-use Rattle.link_steps.proofs.ListFacts.{Each-if}
+use Rattle.link_steps.proofs.SearchAndFilter.{Each-if}
 use Rattle.link_server.proofs.Replies.Account.{queue-same}
 use Rattle.std.proofs.Math.Seq.{map-set_same}
 use Rattle.link_server.specs.Departed.{IsCounted, departed_in}

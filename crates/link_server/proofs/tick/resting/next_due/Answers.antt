@@ -1,8 +1,8 @@
 -- The lesser of two ticks is before each of them.
 use Rattle.std.proofs.Common.{◌≤◌, ℕ, List, arith}
 use Rattle.link_server.proofs.Words.{KeptRow, RowRests}
-use Rattle.link_steps.proofs.ListFacts.{Each-if}
-use Rattle.link_server.proofs.RestFacts.{plans-from, service-from}
+use Rattle.link_steps.proofs.SearchAndFilter.{Each-if}
+use Rattle.link_server.proofs.LinkRests.{plans-from, service-from}
 use Rattle.link_server.proofs.tick.resting.next_due.Goals as goal
 
 row-from : (bounds : List ℕ) (clock until least : ℕ) (row : KeptRow) → until ≤ least → RowRests bounds clock least row → RowRests bounds clock until row

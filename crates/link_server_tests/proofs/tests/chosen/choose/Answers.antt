@@ -18,7 +18,7 @@ use Rattle.link_steps.specs.Scan.{scan_of}
 use Rattle.link_steps.specs.Shape.{server_of, IsShapeOf}
 use Rattle.link_server.specs.Held.{reservations_held}
 use Rattle.link_server.specs.State.{kept_in}
-use Rattle.link_server.proofs.ChosenFacts.{terms-stand}
+use Rattle.link_server.proofs.ChosenLevel.{terms-stand}
 use Rattle.link_server_tests.proofs.tests.chosen.choose.Goals as goal
 
 abbrev voice : Traffic

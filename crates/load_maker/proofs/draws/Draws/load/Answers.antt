@@ -1,5 +1,5 @@
 -- Six draws are a load.
-use Rattle.load_maker.proofs.MakeFacts.{load-is}
+use Rattle.load_maker.proofs.LoopsMakeLoad.{load-is}
 use Rattle.load_maker.proofs.draws.Draws.load.Goals as goal
 
 pub returns-clause-value : goal.returns-clause-value

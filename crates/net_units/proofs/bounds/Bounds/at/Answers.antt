@@ -1,5 +1,5 @@
 use Rattle.std.proofs.Common.{length, ap, arith}
-use Rattle.net_units.proofs.BoundFacts.{bound_least}
+use Rattle.net_units.proofs.BoundsInOrder.{bound_least}
 use Rattle.net_units.proofs.bounds.Bounds.at.Goals as goal
 
 pub returns-clause-least : goal.returns-clause-least

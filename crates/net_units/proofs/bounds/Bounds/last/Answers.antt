@@ -1,5 +1,5 @@
 use Rattle.std.proofs.Common.{length, arith}
-use Rattle.net_units.proofs.BoundFacts.{bound_least, bounds_parts}
+use Rattle.net_units.proofs.BoundsInOrder.{bound_least, bounds_parts}
 use Rattle.net_units.proofs.bounds.Bounds.last.Goals as goal
 
 pub returns-clause-least : goal.returns-clause-least

@@ -1,6 +1,6 @@
 use Rattle.std.proofs.Common.{◌≡◌, ap, ◌∙◌, arith}
 use Rattle.net_units.specs.LevelBounds.{levels_within}
-use Rattle.net_units.proofs.BoundFacts.{within_count, within_most, level_fits, level_largest}
+use Rattle.net_units.proofs.BoundsInOrder.{within_count, within_most, level_fits, level_largest}
 use Rattle.net_units.proofs.bounds.Bounds.within.Goals as goal
 
 pub known-requires-clause-most : goal.known-requires-clause-most

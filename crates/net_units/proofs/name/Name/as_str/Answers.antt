@@ -1,4 +1,4 @@
-use Rattle.net_units.proofs.NameFacts.{name_is_text}
+use Rattle.net_units.proofs.NameIsText.{name_is_text}
 use Rattle.net_units.proofs.name.Name.as_str.Goals as goal
 
 pub unreachable-requires : goal.unreachable-requires

@@ -2,7 +2,7 @@ use Rattle.std.proofs.Common.{◌≡◌, List, ◌++◌, ap, ◌∙◌, arith}
 use Rattle.link_steps.specs.declared.asks.Ask.{Ask}
 use Rattle.plane_workers.specs.Answered.{ticks_in}
 use Rattle.plane_workers.specs.Batches.{own_asks}
-use Rattle.plane_workers.proofs.BatchFacts.{own-ticks, when-no_err}
+use Rattle.plane_workers.proofs.BatchReplies.{own-ticks, when-no_err}
 use Rattle.plane_workers.proofs.desk.Desk.answer_own.Goals as goal
 
 pub answer-answered-requires-clause-early : goal.answer-answered-requires-clause-early

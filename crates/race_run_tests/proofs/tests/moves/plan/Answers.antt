@@ -1,6 +1,6 @@
 -- The parts may be planned.
 use Rattle.call_script.specs.declared.version.Version.TheVariants.{Six}
-use Rattle.race_run_tests.proofs.WorkedFacts.{moving-planned}
+use Rattle.race_run_tests.proofs.WorkedRaces.{moving-planned}
 use Rattle.race_run_tests.proofs.tests.moves.plan.Goals as goal
 
 pub new-requires : goal.new-requires

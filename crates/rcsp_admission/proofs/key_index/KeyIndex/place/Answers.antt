@@ -1,7 +1,7 @@
 -- What is kept of the key tells its place, and where nothing is kept there is none.
 use Rattle.std.proofs.Common.{Some, sym, ap, ◌∙◌, subst}
 use Rattle.rcsp_admission.specs.Index.{IsKeptAt, IsGapFor}
-use Rattle.rcsp_admission.proofs.IndexFacts.{gap-none, one-at}
+use Rattle.rcsp_admission.proofs.OnePlacePerKey.{gap-none, one-at}
 use Rattle.rcsp_admission.proofs.key_index.KeyIndex.place.Goals as goal
 
 pub returns-in-Ok : goal.returns-in-Ok

@@ -4,7 +4,7 @@ use Rattle.std.proofs.lemmas.Bool.{false≢true}
 use Rattle.std.specs.List.{insert}
 use Rattle.rcsp_admission.specs.Index.{place_in, AreByKey, IsKeptAt, IsGapFor}
 use Rattle.rcsp_admission.specs.declared.key_index.KeyPlace.{KeyPlace}
-use Rattle.rcsp_admission.proofs.IndexFacts.{one-at, by-key-inserted, place-inserted}
+use Rattle.rcsp_admission.proofs.OnePlacePerKey.{one-at, by-key-inserted, place-inserted}
 use Rattle.rcsp_admission.proofs.key_index.KeyIndex.put.Goals as goal
 use Rattle.rcsp_admission.proofs.key_index.KeyIndex.put.Goals.{After-insert}
 

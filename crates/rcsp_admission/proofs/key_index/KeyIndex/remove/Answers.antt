@@ -4,7 +4,7 @@ use Rattle.std.proofs.lemmas.List.{with_items_is}
 use Rattle.std.specs.List.{remove}
 use Rattle.std.specs.Prelude.{nat_eq, option_map}
 use Rattle.rcsp_admission.specs.Index.{place_in, place_after, moved_up, AreByKey, IsKeptAt, IsGapFor}
-use Rattle.rcsp_admission.proofs.IndexFacts.{gap-none, one-at, by-key-removed, by-key-moved, place-removed, place-moved, option-left}
+use Rattle.rcsp_admission.proofs.OnePlacePerKey.{gap-none, one-at, by-key-removed, by-key-moved, place-removed, place-moved, option-left}
 use Rattle.rcsp_admission.proofs.key_index.KeyIndex.remove.Goals as goal
 use Rattle.rcsp_admission.proofs.key_index.KeyIndex.remove.Goals.{After-move_up}
 

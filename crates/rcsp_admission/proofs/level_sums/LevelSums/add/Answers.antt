@@ -7,10 +7,10 @@ use Rattle.rcsp_admission.specs.Sums.{AreAdmitted, Holds, added}
 use Rattle.rcsp_admission.specs.Index.{place_in, IsIndex}
 use Rattle.rcsp_admission.specs.Fields.{sums_of}
 use Rattle.rcsp_admission.specs.Kept.{held_of, kept_rows}
-use Rattle.rcsp_admission.proofs.LoadsFacts.{load-small, loads-added}
-use Rattle.rcsp_admission.proofs.PlaceFacts.{new-placed, index-added}
-use Rattle.rcsp_admission.proofs.RowFacts.{total-pushed}
-use Rattle.rcsp_admission.proofs.SumsFacts.{AreAdmitted-added}
+use Rattle.rcsp_admission.proofs.RunningLoads.{load-small, loads-added}
+use Rattle.rcsp_admission.proofs.IndexFollowsRows.{new-placed, index-added}
+use Rattle.rcsp_admission.proofs.WorkByRow.{total-pushed}
+use Rattle.rcsp_admission.proofs.StaysAdmitted.{AreAdmitted-added}
 use Rattle.rcsp_admission.proofs.level_sums.LevelSums.add.Goals as goal
 use Rattle.rcsp_admission.proofs.level_sums.LevelSums.add.Goals.{After-len, After-push_reserved}
 

@@ -2,13 +2,13 @@
 use Rattle.std.proofs.Common.{◌≡◌, ◌<◌, ◌≤◌, ⊎_elim, Some, length, ap, sym, ◌∙◌, subst, arith}
 use Rattle.std.proofs.lemmas.Bool.{cases_lt}
 use Rattle.net_units.specs.Numbers.{level_number}
-use Rattle.net_units.proofs.BoundFacts.{bounds_parts, bound_least}
+use Rattle.net_units.proofs.BoundsInOrder.{bounds_parts, bound_least}
 use Rattle.net_units.specs.LevelBounds.{bound_at}
 use Rattle.traffic_contract.specs.Admission.{refused_sum, IsRefused}
-use Rattle.traffic_contract.proofs.AdmissionFacts.{Passes-larger, best_level-none}
+use Rattle.traffic_contract.proofs.AdmissionTest.{Passes-larger, best_level-none}
 use Rattle.rcsp_admission.specs.Room.{load_with}
 use Rattle.rcsp_admission.specs.Sums.{AreAdmitted, admitted_rows}
-use Rattle.rcsp_admission.proofs.RoomFacts.{IsBest-above_full, best_level-above_full, IsRefused-last_full, refused_sum-over}
+use Rattle.rcsp_admission.proofs.LastFullLevel.{IsBest-above_full, best_level-above_full, IsRefused-last_full, refused_sum-over}
 use Rattle.rcsp_admission.proofs.level_sums.LevelSums.best.Goals as goal
 
 -- the last level has no room

@@ -2,8 +2,8 @@
 use Rattle.std.proofs.Common.{◌≤◌, sym, subst, arith}
 use Rattle.net_units.specs.Numbers.{level_number}
 use Rattle.rcsp_admission.specs.Sums.{AreAdmitted, admitted_rows}
-use Rattle.rcsp_admission.proofs.RoomFacts.{search-goes_on}
-use Rattle.rcsp_admission.proofs.SumsFacts.{contracts-with}
+use Rattle.rcsp_admission.proofs.LastFullLevel.{search-goes_on}
+use Rattle.rcsp_admission.proofs.StaysAdmitted.{contracts-with}
 use Rattle.rcsp_admission.proofs.level_sums.LevelSums.climb.Goals as goal
 
 pub loop-turn-init : goal.loop-turn-init

@@ -8,7 +8,7 @@ use Rattle.net_units.specs.LevelBounds.{bound_at}
 use Rattle.net_units.specs.Numbers.{level_number}
 use Rattle.traffic_contract.specs.declared.admission.Test.TheVariants.{Whole, Least}
 use Rattle.rcsp_admission.specs.Sums.{AreAdmitted, admitted_rows}
-use Rattle.rcsp_admission.proofs.RoomFacts.{room-some, some-room, room-whole, whole-none, search-begins}
+use Rattle.rcsp_admission.proofs.LastFullLevel.{room-some, some-room, room-whole, whole-none, search-begins}
 use Rattle.rcsp_admission.proofs.level_sums.LevelSums.has_room.Goals as goal
 
 pub returns-then-whole_load_with-bound-clause-room : goal.returns-then-whole_load_with-bound-clause-room

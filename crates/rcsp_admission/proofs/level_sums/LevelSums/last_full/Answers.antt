@@ -2,7 +2,7 @@
 use Rattle.std.proofs.Common.{◌≡◌, ap, subst, sym, arith}
 use Rattle.rcsp_admission.specs.Room.{NoneBefore}
 use Rattle.rcsp_admission.specs.Sums.{admitted_rows}
-use Rattle.rcsp_admission.proofs.RoomFacts.{search-begins, search-next}
+use Rattle.rcsp_admission.proofs.LastFullLevel.{search-begins, search-next}
 use Rattle.rcsp_admission.proofs.level_sums.LevelSums.last_full.Goals as goal
 
 pub loop-index-init : goal.loop-index-init

@@ -8,8 +8,8 @@ use Rattle.rcsp_admission.specs.Kept.{kept_rows}
 use Rattle.rcsp_admission.specs.Lines.{IsBelow}
 use Rattle.rcsp_admission.specs.Room.{NoneBefore, load_with}
 use Rattle.rcsp_admission.specs.Sums.{admitted_rows}
-use Rattle.rcsp_admission.proofs.RoomFacts.{line-fits}
-use Rattle.rcsp_admission.proofs.SumsFacts.{work-small}
+use Rattle.rcsp_admission.proofs.LastFullLevel.{line-fits}
+use Rattle.rcsp_admission.proofs.StaysAdmitted.{work-small}
 use Rattle.rcsp_admission.proofs.level_sums.LevelSums.leap.Goals as goal
 
 pub line_of_rows-rows-requires-clause-few : goal.line_of_rows-rows-requires-clause-few

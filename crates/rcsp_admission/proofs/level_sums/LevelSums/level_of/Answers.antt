@@ -5,8 +5,8 @@ use Rattle.std.specs.Prelude.{option_map}
 use Rattle.net_units.specs.Numbers.{level_number}
 use Rattle.rcsp_admission.specs.Sums.{Holds, HoldsUpTo, has_key, level_held}
 use Rattle.rcsp_admission.specs.Kept.{held_of}
-use Rattle.rcsp_admission.proofs.KeyFacts.{held-at}
-use Rattle.rcsp_admission.proofs.PlaceFacts.{index-unfound, index-unheld, index-inside, index-found, index-upto}
+use Rattle.rcsp_admission.proofs.OneRowPerKey.{held-at}
+use Rattle.rcsp_admission.proofs.IndexFollowsRows.{index-unfound, index-unheld, index-inside, index-found, index-upto}
 use Rattle.rcsp_admission.proofs.level_sums.LevelSums.level_of.Goals as goal
 
 pub returns-in_err-place-clause-level : goal.returns-in_err-place-clause-level

@@ -5,7 +5,7 @@ use Rattle.traffic_contract.specs.Admission.{total, work_up_to, load}
 use Rattle.rcsp_admission.specs.Fields.{sums_of}
 use Rattle.rcsp_admission.specs.Kept.{kept_rows}
 use Rattle.rcsp_admission.specs.Sums.{admitted_rows}
-use Rattle.rcsp_admission.proofs.SumsFacts.{work-small}
+use Rattle.rcsp_admission.proofs.StaysAdmitted.{work-small}
 use Rattle.rcsp_admission.proofs.level_sums.LevelSums.load.Goals as goal
 
 pub work_of-requires-clause-fits : goal.work_of-requires-clause-fits

@@ -1,7 +1,7 @@
 -- A row at the level adds its work.
 use Rattle.std.proofs.Common.{ap, arith}
 use Rattle.net_units.specs.Numbers.{level_number}
-use Rattle.traffic_contract.proofs.AdmissionFacts.{load-from}
+use Rattle.traffic_contract.proofs.AdmissionTest.{load-from}
 use Rattle.traffic_contract.specs.Admission.{work_in}
 use Rattle.rcsp_admission.specs.Sums.{admitted_rows}
 use Rattle.rcsp_admission.proofs.level_sums.LevelSums.load_with.Goals as goal

@@ -8,10 +8,10 @@ use Rattle.rcsp_admission.specs.Fields.{sums_of}
 use Rattle.rcsp_admission.specs.Index.{IsIndex}
 use Rattle.rcsp_admission.specs.Kept.{held_of, kept_rows}
 use Rattle.rcsp_admission.specs.Sums.{AreAdmitted, Holds, admitted_row, admitted_rows, has_key, moved}
-use Rattle.rcsp_admission.proofs.KeyFacts.{held-at, total-moved}
-use Rattle.rcsp_admission.proofs.LoadsFacts.{load-small, part-of-load, loads-moved}
-use Rattle.rcsp_admission.proofs.PlaceFacts.{index-holds, index-inside, index-found, index-put, index-moved}
-use Rattle.rcsp_admission.proofs.SumsFacts.{AreAdmitted-moved}
+use Rattle.rcsp_admission.proofs.OneRowPerKey.{held-at, total-moved}
+use Rattle.rcsp_admission.proofs.RunningLoads.{load-small, part-of-load, loads-moved}
+use Rattle.rcsp_admission.proofs.IndexFollowsRows.{index-holds, index-inside, index-found, index-put, index-moved}
+use Rattle.rcsp_admission.proofs.StaysAdmitted.{AreAdmitted-moved}
 use Rattle.rcsp_admission.proofs.level_sums.LevelSums.move_to.Goals as goal
 use Rattle.rcsp_admission.proofs.level_sums.LevelSums.move_to.Goals.{After-index}
 

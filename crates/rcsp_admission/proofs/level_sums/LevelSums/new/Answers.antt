@@ -1,9 +1,9 @@
 -- The empty list of rows passes, since the blocking is at most the first bound and so at most each. It has no load.
 use Rattle.std.proofs.Common.{length, map, ap, arith}
 use Rattle.rcsp_admission.specs.Kept.{held_of, kept_rows}
-use Rattle.rcsp_admission.proofs.LoadsFacts.{loads-none}
-use Rattle.rcsp_admission.proofs.PlaceFacts.{index-none}
-use Rattle.rcsp_admission.proofs.SumsFacts.{AreAdmitted-new}
+use Rattle.rcsp_admission.proofs.RunningLoads.{loads-none}
+use Rattle.rcsp_admission.proofs.IndexFollowsRows.{index-none}
+use Rattle.rcsp_admission.proofs.StaysAdmitted.{AreAdmitted-new}
 use Rattle.rcsp_admission.proofs.level_sums.LevelSums.new.Goals as goal
 
 pub invariant_of-result : goal.invariant_of-result

@@ -5,10 +5,10 @@ use Rattle.traffic_contract.specs.Admission.{total}
 use Rattle.rcsp_admission.specs.Index.{IsIndex}
 use Rattle.rcsp_admission.specs.Kept.{held_of, kept_rows}
 use Rattle.rcsp_admission.specs.Sums.{AreAdmitted, Holds, admitted_row, admitted_rows, has_key, without_key}
-use Rattle.rcsp_admission.proofs.KeyFacts.{total-without}
-use Rattle.rcsp_admission.proofs.LoadsFacts.{part-of-load, loads-taken}
-use Rattle.rcsp_admission.proofs.PlaceFacts.{index-holds, index-inside, index-found, index-out, index-without}
-use Rattle.rcsp_admission.proofs.SumsFacts.{AreAdmitted-without}
+use Rattle.rcsp_admission.proofs.OneRowPerKey.{total-without}
+use Rattle.rcsp_admission.proofs.RunningLoads.{part-of-load, loads-taken}
+use Rattle.rcsp_admission.proofs.IndexFollowsRows.{index-holds, index-inside, index-found, index-out, index-without}
+use Rattle.rcsp_admission.proofs.StaysAdmitted.{AreAdmitted-without}
 use Rattle.rcsp_admission.proofs.level_sums.LevelSums.remove.Goals as goal
 use Rattle.rcsp_admission.proofs.level_sums.LevelSums.remove.Goals.{After-remove-row}
 

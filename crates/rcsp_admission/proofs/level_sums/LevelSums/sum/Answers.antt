@@ -2,7 +2,7 @@
 use Rattle.std.proofs.Common.{arith}
 use Rattle.net_units.specs.Numbers.{level_number}
 use Rattle.rcsp_admission.specs.Sums.{admitted_rows}
-use Rattle.rcsp_admission.proofs.RoomFacts.{whole-fits}
+use Rattle.rcsp_admission.proofs.LastFullLevel.{whole-fits}
 use Rattle.rcsp_admission.proofs.level_sums.LevelSums.sum.Goals as goal
 
 pub returns-clause-fits : goal.returns-clause-fits

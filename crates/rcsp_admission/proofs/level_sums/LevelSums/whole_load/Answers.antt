@@ -6,7 +6,7 @@ use Rattle.rcsp_admission.specs.Fields.{sums_of}
 use Rattle.rcsp_admission.specs.Kept.{kept_rows}
 use Rattle.rcsp_admission.specs.Loads.{level_work}
 use Rattle.rcsp_admission.specs.Sums.{AreAdmitted, admitted_rows}
-use Rattle.rcsp_admission.proofs.LoadsFacts.{load-at, load-small}
+use Rattle.rcsp_admission.proofs.RunningLoads.{load-at, load-small}
 use Rattle.rcsp_admission.proofs.level_sums.LevelSums.whole_load.Goals as goal
 
 -- the level is one of the link's

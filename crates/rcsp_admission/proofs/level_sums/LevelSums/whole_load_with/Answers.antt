@@ -2,7 +2,7 @@
 use Rattle.std.proofs.Common.{◌≡◌, ap, ◌∙◌, arith}
 use Rattle.net_units.specs.Numbers.{level_number}
 use Rattle.net_units.specs.LevelBounds.{bound_at}
-use Rattle.traffic_contract.proofs.AdmissionFacts.{load-from}
+use Rattle.traffic_contract.proofs.AdmissionTest.{load-from}
 use Rattle.traffic_contract.specs.Admission.{work_in}
 use Rattle.rcsp_admission.specs.Sums.{admitted_rows}
 use Rattle.rcsp_admission.proofs.level_sums.LevelSums.whole_load_with.Goals as goal

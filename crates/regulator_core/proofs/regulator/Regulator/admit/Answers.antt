@@ -3,8 +3,8 @@ use Rattle.std.proofs.Common.{◌≡◌, List, ℕ, ◌∷◌, refl, sym, ◌∙
 use Rattle.std.specs.Prelude.{reverse}
 use Rattle.traffic_contract.specs.Eligible.{IsEligible, eligible, earliest_tick}
 use Rattle.regulator_core.specs.Kept.{KeptTicks, RegulatorStandsFor, kept_ticks, regulator_with}
-use Rattle.regulator_core.proofs.AnswerFacts.{eligible-le}
-use Rattle.regulator_core.proofs.StandingFacts.{eligible-stands, IsEligible-stands, StandsFor-answered, StandsFor-own}
+use Rattle.regulator_core.proofs.LatestOfThree.{eligible-le}
+use Rattle.regulator_core.proofs.NewestSuffice.{eligible-stands, IsEligible-stands, StandsFor-answered, StandsFor-own}
 use Rattle.regulator_core.proofs.regulator.Regulator.admit.Goals as goal
 
 -- what the regulator keeps before the call

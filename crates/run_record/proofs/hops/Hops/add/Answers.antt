@@ -1,6 +1,6 @@
 use Rattle.std.proofs.Common.{◌≡◌, ◌∙◌, get_or}
 use Rattle.net_units.specs.Numbers.{link_number}
-use Rattle.run_record.proofs.HopFacts.{offered-new, offered-kept}
+use Rattle.run_record.proofs.OfferPlaces.{offered-new, offered-kept}
 use Rattle.run_record.proofs.hops.Hops.add.Goals as goal
 
 pub returns-then-self-place-eq0 : goal.returns-then-self-place-eq0

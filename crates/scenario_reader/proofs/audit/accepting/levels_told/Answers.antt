@@ -4,7 +4,7 @@ use Rattle.std.specs.List.{slice_get}
 use Rattle.net_units.specs.Allotted.{levels_of}
 use Rattle.net_units.specs.Numbers.{level_number}
 use Rattle.hop_reservation.specs.Offers.{AreLevels, IsLevelOf}
-use Rattle.hop_reservation.proofs.OfferFacts.{AreLevels-push}
+use Rattle.hop_reservation.proofs.OneMoreOffer.{AreLevels-push}
 use Rattle.scenario_reader.specs.Fields.{field_at}
 use Rattle.scenario_reader.specs.AuditLines.{are_level_fields}
 use Rattle.scenario_reader.specs.Decimal.{value_of}

@@ -1,8 +1,8 @@
 use Rattle.std.specs.Prelude.{IfErr}
 use Rattle.scenario_reader.specs.AuditReading.{AuditRead, audit_reading}
 use Rattle.scenario_reader.specs.AuditSteps.{AuditBytes, RefusesReading, audits}
-use Rattle.scenario_reader.proofs.AuditFacts.{may_end, table_end}
-use Rattle.scenario_reader.proofs.ReadFacts.{comes_to, tells_handed}
+use Rattle.scenario_reader.proofs.AuditEnd.{may_end, table_end}
+use Rattle.scenario_reader.proofs.ReadingAhead.{comes_to, tells_handed}
 use Rattle.scenario_reader.proofs.audit.reader.read_audit.Goals as goal
 
 pub into_parts-requires : goal.into_parts-requires

@@ -5,7 +5,7 @@ use Rattle.call_script.specs.declared.entries.RequestEntry.{RequestEntry}
 use Rattle.scenario_reader.specs.AuditLines.{channel_in}
 use Rattle.scenario_reader.specs.Drafts.{Said}
 use Rattle.scenario_reader.proofs.AuditKeeps.{channel_none, channel_some}
-use Rattle.scenario_reader.proofs.NamedFacts.{request_at_place, no_request_there}
+use Rattle.scenario_reader.proofs.NamedByPlace.{request_at_place, no_request_there}
 use Rattle.scenario_reader.proofs.draft.Draft.channel_in.Goals as goal
 
 pub returns-in_err-number : goal.returns-in_err-number

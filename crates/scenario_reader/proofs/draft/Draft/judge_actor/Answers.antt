@@ -1,6 +1,6 @@
 use Rattle.std.proofs.Common.{ap, sym, ◌∙◌, arith, Some, option_map}
 use Rattle.net_units.specs.Numbers.{actor_at}
-use Rattle.scenario_reader.proofs.ShapeFacts.{actor_is}
+use Rattle.scenario_reader.proofs.ShapeOfNumbers.{actor_is}
 use Rattle.scenario_reader.proofs.draft.Draft.judge_actor.Goals as goal
 
 pub returns : goal.returns

@@ -1,7 +1,7 @@
 use Rattle.std.proofs.Common.{sym, ◌∙◌, ap, subst}
 use Rattle.scenario_reader.specs.Drafts.{Said}
 use Rattle.scenario_reader.specs.Kept.{IsDraft}
-use Rattle.scenario_reader.proofs.SayFacts.{word_may}
+use Rattle.scenario_reader.proofs.PassedLinesAdd.{word_may}
 use Rattle.scenario_reader.proofs.draft.Draft.judge_after.Goals as goal
 
 pub returns-in-Some-line_word-clause-room : goal.returns-in-Some-line_word-clause-room

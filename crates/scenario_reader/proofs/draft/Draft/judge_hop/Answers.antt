@@ -1,7 +1,7 @@
 use Rattle.std.proofs.Common.{ap, sym, ◌∙◌, Some, option_map}
 use Rattle.scenario_reader.specs.Drafts.{shape_in}
 use Rattle.scenario_reader.specs.Entries.{hop_of}
-use Rattle.scenario_reader.proofs.PassFacts.{made_some}
+use Rattle.scenario_reader.proofs.PassingLines.{made_some}
 use Rattle.scenario_reader.proofs.draft.Draft.judge_hop.Goals as goal
 
 pub returns : goal.returns

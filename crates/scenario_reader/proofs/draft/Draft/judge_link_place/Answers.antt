@@ -4,7 +4,7 @@ use Rattle.call_script.specs.Rules.{is_named, link_names}
 use Rattle.scenario_reader.specs.Causes.{States}
 use Rattle.scenario_reader.specs.Drafts.{Said, link_named}
 use Rattle.scenario_reader.specs.Forms.{used_name_rule}
-use Rattle.scenario_reader.proofs.PlaceFacts.{link_placed, place_states, place_found}
+use Rattle.scenario_reader.proofs.PlaceOfLink.{link_placed, place_states, place_found}
 use Rattle.scenario_reader.proofs.draft.Draft.judge_link_place.Goals as goal
 
 pub returns-clause-judged : goal.returns-clause-judged

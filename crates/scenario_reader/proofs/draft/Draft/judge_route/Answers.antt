@@ -1,7 +1,7 @@
 use Rattle.std.proofs.Common.{◌<◌, ◌∙◌, ◌++◌, [], ◌∷◌, length, length-append, ap, sym, arith}
 use Rattle.scenario_reader.specs.line.Request.{route_fields, route_link_rule}
-use Rattle.scenario_reader.proofs.HopFacts.{route_more}
-use Rattle.scenario_reader.proofs.RuleFacts.{rules_pass, rules_stop, judges_stop, length-route, route_at}
+use Rattle.scenario_reader.proofs.HopsInCells.{route_more}
+use Rattle.scenario_reader.proofs.RulesByField.{rules_pass, rules_stop, judges_stop, length-route, route_at}
 use Rattle.scenario_reader.proofs.draft.Draft.judge_route.Goals as goal
 
 pub returns-in_err-judge_hop : goal.returns-in_err-judge_hop

@@ -1,7 +1,7 @@
 use Rattle.std.proofs.Common.{◌≡◌, take, length}
 use Rattle.scenario_reader.specs.Drafts.{route_over}
 use Rattle.scenario_reader.specs.line.Request.{route_fields, route_link_rule}
-use Rattle.scenario_reader.proofs.RuleFacts.{rules_from}
+use Rattle.scenario_reader.proofs.RulesByField.{rules_from}
 use Rattle.scenario_reader.proofs.draft.Draft.judge_route.Given as goal
 
 -- the links so far pass, so the route's cause is that of the links left; and their hops are those of the route so far

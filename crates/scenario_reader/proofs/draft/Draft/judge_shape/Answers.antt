@@ -1,6 +1,6 @@
 use Rattle.std.proofs.Common.{length, ◌∙◌, ap, sym}
 use Rattle.scenario_reader.specs.Drafts.{Said}
-use Rattle.scenario_reader.proofs.ShapeFacts.{link_is, made_shape}
+use Rattle.scenario_reader.proofs.ShapeOfNumbers.{link_is, made_shape}
 use Rattle.scenario_reader.proofs.draft.Draft.judge_shape.Goals as goal
 
 pub returns-in-Ok : goal.returns-in-Ok

@@ -1,5 +1,5 @@
-use Rattle.scenario_reader.proofs.DraftFacts.{draft_begins}
-use Rattle.scenario_reader.proofs.KeptFacts.{kept_begins}
+use Rattle.scenario_reader.proofs.DraftBecomesPlan.{draft_begins}
+use Rattle.scenario_reader.proofs.KeptBesideDraft.{kept_begins}
 use Rattle.scenario_reader.proofs.draft.Draft.new.Goals as goal
 
 pub invariant_of-result : goal.invariant_of-result

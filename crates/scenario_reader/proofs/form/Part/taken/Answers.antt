@@ -1,5 +1,5 @@
 use Rattle.std.proofs.Common.{drop, length-drop, refl}
-use Rattle.scenario_reader.proofs.FormFacts.{one_left}
+use Rattle.scenario_reader.proofs.FormByField.{one_left}
 use Rattle.scenario_reader.proofs.form.Part.taken.Goals as goal
 
 pub returns-in-Field-clause-value : goal.returns-in-Field-clause-value

@@ -2,7 +2,7 @@ use Rattle.std.proofs.Common.{◌<◌, ◌∙◌, ap, length, arith, length-set}
 use Rattle.scenario_reader.specs.Decimal.{value_of}
 use Rattle.scenario_reader.specs.Forms.{number_rule}
 use Rattle.scenario_reader.specs.line.Link.{bound_fields}
-use Rattle.scenario_reader.proofs.RuleFacts.{rules_pass, rules_stop, judges_stop, cells_more, bound_place, bound_field}
+use Rattle.scenario_reader.proofs.RulesByField.{rules_pass, rules_stop, judges_stop, cells_more, bound_place, bound_field}
 use Rattle.scenario_reader.proofs.line.link.judge_bounds.Goals as goal
 
 pub returns-in_err-cells : goal.returns-in_err-cells

@@ -2,7 +2,7 @@ use Rattle.std.proofs.Common.{◌≡◌, map, take, length}
 use Rattle.scenario_reader.specs.Decimal.{value_of}
 use Rattle.scenario_reader.specs.Forms.{number_rule}
 use Rattle.scenario_reader.specs.line.Link.{bound_fields}
-use Rattle.scenario_reader.proofs.RuleFacts.{rules_from}
+use Rattle.scenario_reader.proofs.RulesByField.{rules_from}
 use Rattle.scenario_reader.proofs.line.link.judge_bounds.Given as goal
 
 -- the numbers so far pass and stand in the cells

@@ -1,4 +1,4 @@
-use Rattle.scenario_reader.proofs.LineFacts.{link-line}
+use Rattle.scenario_reader.proofs.LineByField.{link-line}
 use Rattle.scenario_reader.proofs.line.link.link_line.Goals as goal
 
 pub returns : goal.returns

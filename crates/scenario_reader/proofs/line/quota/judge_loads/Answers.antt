@@ -3,7 +3,7 @@ use Rattle.std.proofs.Common.{◌∙◌, ◌∷◌, [], ap, arith}
 use Rattle.scenario_reader.specs.Decimal.{value_of}
 use Rattle.scenario_reader.specs.Forms.{number_rule}
 use Rattle.scenario_reader.specs.line.Quota.{load_fields}
-use Rattle.scenario_reader.proofs.RuleFacts.{rules_pass, rules_stop, rules_over, judges_stop, load_place, load_field, cells_filled, all_filled}
+use Rattle.scenario_reader.proofs.RulesByField.{rules_pass, rules_stop, rules_over, judges_stop, load_place, load_field, cells_filled, all_filled}
 use Rattle.scenario_reader.proofs.line.quota.judge_loads.Goals as goal
 
 pub returns-in_err-cells : goal.returns-in_err-cells

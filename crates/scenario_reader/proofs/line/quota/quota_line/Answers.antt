@@ -1,5 +1,5 @@
 use Rattle.std.proofs.Common.{refl}
-use Rattle.scenario_reader.proofs.LineFacts.{quota-line}
+use Rattle.scenario_reader.proofs.LineByField.{quota-line}
 use Rattle.scenario_reader.proofs.line.quota.quota_line.Goals as goal
 
 pub returns : goal.returns

@@ -2,7 +2,7 @@
 use Rattle.std.proofs.Common.{◌≡◌, leb, ap, sym, ◌∙◌, arith}
 use Rattle.std.proofs.lemmas.Bool.{le-leb, lt-leb}
 use Rattle.hop_reservation.specs.Offers.{next_levels}
-use Rattle.hop_reservation.proofs.OfferFacts.{found-next, next_levels-at}
+use Rattle.hop_reservation.proofs.OneMoreOffer.{found-next, next_levels-at}
 use Rattle.setup_protocol.proofs.setup.Setup.has_levels.Goals as goal
 
 pub returns-then-get-levels : goal.returns-then-get-levels

@@ -1,6 +1,6 @@
 use Rattle.std.proofs.Common.{sym, ap, ◌∙◌}
 use Rattle.setup_protocol.specs.Setup.{Reserving}
-use Rattle.setup_protocol.proofs.ProgressFacts.{progress-none}
+use Rattle.setup_protocol.proofs.SetupAdvances.{progress-none}
 use Rattle.setup_protocol.proofs.setup.Setup.new.Goals as goal
 
 pub returns-clause-stands : goal.returns-clause-stands

@@ -2,7 +2,7 @@ use Rattle.std.proofs.Common.{◌-◌, Some, get_or, ap, sym, ◌∙◌}
 use Rattle.net_units.specs.Allotted.{levels_of}
 use Rattle.link_steps.specs.Levels.{level_of}
 use Rattle.link_steps.specs.declared.asks.Ask.TheVariants.{Relax}
-use Rattle.link_steps.proofs.LevelFacts.{level_of-level}
+use Rattle.link_steps.proofs.LevelByNumber.{level_of-level}
 use Rattle.setup_protocol.proofs.setup.Setup.relax.Goals as goal
 
 pub returns : goal.returns

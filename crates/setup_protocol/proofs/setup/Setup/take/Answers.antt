@@ -2,7 +2,7 @@
 use Rattle.std.proofs.Common.{◌≡◌, ◌++◌, ◌∷◌, [], true, subst, sym, ap, ◌∙◌}
 use Rattle.setup_protocol.specs.Setup.{progress_of, is_expected}
 use Rattle.setup_protocol.specs.State.{advance}
-use Rattle.setup_protocol.proofs.ProgressFacts.{progress-advances}
+use Rattle.setup_protocol.proofs.SetupAdvances.{progress-advances}
 use Rattle.setup_protocol.proofs.setup.Setup.take.Goals as goal
 
 pub returns-then-expects-clause-taken : goal.returns-then-expects-clause-taken

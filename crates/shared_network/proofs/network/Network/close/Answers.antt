@@ -3,7 +3,7 @@ use Rattle.net_units.specs.Numbers.{link_number}
 use Rattle.step_stamp.specs.Lists.{Has}
 use Rattle.step_stamp.specs.Seats.{pass_view}
 use Rattle.shared_network.specs.Closing.{IsClosed}
-use Rattle.shared_network.proofs.ClosingFacts.{closed-told}
+use Rattle.shared_network.proofs.ToldAtClosing.{closed-told}
 use Rattle.shared_network.specs.Gathering.{token_actor}
 use Rattle.shared_network.proofs.ActorOrder.{actors-there}
 use Rattle.shared_network.proofs.LinkNumbers.{numbered-length}

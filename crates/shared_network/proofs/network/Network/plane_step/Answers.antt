@@ -1,9 +1,9 @@
 use Rattle.std.proofs.Common.{[], ◌∷◌, sym, subst}
 use Rattle.net_units.specs.Numbers.{channel_number}
 use Rattle.channel_laws.specs.Asks.{IsOff}
-use Rattle.shared_network.proofs.CallFacts.{ok-no-err, on-ok}
+use Rattle.shared_network.proofs.SetupUnderWay.{ok-no-err, on-ok}
 use Rattle.shared_network.proofs.OtherChannels.{established-stays}
-use Rattle.shared_network.proofs.PassFacts.{above-step}
+use Rattle.shared_network.proofs.CallsInTurn.{above-step}
 use Rattle.shared_network.proofs.RoundSteps.{may-ask, expected, later, planes-next, makes-round}
 use Rattle.shared_network.proofs.network.Network.plane_step.Goals as goal
 

@@ -2,9 +2,9 @@ use Rattle.std.proofs.Common.{map, sym, ap, ◌∙◌, refl}
 use Rattle.channel_move.specs.Moving.{Move, next_of_move}
 use Rattle.channel_move.specs.Standing.{move_of}
 use Rattle.shared_network.specs.Calls.{reply_in}
-use Rattle.shared_network.proofs.CallFacts.{ok-no-err, on-ok}
+use Rattle.shared_network.proofs.SetupUnderWay.{ok-no-err, on-ok}
 use Rattle.shared_network.proofs.OtherChannels.{move-others}
-use Rattle.shared_network.proofs.ShiftFacts.{shifting-first, to-below, fits-there, owned-there, next-there, expected-there, fewer-left, shifting-next}
+use Rattle.shared_network.proofs.MoveGoesOn.{shifting-first, to-below, fits-there, owned-there, next-there, expected-there, fewer-left, shifting-next}
 use Rattle.shared_network.proofs.network.Network.shift.Goals as goal
 
 pub loop-link-init : goal.loop-link-init

@@ -5,8 +5,8 @@ use Rattle.channel_laws.specs.Asks.{IsOff}
 use Rattle.shared_network.proofs.ContractKept.{keeps-contract, ok-where}
 use Rattle.shared_network.proofs.LinkNumbers.{ok-then}
 use Rattle.shared_network.proofs.OtherChannels.{sent-established, unopened-stays}
-use Rattle.shared_network.proofs.PassFacts.{above-step}
-use Rattle.shared_network.proofs.StepFacts.{adds-one}
+use Rattle.shared_network.proofs.CallsInTurn.{above-step}
+use Rattle.shared_network.proofs.PassAfterStep.{adds-one}
 use Rattle.shared_network.proofs.network.Network.submit.Goals as goal
 
 pub returns-clause-made : goal.returns-clause-made

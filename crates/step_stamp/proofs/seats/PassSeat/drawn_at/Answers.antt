@@ -1,7 +1,7 @@
 use Rattle.std.proofs.Common.{refl, ap, ◌∙◌, arith}
 use Rattle.std.specs.Prelude.{take}
 use Rattle.net_units.specs.Numbers.{link_number, actor_number}
-use Rattle.step_stamp.proofs.ListFacts.{has_first}
+use Rattle.step_stamp.proofs.ListMembers.{has_first}
 use Rattle.step_stamp.proofs.Drawing.{draws}
 use Rattle.step_stamp.proofs.Entering.{hands_over}
 use Rattle.step_stamp.proofs.seats.PassSeat.drawn_at.Goals as goal

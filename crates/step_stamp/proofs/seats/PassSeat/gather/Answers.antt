@@ -5,7 +5,7 @@ use Rattle.step_stamp.specs.Rule.{Learnt}
 use Rattle.step_stamp.specs.Seats.{Gathered}
 use Rattle.step_stamp.specs.Views.{gathered}
 use Rattle.step_stamp.proofs.Closing.{gathers, gathered_facts}
-use Rattle.step_stamp.proofs.ListFacts.{has_first, has_left}
+use Rattle.step_stamp.proofs.ListMembers.{has_first, has_left}
 use Rattle.step_stamp.proofs.Learning.{learns, fresh_still}
 use Rattle.step_stamp.proofs.seats.PassSeat.gather.Goals as goal
 

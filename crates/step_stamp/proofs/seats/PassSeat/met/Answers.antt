@@ -7,8 +7,8 @@ use Rattle.step_stamp.specs.Rule.{Learnt}
 use Rattle.step_stamp.specs.Seats.{Meets}
 use Rattle.step_stamp.specs.Views.{shown, entered, taken}
 use Rattle.step_stamp.proofs.Learning.{learns, fresh_still}
-use Rattle.step_stamp.proofs.ListFacts.{has_first}
-use Rattle.step_stamp.proofs.ViewFacts.{acts_live, lists_live}
+use Rattle.step_stamp.proofs.ListMembers.{has_first}
+use Rattle.step_stamp.proofs.RuleThroughChanges.{acts_live, lists_live}
 use Rattle.step_stamp.proofs.Meeting.{shows, meets, takes, met_facts}
 use Rattle.step_stamp.proofs.seats.PassSeat.met.Goals as goal
 

@@ -1,6 +1,6 @@
 use Rattle.std.proofs.Common.{arith}
 use Rattle.net_units.specs.Numbers.{actor_number}
-use Rattle.step_stamp.proofs.ListFacts.{has_first}
+use Rattle.step_stamp.proofs.ListMembers.{has_first}
 use Rattle.step_stamp.proofs.Learning.{sees}
 use Rattle.step_stamp.proofs.seats.PassSeat.seen.Goals as goal
 

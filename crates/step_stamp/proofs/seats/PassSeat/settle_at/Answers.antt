@@ -5,7 +5,7 @@ use Rattle.step_stamp.specs.Rule.{Learnt}
 use Rattle.step_stamp.specs.Seats.{Settled}
 use Rattle.step_stamp.specs.Views.{settled}
 use Rattle.step_stamp.proofs.Closing.{settles, settled_facts}
-use Rattle.step_stamp.proofs.ListFacts.{has_first}
+use Rattle.step_stamp.proofs.ListMembers.{has_first}
 use Rattle.step_stamp.proofs.Learning.{learns, fresh_still}
 use Rattle.step_stamp.proofs.seats.PassSeat.settle_at.Goals as goal
 

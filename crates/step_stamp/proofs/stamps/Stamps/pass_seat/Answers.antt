@@ -5,7 +5,7 @@ use Rattle.step_stamp.specs.Lists.{Has}
 use Rattle.step_stamp.specs.Marks.{marks_of}
 use Rattle.step_stamp.specs.Views.{known_of}
 use Rattle.step_stamp.specs.declared.views.View.{View}
-use Rattle.step_stamp.proofs.ShelfFacts.{no_known}
+use Rattle.step_stamp.proofs.NewestShelf.{no_known}
 use Rattle.step_stamp.proofs.OpeningSteps.{opens_pass}
 use Rattle.step_stamp.proofs.stamps.Stamps.pass_seat.Goals as goal
 

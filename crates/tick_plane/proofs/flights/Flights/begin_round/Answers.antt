@@ -5,7 +5,7 @@ use Rattle.link_steps.specs.Lists.{Each}
 use Rattle.tick_calendar.specs.Calendar.{Entry, Schedule}
 use Rattle.tick_plane.specs.Planes.{is_due}
 use Rattle.tick_plane.specs.Carried.{AreFlights, AreKeyed, IsFrom, IsDue, flights_at}
-use Rattle.tick_plane.proofs.DueFacts.{all-later, is-due}
+use Rattle.tick_plane.proofs.FirstDueFlight.{all-later, is-due}
 use Rattle.tick_plane.proofs.flights.Flights.begin_round.Goals as goal
 
 pub invariant_of-self : goal.invariant_of-self

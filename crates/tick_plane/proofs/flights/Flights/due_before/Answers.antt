@@ -3,15 +3,15 @@ use Rattle.std.proofs.Common.{◌≡◌, [], List, ap, sym, subst, ◌∙◌, ru
 use Rattle.std.proofs.lemmas.Fn.{filter_same}
 use Rattle.std.specs.List.{filter}
 use Rattle.std.specs.Prelude.{nat_lt}
-use Rattle.link_steps.proofs.ListFacts.{Each-filter}
+use Rattle.link_steps.proofs.SearchAndFilter.{Each-filter}
 use Rattle.link_steps.specs.Lists.{Each}
 use Rattle.tick_calendar.specs.Calendar.{Entry}
 use Rattle.tick_plane.specs.Carried.{AreFlights, IsCarried, IsFrom, flights_at}
 use Rattle.tick_plane.specs.Coming.{IsDueFrom, is_before}
 use Rattle.tick_plane.specs.declared.flight.Flight.{Flight}
-use Rattle.tick_plane.proofs.CalmFacts.{from-entries}
-use Rattle.tick_plane.proofs.CarriedFacts.{each-carried}
-use Rattle.tick_plane.proofs.ComingFacts.{flights-before, if-ok}
+use Rattle.tick_plane.proofs.CalmRounds.{from-entries}
+use Rattle.tick_plane.proofs.FlightPerKey.{each-carried}
+use Rattle.tick_plane.proofs.ComingInOrder.{flights-before, if-ok}
 use Rattle.tick_plane.proofs.flights.Flights.due_before.Goals as goal
 
 pub listed-requires : goal.listed-requires

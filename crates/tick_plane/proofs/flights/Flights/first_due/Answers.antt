@@ -5,8 +5,8 @@ use Rattle.tick_calendar.specs.Calendar.{Entry}
 use Rattle.tick_plane.specs.declared.flight.Flight.{Flight}
 use Rattle.tick_plane.specs.Planes.{is_due}
 use Rattle.tick_plane.specs.Carried.{AreFlights, AreKeyed, IsFirst, flight_told, in_round}
-use Rattle.tick_plane.proofs.CarriedFacts.{is-held}
-use Rattle.tick_plane.proofs.DueFacts.{none-due, one-due, found-due}
+use Rattle.tick_plane.proofs.FlightPerKey.{is-held}
+use Rattle.tick_plane.proofs.FirstDueFlight.{none-due, one-due, found-due}
 use Rattle.tick_plane.proofs.flights.Flights.first_due.Goals as goal
 
 pub returns-in_err-key : goal.returns-in_err-key

@@ -3,7 +3,7 @@ use Rattle.std.proofs.Common.{is_some, ap, ◌∙◌}
 use Rattle.std.specs.List.{find}
 use Rattle.tick_plane.specs.Planes.{is_due}
 use Rattle.tick_plane.specs.Carried.{AreFlights}
-use Rattle.tick_plane.proofs.DueFacts.{due-told}
+use Rattle.tick_plane.proofs.FirstDueFlight.{due-told}
 use Rattle.tick_plane.proofs.flights.Flights.has_due.Goals as goal
 
 pub returns : goal.returns

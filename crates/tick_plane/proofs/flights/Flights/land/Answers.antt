@@ -6,8 +6,8 @@ use Rattle.link_steps.specs.Lists.{Each, without_first}
 use Rattle.tick_calendar.specs.Calendar.{Entry, Schedule}
 use Rattle.tick_plane.specs.Planes.{is_due}
 use Rattle.tick_plane.specs.Carried.{AreFlights, AreKeyed, IsFrom, IsDue, flights_at}
-use Rattle.tick_plane.proofs.CarriedFacts.{is-held, keyed-landed, flights-landed}
-use Rattle.tick_plane.proofs.DueFacts.{Lands, some-due, lands-taken, left-landed, from-left, is-due}
+use Rattle.tick_plane.proofs.FlightPerKey.{is-held, keyed-landed, flights-landed}
+use Rattle.tick_plane.proofs.FirstDueFlight.{Lands, some-due, lands-taken, left-landed, from-left, is-due}
 use Rattle.tick_plane.proofs.flights.Flights.land.Goals as goal
 use Rattle.tick_plane.proofs.flights.Flights.land.Goals.{After-unwrap-key}
 

@@ -3,7 +3,7 @@ use Rattle.std.proofs.Common.{[], List, sym, subst, ◌∙◌}
 use Rattle.link_steps.specs.Lists.{Each}
 use Rattle.tick_calendar.specs.Calendar.{Entry}
 use Rattle.tick_plane.specs.Carried.{IsCarried}
-use Rattle.tick_plane.proofs.CarriedFacts.{each-carried}
+use Rattle.tick_plane.proofs.FlightPerKey.{each-carried}
 use Rattle.tick_plane.proofs.flights.Flights.list.Goals as goal
 
 pub listed-requires : goal.listed-requires

@@ -3,8 +3,8 @@ use Rattle.std.proofs.Common.{◌≡◌, ◌-◌, ◌++◌, ◌∷◌, [], List,
 use Rattle.link_steps.specs.Lists.{Each}
 use Rattle.tick_calendar.specs.Calendar.{Entry, Schedule}
 use Rattle.tick_plane.specs.Carried.{AreFlights, AreKeyed, IsFrom, IsDue, flights_at}
-use Rattle.tick_plane.proofs.CarriedFacts.{keyed-put, flights-put}
-use Rattle.tick_plane.proofs.DueFacts.{due-put, from-put}
+use Rattle.tick_plane.proofs.FlightPerKey.{keyed-put, flights-put}
+use Rattle.tick_plane.proofs.FirstDueFlight.{due-put, from-put}
 use Rattle.tick_plane.proofs.flights.Flights.put.Goals as goal
 
 pub invariant_of-self : goal.invariant_of-self

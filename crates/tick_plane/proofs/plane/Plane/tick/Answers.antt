@@ -2,7 +2,7 @@
 use Rattle.std.proofs.Common.{ap, ◌∙◌}
 use Rattle.tick_plane.specs.Planes.{flight_of, next_due}
 use Rattle.tick_plane.specs.Kept.{KeptPlane}
-use Rattle.tick_plane.proofs.DueFacts.{none-with}
+use Rattle.tick_plane.proofs.FirstDueFlight.{none-with}
 use Rattle.tick_plane.proofs.plane.Plane.tick.Goals as goal
 
 pub pass-requires-clause-none : goal.pass-requires-clause-none

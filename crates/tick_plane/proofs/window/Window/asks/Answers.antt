@@ -10,7 +10,7 @@ use Rattle.tick_plane.specs.Coming.{AreComing, AreLeft, IsDueFrom, arrivals_in, 
 use Rattle.tick_plane.specs.Planes.{Plane}
 use Rattle.tick_plane.specs.Windows.{WindowAt, window_at}
 use Rattle.tick_plane.specs.declared.flight.Flight.{Flight}
-use Rattle.tick_plane.proofs.ComingFacts.{coming-listed, own-ahead, window-is, on-ok}
+use Rattle.tick_plane.proofs.ComingInOrder.{coming-listed, own-ahead, window-is, on-ok}
 use Rattle.tick_plane.proofs.window.Window.asks.Goals as goal
 
 pub sorted-requires : goal.sorted-requires

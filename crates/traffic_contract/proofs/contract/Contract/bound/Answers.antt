@@ -2,7 +2,7 @@
 use Rattle.std.proofs.Common.{◌≤◌, sym, subst, rules}
 use Rattle.traffic_contract.specs.Contract.{most_in}
 use Rattle.traffic_contract.specs.Window.{count_in}
-use Rattle.traffic_contract.proofs.WindowFacts.{count_in-le}
+use Rattle.traffic_contract.proofs.WindowsAreBounded.{count_in-le}
 use Rattle.traffic_contract.proofs.contract.Contract.bound.Goals as goal
 
 pub returns-clause-value : goal.returns-clause-value

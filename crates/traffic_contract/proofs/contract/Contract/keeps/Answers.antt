@@ -1,7 +1,7 @@
 -- What the code answers is the test, and the test says what the fact says, in both orders of the list.
 use Rattle.std.proofs.Common.{sym, ◌∙◌, rules}
 use Rattle.traffic_contract.specs.Keeping.{keeps}
-use Rattle.traffic_contract.proofs.KeepingFacts.{Decides-keeps}
+use Rattle.traffic_contract.proofs.PartsKeepContract.{Decides-keeps}
 use Rattle.traffic_contract.proofs.NewestFirst.{keeps-newest_first}
 use Rattle.traffic_contract.proofs.contract.Contract.keeps.Goals as goal
 

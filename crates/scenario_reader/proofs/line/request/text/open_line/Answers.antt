@@ -1,5 +1,5 @@
 use Rattle.std.proofs.Common.{refl}
-use Rattle.scenario_reader.proofs.LineFacts.{open-line}
+use Rattle.scenario_reader.proofs.LineByField.{open-line}
 use Rattle.scenario_reader.proofs.line.request.text.open_line.Goals as goal
 
 pub returns : goal.returns

@@ -1,6 +1,6 @@
 use Rattle.std.proofs.Common.{◌≡◌, ◌+◌, ◌-◌, ◌∙◌, ap, refl, arith}
 use Rattle.std.specs.List.{slice_get}
-use Rattle.scenario_reader.proofs.LineFacts.{hops-next}
+use Rattle.scenario_reader.proofs.LineByField.{hops-next}
 use Rattle.scenario_reader.proofs.line.request.text.push_route.Goals as goal
 
 pub loop-index-preserved : goal.loop-index-preserved

@@ -1,0 +1,189 @@
+-- A tick in which nothing falls due changes the clock alone, and so do n of them.
+use Rattle.std.proofs.Common.{◌≡◌, ℕ, zero, suc, ◌+◌, ◌<◌, ◌≤◌, Bool, false, List, [], ◌∷◌, ◌++◌, length, append-nil, Option, Some, None, refl, sym, ap, ◌∙◌, arith, nat_eq}
+use Rattle.std.proofs.lemmas.Bool.{ne_eqb, le-leb, lt-leb}
+use Rattle.std.specs.Prelude.{filter, find}
+use Rattle.link_steps.specs.declared.asks.Ask.TheVariants.{Tick}
+use Rattle.link_steps.specs.declared.replies.Entry.{Entry}
+use Rattle.link_steps.specs.declared.replies.Reply.TheVariants.{Ticked}
+use Rattle.link_steps.specs.declared.replies.Sent.{Sent}
+use Rattle.link_steps.specs.declared.shape.LinkShape.{LinkShape}
+use Rattle.link_steps.specs.Kept.{Kept, KeptRow, HasContracts, StandsFor, kept_stays, kept_step, past_tick, kept_packets, kept_rows_after, kept_lost, kept_best, kept_reply, kept_after, held_rows, brought, present, served, still_on, still_here, departs, best_departs, is_eligible_by, kept_after_tick, kept_tick_reply}
+use Rattle.link_steps.specs.BestEffort.{best_step}
+use Rattle.link_steps.specs.Legal.{IsLegal}
+use Rattle.link_steps.specs.Lists.{Each}
+use Rattle.link_steps.specs.Replies.{reply_to}
+use Rattle.link_steps.specs.Rows.{SourcePacket, is_for, left_at}
+use Rattle.link_steps.specs.Service.{Arrival, Start, leaves_at, first_in_line}
+use Rattle.link_steps.specs.Sources.{Rests, dropped_by}
+use Rattle.link_steps.specs.Split.{Link}
+use Rattle.link_steps.proofs.SearchAndFilter.{Each-if}
+use Rattle.link_steps.proofs.Account.{same-kept, stands-reply, stands-entry}
+use Rattle.link_steps.specs.Quiet.{IsPlannedFrom, IsEligibleFrom, RowRests, ServiceRests, RestsUntil, quiet_reply, quiet_ticks, later_by, GoesOnQuietly}
+
+-- ---- plans
+
+-- none is planned for a tick before, and all are left after it
+none-planned : (until t : ℕ) (left : List SourcePacket) → Each (IsPlannedFrom until) left → t < until → find (is_for t) left ≡ None
+none-planned until t [] plans before = refl
+none-planned until t (p ∷ left) plans before =
+    rw (ne_eqb p.tick t (λ same. (let from = plans.0 in omega (arith, from, before, same)))) (none-planned until t left plans.1 before)
+
+all-left : (until t : ℕ) (left : List SourcePacket) → Each (IsPlannedFrom until) left → t < until → left_at (suc t) left ≡ left
+all-left until t [] plans before = refl
+all-left until t (p ∷ left) plans before =
+    let from = plans.0 in
+    rw (le-leb (suc t) p.tick (omega (arith, from, before))) (ap (λ rest. p ∷ rest) (all-left until t left plans.1 before))
+
+-- ---- rows
+
+row-rests : (bounds : List ℕ) (here : List Arrival) (until t : ℕ) (row : KeptRow) → Each (IsPlannedFrom until) row.left → t < until → kept_step bounds here t row ≡ Rests
+unfolding kept_step
+row-rests bounds here until t row plans before = rw (none-planned until t row.left plans before) refl
+
+row-past : (until t : ℕ) (row : KeptRow) → Each (IsPlannedFrom until) row.left → t < until → past_tick t row ≡ row
+row-past until t row plans before = ap (λ left. record row { left = left }) (all-left until t row.left plans before)
+
+-- all rows stay
+rows-stay : (bounds : List ℕ) (until t : ℕ) (rows : List KeptRow) → Each (RowRests bounds t until) rows → t < until → filter (kept_stays bounds t) rows ≡ rows
+rows-stay bounds until t [] each before = refl
+rows-stay bounds until t (row ∷ rows) each before =
+    rw (each.0.stays t (omega arith) before) (ap (λ rest. row ∷ rest) (rows-stay bounds until t rows each.1 before))
+
+-- they bring no packet, drop none, and stay as they are
+rows-bring : (bounds : List ℕ) (here : List Arrival) (until t taken : ℕ) (rows : List KeptRow) → Each (RowRests bounds t until) rows → t < until → kept_packets bounds here t taken rows ≡ []
+unfolding kept_packets
+rows-bring bounds here until t taken [] each before = refl
+rows-bring bounds here until t taken (row ∷ rows) each before =
+    rw (row-rests bounds here until t row each.0.plans before) (rows-bring bounds here until t (taken + 0) rows each.1 before)
+
+rows-lose : (bounds : List ℕ) (here : List Arrival) (until t : ℕ) (rows : List KeptRow) → Each (RowRests bounds t until) rows → t < until → kept_lost bounds here t rows ≡ 0
+unfolding kept_lost
+rows-lose bounds here until t [] each before = refl
+rows-lose bounds here until t (row ∷ rows) each before =
+    rw (row-rests bounds here until t row each.0.plans before) (omega (arith, rows-lose bounds here until t rows each.1 before))
+
+rows-same : (bounds : List ℕ) (here : List Arrival) (until t taken : ℕ) (rows : List KeptRow) → Each (RowRests bounds t until) rows → t < until → kept_rows_after bounds here t taken rows ≡ rows
+unfolding kept_rows_after
+rows-same bounds here until t taken [] each before = refl
+rows-same bounds here until t taken (row ∷ rows) each before =
+    rw (row-rests bounds here until t row each.0.plans before)
+    (ap (λ first. first ∷ kept_rows_after bounds here t (taken + 0) rows) (row-past until t row each.0.plans before)
+    ∙ ap (λ rest. row ∷ rest) (rows-same bounds here until t (taken + 0) rows each.1 before))
+
+-- ---- the service
+
+none-eligible : (until t : ℕ) (here : List Arrival) → Each (IsEligibleFrom until) here → t < until → filter (is_eligible_by t) here ≡ []
+none-eligible until t [] each before = refl
+none-eligible until t (p ∷ here) each before =
+    let from = each.0 in
+    rw (lt-leb p.eligible t (omega (arith, from, before))) (none-eligible until t here each.1 before)
+
+-- none starts
+none-served : (rate until t : ℕ) (here : List Arrival) → Each (IsEligibleFrom until) here → t < until → served t here None ≡ None
+unfolding first_in_line
+none-served rate until t here each before = rw (none-eligible until t here each before) refl
+
+-- what is on the link stays on it, and those here stay here
+on-stays : (rate until t : ℕ) (here : List Arrival) (on : Option Start) → ServiceRests rate until here on → t < until → still_on rate t (served t here on) ≡ on
+on-stays rate until t here None rests before = rw (none-served rate until t here rests before) refl
+on-stays rate until t here (Some start) rests before = rw (lt-leb (leaves_at rate start) (suc t) (omega (arith, rests, before))) refl
+
+here-stays : (rate until t : ℕ) (here : List Arrival) (on : Option Start) → ServiceRests rate until here on → t < until → still_here rate t (served t here on) here ≡ here
+here-stays rate until t here None rests before = rw (none-served rate until t here rests before) refl
+here-stays rate until t here (Some start) rests before = rw (lt-leb (leaves_at rate start) (suc t) (omega (arith, rests, before))) refl
+
+-- and nothing departs
+none-departs : (shape : LinkShape) (until t : ℕ) (here : List Arrival) (on : Option Start) → ServiceRests shape.rate until here on → t < until → departs shape t (served t here on) ≡ None
+none-departs shape until t here None rests before = rw (none-served shape.rate until t here rests before) refl
+none-departs shape until t here (Some start) rests before =
+    rw (ne_eqb (leaves_at shape.rate start) (suc t) (λ same. omega (arith, rests, before, same))) refl
+
+no-best-departs : (shape : LinkShape) (until t : ℕ) (here : List Arrival) (on : Option Start) → ServiceRests shape.rate until here on → t < until → best_departs shape t (served t here on) ≡ false
+no-best-departs shape until t here None rests before = rw (none-served shape.rate until t here rests before) refl
+no-best-departs shape until t here (Some start) rests before =
+    rw (ne_eqb (leaves_at shape.rate start) (suc t) (λ same. omega (arith, rests, before, same))) refl
+
+-- ---- one tick
+
+rows-held : (shape : LinkShape) (until : ℕ) (k : Kept) → RestsUntil shape until k → k.clock < until → held_rows shape k ≡ k.rows
+rows-held shape until k rests before = rows-stay shape.bounds until k.clock k.rows rests.rows before
+
+best-rests : (shape : LinkShape) (until : ℕ) (k : Kept) → RestsUntil shape until k → k.clock < until → kept_best shape k ≡ Rests
+unfolding kept_best best_step
+best-rests shape until k rests before = rw (none-planned until k.clock k.best_left rests.best before) refl
+
+none-brought : (shape : LinkShape) (until : ℕ) (k : Kept) → RestsUntil shape until k → k.clock < until → brought shape k ≡ []
+none-brought shape until k rests before =
+    rw (rows-held shape until k rests before)
+    (rw (rows-bring shape.bounds k.here until k.clock k.taken k.rows rests.rows before)
+    (rw (best-rests shape until k rests before) refl))
+
+same-present : (shape : LinkShape) (until : ℕ) (k : Kept) → RestsUntil shape until k → k.clock < until → present shape k ≡ k.here
+same-present shape until k rests before = ap (λ new. k.here ++ new) (none-brought shape until k rests before) ∙ append-nil k.here
+
+pub quiet-after : (shape : LinkShape) (until : ℕ) (k : Kept) → RestsUntil shape until k → k.clock < until → kept_after_tick shape k ≡ record k { clock = suc k.clock }
+unfolding kept_after_tick
+quiet-after shape until k rests before =
+    let same = same-present shape until k rests before in
+    same-kept (kept_after_tick shape k) (record k { clock = suc k.clock }) refl
+    (ap (λ new. k.taken + length new) (none-brought shape until k rests before) ∙ omega arith)
+    (ap (kept_rows_after shape.bounds k.here k.clock k.taken) (rows-held shape until k rests before) ∙ rows-same shape.bounds k.here until k.clock k.taken k.rows rests.rows before)
+    (ap (λ here. still_here shape.rate k.clock (served k.clock here k.on) here) same ∙ here-stays shape.rate until k.clock k.here k.on rests.service before)
+    (ap (λ here. still_on shape.rate k.clock (served k.clock here k.on)) same ∙ on-stays shape.rate until k.clock k.here k.on rests.service before)
+    (all-left until k.clock k.best_left rests.best before)
+
+same-tick : (t lost : ℕ) (sent : Option Sent) (best_sent best_lost : Bool) → lost ≡ 0 → sent ≡ None → best_sent ≡ false → best_lost ≡ false → Ticked t lost sent best_sent best_lost ≡ quiet_reply t
+same-tick t lost sent best_sent best_lost none left kept held = rw (none, left, kept, held) refl
+
+pub quiet-tick : (shape : LinkShape) (until : ℕ) (k : Kept) → RestsUntil shape until k → k.clock < until → kept_tick_reply shape k ≡ quiet_reply k.clock
+unfolding kept_tick_reply
+quiet-tick shape until k rests before =
+    let same = same-present shape until k rests before in
+    same-tick k.clock _ _ _ _
+    (ap (kept_lost shape.bounds k.here k.clock) (rows-held shape until k rests before) ∙ rows-lose shape.bounds k.here until k.clock k.rows rests.rows before)
+    (ap (λ here. departs shape k.clock (served k.clock here k.on)) same ∙ none-departs shape until k.clock k.here k.on rests.service before)
+    (ap (λ here. best_departs shape k.clock (served k.clock here k.on)) same ∙ no-best-departs shape until k.clock k.here k.on rests.service before)
+    (ap (λ step. nat_eq (dropped_by step) 1) (best-rests shape until k rests before))
+
+-- ---- n of them
+
+pub later-rests : (shape : LinkShape) (until n : ℕ) (k : Kept) → RestsUntil shape until k → RestsUntil shape until (later_by n k)
+later-rests shape until n k rests = record {
+  rows = Each-if (RowRests shape.bounds k.clock until) (RowRests shape.bounds (k.clock + n) until) k.rows (λ row row_rests. record { plans = row_rests.plans; stays = λ t from before. row_rests.stays t (omega (arith, from)) before }) rests.rows;
+  best = rests.best;
+  service = rests.service;
+}
+
+pub one-more : (n : ℕ) (k : Kept) → record (later_by n k) { clock = suc (k.clock + n) } ≡ later_by (suc n) k
+one-more n k = ap (λ clock. record k { clock = clock }) (omega arith)
+
+pub none-later : (k : Kept) → k ≡ later_by 0 k
+none-later k = ap (λ clock. record k { clock = clock }) (omega arith)
+
+-- the account stands for the history with them
+quiet-stands : (link : Link) (until n : ℕ) (k : Kept) (h : List Entry) → HasContracts k → StandsFor link.shape k h → RestsUntil link.shape until k → k.clock + n ≤ until → StandsFor link.shape (later_by n k) (quiet_ticks n k.clock h)
+unfolding quiet_ticks kept_after
+quiet-stands link until zero k h each stands rests within = sym (none-later k) ∙ stands
+quiet-stands link until (suc n) k h each stands rests within =
+    sym (quiet-after link.shape until (later_by n k) (later-rests link.shape until n k rests) (omega (arith, within)) ∙ one-more n k)
+    ∙ stands-entry link.shape (later_by n k) (quiet_ticks n k.clock h) Tick (quiet_reply (k.clock + n)) each (quiet-stands link until n k h each stands rests (omega (arith, within)))
+
+-- each has its legal reply
+quiet-replied : (link : Link) (until m : ℕ) (k : Kept) (h : List Entry) → HasContracts k → StandsFor link.shape k h → RestsUntil link.shape until k → k.clock + m < until → quiet_reply (k.clock + m) ≡ reply_to link (quiet_ticks m k.clock h) Tick
+unfolding kept_reply
+quiet-replied link until m k h each stands rests early =
+    sym (quiet-tick link.shape until (later_by m k) (later-rests link.shape until m k rests) early)
+    ∙ stands-reply link (later_by m k) (quiet_ticks m k.clock h) Tick each (quiet-stands link until m k h each stands rests (omega (arith, early)))
+
+quiet-legal : (link : Link) (until n : ℕ) (k : Kept) (h : List Entry) → HasContracts k → StandsFor link.shape k h → RestsUntil link.shape until k → k.clock + n ≤ until → IsLegal link h → IsLegal link (quiet_ticks n k.clock h)
+unfolding quiet_ticks IsLegal
+quiet-legal link until zero k h each stands rests within legal = legal
+quiet-legal link until (suc n) k h each stands rests within legal =
+    (quiet-legal link until n k h each stands rests (omega (arith, within)) legal, record { fits = tt; answered = quiet-replied link until n k h each stands rests (omega (arith, within)) })
+
+pub quiet-ticks : (link : Link) (until n : ℕ) (k : Kept) (h : List Entry) → HasContracts k → StandsFor link.shape k h → RestsUntil link.shape until k → k.clock + n ≤ until → GoesOnQuietly link n k h
+quiet-ticks link until n k h each stands rests within = record {
+  stands = quiet-stands link until n k h each stands rests within;
+  replied = λ m few. quiet-replied link until m k h each stands rests (omega (arith, within, few));
+  legal = quiet-legal link until n k h each stands rests within;
+}
