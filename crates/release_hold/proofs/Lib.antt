@@ -1,2 +1,2 @@
-pub mod HoldLemmas
+pub mod NewestDecidesHold
 mod Worked

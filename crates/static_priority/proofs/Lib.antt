@@ -1,4 +1,4 @@
-pub mod QueueLemmas
-pub mod RoomLemmas
-pub mod PickLemmas
+pub mod NextByPlace
+pub mod QueuesKeepRoom
+pub mod PickByQueues
 mod Worked

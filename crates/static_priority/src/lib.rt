@@ -179,7 +179,7 @@ mod tests {
     }
 
     // A push or a pick, as a number says, of three queues and of a plain list.
-    #[tactic(auto, using(crate::proofs::QueueLemmas::as_many_left))]
+    #[tactic(auto, using(crate::proofs::NextByPlace::as_many_left))]
     fn call(
         rt: &impl Abort,
         queues: &mut LevelQueues,

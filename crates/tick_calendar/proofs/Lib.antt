@@ -1,10 +1,10 @@
 pub mod Places
-pub mod DueLemmas
+pub mod DueByTicks
 mod Worked
 pub mod Chains
 pub mod Ahead
 pub mod Links
-pub mod WheelLemmas
-pub mod TurnLemmas
+pub mod WheelStaysRight
+pub mod TurnKeepsWaiting
 pub mod Slots
-pub mod TakingLemmas
+pub mod TakesWhatIsDue

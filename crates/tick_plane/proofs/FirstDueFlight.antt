@@ -6,7 +6,7 @@ use Rattle.std.specs.Prelude.{IsNone, IsSome, IfSome}
 use Rattle.link_steps.specs.Lists.{Each, without_first}
 use Rattle.link_steps.proofs.SearchAndFilter.{Each-append}
 use Rattle.tick_calendar.specs.Calendar.{Entry, TakesDue, due_key, left_after}
-use Rattle.tick_calendar.proofs.TakingLemmas.{takes-due}
+use Rattle.tick_calendar.proofs.TakesWhatIsDue.{takes-due}
 use Rattle.tick_plane.specs.declared.flight.Flight.{Flight}
 use Rattle.tick_plane.specs.Planes.{is_due}
 use Rattle.tick_plane.specs.Carried.{flight_at, flights_at, IsFrom, IsAfter, IsFirst, IsDue}

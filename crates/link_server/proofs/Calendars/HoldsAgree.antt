@@ -5,7 +5,7 @@ use Rattle.std.specs.List.{list_all}
 use Rattle.std.specs.Prelude.{nat_eq, nat_le, All}
 use Rattle.link_server.proofs.Words.{last_bound, newest, Closing, is_phase}
 use Rattle.release_hold.specs.Hold.{has_passed}
-use Rattle.release_hold.proofs.HoldLemmas.{all_passed}
+use Rattle.release_hold.proofs.NewestDecidesHold.{all_passed}
 use Rattle.link_steps.specs.Hold.{hold_ended}
 use Rattle.link_server.specs.HoldsAgree.{HoldsAgree}
 

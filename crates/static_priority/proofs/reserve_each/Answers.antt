@@ -3,7 +3,7 @@ use Rattle.std.proofs.Common.{◌∙◌, ap, sym, arith}
 use Rattle.std.specs.VecDeque.{deque_capacity}
 use Rattle.static_priority.specs.Room.{keys_of}
 use Rattle.static_priority.proofs.reserve_each.Goals as goal
-use Rattle.static_priority.proofs.RoomLemmas.{keys_stay, holds_stay, holds_more}
+use Rattle.static_priority.proofs.QueuesKeepRoom.{keys_stay, holds_stay, holds_more}
 
 pub returns-in_err-reserve-clause-keys : goal.returns-in_err-reserve-clause-keys
 returns-in_err-reserve-clause-keys c =

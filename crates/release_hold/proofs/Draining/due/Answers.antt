@@ -2,7 +2,7 @@
 use Rattle.std.proofs.Common.{arith}
 use Rattle.std.proofs.lemmas.Bool.Decides.{nat_tests}
 use Rattle.release_hold.proofs.Draining.due.Goals as goal
-use Rattle.release_hold.proofs.HoldLemmas.{is_over-counted}
+use Rattle.release_hold.proofs.NewestDecidesHold.{is_over-counted}
 
 pub returns-then-self-clause-over : goal.returns-then-self-clause-over
 returns-then-self-clause-over c ticks counts =

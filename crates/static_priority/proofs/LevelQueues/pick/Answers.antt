@@ -2,8 +2,8 @@
 use Rattle.std.proofs.Common.{◌-◌, length, refl, ap, rules, arith}
 use Rattle.static_priority.specs.Queues.{Queues}
 use Rattle.static_priority.proofs.LevelQueues.pick.Goals as goal
-use Rattle.static_priority.proofs.PickLemmas.{nobody_waits, somebody_waits, not_all_empty}
-use Rattle.static_priority.proofs.RoomLemmas.{place_is_level, room_stays, some_wait}
+use Rattle.static_priority.proofs.PickByQueues.{nobody_waits, somebody_waits, not_all_empty}
+use Rattle.static_priority.proofs.QueuesKeepRoom.{place_is_level, room_stays, some_wait}
 
 -- all are empty
 pub returns-in_err-place : goal.returns-in_err-place

@@ -4,7 +4,7 @@ use Rattle.std.proofs.lemmas.List.{length-append, length-map}
 use Rattle.static_priority.specs.Queues.{Queues}
 use Rattle.static_priority.specs.Room.{keys_of}
 use Rattle.static_priority.proofs.LevelQueues.push.Goals as goal
-use Rattle.static_priority.proofs.RoomLemmas.{can_push, room_stays, keys_pushed, seen_alike}
+use Rattle.static_priority.proofs.QueuesKeepRoom.{can_push, room_stays, keys_pushed, seen_alike}
 
 pub push_back_reserved-requires : goal.push_back_reserved-requires
 push_back_reserved-requires c =

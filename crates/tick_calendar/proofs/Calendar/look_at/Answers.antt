@@ -2,7 +2,7 @@
 use Rattle.std.proofs.Common.{◌≡◌, ◌+◌, suc, length, refl, ap, sym, ◌∙◌, subst, arith}
 use Rattle.tick_calendar.specs.Calendar.{Schedule}
 use Rattle.tick_calendar.specs.Wheel.{AreAllFrom}
-use Rattle.tick_calendar.proofs.TakingLemmas.{all-later, due-none, first-due, taken-not_ahead}
+use Rattle.tick_calendar.proofs.TakesWhatIsDue.{all-later, due-none, first-due, taken-not_ahead}
 use Rattle.tick_calendar.proofs.Calendar.look_at.Goals as goal
 
 pub first_due-requires-clause-wheel : goal.first_due-requires-clause-wheel

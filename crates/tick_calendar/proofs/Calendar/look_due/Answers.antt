@@ -2,7 +2,7 @@
 use Rattle.std.proofs.Common.{ap, ◌∙◌, sym, subst}
 use Rattle.tick_calendar.specs.Calendar.{Schedule}
 use Rattle.tick_calendar.specs.Wheel.{AreAllFrom}
-use Rattle.tick_calendar.proofs.TakingLemmas.{due-none, none-until}
+use Rattle.tick_calendar.proofs.TakesWhatIsDue.{due-none, none-until}
 use Rattle.tick_calendar.proofs.Calendar.look_due.Goals as goal
 
 pub returns-then-now-self-clause-key : goal.returns-then-now-self-clause-key

@@ -2,7 +2,7 @@
 use Rattle.std.proofs.Common.{◌≡◌, ◌+◌, ◌-◌, ◌++◌, ◌∷◌, [], List, ap, ◌∙◌, subst, arith}
 use Rattle.tick_calendar.specs.Calendar.{Schedule, Entry}
 use Rattle.tick_calendar.specs.Wheel.{entries_in, AreAllFrom}
-use Rattle.tick_calendar.proofs.TakingLemmas.{put-kept, put-from}
+use Rattle.tick_calendar.proofs.TakesWhatIsDue.{put-kept, put-from}
 use Rattle.tick_calendar.proofs.Calendar.put.Goals as goal
 
 pub clear_if_full-requires-clause-wheel : goal.clear_if_full-requires-clause-wheel

@@ -2,7 +2,7 @@
 use Rattle.std.proofs.Common.{◌≡◌, ◌+◌, suc, length, refl, ap, sym, ◌∙◌, subst, arith}
 use Rattle.tick_calendar.specs.Calendar.{Schedule}
 use Rattle.tick_calendar.specs.Wheel.{entries_in, AreAllFrom, RemovesFirst}
-use Rattle.tick_calendar.proofs.TakingLemmas.{all-later, due-none, left-all, taken-not_ahead, takes-due, removes-one, removes-due, take-kept, taken-from}
+use Rattle.tick_calendar.proofs.TakesWhatIsDue.{all-later, due-none, left-all, taken-not_ahead, takes-due, removes-one, removes-due, take-kept, taken-from}
 use Rattle.tick_calendar.proofs.Calendar.take_at.Goals as goal
 
 pub first_due-requires-clause-wheel : goal.first_due-requires-clause-wheel

@@ -2,7 +2,7 @@
 use Rattle.std.proofs.Common.{◌≡◌, ℕ, suc, ◌<◌, List, ap, ◌∙◌, sym, subst}
 use Rattle.tick_calendar.specs.Calendar.{Entry, Schedule}
 use Rattle.tick_calendar.specs.Wheel.{AreAllFrom, entries_in}
-use Rattle.tick_calendar.proofs.TakingLemmas.{due-none, left-all, none-until}
+use Rattle.tick_calendar.proofs.TakesWhatIsDue.{due-none, left-all, none-until}
 use Rattle.tick_calendar.proofs.Calendar.take_due.Goals as goal
 
 ahead : (now next : ℕ) (inside es : List Entry) → now < next → inside ≡ es → AreAllFrom next inside → AreAllFrom (suc now) es

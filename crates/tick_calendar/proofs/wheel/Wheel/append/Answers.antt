@@ -4,7 +4,7 @@ use Rattle.std.specs.Option.{is_some}
 use Rattle.std.proofs.lemmas.List.{get_or_read}
 use Rattle.std.proofs.lemmas.Bool.{eq-eqb, true≢false}
 use Rattle.tick_calendar.proofs.Chains.{entries-put}
-use Rattle.tick_calendar.proofs.WheelLemmas.{wheel-beyond, wheel-first, append-after, last-within}
+use Rattle.tick_calendar.proofs.WheelStaysRight.{wheel-beyond, wheel-first, append-after, last-within}
 use Rattle.tick_calendar.proofs.wheel.Wheel.append.Goals as goal
 
 pub returns-then-tick-self-ge1024-clause-wheel : goal.returns-then-tick-self-ge1024-clause-wheel

@@ -1,6 +1,6 @@
 -- The place that the slot names stands first of its tick.
 use Rattle.std.proofs.Common.{arith}
-use Rattle.tick_calendar.proofs.WheelLemmas.{first-within, stands-first}
+use Rattle.tick_calendar.proofs.WheelStaysRight.{first-within, stands-first}
 use Rattle.tick_calendar.proofs.wheel.Wheel.first_key.Goals as goal
 
 pub index-requires : goal.index-requires

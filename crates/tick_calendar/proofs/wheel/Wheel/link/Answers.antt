@@ -4,7 +4,7 @@ use Rattle.std.proofs.lemmas.List.{get_or_read}
 use Rattle.std.proofs.lemmas.List.Elements.{All-set}
 use Rattle.std.specs.Option.{is_some}
 use Rattle.tick_calendar.specs.declared.place.Place.{Place}
-use Rattle.tick_calendar.proofs.TurnLemmas.{link-beyond, link-before, link-alone, entries-linked, read-ahead, read-waits, read-same, some-read}
+use Rattle.tick_calendar.proofs.TurnKeepsWaiting.{link-beyond, link-before, link-alone, entries-linked, read-ahead, read-waits, read-same, some-read}
 use Rattle.tick_calendar.proofs.wheel.Wheel.link.Goals as goal
 
 pub overflow_sub-tick : goal.overflow_sub-tick

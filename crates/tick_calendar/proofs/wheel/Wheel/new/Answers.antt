@@ -1,7 +1,7 @@
 -- Each slot is empty.
 use Rattle.std.proofs.Common.{◌≡◌, None, [], replicate, refl, sym, subst, arith, rules}
 use Rattle.tick_calendar.specs.Wheel.{IsWheel}
-use Rattle.tick_calendar.proofs.TurnLemmas.{turn-begins, turn-ends}
+use Rattle.tick_calendar.proofs.TurnKeepsWaiting.{turn-begins, turn-ends}
 use Rattle.tick_calendar.proofs.wheel.Wheel.new.Goals as goal
 
 pub returns-clause-wheel : goal.returns-clause-wheel

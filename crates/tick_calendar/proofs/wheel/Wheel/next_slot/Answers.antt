@@ -2,7 +2,7 @@
 use Rattle.std.proofs.Common.{◌≡◌, ◌+◌, ◌<◌, suc, true, None, get_or, length, sym, ◌∙◌, subst, arith}
 use Rattle.std.proofs.lemmas.List.{get_or_read}
 use Rattle.tick_calendar.specs.Wheel.{entries_in, AreAllFrom}
-use Rattle.tick_calendar.proofs.TurnLemmas.{some-read}
+use Rattle.tick_calendar.proofs.TurnKeepsWaiting.{some-read}
 use Rattle.tick_calendar.proofs.Slots.{slot-empty, none-of}
 use Rattle.tick_calendar.proofs.wheel.Wheel.next_slot.Goals as goal
 

@@ -1,6 +1,6 @@
 -- The place that the slot names is the first of its tick.
 use Rattle.std.proofs.Common.{refl, arith}
-use Rattle.tick_calendar.proofs.WheelLemmas.{first-within, take-first}
+use Rattle.tick_calendar.proofs.WheelStaysRight.{first-within, take-first}
 use Rattle.tick_calendar.proofs.wheel.Wheel.take.Goals as goal
 
 pub index-requires : goal.index-requires

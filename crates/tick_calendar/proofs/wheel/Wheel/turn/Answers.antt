@@ -6,7 +6,7 @@ use Rattle.std.specs.List.{filter, All}
 use Rattle.std.specs.Vec.{vec_len}
 use Rattle.tick_calendar.specs.Wheel.{entries_in, IsWheelFrom, AreAllFrom}
 use Rattle.tick_calendar.proofs.Ahead.{ahead-at}
-use Rattle.tick_calendar.proofs.TurnLemmas.{entries-kept, kept-wait, length-full, turn-begins, turn-ends}
+use Rattle.tick_calendar.proofs.TurnKeepsWaiting.{entries-kept, kept-wait, length-full, turn-begins, turn-ends}
 use Rattle.tick_calendar.proofs.wheel.Wheel.turn.Goals as goal
 
 pub loop-index-init : goal.loop-index-init

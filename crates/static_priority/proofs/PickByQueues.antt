@@ -7,8 +7,8 @@ use Rattle.std.specs.declared.collections.VecDeque.{VecDeque}
 use Rattle.std.specs.VecDeque.{deque_len}
 use Rattle.static_priority.specs.Queues.{head_of, left_of, PicksHead}
 use Rattle.static_priority.specs.Room.{keys_of}
-use Rattle.static_priority.proofs.QueueLemmas.{head_from-empty, head_from-at, picks_at}
-use Rattle.static_priority.proofs.RoomLemmas.{keys_at, all_empty, empty_before}
+use Rattle.static_priority.proofs.NextByPlace.{head_from-empty, head_from-at, picks_at}
+use Rattle.static_priority.proofs.QueuesKeepRoom.{keys_at, all_empty, empty_before}
 
 -- where no queue has a key, none is picked and all stays
 pub nobody_waits : (queues : List (VecDeque ℕ Global)) (lists : List (List ℕ)) → map keys_of queues ≡ lists → All (λ queue. deque_len queue ≡ 0) queues

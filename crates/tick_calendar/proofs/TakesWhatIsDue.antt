@@ -7,7 +7,7 @@ use Rattle.std.proofs.lemmas.List.Elements.{All-append, All-cons, All-from_recur
 use Rattle.std.specs.List.{AllByRecursion, remove, All}
 use Rattle.std.proofs.lemmas.List.Edits.{remove-append_right}
 use Rattle.tick_calendar.specs.Calendar.{Entry, due_place, due_key, left_after, key_at, without_place, TakesDue}
-use Rattle.tick_calendar.proofs.DueLemmas.{due_place-least, due_place-ahead, due_place-Some}
+use Rattle.tick_calendar.proofs.DueByTicks.{due_place-least, due_place-ahead, due_place-Some}
 use Rattle.tick_calendar.specs.declared.place.Place.{Place}
 use Rattle.tick_calendar.specs.Wheel.{entries_in, IsWheel, RemovesFirst, StandsFirst, AreAllFrom, IsFrom, IsKeptWheel}
 use Rattle.tick_calendar.proofs.Chains.{entries-append, entries-here, none-first_at}
