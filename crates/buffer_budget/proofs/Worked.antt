@@ -7,13 +7,13 @@ abbrev ten : Parts
 ten = record { free = 10; held = 0 }
 
 -- a row of 4 units leaves 6
-held_four : with_held ten 4 ≡ record { free = 6; held = 4 }
-held_four = refl
+held-four : with_held ten 4 ≡ record { free = 6; held = 4 }
+held-four = refl
 
 -- cut from 4 units to 2, it leaves 8
-cut_to_two : with_freed (with_held ten 4) 2 ≡ record { free = 8; held = 2 }
-cut_to_two = refl
+cut-to-two : with_freed (with_held ten 4) 2 ≡ record { free = 8; held = 2 }
+cut-to-two = refl
 
 -- given back, it leaves 10
-given_back : with_freed (with_freed (with_held ten 4) 2) 2 ≡ ten
-given_back = refl
+given-back : with_freed (with_freed (with_held ten 4) 2) 2 ≡ ten
+given-back = refl

@@ -12,8 +12,8 @@ use Rattle.byte_ends.specs.declared.lines.LineRefusal.{LineRefusal}
 use Rattle.byte_ends.specs.declared.lines.LineRefusal.TheVariants.{ReadFault, TooLong, NoLineEnd, Memory}
 
 -- a byte that ends no line fails the test
-not_feed : (b : ℕ) → b ≢ feed → (b == feed) ≡ false
-not_feed b h = grind (arith, nat_tests)
+not-feed : (b : ℕ) → b ≢ feed → (b == feed) ≡ false
+not-feed b h = grind (arith, nat_tests)
 
 -- the first whole line, and then those after it
 pub whole_lines-line : (n most : ℕ) (line rest : List ℕ) → HasNoFeed line → n ≡ length line + 1 + most
@@ -24,7 +24,7 @@ whole_lines-line (suc n) most [] rest no_feed e =
     ap (λ k. [] ∷ whole_lines k rest) same
 whole_lines-line zero most (b ∷ line) rest no_feed e = absurd (omega arith)
 whole_lines-line (suc n) most (b ∷ line) rest no_feed e =
-    let test : (b == feed) ≡ false = not_feed b (All-head (λ c. c ≢ feed) b line no_feed) in
+    let test : (b == feed) ≡ false = not-feed b (All-head (λ c. c ≢ feed) b line no_feed) in
     let after = whole_lines-line n most line rest (All-tail (λ c. c ≢ feed) b line no_feed) (omega arith) in
     rw test (ap (with_front b) after)
 
@@ -44,7 +44,7 @@ pub whole_lines-none : (most : ℕ) (bs : List ℕ) → HasNoFeed (take most bs)
 whole_lines-none most [] no_feed = refl
 whole_lines-none zero (b ∷ bs) no_feed = refl
 whole_lines-none (suc most) (b ∷ bs) no_feed =
-    let test : (b == feed) ≡ false = not_feed b (All-head (λ c. c ≢ feed) b (take most bs) no_feed) in
+    let test : (b == feed) ≡ false = not-feed b (All-head (λ c. c ≢ feed) b (take most bs) no_feed) in
     rw test (ap (with_front b) (whole_lines-none most bs (All-tail (λ c. c ≢ feed) b (take most bs) no_feed)))
 
 -- more bytes than may stand in lines are too many
@@ -58,7 +58,7 @@ ending_from-cut : (most : ℕ) (bs : List ℕ) → HasNoFeed bs → length bs �
 ending_from-cut most [] no_feed few = refl
 ending_from-cut zero (b ∷ bs) no_feed few = absurd (omega arith)
 ending_from-cut (suc most) (b ∷ bs) no_feed few =
-    let test : (b == feed) ≡ false = not_feed b (All-head (λ c. c ≢ feed) b bs no_feed) in
+    let test : (b == feed) ≡ false = not-feed b (All-head (λ c. c ≢ feed) b bs no_feed) in
     rw test (ending_from-cut most bs (All-tail (λ c. c ≢ feed) b bs no_feed) (omega arith))
 
 -- bytes without a line feed are cut short
@@ -66,7 +66,7 @@ pub ending-cut : (most : ℕ) (bs : List ℕ) → HasNoFeed bs → length bs ≤
 ending-cut most [] no_feed few some = absurd (some refl)
 ending-cut zero (b ∷ bs) no_feed few some = absurd (omega arith)
 ending-cut (suc most) (b ∷ bs) no_feed few some =
-    let test : (b == feed) ≡ false = not_feed b (All-head (λ c. c ≢ feed) b bs no_feed) in
+    let test : (b == feed) ≡ false = not-feed b (All-head (λ c. c ≢ feed) b bs no_feed) in
     rw test (ending_from-cut most bs (All-tail (λ c. c ≢ feed) b bs no_feed) (omega arith))
 
 -- two parts of an outlook

@@ -14,8 +14,8 @@ use Rattle.byte_ends.specs.declared.lines.LineRefusal.{LineRefusal}
 use Rattle.byte_ends.specs.declared.lines.LineRefusal.TheVariants.{ReadFault, TooLong, NoLineEnd, Memory}
 
 -- a line feed that stands among the first n bytes is found there
-found_feed : (n : ℕ) (bs line rest : List ℕ) → bs ≡ line ++ feed ∷ rest → length line < n → HasNoFeed (take n bs) → ⊥
-found_feed n bs line rest split room no_feed =
+found-feed : (n : ℕ) (bs line rest : List ℕ) → bs ≡ line ++ feed ∷ rest → length line < n → HasNoFeed (take n bs) → ⊥
+found-feed n bs line rest split room no_feed =
     let long : length line < length (take n bs) =
     omega (arith, length-take n bs, ap length split, length-append line (feed ∷ rest)) in
     let at : get_or (take n bs) (length line) 0 ≡ feed =
@@ -23,42 +23,42 @@ found_feed n bs line rest split room no_feed =
     no_feed (length line) 0 long at
 
 -- a line that was given stood within the allowance
-line_within : (s t : Cutting) → GivesLine s t → length t.line < allowance s
-line_within s t gives =
+line-within : (s t : Cutting) → GivesLine s t → length t.line < allowance s
+line-within s t gives =
     omega (arith, gives.within, gives.same_most, gives.same_taken, ap length gives.joined, length-append t.line (feed ∷ t.pending))
 
 -- no line is given where the cutting is over
-over_without_line : (s t : Cutting) → IsOver s → GivesLine s t → ⊥
-over_without_line s t over gives = found_feed (allowance s) s.pending t.line t.pending gives.joined (line_within s t gives) over.no_line
+over-without-line : (s t : Cutting) → IsOver s → GivesLine s t → ⊥
+over-without-line s t over gives = found-feed (allowance s) s.pending t.line t.pending gives.joined (line-within s t gives) over.no_line
 
 -- no line is given where the bytes are cut short
-cut_without_line : (s t : Cutting) → IsCut s → GivesLine s t → ⊥
-cut_without_line s t cut gives =
-    found_feed (allowance s) s.pending t.line t.pending gives.joined (line_within s t gives) (All-take (λ b. b ≢ feed) (allowance s) s.pending cut.no_line)
+cut-without-line : (s t : Cutting) → IsCut s → GivesLine s t → ⊥
+cut-without-line s t cut gives =
+    found-feed (allowance s) s.pending t.line t.pending gives.joined (line-within s t gives) (All-take (λ b. b ≢ feed) (allowance s) s.pending cut.no_line)
 
 -- no line is given where no byte is left
-done_without_line : (s t : Cutting) → IsDone s → GivesLine s t → ⊥
-done_without_line s t done gives =
+done-without-line : (s t : Cutting) → IsDone s → GivesLine s t → ⊥
+done-without-line s t done gives =
     omega (arith, ap length done.none, ap length gives.joined, length-append t.line (feed ∷ t.pending))
 
 -- the source hasn't ended where one byte too many was taken
-not_both : (s t : Cutting) → t ≡ let_go s → IsCutting t → s.taken ≡ s.most + 1 → t.ended ≡ true → ⊥
-not_both s t same is too_many at_end =
+not-both : (s t : Cutting) → t ≡ let_go s → IsCutting t → s.taken ≡ s.most + 1 → t.ended ≡ true → ⊥
+not-both s t same is too_many at_end =
     omega (arith, is.ended_within at_end, too_many, ap (λ (x : Cutting). x.taken) same, ap (λ (x : Cutting). x.most) same)
 
 -- a line that was given was pending whole
 pub HasLine-given : (s t : Cutting) → GivesLine s t → HasLine s
 HasLine-given s t gives =
-    let room = line_within s t gives in
+    let room = line-within s t gives in
     let at : get_or (take (allowance s) s.pending) (length t.line) feed ≡ feed =
     get_or-take (allowance s) s.pending (length t.line) feed room ∙ ap (λ l. get_or l (length t.line) feed) gives.joined
     ∙ get_or_at t.line feed t.pending feed (length t.line) refl in
     (length t.line, omega (arith, room, length-take (allowance s) s.pending, ap length gives.joined, length-append t.line (feed ∷ t.pending)), at)
 
 -- a line that was given after one more block was read ends in that block, so what is pending is less than the block
-pub pending_below_block : (p m t : Cutting) (left left' : Option (List ℕ)) (block : ℕ) → WantsMore p → Moves p m left left' []
+pub pending-below-block : (p m t : Cutting) (left left' : Option (List ℕ)) (block : ℕ) → WantsMore p → Moves p m left left' []
     → m.taken ≤ p.taken + block → GivesLine m t → length t.pending < block
-pending_below_block p m t left left' block undecided moves one_block gives =
+pending-below-block p m t left left' block undecided moves one_block gives =
     elim (cases_lt (length t.line) (length p.pending)) [
       | inl before ↦
           let at : get_or p.pending (length t.line) 0 ≡ feed =
@@ -70,43 +70,43 @@ pending_below_block p m t left left' block undecided moves one_block gives =
     ]
 
 -- too long again
-pub over_settles : (answer : Result Cut LineRefusal) (s t : Cutting) → Settles (Some answer) s t → IsCutting t → IsOver s
+pub over-settles : (answer : Result Cut LineRefusal) (s t : Cutting) → Settles (Some answer) s t → IsCutting t → IsOver s
     → answer ≡ Err (TooLong s.taken)
-over_settles (Ok Line) s t settled is over = absurd (over_without_line s t over settled)
-over_settles (Ok End) s t settled is over = absurd (not_both s t settled.same is over.too_many settled.done.at_end)
-over_settles (Err (TooLong taken)) s t settled is over =
+over-settles (Ok Line) s t settled is over = absurd (over-without-line s t over settled)
+over-settles (Ok End) s t settled is over = absurd (not-both s t settled.same is over.too_many settled.done.at_end)
+over-settles (Err (TooLong taken)) s t settled is over =
     let count : taken ≡ s.taken = settled.count ∙ ap (λ (x : Cutting). x.taken) settled.same in
     rw count refl
-over_settles (Err (NoLineEnd line)) s t settled is over = absurd (not_both s t settled.same is over.too_many settled.cut.at_end)
-over_settles (Err ReadFault) s t settled is over = absurd settled
-over_settles (Err Memory) s t settled is over = absurd settled
+over-settles (Err (NoLineEnd line)) s t settled is over = absurd (not-both s t settled.same is over.too_many settled.cut.at_end)
+over-settles (Err ReadFault) s t settled is over = absurd settled
+over-settles (Err Memory) s t settled is over = absurd settled
 
 -- cut short again
-pub cut_settles : (answer : Result Cut LineRefusal) (s t : Cutting) → Settles (Some answer) s t → IsCutting t → IsCut s
+pub cut-settles : (answer : Result Cut LineRefusal) (s t : Cutting) → Settles (Some answer) s t → IsCutting t → IsCut s
     → answer ≡ Err (NoLineEnd (s.number + 1))
-cut_settles (Ok Line) s t settled is cut = absurd (cut_without_line s t cut settled)
-cut_settles (Ok End) s t settled is cut =
+cut-settles (Ok Line) s t settled is cut = absurd (cut-without-line s t cut settled)
+cut-settles (Ok End) s t settled is cut =
     absurd (cut.some (sym (ap (λ (x : Cutting). x.pending) settled.same) ∙ settled.done.none))
-cut_settles (Err (TooLong taken)) s t settled is cut =
+cut-settles (Err (TooLong taken)) s t settled is cut =
     let at_end : t.ended ≡ true = ap (λ (x : Cutting). x.ended) settled.same ∙ cut.at_end in
     absurd (omega (arith, is.ended_within at_end, settled.over.too_many))
-cut_settles (Err (NoLineEnd line)) s t settled is cut =
+cut-settles (Err (NoLineEnd line)) s t settled is cut =
     let place : line ≡ s.number + 1 = settled.place ∙ ap (λ (x : Cutting). x.number + 1) settled.same in
     rw place refl
-cut_settles (Err ReadFault) s t settled is cut = absurd settled
-cut_settles (Err Memory) s t settled is cut = absurd settled
+cut-settles (Err ReadFault) s t settled is cut = absurd settled
+cut-settles (Err Memory) s t settled is cut = absurd settled
 
 -- no line is given where the cutting is final
-final_without_line : (s t : Cutting) → IsFinal s → GivesLine s t → ⊥
-final_without_line s t (inl over) gives = over_without_line s t over gives
-final_without_line s t (inr (inl cut)) gives = cut_without_line s t cut gives
-final_without_line s t (inr (inr done)) gives = done_without_line s t done gives
+final-without-line : (s t : Cutting) → IsFinal s → GivesLine s t → ⊥
+final-without-line s t (inl over) gives = over-without-line s t over gives
+final-without-line s t (inr (inl cut)) gives = cut-without-line s t cut gives
+final-without-line s t (inr (inr done)) gives = done-without-line s t done gives
 
 -- and nothing changes then but the line in hand
-pub final_settles : (answer : Result Cut LineRefusal) (s t : Cutting) → Settles (Some answer) s t → IsFinal s → t ≡ let_go s
-final_settles (Ok Line) s t settled last = absurd (final_without_line s t last settled)
-final_settles (Ok End) s t settled last = settled.same
-final_settles (Err (TooLong taken)) s t settled last = settled.same
-final_settles (Err (NoLineEnd line)) s t settled last = settled.same
-final_settles (Err ReadFault) s t settled last = absurd settled
-final_settles (Err Memory) s t settled last = absurd settled
+pub final-settles : (answer : Result Cut LineRefusal) (s t : Cutting) → Settles (Some answer) s t → IsFinal s → t ≡ let_go s
+final-settles (Ok Line) s t settled last = absurd (final-without-line s t last settled)
+final-settles (Ok End) s t settled last = settled.same
+final-settles (Err (TooLong taken)) s t settled last = settled.same
+final-settles (Err (NoLineEnd line)) s t settled last = settled.same
+final-settles (Err ReadFault) s t settled last = absurd settled
+final-settles (Err Memory) s t settled last = absurd settled

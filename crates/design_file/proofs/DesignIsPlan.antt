@@ -23,12 +23,12 @@ abbrev opened : ℕ → RequestEntry → Opening
 opened n entry = record { caller = n; chan = channel_number entry.request.chan }
 
 -- the opens of these requests open them
-pub opens_all : (requests : List RequestEntry) → Each IsOfTheCaller requests → openings_in 0 (map open_of requests) ≡ map opening_of requests
+pub opens-all : (requests : List RequestEntry) → Each IsOfTheCaller requests → openings_in 0 (map open_of requests) ≡ map opening_of requests
 unfolding openings_in
-opens_all [] each = refl
-opens_all (entry ∷ requests) each =
+opens-all [] each = refl
+opens-all (entry ∷ requests) each =
     ap (λ (n : ℕ). opened n entry ∷ openings_in 0 (map open_of requests)) (sym each.0)
-    ∙ ap (λ (rest : List Opening). opening_of entry ∷ rest) (opens_all requests each.1)
+    ∙ ap (λ (rest : List Opening). opening_of entry ∷ rest) (opens-all requests each.1)
 
 -- an operation that opens nothing adds no opening
 pub opens-no-more : (n : ℕ) (ops : List Op) (op : Op) → opened_by n op ≡ [] → openings_in n (ops ++ op ∷ []) ≡ openings_in n ops

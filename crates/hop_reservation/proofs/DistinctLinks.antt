@@ -25,8 +25,8 @@ each-other before hop none k d within same =
     cc
 
 -- the link of a hop that is apart from all of them stands nowhere among them
-pub none_among : (before : List Hop) (hop : Hop) (hops : List Hop) → AllPairs AreApart (before ++ hop ∷ hops) → stands_among before (link_of hop) ≡ false
-none_among before hop hops apart =
+pub none-among : (before : List Hop) (hop : Hop) (hops : List Hop) → AllPairs AreApart (before ++ hop ∷ hops) → stands_among before (link_of hop) ≡ false
+none-among before hop hops apart =
     list_any_none (is_over_link (link_of hop)) before (λ i d within.
     let pair : AreApart (get_or (before ++ hop ∷ hops) i d) (get_or (before ++ hop ∷ hops) (length before) d) = apart i (length before) d within (fits before hop hops) in
     let left = get_or_append_left before (hop ∷ hops) d i within in
@@ -52,7 +52,7 @@ pub none-from_apart : (before hops : List Hop) → AllPairs AreApart (before ++ 
 unfolding repeated_from
 none-from_apart before [] apart = refl
 none-from_apart before (hop ∷ hops) apart =
-    rw (none_among before hop hops apart)
+    rw (none-among before hop hops apart)
     (none-from_apart (before ++ hop ∷ []) hops (subst (AllPairs AreApart) (sym (append_assoc before (hop ∷ []) hops)) apart))
 
 -- ---- the search, hop by hop
@@ -131,8 +131,8 @@ pub take-filled : (hops : List Hop) → take (length hops) (filled hops) ≡ hop
 take-filled [] = refl
 take-filled (hop ∷ hops) = take-append_seam (hop ∷ hops) (replicate (16 - length (hop ∷ hops)) hop)
 
-pub is_filled : (hops : List Hop) → IsFilled (length hops) (filled hops)
-is_filled hops = record {
+pub is-filled : (hops : List Hop) → IsFilled (length hops) (filled hops)
+is-filled hops = record {
   whole = ap filled (take-filled hops);
   count = ap length (take-filled hops);
 }

@@ -20,8 +20,8 @@ use Rattle.step_stamp.specs.Views.{known_of}
 use Rattle.step_stamp.specs.declared.marks.Drawn.{Drawn}
 use Rattle.step_stamp.specs.declared.marks.Mark.{Mark}
 use Rattle.step_stamp.specs.declared.views.View.{View}
-use Rattle.step_stamp.proofs.ListMembers.{has_right, has_kept, filter_none}
-use Rattle.step_stamp.proofs.RisingStamps.{rises_apart}
+use Rattle.step_stamp.proofs.ListMembers.{has-right, has-kept, filter-none}
+use Rattle.step_stamp.proofs.RisingStamps.{rises-apart}
 use Rattle.link_ledger.specs.Journals.{mark_in, marks_in, history_in, journal_entry_of, history_entry_of, told_after, journal_of, entries_of}
 use Rattle.link_ledger.specs.Own.{own_mark, own_drawn, own_entry, own_at, IsAtPlace, IsExact, Owns, Acted}
 use Rattle.link_ledger.specs.declared.entries.Entry.{Entry}
@@ -50,36 +50,36 @@ own_drawn-has a l m (e ∷ own) has =
     (λ no. ⊎_elim (λ (is : own_drawn a e ≡ drawn_for l m). absurd (cc (no, eq-eqb (link_number e.link) l (ap (λ (d : Drawn). d.link) is)))) (λ t. own_drawn-has a l m own t) has)
 
 -- one more of this link, and of another
-pub one_at : (l : ℕ) (own : List OwnEntry) (e : OwnEntry) → link_number e.link ≡ l → own_at l (own ++ e ∷ []) ≡ own_at l own ++ e ∷ []
-one_at l own e is = filter-append (λ (x : OwnEntry). eqb (link_number x.link) l) own (e ∷ []) ∙ ap (λ b. own_at l own ++ cond b (e ∷ []) []) (eq-eqb (link_number e.link) l is)
+pub one-at : (l : ℕ) (own : List OwnEntry) (e : OwnEntry) → link_number e.link ≡ l → own_at l (own ++ e ∷ []) ≡ own_at l own ++ e ∷ []
+one-at l own e is = filter-append (λ (x : OwnEntry). eqb (link_number x.link) l) own (e ∷ []) ∙ ap (λ b. own_at l own ++ cond b (e ∷ []) []) (eq-eqb (link_number e.link) l is)
 
-pub none_at : (l k : ℕ) (own : List OwnEntry) (e : OwnEntry) → link_number e.link ≡ l → (k ≡ l → ⊥) → own_at k (own ++ e ∷ []) ≡ own_at k own
-none_at l k own e is other =
+pub none-at : (l k : ℕ) (own : List OwnEntry) (e : OwnEntry) → link_number e.link ≡ l → (k ≡ l → ⊥) → own_at k (own ++ e ∷ []) ≡ own_at k own
+none-at l k own e is other =
     filter-append (λ (x : OwnEntry). eqb (link_number x.link) k) own (e ∷ [])
     ∙ cond_both (eqb (link_number e.link) k) (e ∷ []) [] (λ es. own_at k own ++ es ≡ own_at k own) (λ on. absurd (other (sym (eqb-true (link_number e.link) k on) ∙ is))) (λ _. append-nil (own_at k own))
 
 -- ---- what the pass didn't know
 
 -- what the link's list has more than the pass knew has no mark of its actor
-pub rest_none : (a : ActorNo) (l : ℕ) (v : View) (own : List OwnEntry) (rest : List Mark) → IsExact a v own → Has (actor_number a) v.actors → StampsRise (known_of l v ++ rest)
+pub rest-none : (a : ActorNo) (l : ℕ) (v : View) (own : List OwnEntry) (rest : List Mark) → IsExact a v own → Has (actor_number a) v.actors → StampsRise (known_of l v ++ rest)
     → ((m : Mark) → Has m (known_of l v ++ rest) → Has (actor_number m.actor) v.actors → Has (drawn_for l m) v.drawn) → marks_of (actor_number a) rest ≡ []
-rest_none a l v own rest exact acts rises drew =
-    filter_none (λ (m : Mark). eqb (actor_number m.actor) (actor_number a)) rest
+rest-none a l v own rest exact acts rises drew =
+    filter-none (λ (m : Mark). eqb (actor_number m.actor) (actor_number a)) rest
     (λ m has on.
     let is : actor_number m.actor ≡ actor_number a = eqb-true (actor_number m.actor) (actor_number a) on in
-    let made = drew m (has_right m (known_of l v) rest has) (subst (λ n. Has n v.actors) (sym is) acts) in
+    let made = drew m (has-right m (known_of l v) rest has) (subst (λ n. Has n v.actors) (sym is) acts) in
     let among = own_drawn-has a l m own (subst (Has (drawn_for l m)) exact.drawn made) in
-    let knew = has_kept (λ (x : Mark). eqb (actor_number x.actor) (actor_number a)) m (known_of l v) (subst (Has m) (sym (exact.known l)) among) in
-    rises_apart 0 (known_of l v) rest m rises knew has)
+    let knew = has-kept (λ (x : Mark). eqb (actor_number x.actor) (actor_number a)) m (known_of l v) (subst (Has m) (sym (exact.known l)) among) in
+    rises-apart 0 (known_of l v) rest m rises knew has)
 
 -- so it has no entry of its actor in the journal
-pub entries_none : (link : Link) (a : ℕ) (past : List Done) (ms : List Mark) → marks_of a ms ≡ [] → entries_of a (told_after link past ms) ≡ []
+pub entries-none : (link : Link) (a : ℕ) (past : List Done) (ms : List Mark) → marks_of a ms ≡ [] → entries_of a (told_after link past ms) ≡ []
 unfolding told_after
-entries_none link a past [] none = refl
-entries_none link a past (m ∷ ms) none =
+entries-none link a past [] none = refl
+entries-none link a past (m ∷ ms) none =
     elim (eqb (actor_number m.actor) a)
     as (λ b. cond b (m ∷ marks_of a ms) (marks_of a ms) ≡ [] → cond b (journal_entry_of m (reply_to link past m.ask) ∷ entries_of a (told_after link (history_entry_of m (reply_to link past m.ask) ∷ past) ms)) (entries_of a (told_after link (history_entry_of m (reply_to link past m.ask) ∷ past) ms)) ≡ [])
-    [ true ↦ λ is. absurd (cc is) | false ↦ λ is. entries_none link a (history_entry_of m (reply_to link past m.ask) ∷ past) ms is ] none
+    [ true ↦ λ is. absurd (cc is) | false ↦ λ is. entries-none link a (history_entry_of m (reply_to link past m.ask) ∷ past) ms is ] none
 
 module _ (link : Link) (l : ℕ) (a : ActorNo) (ask : Ask) (v v' : View) (entries : List Entry) (own : List OwnEntry) (e : OwnEntry) (acts : Has (actor_number a) v.actors) (exact : IsExact a v own) (acted : Acted link l a ask v v' entries e) where
   -- the rest of the list, after what the pass knew
@@ -90,11 +90,11 @@ module _ (link : Link) (l : ℕ) (a : ActorNo) (ask : Ask) (v v' : View) (entrie
   whole = acted.begins.1
 
   none : marks_of (actor_number a) rest ≡ []
-  none = rest_none a l v own rest exact acts (subst StampsRise (sym whole) acted.rises) (λ m has on. acted.own m (subst (Has m) whole has) on)
+  none = rest-none a l v own rest exact acts (subst StampsRise (sym whole) acted.rises) (λ m has on. acted.own m (subst (Has m) whole has) on)
 
   -- the marks known of this link after the step
-  known_now : marks_of (actor_number a) (known_of l v') ≡ map (own_mark a) (own_at l (own ++ e ∷ []))
-  known_now =
+  known-now : marks_of (actor_number a) (known_of l v') ≡ map (own_mark a) (own_at l (own ++ e ∷ []))
+  known-now =
       let n = actor_number a in
       let known = known_of l v in
       let by : Mark → Bool = λ m. eqb (actor_number m.actor) n in
@@ -103,11 +103,11 @@ module _ (link : Link) (l : ℕ) (a : ActorNo) (ask : Ask) (v v' : View) (entrie
       ∙ ap (λ ms. ms ++ marks_of n (own_mark a e ∷ [])) (filter-append by known rest ∙ ap (λ ms. marks_of n known ++ ms) none ∙ append-nil (marks_of n known) ∙ exact.known l)
       ∙ ap (λ b. map (own_mark a) (own_at l own) ++ cond b (own_mark a e ∷ []) []) (eq-eqb n n refl)
       ∙ sym (map-append (own_mark a) (own_at l own) (e ∷ []))
-      ∙ sym (ap (map (own_mark a)) (one_at l own e acted.link_is))
+      ∙ sym (ap (map (own_mark a)) (one-at l own e acted.link_is))
 
   -- an entry that had its place has it still, and the new one has the last
-  placed_still : (o : OwnEntry) → IsAtPlace a v o → IsAtPlace a v' o
-  placed_still o was = record {
+  placed-still : (o : OwnEntry) → IsAtPlace a v o → IsAtPlace a v' o
+  placed-still o was = record {
     least = was.least;
     here = ⊎_elim
         (λ (is : link_number o.link ≡ l).
@@ -119,8 +119,8 @@ module _ (link : Link) (l : ℕ) (a : ActorNo) (ask : Ask) (v v' : View) (entrie
         (cases_eq (link_number o.link) l);
   }
 
-  placed_last : IsAtPlace a v' e
-  placed_last =
+  placed-last : IsAtPlace a v' e
+  placed-last =
       let place = acted.place in
       let long = length-map entries mark_in in
       let at : e.place - 1 ≡ length (marks_in entries) = omega (arith, place, long) in
@@ -136,26 +136,26 @@ module _ (link : Link) (l : ℕ) (a : ActorNo) (ask : Ask) (v v' : View) (entrie
       record {
         drawn = acted.drawn ∙ ap (λ ds. ds ++ drawn_for l (own_mark a e) ∷ []) exact.drawn ∙ ap (λ k. map (own_drawn a) own ++ drawn_for k (own_mark a e) ∷ []) (sym acted.link_is) ∙ sym (map-append (own_drawn a) own (e ∷ []));
         known = λ k. ⊎_elim
-            (λ (is : k ≡ l). subst (λ j. marks_of n (known_of j v') ≡ map (own_mark a) (own_at j (own ++ e ∷ []))) (sym is) known_now)
-            (λ other. ap (marks_of n) (acted.others k other) ∙ exact.known k ∙ sym (ap (map (own_mark a)) (none_at l k own e acted.link_is other)))
+            (λ (is : k ≡ l). subst (λ j. marks_of n (known_of j v') ≡ map (own_mark a) (own_at j (own ++ e ∷ []))) (sym is) known-now)
+            (λ other. ap (marks_of n) (acted.others k other) ∙ exact.known k ∙ sym (ap (map (own_mark a)) (none-at l k own e acted.link_is other)))
             (cases_eq k l);
-        placed = Each-append (IsAtPlace a v') own (e ∷ []) (Each-if (IsAtPlace a v) (IsAtPlace a v') own placed_still exact.placed) (placed_last, tt);
+        placed = Each-append (IsAtPlace a v') own (e ∷ []) (Each-if (IsAtPlace a v) (IsAtPlace a v') own placed-still exact.placed) (placed-last, tt);
       }
 
   -- the journal before the step is legal
-  legal_before : IsLegal link (history_in entries)
+  legal-before : IsLegal link (history_in entries)
   unfolding IsLegal
-  legal_before = (subst (IsLegal link) (history-more entries (own_entry a e)) acted.legal).0
+  legal-before = (subst (IsLegal link) (history-more entries (own_entry a e)) acted.legal).0
 
   -- the actor's entries in it
-  entries_before : Owns link l a v own → entries_of (actor_number a) entries ≡ map (own_entry a) (own_at l own)
-  entries_before owns =
+  entries-before : Owns link l a v own → entries_of (actor_number a) entries ≡ map (own_entry a) (own_at l own)
+  entries-before owns =
       let n = actor_number a in
       let known = known_of l v in
       let by : Entry → Bool = λ x. eqb (actor_number x.actor) n in
-      ap (entries_of n) (sym (journal-told link entries legal_before) ∙ ap (journal_of link) (sym whole) ∙ told-append link [] known rest)
+      ap (entries_of n) (sym (journal-told link entries legal-before) ∙ ap (journal_of link) (sym whole) ∙ told-append link [] known rest)
       ∙ filter-append by (journal_of link known) (told_after link (past_after link [] known) rest)
-      ∙ ap (λ es. entries_of n (journal_of link known) ++ es) (entries_none link n (past_after link [] known) rest none)
+      ∙ ap (λ es. entries_of n (journal_of link known) ++ es) (entries-none link n (past_after link [] known) rest none)
       ∙ append-nil (entries_of n (journal_of link known))
       ∙ owns
 
@@ -164,10 +164,10 @@ module _ (link : Link) (l : ℕ) (a : ActorNo) (ask : Ask) (v v' : View) (entrie
   entries-after owns =
       let n = actor_number a in
       filter-append (λ (x : Entry). eqb (actor_number x.actor) n) entries (own_entry a e ∷ [])
-      ∙ ap (λ es. es ++ entries_of n (own_entry a e ∷ [])) (entries_before owns)
+      ∙ ap (λ es. es ++ entries_of n (own_entry a e ∷ [])) (entries-before owns)
       ∙ ap (λ b. map (own_entry a) (own_at l own) ++ cond b (own_entry a e ∷ []) []) (eq-eqb n n refl)
       ∙ sym (map-append (own_entry a) (own_at l own) (e ∷ []))
-      ∙ sym (ap (map (own_entry a)) (one_at l own e acted.link_is))
+      ∙ sym (ap (map (own_entry a)) (one-at l own e acted.link_is))
 
   -- and so the pass owns its entries at this link again
   pub owns-after : Owns link l a v own → Owns link l a v' (own ++ e ∷ [])

@@ -20,7 +20,7 @@ use Rattle.step_stamp.specs.Views.{known_of}
 use Rattle.step_stamp.specs.declared.marks.Drawn.{Drawn}
 use Rattle.step_stamp.specs.declared.marks.Mark.{Mark}
 use Rattle.step_stamp.specs.declared.views.View.{View}
-use Rattle.step_stamp.proofs.ListMembers.{each_has, has_each, has_prefix}
+use Rattle.step_stamp.proofs.ListMembers.{each-has, has-each, has-prefix}
 use Rattle.link_ledger.specs.Journals.{marks_in, history_in, journal_entry_of}
 use Rattle.link_ledger.specs.Order.{HeldLink, IsInOrder}
 use Rattle.link_ledger.specs.Own.{own_mark, own_entry, Acted}
@@ -35,15 +35,15 @@ module _ (stands stands' : List Done → Type 0) (owners : List ActorNo) (links 
     (fits : AskFits held.rules.shape ask) (owned : OwnsAsk owners actor ask) (next : NextBelow links ask)
     (answered : reply ≡ reply_to held.rules (history_in held.entries) ask) (stands_now : stands' (record { ask = ask; reply = reply } ∷ history_in held.entries)) where
   -- the stamp is above all that the pass and the link had seen
-  above_pass : v.seen < m.stamp
-  above_pass =
+  above-pass : v.seen < m.stamp
+  above-pass =
       let above = drew.above in
       let both = met.both_saw in
       let le = le-max_left v.seen k1.seen in
       omega (arith, above, both, le)
 
-  above_link : held.seen < m.stamp
-  above_link =
+  above-link : held.seen < m.stamp
+  above-link =
       let above = drew.above in
       let both = met.both_saw in
       let saw = met.saw in
@@ -51,9 +51,9 @@ module _ (stands stands' : List Done → Type 0) (owners : List ActorNo) (links 
       let le' = le-max_left k.seen v.seen in
       omega (arith, above, both, saw, le, le', seen_is)
 
-  may_enter : MayEnter stands' owners links held (journal_entry_of m reply)
-  may_enter = record {
-    above = above_link;
+  may-enter : MayEnter stands' owners links held (journal_entry_of m reply)
+  may-enter = record {
+    above = above-link;
     most = drew.most;
     fits = subst (AskFits held.rules.shape) (sym drew.ask_is) fits;
     answered = answered ∙ ap (reply_to held.rules (history_in held.entries)) (sym drew.ask_is);
@@ -63,23 +63,23 @@ module _ (stands stands' : List Done → Type 0) (owners : List ActorNo) (links 
   }
 
   -- the link's list with the mark
-  list_now : known_of l k2 ≡ held.list ++ m ∷ []
-  list_now = entered.list ∙ ap (λ ms. ms ++ m ∷ []) (met.keeps ∙ sym list_is)
+  list-now : known_of l k2 ≡ held.list ++ m ∷ []
+  list-now = entered.list ∙ ap (λ ms. ms ++ m ∷ []) (met.keeps ∙ sym list_is)
 
   pub step-order : (held' : HeldLink) → held'.rules ≡ held.rules → held'.entries ≡ held.entries ++ journal_entry_of m reply ∷ [] → held'.list ≡ known_of l k2 → k2.seen ≤ held'.seen → IsInOrder stands' owners links held'
   step-order held' rules entries list le =
       let saw = entered.saw in
-      in_order-more stands stands' owners links held held' (journal_entry_of m reply) o may_enter rules entries (list ∙ list_now) (omega (arith, saw, le))
+      in_order-more stands stands' owners links held held' (journal_entry_of m reply) o may-enter rules entries (list ∙ list-now) (omega (arith, saw, le))
 
   -- and above all marks that the pass knew before it met the link
-  known_below : (j stamp : ℕ) → stamp ≡ m.stamp → Each (λ (x : Mark). x.stamp < stamp) (known_of j v)
-  known_below j stamp is =
+  known-below : (j stamp : ℕ) → stamp ≡ m.stamp → Each (λ (x : Mark). x.stamp < stamp) (known_of j v)
+  known-below j stamp is =
       subst (λ top. Each (λ (x : Mark). x.stamp < top) (known_of j v)) (sym is)
       (⊎_elim
       (λ (e : j ≡ l).
       let now : Each (λ (x : Mark). x.stamp < m.stamp) (known_of l k) = subst (Each (λ (x : Mark). x.stamp < m.stamp)) met.knows (drew.above_known l) in
       subst (λ i. Each (λ (x : Mark). x.stamp < m.stamp) (known_of i v)) (sym e)
-      (has_each (λ (x : Mark). x.stamp < m.stamp) (known_of l v) (λ x has. each_has (λ (y : Mark). y.stamp < m.stamp) x (known_of l k) now (has_prefix x (known_of l v) (known_of l k) met.begins has))))
+      (has-each (λ (x : Mark). x.stamp < m.stamp) (known_of l v) (λ x has. each-has (λ (y : Mark). y.stamp < m.stamp) x (known_of l k) now (has-prefix x (known_of l v) (known_of l k) met.begins has))))
       (λ other. subst (Each (λ (x : Mark). x.stamp < m.stamp)) (met.others j other) (drew.above_known j))
       (cases_eq j l))
 
@@ -91,8 +91,8 @@ module _ (stands stands' : List Done → Type 0) (owners : List ActorNo) (links 
       let entry_is : journal_entry_of m reply ≡ own_entry actor e = λ i. record { stamp = sym stamp i; actor = drew.actor_is i; ask = (drew.ask_is ∙ sym ask_is) i; reply = sym reply_is i } in
       let marks : marks_in held.entries ≡ known_of l k = o.marks ∙ list_is in
       let legal : IsLegal held.rules (history_in (held.entries ++ journal_entry_of m reply ∷ [])) =
-      subst (IsLegal held.rules) (sym (history-more held.entries (journal_entry_of m reply))) (o.legal, record { fits = may_enter.fits; answered = may_enter.answered }) in
-      let above = above_pass in
+      subst (IsLegal held.rules) (sym (history-more held.entries (journal_entry_of m reply))) (o.legal, record { fits = may-enter.fits; answered = may-enter.answered }) in
+      let above = above-pass in
       let drew_saw = drew.saw in
       let entered_saw = entered.saw in
       let again_saw = again.saw in
@@ -104,13 +104,13 @@ module _ (stands stands' : List Done → Type 0) (owners : List ActorNo) (links 
         begins = subst (IsPrefix (known_of l v)) (sym marks) met.begins;
         rises = subst StampsRise (sym marks) met.rises;
         own = λ x has acts. met.own x (subst (Has x) marks has) acts;
-        knows = again.knows ∙ list_now ∙ ap (λ ms. ms ++ m ∷ []) (sym o.marks) ∙ ap (λ x. marks_in held.entries ++ x ∷ []) mark_is;
+        knows = again.knows ∙ list-now ∙ ap (λ ms. ms ++ m ∷ []) (sym o.marks) ∙ ap (λ x. marks_in held.entries ++ x ∷ []) mark_is;
         others = λ j other. again.others j other ∙ drew.knows j ∙ met.others j other;
         drawn = again.drawn ∙ drew.drawn ∙ ap (λ ds. ds ++ drawn_for l m ∷ []) met.drawn ∙ ap (λ x. v.drawn ++ drawn_for l x ∷ []) mark_is;
         actors = again.actors ∙ drew.actors ∙ met.actors;
         among = again.among ∙ drew.among ∙ met.among;
         above = omega (arith, above, stamp);
-        above_known = λ j. known_below j e.stamp stamp;
+        above_known = λ j. known-below j e.stamp stamp;
         above_drawn = Each-if (λ (d : Drawn). d.mark.stamp < m.stamp) (λ (d : Drawn). d.mark.stamp < e.stamp) v.drawn (λ d lt. omega (arith, lt, stamp)) (subst (Each (λ (d : Drawn). d.mark.stamp < m.stamp)) met.drawn drew.above_drawn);
         saw = pass_saw ∙ sym stamp;
         link_is = link;

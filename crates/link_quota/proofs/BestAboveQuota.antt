@@ -1,7 +1,7 @@
 -- The level above the last that is over the quota is the best, and where that is the last of all there is none.
 use Rattle.std.proofs.Common.{◌≡◌, ℕ, zero, suc, ◌+◌, ◌-◌, ◌<◌, ◌≤◌, ⊎_elim, Bool, true, false, ◌&&◌, length, Some, None, refl, sym, arith}
 use Rattle.std.proofs.lemmas.Bool.{cases_lt}
-use Rattle.net_units.proofs.BoundsInOrder.{bounds_parts}
+use Rattle.net_units.proofs.BoundsInOrder.{bounds-parts}
 use Rattle.traffic_contract.specs.Contract.{Traffic}
 use Rattle.traffic_contract.proofs.AdmissionTest.{first_level-found, first_level-none}
 use Rattle.link_steps.specs.declared.quota.Quota.{Quota}
@@ -32,7 +32,7 @@ all-false test m (suc count) k from upto fails =
 
 pub best-none : (shape : LinkShape) (share : Share) (quota : Quota) (contract : Traffic) (over : ℕ) → over ≡ length shape.bounds → IsLastOver shape share quota contract (length shape.bounds) over → best_of shape share quota contract ≡ None
 best-none shape share quota contract over all last =
-    let least = (bounds_parts shape.bounds shape.bounds_rise).least in
+    let least = (bounds-parts shape.bounds shape.bounds_rise).least in
     first_level-none _ 1 (length shape.bounds) (λ k from upto.
     all-false (is_within shape share quota contract) k (suc (length shape.bounds) - k) over (omega (arith, from, upto, all)) (omega (arith, from, upto, all)) (last.is_over (omega (arith, all, least))))
 

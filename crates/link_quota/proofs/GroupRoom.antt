@@ -4,7 +4,7 @@ use Rattle.std.specs.Prelude.{find, nat_le}
 use Rattle.std.specs.List.{slice_index}
 use Rattle.std.specs.Option.{option_map}
 use Rattle.std.proofs.lemmas.Option.{same_Some}
-use Rattle.net_units.proofs.BoundsInOrder.{bounds_parts}
+use Rattle.net_units.proofs.BoundsInOrder.{bounds-parts}
 use Rattle.net_units.specs.LevelBounds.{bound_at, reach_of}
 use Rattle.net_units.specs.declared.numbers.ChanNo.{ChanNo}
 use Rattle.traffic_contract.specs.Admission.{total, first_level}
@@ -67,7 +67,7 @@ within-is link held group contract share quota m k are is from above upto =
 pub group-room-is : (link : Link) (held : List Reservation) (group : ℕ) (contract : Traffic) (share : Share) (quota : Quota) → IsShare link group held share → IsQuotaOf link group quota → group_room link held group contract ≡ room_in link.shape share quota contract
 unfolding group_room group_admits
 group-room-is link held group contract share quota are is =
-    let least = (bounds_parts link.shape.bounds link.shape.bounds_rise).least in
+    let least = (bounds-parts link.shape.bounds link.shape.bounds_rise).least in
     same-room _ _ _ _ _ _ _ _
     (first-same (group_admits link held group contract) (λ m. all_from (is_within link.shape share quota contract) m (suc (length link.shape.bounds) - m)) 1 (length link.shape.bounds) (λ m from upto.
     all-same (within_quota link held group contract m) (is_within link.shape share quota contract) m (suc (length link.shape.bounds) - m) (λ k above below.

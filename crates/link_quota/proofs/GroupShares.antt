@@ -3,7 +3,7 @@ use Rattle.std.proofs.Common.{◌≡◌, ℕ, ◌+◌, ◌-◌, List, replicate,
 use Rattle.std.proofs.lemmas.List.{get_or-replicate}
 use Rattle.std.proofs.lemmas.Option.{slice_get-get_or, get_or_from_slice_get}
 use Rattle.std.specs.List.{slice_index}
-use Rattle.net_units.proofs.BoundsInOrder.{bounds_parts}
+use Rattle.net_units.proofs.BoundsInOrder.{bounds-parts}
 use Rattle.link_steps.specs.declared.quota.Quota.{Quota}
 use Rattle.link_steps.specs.Reservation.{Reservation}
 use Rattle.link_steps.specs.Split.{Link, level_part, buffer_part}
@@ -29,7 +29,7 @@ quota-there link group place d at =
 pub none-share : (link : Link) (held : List Reservation) (group : ℕ) (share : Share) → HasNoQuota link.split.quotas group → AreWithin link held → share.loads ≡ replicate 8 0 → share.units ≡ 0 → IsShare link group held share
 none-share link held group share none within loads units = record {
   loads = λ i inside.
-      let most = (bounds_parts link.shape.bounds link.shape.bounds_rise).most in
+      let most = (bounds-parts link.shape.bounds link.shape.bounds_rise).most in
       let zero_is : slice_index share.loads i ≡ 0 = ap (λ ls. slice_index ls i) loads ∙ get_or-replicate 8 i 0 0 (omega (arith, inside, most)) in
       let part = part-none (level_part (i + 1)) link.split.quotas group none in
       let less = within.levels group (i + 1) (omega arith) (omega (arith, inside)) in
@@ -43,7 +43,7 @@ none-share link held group share none within loads units = record {
 pub none-quota : (link : Link) (group : ℕ) (quota : Quota) → HasNoQuota link.split.quotas group → quota.levels ≡ replicate 8 0 → quota.buffer ≡ 0 → IsQuotaOf link group quota
 none-quota link group quota none levels buffer = record {
   levels = λ m from upto.
-      let most = (bounds_parts link.shape.bounds link.shape.bounds_rise).most in
+      let most = (bounds-parts link.shape.bounds link.shape.bounds_rise).most in
       ap (λ ls. slice_index ls (m - 1)) levels ∙ get_or-replicate 8 (m - 1) 0 0 (omega (arith, from, upto, most)) ∙ sym (part-none (level_part m) link.split.quotas group none);
   buffer = buffer ∙ sym (part-none buffer_part link.split.quotas group none);
 }

@@ -6,7 +6,7 @@ use Rattle.std.proofs.lemmas.Option.{same_Some, slice_get-map, get_or_from_slice
 use Rattle.std.specs.Prelude.{nat_eq, slice_get}
 use Rattle.std.specs.List.{slice_index}
 use Rattle.std.specs.Option.{option_map}
-use Rattle.net_units.proofs.BoundsInOrder.{bounds_parts}
+use Rattle.net_units.proofs.BoundsInOrder.{bounds-parts}
 use Rattle.traffic_contract.specs.Admission.{total}
 use Rattle.link_steps.specs.declared.quota.Quota.{Quota}
 use Rattle.link_steps.specs.Reservation.{Reservation}
@@ -65,7 +65,7 @@ shares-none link shares i all long none = record {
   each = λ k quota share at is.
       let inside = inside-at shares k share is in
       let zero_is = none k share (omega (arith, inside, all)) is in
-      let most = (bounds_parts link.shape.bounds link.shape.bounds_rise).most in
+      let most = (bounds-parts link.shape.bounds link.shape.bounds_rise).most in
       record {
         loads = λ n within. ap (λ loads. slice_index loads n) zero_is.0 ∙ get_or-replicate 8 n 0 0 (omega (arith, within, most));
         units = zero_is.1;
@@ -86,7 +86,7 @@ pub level-small : (link : Link) (group m : ℕ) → SplitFits link → 1 ≤ m �
 level-small link group m fits from upto =
     let part = quota_part-le (level_part m) link.split.quotas group in
     let all = fits.levels m from upto in
-    let bound = ((bounds_parts link.shape.bounds link.shape.bounds_rise).each (m - 1) (omega (arith, from, upto))).1 in
+    let bound = ((bounds-parts link.shape.bounds link.shape.bounds_rise).each (m - 1) (omega (arith, from, upto))).1 in
     omega (arith, part, all, bound)
 
 pub buffer-small : (link : Link) (group : ℕ) → SplitFits link → buffer_quota link group < 2 ^ 60

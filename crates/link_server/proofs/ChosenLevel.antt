@@ -4,7 +4,7 @@ use Rattle.std.proofs.Common.{◌≡◌, ℕ, ◌<◌, ◌≤◌, max, ⊎_elim,
 use Rattle.std.specs.Prelude.{◌↔◌, option_map, slice_get}
 use Rattle.std.proofs.lemmas.Option.{slice_get-map, slice_get_past}
 use Rattle.std.proofs.lemmas.Bool.{cases_lt, le-leb}
-use Rattle.net_units.proofs.BoundsInOrder.{bounds_parts, within_count, level_largest}
+use Rattle.net_units.proofs.BoundsInOrder.{bounds-parts, within-count, level-largest}
 use Rattle.net_units.specs.LevelBounds.{bound_at, reach_of}
 use Rattle.link_server.proofs.Words.{level_number, ChanNo, Level, best_level, Traffic, Ask, Offer, LinkShape, need_of, free_units, AskFits, ReserveFits, level_of, Each, Reservation, admitted, clock_of, scan_of, server_of, whole, Offered, Wanted}
 use Rattle.traffic_contract.proofs.AdmissionTest.{best_level-is}
@@ -89,7 +89,7 @@ legal-best shape held chan contract delay up_reach level reach same =
 reach-least : (shape : LinkShape) (delay : ℕ) (level : Level) → level_number level ≤ length shape.bounds → 1 ≤ reach_of shape.bounds delay (level_number level)
 reach-least shape delay level upto =
     ⊎_elim (λ (below : reach_of shape.bounds delay (level_number level) < level_number level).
-    let over = level_largest shape.bounds (max delay (bound_at shape.bounds (level_number level))) (reach_of shape.bounds delay (level_number level)) (level_number level) shape.bounds_rise refl below upto in
+    let over = level-largest shape.bounds (max delay (bound_at shape.bounds (level_number level))) (reach_of shape.bounds delay (level_number level)) (level_number level) shape.bounds_rise refl below upto in
     absurd (omega (arith, over)))
     (λ (above : level_number level ≤ reach_of shape.bounds delay (level_number level)). omega (arith, above, level.least))
     (cases_lt (reach_of shape.bounds delay (level_number level)) (level_number level))
@@ -98,8 +98,8 @@ reach-least shape delay level upto =
 reach-number : (shape : LinkShape) (delay : ℕ) (level : Level) → level_number level ≤ length shape.bounds → level_number (level_of (reach_of shape.bounds delay (level_number level))) ≡ reach_of shape.bounds delay (level_number level)
 reach-number shape delay level upto =
     let least = reach-least shape delay level upto in
-    let within = within_count shape.bounds (max delay (bound_at shape.bounds (level_number level))) in
-    level_of-number (reach_of shape.bounds delay (level_number level)) (omega (arith, least, level.least)) (omega (arith, within, (bounds_parts shape.bounds shape.bounds_rise).most))
+    let within = within-count shape.bounds (max delay (bound_at shape.bounds (level_number level))) in
+    level_of-number (reach_of shape.bounds delay (level_number level)) (omega (arith, least, level.least)) (omega (arith, within, (bounds-parts shape.bounds shape.bounds_rise).most))
 
 -- the offer of the best level, which the link may make, is the legal one
 best-legal : (shape : LinkShape) (held : List Reservation) (chan : ChanNo) (contract : Traffic) (delay up_reach : ℕ) (level : Level) → MayOffer shape held chan contract delay up_reach level (level_of (reach_of shape.bounds delay (level_number level))) → best_level (server_of shape) (map admitted held) contract ≡ Some (level_number level) → Offer level (level_of (reach_of shape.bounds delay (level_number level))) ≡ reserve_reply (whole shape) held chan contract delay up_reach

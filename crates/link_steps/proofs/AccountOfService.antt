@@ -89,7 +89,7 @@ unfolding sent_at best_sent_at
 shows-none shape t packets starts left = record {
   next_on = idle starts left;
   departure = none starts left;
-  best_departure = best_none starts left;
+  best_departure = best-none starts left;
   next_here = filter-same (is_here shape.rate starts (suc t)) (is_here shape.rate starts t) packets (Each-from _ packets (λ p. ap not (departed-later shape.rate t starts p left)));
 } where
   idle : (starts : List Start) → Each (HasLeft shape.rate t) starts → start_on shape.rate starts (suc t) ≡ None
@@ -100,9 +100,9 @@ shows-none shape t packets starts left = record {
   none [] left = refl
   none (start ∷ earlier) left = rw (ne_eqb (leaves_at shape.rate start) (suc t) (λ same. absurd (omega (arith, left.0, same)))) refl
 
-  best_none : (starts : List Start) → Each (HasLeft shape.rate t) starts → best_sent_at shape (suc t) starts ≡ false
-  best_none [] left = refl
-  best_none (start ∷ earlier) left = rw (ne_eqb (leaves_at shape.rate start) (suc t) (λ same. absurd (omega (arith, left.0, same)))) refl
+  best-none : (starts : List Start) → Each (HasLeft shape.rate t) starts → best_sent_at shape (suc t) starts ≡ false
+  best-none [] left = refl
+  best-none (start ∷ earlier) left = rw (ne_eqb (leaves_at shape.rate start) (suc t) (λ same. absurd (omega (arith, left.0, same)))) refl
 
 -- when no packet occupies the link
 idle-on : (rate t : ℕ) (starts : List Start) → is_busy rate starts t ≡ false → start_on rate starts t ≡ None

@@ -10,7 +10,7 @@ use Rattle.std.specs.Prelude.{filter, reverse}
 use Rattle.net_units.specs.Numbers.{level_number}
 use Rattle.net_units.specs.LevelBounds.{bound_at}
 use Rattle.net_units.specs.declared.Kind.{Kind}
-use Rattle.net_units.proofs.BoundsInOrder.{bound_least}
+use Rattle.net_units.proofs.BoundsInOrder.{bound-least}
 use Rattle.traffic_contract.specs.Contract.{Traffic, IsContract, burst_of, most_in}
 use Rattle.traffic_contract.specs.Eligible.{eligible, newest}
 use Rattle.traffic_contract.specs.Keeping.{Keeps, may_follow, keeps_newest_first}
@@ -109,7 +109,7 @@ slots-most bounds terms valid settled =
 -- fewer packets of the row are here than it has slots
 pub slot-free : (shape : LinkShape) (starts : List Start) (t : ℕ) (terms : Reservation) (own : List Arrival) → IsContract terms.contract → (terms.phase ≡ Tentative → ⊥) → 1 ≤ level_number terms.level → level_number terms.level ≤ length shape.bounds → Each (λ p. p.level ≡ level_number terms.level) own → Each (HasLeftInTime shape t starts) own → Each (λ e. e < t) (map eligible_of own) → Keeps terms.contract (map eligible_of own ++ t ∷ []) → length (filter (is_here shape.rate starts t) own) < slots_of shape.bounds terms
 slot-free shape starts t terms own valid settled least most levels left before kept =
-    let some = bound_least shape.bounds (level_number terms.level) shape.bounds_rise least most in
+    let some = bound-least shape.bounds (level_number terms.level) shape.bounds_rise least most in
     let here = count-here shape starts t (level_number terms.level) own most levels left before in
     let one = count-push (map eligible_of own) t (suc t - bound_at shape.bounds (level_number terms.level)) (bound_at shape.bounds (level_number terms.level)) (omega (arith, some)) (omega arith) in
     let fits = count_in-le terms.contract (map eligible_of own ++ t ∷ []) (suc t - bound_at shape.bounds (level_number terms.level)) (bound_at shape.bounds (level_number terms.level)) valid kept in

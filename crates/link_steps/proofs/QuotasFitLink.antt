@@ -4,7 +4,7 @@ use Rattle.std.proofs.Common.{◌≡◌, ℕ, zero, suc, ◌+◌, ◌-◌, ◌<�
 use Rattle.std.proofs.lemmas.Bool.{cases_Bool, cases_lt, leb-true, and_parts, eqb-true}
 use Rattle.std.proofs.lemmas.List.{map-append}
 use Rattle.std.specs.Prelude.{nat_eq}
-use Rattle.net_units.proofs.BoundsInOrder.{bound_least}
+use Rattle.net_units.proofs.BoundsInOrder.{bound-least}
 use Rattle.net_units.specs.LevelBounds.{bound_at, reach_of}
 use Rattle.net_units.specs.declared.Kind.{Kind}
 use Rattle.net_units.specs.declared.Kind.TheVariants.{Rate}
@@ -76,7 +76,7 @@ within-passes link held fits within = record {
       let e = total-map (work_up_to link.shape.rate m (bound_at link.shape.bounds m)) admitted held in
       let all = together-levels link held m within from upto in
       let room = fits.levels m from upto in
-      PassesAt-whole (server_of link.shape) (map admitted held) m (bound_least link.shape.bounds m link.shape.bounds_rise from upto) (omega (arith, e, all, room));
+      PassesAt-whole (server_of link.shape) (map admitted held) m (bound-least link.shape.bounds m link.shape.bounds_rise from upto) (omega (arith, e, all, room));
 }
 
 -- ---- an offer keeps each group within its quotas

@@ -2,7 +2,7 @@
 use Rattle.std.proofs.Common.{◌≡◌, ℕ, suc, ◌<◌, ◌≤◌, true, false, not, ◌&&◌, List, length, map, max, Option, Some, None, ⊎_elim, refl, sym, ap, ◌∙◌, subst, arith}
 use Rattle.std.proofs.lemmas.Bool.{cases_lt, leb-true, le-leb, ltb-true, eqb-true, not-true}
 use Rattle.std.specs.Prelude.{find, nat_eq, nat_le, nat_lt, unwrap_or}
-use Rattle.net_units.proofs.BoundsInOrder.{within_count, bounds_parts, level_largest}
+use Rattle.net_units.proofs.BoundsInOrder.{within-count, bounds-parts, level-largest}
 use Rattle.net_units.specs.Numbers.{level_number}
 use Rattle.net_units.specs.LevelBounds.{bound_at, reach_of}
 use Rattle.net_units.specs.declared.numbers.ChanNo.{ChanNo}
@@ -82,7 +82,7 @@ offer-best shape held chan contract delay up_reach room level reach same =
 reach-least : (shape : LinkShape) (delay m : ℕ) → m ≤ length shape.bounds → m ≤ reach_of shape.bounds delay m
 reach-least shape delay m upto =
     ⊎_elim (λ (below : reach_of shape.bounds delay m < m).
-    let over = level_largest shape.bounds (max delay (bound_at shape.bounds m)) (reach_of shape.bounds delay m) m shape.bounds_rise refl below upto in
+    let over = level-largest shape.bounds (max delay (bound_at shape.bounds m)) (reach_of shape.bounds delay m) m shape.bounds_rise refl below upto in
     absurd (omega (arith, over)))
     (λ (above : m ≤ reach_of shape.bounds delay m). above)
     (cases_lt (reach_of shape.bounds delay m) m)
@@ -94,8 +94,8 @@ pub record OffersNumbers (shape : LinkShape) (delay number : ℕ) (level reach :
 
 pub offer-numbers : (shape : LinkShape) (held : List Reservation) (chan : ChanNo) (contract : Traffic) (delay up_reach : ℕ) (room : Room) (level reach : Level) → (offers : OffersBest shape held chan contract delay up_reach room level reach) → 1 ≤ offers.number → offers.number ≤ length shape.bounds → OffersNumbers shape delay offers.number level reach
 offer-numbers shape held chan contract delay up_reach room level reach offers from upto =
-    let most = (bounds_parts shape.bounds shape.bounds_rise).most in
-    let within = within_count shape.bounds (max delay (bound_at shape.bounds offers.number)) in
+    let most = (bounds-parts shape.bounds shape.bounds_rise).most in
+    let within = within-count shape.bounds (max delay (bound_at shape.bounds offers.number)) in
     record {
       level_is = ap level_number offers.level_is ∙ level_of-number offers.number from (omega (arith, upto, most));
       reach_is = ap level_number offers.reach_is ∙ level_of-number (reach_of shape.bounds delay offers.number) (omega (arith, from, reach-least shape delay offers.number upto)) (omega (arith, within, most));
@@ -126,8 +126,8 @@ whole-offer-may link held chan contract delay up_reach level reach same =
 -- the reach of an offer that it may make is one of the link's levels
 pub may-reach : (shape : LinkShape) (held : List Reservation) (chan : ChanNo) (contract : Traffic) (delay up_reach : ℕ) (level reach : Level) → MayOffer shape held chan contract delay up_reach level reach → level_number reach ≤ length shape.bounds
 may-reach shape held chan contract delay up_reach level reach may =
-    let least = (bounds_parts shape.bounds shape.bounds_rise).least in
-    let within = within_count shape.bounds (max delay (bound_at shape.bounds (level_number level))) in
+    let least = (bounds-parts shape.bounds shape.bounds_rise).least in
+    let within = within-count shape.bounds (max delay (bound_at shape.bounds (level_number level))) in
     let e = ap level_number may.reach_is in
     omega (arith, e, within, least)
 

@@ -14,9 +14,9 @@ use Rattle.link_steps.proofs.SearchAndFilter.{Each-filter, Each-if, filter-none}
 abbrev pub IsFrom : ℕ → Arrival → Type 0
 IsFrom t p = t ≤ p.eligible
 
-not_waiting : (starts : List Start) (u t : ℕ) → u < t → (p : Arrival) → IsFrom t p → is_waiting starts u p ≡ false
+not-waiting : (starts : List Start) (u t : ℕ) → u < t → (p : Arrival) → IsFrom t p → is_waiting starts u p ≡ false
 unfolding is_waiting
-not_waiting starts u t before p later = rw (lt-leb p.eligible u (omega arith)) refl
+not-waiting starts u t before p later = rw (lt-leb p.eligible u (omega arith)) refl
 
 starts_below-before : (rate : ℕ) (packets new : List Arrival) (t u : ℕ) → u ≤ t → Each (IsFrom t) new → starts_below rate (packets ++ new) u ≡ starts_below rate packets u
 unfolding starts_below serve_tick
@@ -26,7 +26,7 @@ starts_below-before rate packets new t (suc u) within later =
     let e : filter (is_waiting (starts_below rate packets u) u) (packets ++ new) ≡ filter (is_waiting (starts_below rate packets u) u) packets =
     filter-append _ packets new
     ∙ ap (λ xs. filter (is_waiting (starts_below rate packets u) u) packets ++ xs)
-    (filter-none _ new (Each-if (IsFrom t) _ new (not_waiting (starts_below rate packets u) u t (omega arith)) later))
+    (filter-none _ new (Each-if (IsFrom t) _ new (not-waiting (starts_below rate packets u) u t (omega arith)) later))
     ∙ append-nil _ in
     rw (starts_below-before rate packets new t u (omega arith) later, e) refl
 

@@ -4,7 +4,7 @@
 use Rattle.std.proofs.Common.{◌≡◌, ℕ, ◌+◌, ◌<◌, ◌≤◌, Bool, true, false, cond, ◌&&◌, List, [], ◌∷◌, length, ⊎_elim, refl, ap, arith}
 use Rattle.std.proofs.lemmas.Bool.{cases_lt, lt-leb, le-ltb}
 use Rattle.std.specs.Prelude.{nat_le}
-use Rattle.net_units.proofs.BoundsInOrder.{bound_least, bound_at-rising}
+use Rattle.net_units.proofs.BoundsInOrder.{bound-least, bound_at-rising}
 use Rattle.net_units.specs.LevelBounds.{bound_at, last_bound}
 use Rattle.traffic_contract.specs.Admission.{total, load}
 use Rattle.traffic_contract.specs.Window.{count_in}
@@ -84,7 +84,7 @@ unfolding load
 room-now shape h m u legal from upto near =
     let order = legal-order shape h legal in
     let passes = window-of (server_of shape) (as_admitted (scan_of shape h).rows) m ((last-pass shape h (held_rows-pass shape h legal)).each m from upto) in
-    let within = counts-within shape.test (bound_at shape.bounds m) passes.window (bound_least shape.bounds m shape.bounds_rise from upto) passes.counts in
+    let within = counts-within shape.test (bound_at shape.bounds m) passes.window (bound-least shape.bounds m shape.bounds_rise from upto) passes.counts in
     let last = bound_at-rising shape.bounds m (length shape.bounds) shape.bounds_rise from upto (omega arith) in
     let counts = (legal-work shape h m u passes.window upto legal).most in
     let gone = gone-none shape (clock_of h) m u passes.window (scan_of shape h).gone (omega (arith, near, last)) order.expired in

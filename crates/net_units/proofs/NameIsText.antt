@@ -7,38 +7,38 @@ use Rattle.std.proofs.lemmas.Str.{IsUtf8-from_ascii}
 use Rattle.net_units.specs.Text.{is_letter, is_digit, is_name_byte, begins_as_name, is_kept_word, is_name}
 use Rattle.net_units.specs.Limits.{most_name}
 
-letter_small : (b : ℕ) → is_letter b ≡ true → b < 128
-letter_small b h =
+letter-small : (b : ℕ) → is_letter b ≡ true → b < 128
+letter-small b h =
     elim (or_cases (leb 65 b && leb b 90) (leb 97 b && leb b 122) h) [
       | inl upper ↦ omega (arith, leb-true b 90 (and_parts (leb 65 b) (leb b 90) upper).1)
       | inr lower ↦ omega (arith, leb-true b 122 (and_parts (leb 97 b) (leb b 122) lower).1)
     ]
 
-plain_small : (b : ℕ) → (is_letter b || is_digit b) ≡ true → b < 128
-plain_small b h =
+plain-small : (b : ℕ) → (is_letter b || is_digit b) ≡ true → b < 128
+plain-small b h =
     elim (or_cases (is_letter b) (is_digit b) h) [
-      | inl letter ↦ letter_small b letter
+      | inl letter ↦ letter-small b letter
       | inr digit ↦ omega (arith, leb-true b 57 (and_parts (leb 48 b) (leb b 57) digit).1)
     ]
 
-name_byte_small : (b : ℕ) → is_name_byte b ≡ true → b < 128
-name_byte_small b h =
+name-byte-small : (b : ℕ) → is_name_byte b ≡ true → b < 128
+name-byte-small b h =
     elim (or_cases (is_letter b || is_digit b) (eqb b 95) h) [
-      | inl plain ↦ plain_small b plain
+      | inl plain ↦ plain-small b plain
       | inr line ↦ omega (arith, eqb-true b 95 line)
     ]
 
-rest_small : (bs : List ℕ) → list_all is_name_byte bs ≡ true → IsAscii bs
-rest_small [] h i = omega arith
-rest_small (b ∷ bs) h zero = name_byte_small b (and_parts (is_name_byte b) (list_all is_name_byte bs) h).0
-rest_small (b ∷ bs) h (suc i) = rest_small bs (and_parts (is_name_byte b) (list_all is_name_byte bs) h).1 i
+rest-small : (bs : List ℕ) → list_all is_name_byte bs ≡ true → IsAscii bs
+rest-small [] h i = omega arith
+rest-small (b ∷ bs) h zero = name-byte-small b (and_parts (is_name_byte b) (list_all is_name_byte bs) h).0
+rest-small (b ∷ bs) h (suc i) = rest-small bs (and_parts (is_name_byte b) (list_all is_name_byte bs) h).1 i
 
-begun_small : (bs : List ℕ) → begins_as_name bs ≡ true → IsAscii bs
-begun_small [] h i = omega arith
-begun_small (b ∷ bs) h zero = letter_small b (and_parts (is_letter b) (list_all is_name_byte bs) h).0
-begun_small (b ∷ bs) h (suc i) = rest_small bs (and_parts (is_letter b) (list_all is_name_byte bs) h).1 i
+begun-small : (bs : List ℕ) → begins_as_name bs ≡ true → IsAscii bs
+begun-small [] h i = omega arith
+begun-small (b ∷ bs) h zero = letter-small b (and_parts (is_letter b) (list_all is_name_byte bs) h).0
+begun-small (b ∷ bs) h (suc i) = rest-small bs (and_parts (is_letter b) (list_all is_name_byte bs) h).1 i
 
 -- a name is text
-pub name_is_text : (bs : List ℕ) → is_name bs ≡ true → IsUtf8 bs
-name_is_text bs h =
-    IsUtf8-from_ascii bs (begun_small bs (and_parts (begins_as_name bs) (leb (length bs) most_name) (and_parts (begins_as_name bs && leb (length bs) most_name) (not (is_kept_word bs)) h).0).0)
+pub name-is-text : (bs : List ℕ) → is_name bs ≡ true → IsUtf8 bs
+name-is-text bs h =
+    IsUtf8-from_ascii bs (begun-small bs (and_parts (begins_as_name bs) (leb (length bs) most_name) (and_parts (begins_as_name bs && leb (length bs) most_name) (not (is_kept_word bs)) h).0).0)

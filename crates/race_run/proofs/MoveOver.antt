@@ -118,57 +118,57 @@ module _ (parts : PlanParts) (links : List Link) (owners : List ActorNo) (caller
   abbrev task : Task
   task = Moves old.request new.request 1 1
 
-  here_at : HereAt parts caller place task pass channels
-  here_at = move-at parts caller place chan onto old new pass channels at has found found_new
+  here-at : HereAt parts caller place task pass channels
+  here-at = move-at parts caller place chan onto old new pass channels at has found found_new
 
   fits : MoveFits (network_of parts).links old.request new.request 1 1
-  fits = task-fits parts caller place task pass channels plan here_at
+  fits = task-fits parts caller place task pass channels plan here-at
 
   live-old : IsEstablished old.request pass.own
   live-old =
-      let live = used-live old.request here_at.front task here_at.rest (ByMoveFrom new.request 1 1) (full-script parts (channel_number chan) old pass.actor here_at.front task here_at.rest plan found here_at.tasks (AMoveFrom new.request 1 1)) in
-      here_at.between.live old.request live.opened live.unclosed (established-told (network_of parts) here_at.front _ pass channels old.request.chan true here_at.between open_old)
+      let live = used-live old.request here-at.front task here-at.rest (ByMoveFrom new.request 1 1) (full-script parts (channel_number chan) old pass.actor here-at.front task here-at.rest plan found here-at.tasks (AMoveFrom new.request 1 1)) in
+      here-at.between.live old.request live.opened live.unclosed (established-told (network_of parts) here-at.front _ pass channels old.request.chan true here-at.between open_old)
 
-  full-new : FullScript new.request (here_at.front ++ task ∷ here_at.rest)
-  full-new = full-script parts (channel_number onto) new pass.actor here_at.front task here_at.rest plan found_new here_at.tasks (AMoveOnto old.request 1 1)
+  full-new : FullScript new.request (here-at.front ++ task ∷ here-at.rest)
+  full-new = full-script parts (channel_number onto) new pass.actor here-at.front task here-at.rest plan found_new here-at.tasks (AMoveOnto old.request 1 1)
 
   live-new : IsEstablished new.request pass.own
   live-new =
-      let live = used-live new.request here_at.front task here_at.rest (ByMoveOnto old.request 1 1) full-new in
-      here_at.between.live new.request live.opened live.unclosed (established-told (network_of parts) here_at.front _ pass channels new.request.chan true here_at.between open_new)
+      let live = used-live new.request here-at.front task here-at.rest (ByMoveOnto old.request 1 1) full-new in
+      here-at.between.live new.request live.opened live.unclosed (established-told (network_of parts) here-at.front _ pass channels new.request.chan true here-at.between open_new)
 
   -- the packets are those that were learnt
-  gap_is : (channel_in channels old.request.chan).gap ≡ (last_packets old.request.chan here_at.between.outcomes).gap
-  gap_is = ap (λ (t : Told). t.packets.gap) (here_at.between.known old.request.chan)
+  gap-is : (channel_in channels old.request.chan).gap ≡ (last_packets old.request.chan here-at.between.outcomes).gap
+  gap-is = ap (λ (t : Told). t.packets.gap) (here-at.between.known old.request.chan)
 
-  size_is : (channel_in channels old.request.chan).size ≡ (last_packets old.request.chan here_at.between.outcomes).size
-  size_is = ap (λ (t : Told). t.packets.size) (here_at.between.known old.request.chan)
+  size-is : (channel_in channels old.request.chan).size ≡ (last_packets old.request.chan here-at.between.outcomes).size
+  size-is = ap (λ (t : Told). t.packets.size) (here-at.between.known old.request.chan)
 
   in-range : SubmitFits 1 (channel_in channels old.request.chan).gap (channel_in channels old.request.chan).size
-  in-range = subst (λ (p : ℕ × ℕ). SubmitFits 1 p.0 p.1) (λ i. (sym gap_is i, sym size_is i)) (here_at.between.packets.range old.request.chan)
+  in-range = subst (λ (p : ℕ × ℕ). SubmitFits 1 p.0 p.1) (λ i. (sym gap-is i, sym size-is i)) (here-at.between.packets.range old.request.chan)
 
   size-kept : (channel_in channels old.request.chan).size ≤ new.request.contract.smax
   size-kept =
-      let small = here_at.between.packets.small (channel_number old.request.chan) old.request (there-at parts (channel_number chan) old plan found) in
+      let small = here-at.between.packets.small (channel_number old.request.chan) old.request (there-at parts (channel_number chan) old plan found) in
       let same = ap (λ k. k.smax) fits.same in
-      let is = size_is in
+      let is = size-is in
       omega (arith, small, same, is)
 
   unsent : NoneSubmitted new.request.chan pass.own
-  unsent = here_at.between.packets.unsent new.request.chan (joined-unsent new.request old.request 1 1 here_at.front here_at.rest fits.apart full-new)
+  unsent = here-at.between.packets.unsent new.request.chan (joined-unsent new.request old.request 1 1 here-at.front here-at.rest fits.apart full-new)
 
   may-shift-last : MayShift owners links pass (move_of_last channels old.request new.request)
   may-shift-last = record {
     packets = in-range;
     apart = λ same. fits.apart (sym same);
-    owned_leaving = owner-at parts links owners caller place (channel_number chan) old task pass channels plan network here_at found (AMoveFrom new.request 1 1);
-    owned_joining = owner-at parts links owners caller place (channel_number onto) new task pass channels plan network here_at found_new (AMoveOnto old.request 1 1);
+    owned_leaving = owner-at parts links owners caller place (channel_number chan) old task pass channels plan network here-at found (AMoveFrom new.request 1 1);
+    owned_joining = owner-at parts links owners caller place (channel_number onto) new task pass channels plan network here-at found_new (AMoveOnto old.request 1 1);
     hops_leaving = hops-of parts links owners (channel_number chan) old plan network found;
     hops_joining = hops-of parts links owners (channel_number onto) new plan network found_new;
     leaving = record { contract = old.request.contract; holds = live-old };
     joining = record { contract = new.request.contract; holds = live-new; small = size-kept };
     unsent = unsent;
-    last = subst (λ (p : ℕ × ℕ). WerePlanned old.request.chan p.0 p.1 pass.own) (λ i. (sym gap_is i, sym size_is i)) (here_at.between.packets.last old.request.chan);
+    last = subst (λ (p : ℕ × ℕ). WerePlanned old.request.chan p.0 p.1 pass.own) (λ i. (sym gap-is i, sym size-is i)) (here-at.between.packets.last old.request.chan);
   }
 
   pub may-shift : (move : Moving) → move ≡ move_of_last channels old.request new.request → MayShift owners links pass move
@@ -190,31 +190,31 @@ module _ (parts : PlanParts) (links : List Link) (owners : List ActorNo) (caller
     at-end (Some to) first is = cc
 
     leaves : (e : OwnEntry) (entries : List OwnEntry) → pass'.own ≡ pass.own ++ e ∷ entries → Follows (task_ask own_task) [] (e ∷ entries) → told_by e.reply ≡ told
-        → Leaves (network_of parts).requests here_at.front task pass pass' (MovedTo old.request.chan new.request.chan told gap size ∷ here_at.between.outcomes) channels'
+        → Leaves (network_of parts).requests here-at.front task pass pass' (MovedTo old.request.chan new.request.chan told gap size ∷ here-at.between.outcomes) channels'
     leaves e entries own follows tells = record {
-      known = learns here_at.between.outcomes here_at.between.known;
+      known = learns here-at.between.outcomes here-at.between.known;
       fresh = λ c off had. others.unopened c (λ same. off.0 (sym same)) had;
       live = λ request had each accepts. elim (cases_eq (channel_number old.request.chan) (channel_number request.chan)) [
-        | inl same ↦ absurd (let clash : false ≡ true = sym (left-off old.request.chan new.request.chan request.chan told gap size here_at.between.outcomes same) ∙ accepts in cc)
-        | inr other ↦ others.established request (λ same. other (sym same)) (here_at.between.live request (has-front (Opens request) here_at.front task had (λ same. moves-apart old.request new.request request 1 1 same)) (each-front _ here_at.front task each).0
-            (sym (left-other old.request.chan new.request.chan request.chan told gap size here_at.between.outcomes other) ∙ accepts))
+        | inl same ↦ absurd (let clash : false ≡ true = sym (left-off old.request.chan new.request.chan request.chan told gap size here-at.between.outcomes same) ∙ accepts in cc)
+        | inr other ↦ others.established request (λ same. other (sym same)) (here-at.between.live request (has-front (Opens request) here-at.front task had (λ same. moves-apart old.request new.request request 1 1 same)) (each-front _ here-at.front task each).0
+            (sym (left-other old.request.chan new.request.chan request.chan told gap size here-at.between.outcomes other) ∙ accepts))
       ];
-      packets = packets-moved (network_of parts).requests here_at.front old.request new.request gap size told pass.own pass'.own e entries here_at.between.outcomes 1 1 (ordered parts plan) (there-at parts (channel_number onto) new plan found_new) in-range size-kept unsent own follows tells here_at.between.packets;
+      packets = packets-moved (network_of parts).requests here-at.front old.request new.request gap size told pass.own pass'.own e entries here-at.between.outcomes 1 1 (ordered parts plan) (there-at parts (channel_number onto) new plan found_new) in-range size-kept unsent own follows tells here-at.between.packets;
     }
 
-    takes : takes_step here_at.between.outcomes task ≡ true
-    takes = λ i. (established-told (network_of parts) here_at.front _ pass channels old.request.chan true here_at.between open_old i && established-told (network_of parts) here_at.front _ pass channels new.request.chan true here_at.between open_new i)
+    takes : takes_step here-at.between.outcomes task ≡ true
+    takes = λ i. (established-told (network_of parts) here-at.front _ pass channels old.request.chan true here-at.between open_old i && established-told (network_of parts) here-at.front _ pass channels new.request.chan true here-at.between open_new i)
 
-    begins : ready here_at.between.outcomes task ≡ own_task
-    begins = λ i. Moves old.request new.request (sym gap_is i) (sym size_is i)
+    begins : ready here-at.between.outcomes task ≡ own_task
+    begins = λ i. Moves old.request new.request (sym gap-is i) (sym size-is i)
 
     goes-on : (entries : List OwnEntry) → pass'.own ≡ pass.own ++ entries → Follows (task_ask own_task) [] entries → (task_ask own_task (map reply_in entries) ≡ None) × (first_told (map reply_in entries) ≡ Some told) → CallerIsAt parts caller (place + 1) pass' channels'
     goes-on [] own follows ends = absurd (let clash : None ≡ Some told = ends.1 in cc)
     goes-on (e ∷ entries) own follows ends =
         let tells : told_by e.reply ≡ told = same_Some (told_by e.reply) told ends.1 in
-        here_at.next pass' channels' by count_is
-        (between-made (network_of parts) here_at.front task own_task here_at.rest pass pass' channels channels' (e ∷ entries) here_at.between here_at.tasks by own takes begins follows ends.0 (λ empty. cc)
-        (subst (λ (t : Shifted). Leaves (network_of parts).requests here_at.front task pass pass' (MovedTo old.request.chan new.request.chan t gap size ∷ here_at.between.outcomes) channels') (sym tells) (leaves e entries own follows tells)))
+        here-at.next pass' channels' by count_is
+        (between-made (network_of parts) here-at.front task own_task here-at.rest pass pass' channels channels' (e ∷ entries) here-at.between here-at.tasks by own takes begins follows ends.0 (λ empty. cc)
+        (subst (λ (t : Shifted). Leaves (network_of parts).requests here-at.front task pass pass' (MovedTo old.request.chan new.request.chan t gap size ∷ here-at.between.outcomes) channels') (sym tells) (leaves e entries own follows tells)))
 
     pub move-over : (move : Moving) → move ≡ move_of_last channels old.request new.request → Shifts move mover pass pass' told → CallerIsAt parts caller (place + 1) pass' channels'
     move-over move is moved =

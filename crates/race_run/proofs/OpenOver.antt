@@ -8,7 +8,7 @@ use Rattle.net_units.specs.declared.numbers.ChanNo.{ChanNo}
 use Rattle.link_steps.specs.Lists.{Each}
 use Rattle.link_steps.specs.Split.{Link}
 use Rattle.step_stamp.specs.Lists.{Has}
-use Rattle.step_stamp.proofs.ListMembers.{each_has, has_split}
+use Rattle.step_stamp.proofs.ListMembers.{each-has, has-split}
 use Rattle.setup_protocol.specs.Laws.{is_accepted}
 use Rattle.setup_protocol.specs.Setup.{Outcome, Progress, Settled, asked, settled_in, progress_of, verdict_of}
 use Rattle.setup_protocol.specs.declared.request.Request.{Request}
@@ -84,9 +84,9 @@ open-over parts caller place chan entry pass pass' channels channels' outcome pl
     (subst (λ os. Leaves (network_of parts).requests h.front (Opens entry.request) pass pass' (os ++ h.between.outcomes) channels') (sym outcomes) (record {
       known = told h.between.outcomes h.between.known;
       fresh = λ c task_off none. opened.others.unopened c (λ same. task_off (sym same)) none;
-      live = λ request has each accepts. elim (has_split (Opens request) h.front (Opens entry.request ∷ []) has) [
+      live = λ request has each accepts. elim (has-split (Opens request) h.front (Opens entry.request ∷ []) has) [
         | inl before ↦
-            (let other : channel_number request.chan ≢ channel_number entry.request.chan = each_has (TaskOff (channel_number entry.request.chan)) (Opens request) h.front off before in
+            (let other : channel_number request.chan ≢ channel_number entry.request.chan = each-has (TaskOff (channel_number entry.request.chan)) (Opens request) h.front off before in
             opened.others.established request other (h.between.live request before (each-front _ h.front (Opens entry.request) each).0 (sym (established-later entry.request.chan outcome h.between.outcomes request.chan (λ same. other (sym same))) ∙ accepts)))
         | inr now ↦ last-one request now accepts
       ];

@@ -12,7 +12,7 @@ use Rattle.rcsp_admission.specs.Sums.{Held, held_at, key_of, has_key, Holds, Hol
 use Rattle.rcsp_admission.specs.declared.key_index.KeyPlace.{KeyPlace}
 use Rattle.rcsp_admission.specs.declared.rows.KeptRow.{KeptRow}
 use Rattle.rcsp_admission.proofs.OneRowPerKey.{distinct-later, others-differ, without-others, moved-others}
-use Rattle.rcsp_admission.proofs.StaysAdmitted.{keys_differ}
+use Rattle.rcsp_admission.proofs.StaysAdmitted.{keys-differ}
 
 held-removed : (rows : List KeptRow) (i : ℕ) → map held_of (remove rows i) ≡ remove (map held_of rows) i
 held-removed [] zero = refl
@@ -87,16 +87,16 @@ pub placed-at : (key place : ℕ) (rows : List Held) → place_among key rows �
 placed-at key place rows is = (let at = counted-at key 0 place rows is in subst (IsRowAt key rows) (let e = at.1 in omega (arith, e)) at.2)
 
 -- a key that is held and isn't the first row's is held by a later one
-held_later : (held : Held) (rows : List Held) (key k : ℕ) → k < length (map key_of (held ∷ rows)) → get_or (map key_of (held ∷ rows)) k key ≡ key → (held.key ≡ key → ⊥) → Holds rows key
-held_later held rows key zero inside at other = absurd (other at)
-held_later held rows key (suc k) inside at other = (k, omega arith, at)
+held-later : (held : Held) (rows : List Held) (key k : ℕ) → k < length (map key_of (held ∷ rows)) → get_or (map key_of (held ∷ rows)) k key ≡ key → (held.key ≡ key → ⊥) → Holds rows key
+held-later held rows key zero inside at other = absurd (other at)
+held-later held rows key (suc k) inside at other = (k, omega arith, at)
 
 -- a key that is held has a place
 held-counted : (key i : ℕ) (rows : List Held) → Holds rows key → is_some (position_from (has_key key) i rows) ≡ true
 held-counted key i [] (k, inside, at) = absurd (omega arith)
 held-counted key i (held ∷ rows) (k, inside, at) =
     ⊎_elim (λ (mine : eqb held.key key ≡ true). (rw mine refl))
-    (λ (other : eqb held.key key ≡ false). (rw other (held-counted key (i + 1) rows (held_later held rows key k inside at (eqb-false held.key key other)))))
+    (λ (other : eqb held.key key ≡ false). (rw other (held-counted key (i + 1) rows (held-later held rows key k inside at (eqb-false held.key key other)))))
     (cases_Bool (eqb held.key key))
 
 pub held-placed : (key : ℕ) (rows : List Held) → Holds rows key → is_some (place_among key rows) ≡ true
@@ -104,7 +104,7 @@ held-placed key rows held = held-counted key 0 rows held
 
 -- and one that isn't has none
 pub new-placed : (key : ℕ) (rows : List Held) → (Holds rows key → ⊥) → place_among key rows ≡ None
-new-placed key rows new = others-none key 0 rows (keys_differ rows key new)
+new-placed key rows new = others-none key 0 rows (keys-differ rows key new)
 
 -- ---- a row more, a row less
 

@@ -3,7 +3,7 @@ use Rattle.std.proofs.Common.{◌≡◌, ℕ, ◌+◌, ◌-◌, ◌^◌, ◌<◌
 use Rattle.std.proofs.lemmas.Bool.{cases_eq}
 use Rattle.std.proofs.lemmas.Grind.{get_or-set_at}
 use Rattle.std.proofs.lemmas.List.{get_or-set_other, get_or-replicate}
-use Rattle.net_units.proofs.BoundsInOrder.{bounds_parts}
+use Rattle.net_units.proofs.BoundsInOrder.{bounds-parts}
 use Rattle.net_units.specs.LevelBounds.{are_bounds, bound_at}
 use Rattle.traffic_contract.specs.Admission.{Admitted, total, work_in}
 use Rattle.traffic_contract.proofs.AdmissionTest.{work_up_to-within, work_up_to-above}
@@ -90,7 +90,7 @@ loads-moved rate bounds rows others row moved before between after loads lowered
 -- no rows have no load
 pub loads-none : (rate : ℕ) (bounds : List ℕ) (rows : List Admitted) → rows ≡ [] → IsTrue (are_bounds bounds) → AreLoads rate bounds rows (replicate 8 0)
 loads-none rate bounds rows none valid i inside =
-    let most = (bounds_parts bounds valid).most in
+    let most = (bounds-parts bounds valid).most in
     rw none (get_or-replicate 8 i 0 0 (omega (arith, inside, most)))
 
 -- the load of a level, by its number
@@ -101,7 +101,7 @@ load-at rate bounds rows loads m loaded from upto =
 -- the loads of rows that pass are no large numbers
 pub load-small : (sums : Sums) (loads : List ℕ) (i : ℕ) → AreAdmitted sums → AreLoads sums.server.rate sums.server.bounds (admitted_rows sums.rows) loads → i < length sums.server.bounds → get_or loads i 0 < 2 ^ 60
 load-small sums loads i admitted loaded inside =
-    let bound = ((bounds_parts sums.server.bounds admitted.server.bounds).each i inside).1 in
+    let bound = ((bounds-parts sums.server.bounds admitted.server.bounds).each i inside).1 in
     let same : bound_at sums.server.bounds (i + 1) ≡ get_or sums.server.bounds i 0 = ap (λ k. get_or sums.server.bounds k 0) (omega arith) in
     let small = work-small sums (i + 1) (bound_at sums.server.bounds (i + 1)) admitted (omega arith) (omega (arith, inside)) (omega (arith, bound, same)) in
     omega (arith, loaded i inside, small)

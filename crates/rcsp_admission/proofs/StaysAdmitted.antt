@@ -8,7 +8,7 @@ use Rattle.std.proofs.lemmas.List.Elements.{Contains-push_cases, All-nil, All-pu
 use Rattle.std.specs.List.{All}
 use Rattle.std.specs.Prelude.{Contains}
 use Rattle.net_units.specs.LevelBounds.{bound_at}
-use Rattle.net_units.proofs.BoundsInOrder.{bounds_parts, bound_least, bound_at-rising}
+use Rattle.net_units.proofs.BoundsInOrder.{bounds-parts, bound-least, bound_at-rising}
 use Rattle.traffic_contract.specs.Contract.{Traffic, IsContract}
 use Rattle.traffic_contract.specs.Admission.{total, work_up_to, load, Passes, with_row}
 use Rattle.traffic_contract.proofs.AdmissionTest.{window-of, counts-within, Passes-nil, Passes-kept, Passes-changed}
@@ -29,8 +29,8 @@ AreAdmitted-new sums server none = record {
 -- ---- a row more
 
 -- a key that isn't held differs from each that is
-pub keys_differ : (rows : List Held) (key : ℕ) → (Holds rows key → ⊥) → (k : ℕ) (d : Held) → k < length rows → (get_or rows k d).key ≢ key
-keys_differ rows key new k d inside same =
+pub keys-differ : (rows : List Held) (key : ℕ) → (Holds rows key → ⊥) → (k : ℕ) (d : Held) → k < length rows → (get_or rows k d).key ≢ key
+keys-differ rows key new k d inside same =
     new (k, omega (arith, length-map rows key_of), get_or-map key_of rows k d key inside ∙ same)
 
 pub AreAdmitted-added : (before after : Sums) (key : ℕ) (contract : Traffic) (level : ℕ) → AreAdmitted before → (Holds before.rows key → ⊥) → IsContract contract → Passes before.server (with_row (admitted_rows before.rows) contract level) → after.server ≡ before.server → after.rows ≡ added before.rows key contract level → AreAdmitted after
@@ -38,7 +38,7 @@ AreAdmitted-added before after key contract level held new valid passed same row
   server = rw same held.server;
   contracts = rw rows (All-push HoldsContract before.rows (held_at key contract level) held.contracts valid);
   passes = rw (same, rows, map_push admitted_row before.rows (held_at key contract level)) passed;
-  distinct = rw rows (record { apart = all_pairs_push (λ one other. one.key ≢ other.key) before.rows (held_at key contract level) held.distinct.apart (keys_differ before.rows key new) });
+  distinct = rw rows (record { apart = all_pairs_push (λ one other. one.key ≢ other.key) before.rows (held_at key contract level) held.distinct.apart (keys-differ before.rows key new) });
 }
 
 -- ---- a row at another level
@@ -54,8 +54,8 @@ move_row-up key level held up =
     (cases_Bool (has_key key held))
 
 -- where keys differ, the row of the key is the one that is at the level or below it
-all_up : (rows : List Held) (key level : ℕ) → IsDistinct rows → HoldsUpTo rows key level → (k : ℕ) (d : Held) → k < length rows → (get_or rows k d).key ≡ key → (get_or rows k d).row.level ≤ level
-all_up rows key level distinct (j, held, inside_j, at_j, found) k d inside_k same =
+all-up : (rows : List Held) (key level : ℕ) → IsDistinct rows → HoldsUpTo rows key level → (k : ℕ) (d : Held) → k < length rows → (get_or rows k d).key ≡ key → (get_or rows k d).row.level ≤ level
+all-up rows key level distinct (j, held, inside_j, at_j, found) k d inside_k same =
     let there : get_or rows j d ≡ held = get_or_default rows j d held inside_j ∙ at_j in
     let its_key : (get_or rows j d).key ≡ key = ap key_of there ∙ found.0 in
     ⊎_elim (λ (e : k ≡ j). (rw (e, there) found.1))
@@ -82,7 +82,7 @@ pub AreAdmitted-moved : (before after : Sums) (key level : ℕ) → AreAdmitted 
 AreAdmitted-moved before after key level held up same rows = record {
   server = rw same held.server;
   contracts = rw rows (contracts-moved before.rows key level held.contracts);
-  passes = rw (same, rows) (Passes-changed before.server admitted_row (move_row key level) before.rows (λ k d inside. move_row-up key level _ (all_up before.rows key level held.distinct up k d inside)) held.passes);
+  passes = rw (same, rows) (Passes-changed before.server admitted_row (move_row key level) before.rows (λ k d inside. move_row-up key level _ (all-up before.rows key level held.distinct up k d inside)) held.passes);
   distinct = rw rows (IsDistinct-moved before.rows key level held.distinct);
 }
 
@@ -121,8 +121,8 @@ pub work-small : (sums : Sums) (m w : ℕ) → AreAdmitted sums → 1 ≤ m → 
 unfolding load
 work-small sums m w admitted from upto most =
     let passed = window-of sums.server (admitted_rows sums.rows) m (admitted.passes.each m from upto) in
-    let some = bound_least sums.server.bounds m admitted.server.bounds from upto in
-    let bound = ((bounds_parts sums.server.bounds admitted.server.bounds).each (m - 1) (omega (arith, from, upto))).1 in
+    let some = bound-least sums.server.bounds m admitted.server.bounds from upto in
+    let bound = ((bounds-parts sums.server.bounds admitted.server.bounds).each (m - 1) (omega (arith, from, upto))).1 in
     let within = counts-within sums.server.test (bound_at sums.server.bounds m) passed.window some passed.counts in
     let fits = passed.fits in
     let few = total-most sums.server.rate m passed.window w (admitted_rows sums.rows) admitted.server.rate (contracts-of sums.rows admitted.contracts) within.0 most in

@@ -2,7 +2,7 @@
 use Rattle.std.proofs.Common.{◌≡◌, ℕ, ◌+◌, ◌≤◌, true, Option, Some, None, refl, arith}
 use Rattle.std.proofs.Math.Nat.{min-le_left, min-le_right}
 use Rattle.net_units.specs.LevelBounds.{are_bounds, bound_at, levels_within}
-use Rattle.net_units.proofs.BoundsInOrder.{bound_at-rising, largest_within}
+use Rattle.net_units.proofs.BoundsInOrder.{bound_at-rising, largest-within}
 use Rattle.hop_reservation.specs.declared.route.Hop.{Hop}
 use Rattle.hop_reservation.specs.Offers.{IsLevelOf}
 use Rattle.relaxation.specs.Allotment.{capped, relaxed, IsWithin}
@@ -28,11 +28,11 @@ pub record IsRelaxed (limit : Option ℕ) (hop : Hop) (offer share level : ℕ) 
   pub in_share : bound_at hop.bounds level ≤ bound_at hop.bounds offer + share
   pub in_limit : IsWithin limit (bound_at hop.bounds level)
 
-pub relaxed_level : (limit : Option ℕ) (hop : Hop) (offer share : ℕ) → are_bounds hop.bounds ≡ true → IsLevelOf hop offer → IsWithin limit (bound_at hop.bounds offer)
+pub relaxed-level : (limit : Option ℕ) (hop : Hop) (offer share : ℕ) → are_bounds hop.bounds ≡ true → IsLevelOf hop offer → IsWithin limit (bound_at hop.bounds offer)
     → IsRelaxed limit hop offer share (relaxed limit hop offer share)
-relaxed_level limit hop offer share are is within =
+relaxed-level limit hop offer share are is within =
     let far = capped limit (bound_at hop.bounds offer + share) in
-    let largest = largest_within hop.bounds offer far are is.least is.most (up_to-least limit (bound_at hop.bounds offer) (bound_at hop.bounds offer + share) within (omega arith)) in
+    let largest = largest-within hop.bounds offer far are is.least is.most (up_to-least limit (bound_at hop.bounds offer) (bound_at hop.bounds offer + share) within (omega arith)) in
     record {
       is_level = record { least = omega (arith, is.least, largest.least); most = largest.most };
       from_offer = largest.least;

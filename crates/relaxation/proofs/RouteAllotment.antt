@@ -6,12 +6,12 @@ use Rattle.std.proofs.lemmas.Bool.{cases_Bool, ltb-false}
 use Rattle.std.proofs.lemmas.Option.{same_Some}
 use Rattle.std.specs.List.{slice_get}
 use Rattle.net_units.specs.LevelBounds.{bound_at}
-use Rattle.net_units.proofs.BoundsInOrder.{largest_within}
+use Rattle.net_units.proofs.BoundsInOrder.{largest-within}
 use Rattle.hop_reservation.specs.declared.route.Hop.{Hop}
 use Rattle.hop_reservation.specs.Offers.{delay_over, IsLevelOf, AreLevels}
 use Rattle.relaxation.specs.Allotment.{bound_at_end, jitter_denial, denial_of, relaxed, allotment, allotted, IsWithin}
 use Rattle.relaxation.specs.Laws.{HaveBounds, IsWithinReach, AreWithinReach, AllottedLevelsFit}
-use Rattle.relaxation.proofs.HopAllotment.{IsRelaxed, relaxed_level}
+use Rattle.relaxation.proofs.HopAllotment.{IsRelaxed, relaxed-level}
 use Rattle.relaxation.proofs.SlackShares.{allotment-empty, bound_at_end-none}
 
 -- a level from the offered one on, whose bound is within the offered one and the slack
@@ -57,8 +57,8 @@ record IsOneMore (slack : ℕ) (hop : Hop) (offer left level : ℕ) : Type 0 whe
   less : left - (bound_at hop.bounds level - bound_at hop.bounds offer) ≤ slack
   sum : bound_at hop.bounds level + (left - (bound_at hop.bounds level - bound_at hop.bounds offer)) ≡ bound_at hop.bounds offer + left
 
-one_more : (limit : Option ℕ) (slack : ℕ) (hop : Hop) (offer left places level : ℕ) → left ≤ slack → IsRelaxed limit hop offer (left / places) level → IsOneMore slack hop offer left level
-one_more limit slack hop offer left places level less is =
+one-more : (limit : Option ℕ) (slack : ℕ) (hop : Hop) (offer left places level : ℕ) → left ≤ slack → IsRelaxed limit hop offer (left / places) level → IsOneMore slack hop offer left level
+one-more limit slack hop offer left places level less is =
     let part = div-le_self left places in
     record {
       share = record { is_level = is.is_level; from_offer = is.from_offer; in_slack = omega (arith, is.in_share, part, less) };
@@ -74,8 +74,8 @@ shared jitter slack before [] (offer ∷ offers) bounds are within = absurd are
 shared jitter slack before (hop ∷ hops) (offer ∷ []) bounds are within =
     let after = shared-nothing jitter slack (suc before) hops in
     let left = (allotment jitter slack (suc before) hops []).slack in
-    let is = relaxed_level jitter hop offer (left / suc before) bounds.0 are.0 within in
-    let more = one_more jitter slack hop offer left (suc before) _ after.less is in
+    let is = relaxed-level jitter hop offer (left / suc before) bounds.0 are.0 within in
+    let more = one-more jitter slack hop offer left (suc before) _ after.less is in
     record {
       less = more.less;
       sum = omega (arith, more.sum, after.sum);
@@ -86,8 +86,8 @@ shared jitter slack before (hop ∷ []) (offer ∷ next ∷ offers) bounds are w
 shared jitter slack before (hop ∷ second ∷ hops) (offer ∷ next ∷ offers) bounds are within =
     let after = shared jitter slack (suc before) (second ∷ hops) (next ∷ offers) bounds.1 are.1 within in
     let left = (allotment jitter slack (suc before) (second ∷ hops) (next ∷ offers)).slack in
-    let is = relaxed_level None hop offer (left / suc before) bounds.0 are.0 (λ most is. absurd (let clash : None ≡ Some most = is in cc)) in
-    let more = one_more None slack hop offer left (suc before) _ after.less is in
+    let is = relaxed-level None hop offer (left / suc before) bounds.0 are.0 (λ most is. absurd (let clash : None ≡ Some most = is in cc)) in
+    let more = one-more None slack hop offer left (suc before) _ after.less is in
     record {
       less = more.less;
       sum = omega (arith, more.sum, after.sum);
@@ -108,16 +108,16 @@ shares-reach delay slack (hop ∷ hops) (offer ∷ offers) (level ∷ levels) bo
     let share = are.0 in
     let far = max delay (bound_at hop.bounds offer) in
     let near : bound_at hop.bounds level ≤ far = omega (arith, share.in_slack, fits) in (
-      record { is_level = share.is_level; from_offer = share.from_offer; up_to_reach = (largest_within hop.bounds level far bounds.0 share.is_level.least share.is_level.most near).least },
+      record { is_level = share.is_level; from_offer = share.from_offer; up_to_reach = (largest-within hop.bounds level far bounds.0 share.is_level.least share.is_level.most near).least },
       shares-reach delay slack hops offers levels bounds.1 are.1 (omega (arith, fits)),
     )
 
 -- ---- the law
 
 -- no jitter denial, no offer of the last hop over the jitter bound
-pub no_jitter_denial : (last : ℕ) (jitter : Option ℕ) → jitter_denial last jitter ≡ None → IsWithin jitter last
-no_jitter_denial last None none most is = absurd (let clash : None ≡ Some most = is in cc)
-no_jitter_denial last (Some bound) none most is =
+pub no-jitter_denial : (last : ℕ) (jitter : Option ℕ) → jitter_denial last jitter ≡ None → IsWithin jitter last
+no-jitter_denial last None none most is = absurd (let clash : None ≡ Some most = is in cc)
+no-jitter_denial last (Some bound) none most is =
     let same : bound ≡ most = cc in
     elim (cases_Bool (ltb bound last)) [
       | inl over ↦ absurd (let clash : Some _ ≡ None = rw over at none in cc)
@@ -125,16 +125,16 @@ no_jitter_denial last (Some bound) none most is =
     ]
 
 -- no denial: the offers are within the delay bound, and the last is within the jitter bound
-pub no_denial : (hops : List Hop) (offers : List ℕ) (delay : ℕ) (jitter : Option ℕ) → denial_of hops offers delay jitter ≡ None → (delay_over hops offers ≤ delay) × IsWithin jitter (bound_at_end hops offers)
-no_denial hops offers delay jitter none =
+pub no-denial : (hops : List Hop) (offers : List ℕ) (delay : ℕ) (jitter : Option ℕ) → denial_of hops offers delay jitter ≡ None → (delay_over hops offers ≤ delay) × IsWithin jitter (bound_at_end hops offers)
+no-denial hops offers delay jitter none =
     elim (cases_Bool (ltb delay (delay_over hops offers))) [
       | inl over ↦ absurd (let clash : Some _ ≡ None = rw over at none in cc)
-      | inr within ↦ (ltb-false delay (delay_over hops offers) within, no_jitter_denial (bound_at_end hops offers) jitter (rw within at none))
+      | inr within ↦ (ltb-false delay (delay_over hops offers) within, no-jitter_denial (bound_at_end hops offers) jitter (rw within at none))
     ]
 
 pub allotted-fit : AllottedLevelsFit
 allotted-fit hops offers delay jitter bounds are none =
-    let tests = no_denial hops offers delay jitter none in
+    let tests = no-denial hops offers delay jitter none in
     let slack = delay - delay_over hops offers in
     let is = shared jitter slack 0 hops offers bounds are tests.1 in (
       shares-reach delay slack hops offers (allotted hops offers delay jitter) bounds is.shares (omega (arith, tests.0)),

@@ -8,7 +8,7 @@ use Rattle.std.specs.Prelude.{min, slice_index_or}
 use Rattle.net_units.specs.Allotted.{levels_of}
 use Rattle.net_units.specs.Numbers.{actor_number, channel_number, level_number}
 use Rattle.net_units.specs.declared.levels.Levels.{Levels}
-use Rattle.net_units.proofs.BoundsInOrder.{bounds_parts}
+use Rattle.net_units.proofs.BoundsInOrder.{bounds-parts}
 use Rattle.hop_reservation.specs.Offers.{AreLevels}
 use Rattle.hop_reservation.specs.declared.route.Hop.{Hop}
 use Rattle.link_steps.specs.Levels.{level_of}
@@ -63,7 +63,7 @@ are-numbers links [] (level ∷ levels) hops are = absurd are
 are-numbers links (hop ∷ route) (level ∷ levels) hops are = (
   record {
     least = are.0.least;
-    most = (let bounds : length hop.bounds ≡ length hops.0.link.shape.bounds = ap length hops.0.bounds in let few = (bounds_parts hops.0.link.shape.bounds hops.0.link.shape.bounds_rise).most in let most = are.0.most in omega (arith, bounds, few, most));
+    most = (let bounds : length hop.bounds ≡ length hops.0.link.shape.bounds = ap length hops.0.bounds in let few = (bounds-parts hops.0.link.shape.bounds hops.0.link.shape.bounds_rise).most in let most = are.0.most in omega (arith, bounds, few, most));
   },
   are-numbers links route levels hops.1 are.1,
 )

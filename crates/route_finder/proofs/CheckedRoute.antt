@@ -186,9 +186,9 @@ rows-least edges to zero rows network has less node within = has.none node withi
 rows-least edges to (suc links) rows network has less node within =
     has.one_more links node (omega arith) within ∙ one_more-below (entry rows links) (least_prop edges to links) edges node network within (λ n below. rows-least edges to links rows network has (omega arith) n below)
 
-pub least_sum : (edges : List Edge) (from to prop : ℕ) (route : List Hop) (rows : List (List (Option ℕ))) → IsNetwork edges → from < 64
+pub least-sum : (edges : List Edge) (from to prop : ℕ) (route : List Hop) (rows : List (List (Option ℕ))) → IsNetwork edges → from < 64
     → Checks edges from to route prop rows → IsLeastSum edges from to prop
-least_sum edges from to prop route rows network within checks other is_walk =
+least-sum edges from to prop route rows network within checks other is_walk =
     let least = least_prop-within edges to 16 from other is_walk.way in
     let here = rows-least edges to 16 rows network checks.is_table (omega arith) from within in
     let same : prop ≡ least.value = same_Some prop least.value (sym checks.reached ∙ here ∙ least.is) in

@@ -29,12 +29,12 @@ lesser-either None other n is = inr is
 lesser-either (Some a) None n is = inl is
 lesser-either (Some a) (Some b) n is =
     let same : min a b ≡ n = same_Some (min a b) n is in
-    elim (min_cases a b) [
+    elim (min-cases a b) [
       | inl first ↦ inl (ap Some (sym first ∙ same))
       | inr second ↦ inr (ap Some (sym second ∙ same))
     ] where
-      min_cases : (a b : ℕ) → (min a b ≡ a) ⊎ (min a b ≡ b)
-      min_cases a b = grind arith
+      min-cases : (a b : ℕ) → (min a b ≡ a) ⊎ (min a b ≡ b)
+      min-cases a b = grind arith
 
 -- ---- by one link more
 

@@ -22,9 +22,9 @@ traced-first : (edges : List Edge) (from to links prop : ℕ) (walk : List Edge)
 traced-first edges from to links prop walk is fewest exact traced other is_walk =
     let within = least_prop-within edges to 16 from other is_walk.way in
     let least : prop ≡ within.value = same_Some prop within.value (sym is ∙ within.is) in
-    elim (cases_at_most (prop_over walk) (prop_over other) (omega (arith, least, within.less, traced.is_prop))) [
+    elim (cases-at-most (prop_over walk) (prop_over other) (omega (arith, least, within.less, traced.is_prop))) [
       | inl less ↦ inl less
-      | inr same ↦ elim (cases_lt links (length other)) [
+      | inr same ↦ elim (cases-lt links (length other)) [
         | inl less ↦ inr (same, inl (omega (arith, traced.count, less)))
         | inr few ↦
             let way = way-fewer edges to 16 links from other is_walk.way few in
@@ -32,11 +32,11 @@ traced-first edges from to links prop walk is fewest exact traced other is_walk 
             inr (same, inr (traced.count ∙ sym (exact.each other way sum), traced.first other way sum))
       ]
     ] where
-      cases_at_most : (a b : ℕ) → a ≤ b → (a < b) ⊎ (a ≡ b)
-      cases_at_most a b less = grind arith
+      cases-at-most : (a b : ℕ) → a ≤ b → (a < b) ⊎ (a ≡ b)
+      cases-at-most a b less = grind arith
 
-      cases_lt : (a b : ℕ) → (a < b) ⊎ (b ≤ a)
-      cases_lt a b = grind arith
+      cases-lt : (a b : ℕ) → (a < b) ⊎ (b ≤ a)
+      cases-lt a b = grind arith
 
 pub traced-least : (edges : List Edge) (from to prop : ℕ) → IsNetwork edges → from ≢ to → least_prop edges to 16 from ≡ Some prop
     → IsLeastWalk edges from to (traced_from (least_prop edges to) edges from)
@@ -62,8 +62,8 @@ traced-prop edges from to prop network is =
     (traced-is edges to links from prop network here (exact-fewest edges to from 16 links prop few here)).is_prop
 
 -- what is found, or not found
-pub finds_least_walk : FindsLeastWalk
-finds_least_walk edges from to network apart = by edges from to (least_prop edges to 16 from) refl network apart where
+pub finds-least-walk : FindsLeastWalk
+finds-least-walk edges from to network apart = by edges from to (least_prop edges to 16 from) refl network apart where
   by : (edges : List Edge) (from to : ℕ) (found : Option ℕ) → least_prop edges to 16 from ≡ found → IsNetwork edges → from ≢ to
       → IsLeastOrNone edges from to (walk_by edges from to found)
   by edges from to None is network apart = λ walk is_walk. (let within = least_prop-within edges to 16 from walk is_walk.way in let clash : None ≡ Some within.value = sym is ∙ within.is in cc)

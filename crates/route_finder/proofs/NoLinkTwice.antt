@@ -50,8 +50,8 @@ first-count walk cut (inr more) prop = by walk cut more.1 where
   by walk cut (inl less) = omega arith
   by walk cut (inr same) = (let e = same.0 in omega arith)
 
-pub passes_no_link_twice : PassesNoLinkTwice
-passes_no_link_twice edges from to walk network least i j d before within same =
+pub passes-no-link-twice : PassesNoLinkTwice
+passes-no-link-twice edges from to walk network least i j d before within same =
     let way = least.is_walk.way in
     let one = get_or walk i d in
     let other = get_or walk j d in
@@ -59,9 +59,9 @@ passes_no_link_twice edges from to walk network least i j d before within same =
     let cut = take-cut edges to from i j walk d way.among way.leads before within (ap (λ e. e.from) equal) in
     let shorter : IsWalk edges from to (take i walk ++ drop j walk) = record {
       way = record { among = cut.among; leads = cut.leads; few = omega (arith, cut.count, way.few) };
-      some = omega (arith, cut.count, before, within, rest_of i j walk before within);
+      some = omega (arith, cut.count, before, within, rest-of i j walk before within);
     } in
     let count = first-count walk (take i walk ++ drop j walk) (least.first (take i walk ++ drop j walk) shorter) cut.prop in
     omega (arith, count, cut.count, before) where
-      rest_of : (i j : ℕ) (walk : List Edge) → i < j → j < length walk → j - i < length walk
-      rest_of i j walk before within = omega arith
+      rest-of : (i j : ℕ) (walk : List Edge) → i < j → j < length walk → j - i < length walk
+      rest-of i j walk before within = omega arith

@@ -41,7 +41,7 @@ same-walk edges (step ∷ one) (step' ∷ other) network among among' same =
     let later = same-walk edges one other network among.1 among'.1 tail in
     cc
 
-pub has_one_least_walk : HasOneLeastWalk
-has_one_least_walk edges from to one other network least least' =
+pub has-one-least-walk : HasOneLeastWalk
+has-one-least-walk edges from to one other network least least' =
     same-walk edges one other network least.is_walk.way.among least'.is_walk.way.among
     (first-both one other (least.first other least'.is_walk) (least'.first one least.is_walk))

@@ -72,12 +72,12 @@ pub step-some : (edges : List Edge) (to links node prop : ℕ) → least_prop ed
     → (step : Edge) × (first_step (least_prop edges to links) (Some prop) node edges ≡ Some step)
 step-some edges to links node prop is exact =
     let reached = least_prop-reached edges to (suc links) node prop is in
-    by_walk edges to links node prop reached.walk is exact reached.is_way reached.is_prop where
-      by_walk : (edges : List Edge) (to links node prop : ℕ) (walk : List Edge) → least_prop edges to (suc links) node ≡ Some prop
+    by-walk edges to links node prop reached.walk is exact reached.is_way reached.is_prop where
+      by-walk : (edges : List Edge) (to links node prop : ℕ) (walk : List Edge) → least_prop edges to (suc links) node ≡ Some prop
           → IsExact edges to (suc links) node prop → IsWay edges to (suc links) node walk → prop_over walk ≡ prop
           → (step : Edge) × (first_step (least_prop edges to links) (Some prop) node edges ≡ Some step)
-      by_walk edges to links node prop [] is exact way sum = absurd (let count = exact.each [] way sum in omega (arith, count))
-      by_walk edges to links node prop (step ∷ walk) is exact way sum =
+      by-walk edges to links node prop [] is exact way sum = absurd (let count = exact.each [] way sum in omega (arith, count))
+      by-walk edges to links node prop (step ∷ walk) is exact way sum =
           let after = after-way edges to links node step walk way in
           first_step-some (least_prop edges to links) (Some prop) node edges step after.among (is-goes_on (least_prop edges to links) prop node step (way-goes_on edges to links node prop step walk is way sum))
 
@@ -137,14 +137,14 @@ pub exact-fewest : (edges : List Edge) (to node most links prop : ℕ) → IsFew
     → least_prop edges to links node ≡ Some prop → IsExact edges to links node prop
 exact-fewest edges to node most zero prop fewest is = record { each = λ walk way sum. omega (arith, way.few) }
 exact-fewest edges to node most (suc links) prop fewest is = record { each = λ walk way sum. each edges to node most links prop fewest is walk way sum } where
-  less_or_same : (n links : ℕ) → n ≤ suc links → (n ≤ links) ⊎ (n ≡ suc links)
-  less_or_same n links less = grind arith
+  less-or-same : (n links : ℕ) → n ≤ suc links → (n ≤ links) ⊎ (n ≡ suc links)
+  less-or-same n links less = grind arith
 
   each : (edges : List Edge) (to node most links prop : ℕ) → IsFewest (λ links. least_prop edges to links node) most (suc links)
       → least_prop edges to (suc links) node ≡ Some prop
       → (walk : List Edge) → IsWay edges to (suc links) node walk → prop_over walk ≡ prop → length walk ≡ suc links
   each edges to node most links prop fewest is walk way sum =
-      elim (less_or_same (length walk) links way.few) [
+      elim (less-or-same (length walk) links way.few) [
         | inl less ↦
             let within = least_prop-within edges to links node walk (way-fewer edges to (suc links) links node walk way less) in
             let reached = least_prop-reached edges to links node within.value within.is in

@@ -14,12 +14,12 @@ use Rattle.route_finder.specs.Walks.{hop_of, link_of, prop_over, IsNetwork, IsWa
 use Rattle.route_finder.proofs.LeastPropagations.{least_prop-within, least_prop-is}
 use Rattle.route_finder.proofs.TraceSteps.{traced_from-same}
 use Rattle.route_finder.proofs.LeastWalk.{traced-least, traced-prop}
-use Rattle.route_finder.proofs.NoLinkTwice.{passes_no_link_twice}
+use Rattle.route_finder.proofs.NoLinkTwice.{passes-no-link-twice}
 
 -- the rows of the code are a table
-pub is_table : (edges : List Edge) (to : ℕ) (rows : List (List (Option ℕ)))
+pub is-table : (edges : List Edge) (to : ℕ) (rows : List (List (Option ℕ)))
     → ((links node : ℕ) → links ≤ 16 → entry rows links node ≡ least_prop edges to links node) → IsTable edges to rows
-is_table edges to rows same = record {
+is-table edges to rows same = record {
   entries = same;
   least = λ links node few. subst (IsLeastProp edges to links node) (sym (same links node few)) (least_prop-is edges to links node (least_prop edges to links node) refl);
 }
@@ -49,7 +49,7 @@ least-route edges from to walk network least =
       apart : (i j : ℕ) (d : Hop) (edges : List Edge) (from to : ℕ) (walk : List Edge) → IsNetwork edges → IsLeastWalk edges from to walk → i < j
           → j < length walk → routes.link_of (get_or (map hop_of walk) i d) ≡ routes.link_of (get_or (map hop_of walk) j d) → ⊥
       apart i j d edges from to walk network least before within same =
-          passes_no_link_twice edges from to walk network least i j (edge_of d) before within
+          passes-no-link-twice edges from to walk network least i j (edge_of d) before within
           (sym (link-at walk i d (edge_of d) (omega (arith, before, within))) ∙ same ∙ link-at walk j d (edge_of d) within)
 
 -- what the code reads off its rows
@@ -59,10 +59,10 @@ pub record IsRead (edges : List Edge) (from to prop : ℕ) (hops : List Hop) (wa
   pub is_hops : hops ≡ map hop_of walk
   pub is_prop : prop ≡ prop_over walk
 
-pub is_read : (edges : List Edge) (from to prop : ℕ) (rows : List (List (Option ℕ))) (hops : List Hop) → IsNetwork edges → from ≢ to → IsTable edges to rows
+pub is-read : (edges : List Edge) (from to prop : ℕ) (rows : List (List (Option ℕ))) (hops : List Hop) → IsNetwork edges → from ≢ to → IsTable edges to rows
     → entry rows 16 from ≡ Some prop
     → hops ≡ map hop_of (traced_from (entry rows) edges from) → IsRead edges from to prop hops (traced_from (least_prop edges to) edges from)
-is_read edges from to prop rows hops network apart table is are =
+is-read edges from to prop rows hops network apart table is are =
     let here : least_prop edges to 16 from ≡ Some prop = sym (table.entries 16 from (omega arith)) ∙ is in
     let least = traced-least edges from to prop network apart here in
     record {
@@ -72,9 +72,9 @@ is_read edges from to prop rows hops network apart table is are =
       is_prop = sym (traced-prop edges from to prop network here);
     }
 
-pub is_unreachable : (edges : List Edge) (from to : ℕ) (rows : List (List (Option ℕ))) → IsTable edges to rows → entry rows 16 from ≡ None
+pub is-unreachable : (edges : List Edge) (from to : ℕ) (rows : List (List (Option ℕ))) → IsTable edges to rows → entry rows 16 from ≡ None
     → IsUnreachable edges from to rows
-is_unreachable edges from to rows table is =
+is-unreachable edges from to rows table is =
     let here : least_prop edges to 16 from ≡ None = sym (table.entries 16 from (omega arith)) ∙ is in
     record {
       no_walk = λ walk is_walk. (let within = least_prop-within edges to 16 from walk is_walk.way in let clash : None ≡ Some within.value = sym here ∙ within.is in cc);

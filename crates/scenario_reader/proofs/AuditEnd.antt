@@ -9,12 +9,12 @@ use Rattle.scenario_reader.specs.declared.audit.place.Place.{Place}
 use Rattle.scenario_reader.specs.declared.audit.place.Place.TheVariants as place
 
 -- an audit's input that may end has come to its table
-pub may_end : (now : Place) → place_rule now ≡ None → now ≡ place.Table
-may_end place.Scenario is = cc
-may_end place.Report is = cc
-may_end place.Table is = refl
+pub may-end : (now : Place) → place_rule now ≡ None → now ≡ place.Table
+may-end place.Scenario is = cc
+may-end place.Report is = cc
+may-end place.Table is = refl
 
-pub table_end : (now : Place) (n : ℕ) (read : AuditSaid) (plan : PlanParts) (levels : List (Option (List ℕ))) (rows : List HopRow)
+pub table-end : (now : Place) (n : ℕ) (read : AuditSaid) (plan : PlanParts) (levels : List (Option (List ℕ))) (rows : List HopRow)
     → now ≡ place.Table
     → plan ≡ parts_said read.said → levels ≡ read.levels → rows ≡ read.rows → end_at now n read ≡ AuditRead plan levels rows
-table_end now n read plan levels rows at is given told = rw (at, is, given, told) refl
+table-end now n read plan levels rows at is given told = rw (at, is, given, told) refl

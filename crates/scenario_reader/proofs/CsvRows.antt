@@ -16,14 +16,14 @@ abbrev onto_field : List ℕ → List (List ℕ) → List (List ℕ)
 onto_field field [] = field ∷ []
 onto_field field (part ∷ parts) = (field ++ part) ∷ parts
 
-one_more : (field : List ℕ) (b : ℕ) (parts : List (List ℕ)) → onto_field (field ++ b ∷ []) parts ≡ onto_field field (onto_first b parts)
-one_more field b [] = refl
-one_more field b (part ∷ parts) = ap (λ (f : List ℕ). f ∷ parts) (append_assoc field (b ∷ []) part)
+one-more : (field : List ℕ) (b : ℕ) (parts : List (List ℕ)) → onto_field (field ++ b ∷ []) parts ≡ onto_field field (onto_first b parts)
+one-more field b [] = refl
+one-more field b (part ∷ parts) = ap (λ (f : List ℕ). f ∷ parts) (append_assoc field (b ∷ []) part)
 
 -- a line has a first part
-onto_none : (line : List ℕ) → onto_field [] (slice_split is_comma line) ≡ slice_split is_comma line
-onto_none [] = refl
-onto_none (b ∷ line) = elim (cases_Bool (is_comma b)) [
+onto-none : (line : List ℕ) → onto_field [] (slice_split is_comma line) ≡ slice_split is_comma line
+onto-none [] = refl
+onto-none (b ∷ line) = elim (cases_Bool (is_comma b)) [
   | inl comma ↦ rw (slice_split-cons_yes is_comma b line comma) refl
   | inr part ↦ rw (slice_split-cons_no is_comma b line part) (first b (slice_split is_comma line))
 ]
@@ -33,8 +33,8 @@ onto_none (b ∷ line) = elim (cases_Bool (is_comma b)) [
     first b (part ∷ parts) = refl
 
 -- a plain byte is no mark of the format but the comma
-plain_marks : (b : ℕ) → is_plain b ≡ true → ((b == 34) ≡ false) × ((b == 13) ≡ false) × ((b == 10) ≡ false)
-plain_marks b plain =
+plain-marks : (b : ℕ) → is_plain b ≡ true → ((b == 34) ≡ false) × ((b == 13) ≡ false) × ((b == 10) ≡ false)
+plain-marks b plain =
     let both = and_parts (is_graphic b) (not (nat_eq b 34)) plain in
     let low = leb-true 33 b (and_parts (nat_le 33 b) (nat_le b 126) both.0).0 in
     (flip (nat_eq b 34) both.1, ne_eqb b 13 (λ e. omega arith), ne_eqb b 10 (λ e. omega arith))
@@ -44,37 +44,37 @@ plain_marks b plain =
     flip false e = refl
 
 -- the rest of a field, the other fields, and the line feed
-plain_run : (line rest : List ℕ) (fields : List (List ℕ)) (field : List ℕ) → list_all is_plain line ≡ true
+plain-run : (line rest : List ℕ) (fields : List (List ℕ)) (field : List ℕ) → list_all is_plain line ≡ true
     → (next_record default_config st.InField fields field (line ++ 10 ∷ rest) ≡ Some (fields ++ onto_field field (slice_split is_comma line), st.StartRecord, rest))
     × (next_record default_config st.StartField fields field (line ++ 10 ∷ rest) ≡ Some (fields ++ onto_field field (slice_split is_comma line), st.StartRecord, rest))
 unfolding next_record
-plain_run [] rest fields field plain = rw (append-nil field) (refl, refl)
-plain_run (b ∷ line) rest fields field plain =
+plain-run [] rest fields field plain = rw (append-nil field) (refl, refl)
+plain-run (b ∷ line) rest fields field plain =
     let both = and_parts (is_plain b) (list_all is_plain line) plain in
-    let marks = plain_marks b both.0 in
+    let marks = plain-marks b both.0 in
     elim (cases_Bool (nat_eq b 44)) [
       | inl comma ↦ (
-          let after = (plain_run line rest (fields ++ field ∷ []) [] both.1).1
-          ∙ ap (λ (fs : List (List ℕ)). Some (fs, st.StartRecord, rest)) (append_assoc fields (field ∷ []) (onto_field [] (slice_split is_comma line)) ∙ ap (λ (ps : List (List ℕ)). fields ++ field ∷ ps) (onto_none line)) in
+          let after = (plain-run line rest (fields ++ field ∷ []) [] both.1).1
+          ∙ ap (λ (fs : List (List ℕ)). Some (fs, st.StartRecord, rest)) (append_assoc fields (field ∷ []) (onto_field [] (slice_split is_comma line)) ∙ ap (λ (ps : List (List ℕ)). fields ++ field ∷ ps) (onto-none line)) in
           rw (slice_split-cons_yes is_comma b line comma, append-nil field, marks.0, marks.1, marks.2, comma) (after, after))
       | inr part ↦ (
-          let after = (plain_run line rest fields (field ++ b ∷ []) both.1).0
-          ∙ ap (λ (ps : List (List ℕ)). Some (fields ++ ps, st.StartRecord, rest)) (one_more field b (slice_split is_comma line)) in
+          let after = (plain-run line rest fields (field ++ b ∷ []) both.1).0
+          ∙ ap (λ (ps : List (List ℕ)). Some (fields ++ ps, st.StartRecord, rest)) (one-more field b (slice_split is_comma line)) in
           rw (slice_split-cons_no is_comma b line part, marks.0, marks.1, marks.2, part) (after, after))
     ]
 
 -- a byte that ends no line begins a field where it begins a record
-same_start : (b : ℕ) (rest : List ℕ) → (b == 13) ≡ false → (b == 10) ≡ false
+same-start : (b : ℕ) (rest : List ℕ) → (b == 13) ≡ false → (b == 10) ≡ false
     → next_record default_config st.StartRecord [] [] (b ∷ rest) ≡ next_record default_config st.StartField [] [] (b ∷ rest)
 unfolding next_record
-same_start b rest return feed = rw (return, feed) refl
+same-start b rest return feed = rw (return, feed) refl
 
 pub csv-reads-rows : CsvReadsRows
 csv-reads-rows [] rest text = cc
 csv-reads-rows (b ∷ line) rest text =
     let plain = (and_parts (not (nat_eq (length (b ∷ line)) 0)) (list_all is_plain (b ∷ line)) text).1 in
     let both = and_parts (is_plain b) (list_all is_plain line) plain in
-    let marks = plain_marks b both.0 in
-    let whole = (plain_run (b ∷ line) rest [] [] plain).1 in
-    same_start b (line ++ 10 ∷ rest) marks.1 marks.2 ∙ whole
-    ∙ ap (λ (fs : List (List ℕ)). Some (fs, st.StartRecord, rest)) (onto_none (b ∷ line))
+    let marks = plain-marks b both.0 in
+    let whole = (plain-run (b ∷ line) rest [] [] plain).1 in
+    same-start b (line ++ 10 ∷ rest) marks.1 marks.2 ∙ whole
+    ∙ ap (λ (fs : List (List ℕ)). Some (fs, st.StartRecord, rest)) (onto-none (b ∷ line))

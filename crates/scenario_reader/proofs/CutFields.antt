@@ -27,14 +27,14 @@ are_blank [] = true
 are_blank ([] ∷ cells) = are_blank cells
 are_blank ((b ∷ bs) ∷ cells) = false
 
-blank_at : (cells : List (List ℕ)) → are_blank cells ≡ true → (place : ℕ) → get_or cells place [] ≡ get_or [] place []
-blank_at [] blank place = refl
-blank_at ([] ∷ cells) blank zero = refl
-blank_at ([] ∷ cells) blank (suc place) = blank_at cells blank place
-blank_at ((b ∷ bs) ∷ cells) blank place = cc
+blank-at : (cells : List (List ℕ)) → are_blank cells ≡ true → (place : ℕ) → get_or cells place [] ≡ get_or [] place []
+blank-at [] blank place = refl
+blank-at ([] ∷ cells) blank zero = refl
+blank-at ([] ∷ cells) blank (suc place) = blank-at cells blank place
+blank-at ((b ∷ bs) ∷ cells) blank place = cc
 
-pub none_cut : (cells : List (List ℕ)) → length cells ≡ 32 → are_blank cells ≡ true → AreAtHand cells []
-none_cut cells room blank = record { room = room; same = λ place few. blank_at cells blank place }
+pub none-cut : (cells : List (List ℕ)) → length cells ≡ 32 → are_blank cells ≡ true → AreAtHand cells []
+none-cut cells room blank = record { room = room; same = λ place few. blank-at cells blank place }
 
 -- one more part changes no other place
 unpushed : (fields : List (List ℕ)) (field : List ℕ) (place : ℕ) → (place ≡ length fields → ⊥) → get_or (fields ++ field ∷ []) place [] ≡ get_or fields place []
@@ -44,8 +44,8 @@ unpushed (f ∷ fields) field zero other = refl
 unpushed (f ∷ fields) field (suc place) other = unpushed fields field place (λ same. other (ap suc same))
 
 -- one more part goes into the cell of its place
-one_more : (cells fields : List (List ℕ)) (field : List ℕ) → AreAtHand cells fields → AreAtHand (set cells (length fields) field) (fields ++ field ∷ [])
-one_more cells fields field at = record {
+one-more : (cells fields : List (List ℕ)) (field : List ℕ) → AreAtHand cells fields → AreAtHand (set cells (length fields) field) (fields ++ field ∷ [])
+one-more cells fields field at = record {
   room = length-set cells (length fields) field ∙ at.room;
   same = λ place few. elim (cases_eq place (length fields)) [
     | inl here ↦ get_or-set_at cells (length fields) place field [] here (omega (arith, at.room, here, few)) ∙ sym (get_or_push fields field [] place (sym here))
@@ -53,21 +53,21 @@ one_more cells fields field at = record {
   ];
 }
 
-pub cut_on : (now before : List (List ℕ)) (place : ℕ) (parts : List (Bor (List ℕ))) (part : Bor (List ℕ)) → AreAtHand before (map bytes parts) → place ≡ length parts → now ≡ set before place part.now
+pub cut-on : (now before : List (List ℕ)) (place : ℕ) (parts : List (Bor (List ℕ))) (part : Bor (List ℕ)) → AreAtHand before (map bytes parts) → place ≡ length parts → now ≡ set before place part.now
     → AreAtHand now (map bytes (parts ++ part ∷ []))
-cut_on now before place parts part at count is =
-    subst₂ AreAtHand (sym (is ∙ ap (λ (n : ℕ). set before n part.now) (count ∙ sym (length-map parts bytes)))) (sym (map-append bytes parts (part ∷ []))) (one_more before (map bytes parts) part.now at)
+cut-on now before place parts part at count is =
+    subst₂ AreAtHand (sym (is ∙ ap (λ (n : ℕ). set before n part.now) (count ∙ sym (length-map parts bytes)))) (sym (map-append bytes parts (part ∷ []))) (one-more before (map bytes parts) part.now at)
 
 -- at the end of a road, what it has yielded is all of it
-pub whole_road : {S A B : Type 0} {steps : S → Option A → S → Type 0} {v : A → B} {s : S} {all : List B} (xs : List A) (t : S) → Yields steps s xs t → (r : Option A) (u : S) → r ≡ None → steps t r u → YieldsList steps v s all → (map v xs ≡ all) × (length xs ≡ length all)
-whole_road xs t yielded r u none stepped road = YieldsList-end road xs t yielded r u none stepped
+pub whole-road : {S A B : Type 0} {steps : S → Option A → S → Type 0} {v : A → B} {s : S} {all : List B} (xs : List A) (t : S) → Yields steps s xs t → (r : Option A) (u : S) → r ≡ None → steps t r u → YieldsList steps v s all → (map v xs ≡ all) × (length xs ≡ length all)
+whole-road xs t yielded r u none stepped road = YieldsList-end road xs t yielded r u none stepped
 
 -- with one more part, each is a field where each was, and this one is
-and_last : (so_far last : Bool) → (so_far && (last && true)) ≡ (so_far && last)
-and_last true true = refl
-and_last true false = refl
-and_last false last = refl
+and-last : (so_far last : Bool) → (so_far && (last && true)) ≡ (so_far && last)
+and-last true true = refl
+and-last true false = refl
+and-last false last = refl
 
-pub written_on : (parts : List (Bor (List ℕ))) (part : Bor (List ℕ)) → are_fields (map bytes (parts ++ part ∷ [])) ≡ (are_fields (map bytes parts) && is_field part.now)
-written_on parts part =
-    ap are_fields (map-append bytes parts (part ∷ [])) ∙ list_all-append is_field (map bytes parts) (part.now ∷ []) ∙ and_last (are_fields (map bytes parts)) (is_field part.now)
+pub written-on : (parts : List (Bor (List ℕ))) (part : Bor (List ℕ)) → are_fields (map bytes (parts ++ part ∷ [])) ≡ (are_fields (map bytes parts) && is_field part.now)
+written-on parts part =
+    ap are_fields (map-append bytes parts (part ∷ [])) ∙ list_all-append is_field (map bytes parts) (part.now ∷ []) ∙ and-last (are_fields (map bytes parts)) (is_field part.now)

@@ -14,25 +14,25 @@ pub numerals : IsNumeralModel (λ ds. all_ascii_digits ds ≡ true) (digits_valu
 numerals = numerals_by_value _ tells_all_ascii_digits
 
 -- the test of each byte is the test of the text
-pub all_digits : (bs : List ℕ) → list_all is_ascii_digit bs ≡ all_ascii_digits bs
-all_digits [] = refl
-all_digits (b ∷ bs) = ap (λ t. is_ascii_digit b && t) (all_digits bs)
+pub all-digits : (bs : List ℕ) → list_all is_ascii_digit bs ≡ all_ascii_digits bs
+all-digits [] = refl
+all-digits (b ∷ bs) = ap (λ t. is_ascii_digit b && t) (all-digits bs)
 
 -- a byte of a text of digits is a digit
-pub digit_in : (bs : List ℕ) (i : ℕ) → all_ascii_digits bs ≡ true → i < length bs → IsInRange 48 57 (get_or bs i 0)
-digit_in bs i d h = digit_at bs i (numerals.to bs d) h
+pub digit-in : (bs : List ℕ) (i : ℕ) → all_ascii_digits bs ≡ true → i < length bs → IsInRange 48 57 (get_or bs i 0)
+digit-in bs i d h = digit_at bs i (numerals.to bs d) h
 
 -- one digit more makes ten times the value, and the digit
-pub value_more : (bs : List ℕ) (i : ℕ) → all_ascii_digits bs ≡ true → i < length bs → digits_value 10 (take (i + 1) bs) ≡ digits_value 10 (take i bs) * 10 + (get_or bs i 0 - 48)
-value_more bs i d h =
-    let digit : digit_value (get_or bs i 0) + 48 ≡ get_or bs i 0 = digit_value_digit (get_or bs i 0) (digit_in bs i d h) in
+pub value-more : (bs : List ℕ) (i : ℕ) → all_ascii_digits bs ≡ true → i < length bs → digits_value 10 (take (i + 1) bs) ≡ digits_value 10 (take i bs) * 10 + (get_or bs i 0 - 48)
+value-more bs i d h =
+    let digit : digit_value (get_or bs i 0) + 48 ≡ get_or bs i 0 = digit_value_digit (get_or bs i 0) (digit-in bs i d h) in
     digits_value_more 10 bs i h ∙ ap (λ v. digits_value 10 (take i bs) * 10 + v) (omega arith)
 
 -- up to 18 digits stand for less than 10 ^ 18
-pub value_below : (bs : List ℕ) → all_ascii_digits bs ≡ true → length bs ≤ 18 → digits_value 10 bs < 10 ^ 18
-value_below bs d h = digits_value_short numerals bs 18 d h
+pub value-below : (bs : List ℕ) → all_ascii_digits bs ≡ true → length bs ≤ 18 → digits_value 10 bs < 10 ^ 18
+value-below bs d h = digits_value_short numerals bs 18 d h
 
 -- and so does each prefix of them
-pub value_so_far : (bs : List ℕ) (i : ℕ) → all_ascii_digits bs ≡ true → length bs ≤ 18 → digits_value 10 (take i bs) < 10 ^ 18
-value_so_far bs i d h =
-    omega (arith, value_below bs d h, digits_value-take-le 10 bs i (omega arith))
+pub value-so-far : (bs : List ℕ) (i : ℕ) → all_ascii_digits bs ≡ true → length bs ≤ 18 → digits_value 10 (take i bs) < 10 ^ 18
+value-so-far bs i d h =
+    omega (arith, value-below bs d h, digits_value-take-le 10 bs i (omega arith))

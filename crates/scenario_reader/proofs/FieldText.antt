@@ -13,90 +13,90 @@ use Rattle.byte_ends.specs.Cutting.{HasNoFeed}
 use Rattle.byte_ends.specs.WholeLines.{feed}
 use Rattle.net_units.specs.Text.{is_letter, is_name_byte, begins_as_name, is_kept_word, is_name}
 use Rattle.scenario_reader.specs.Fields.{is_space, fields_of, line_of, is_graphic, is_field, are_fields}
-use Rattle.scenario_reader.proofs.DecimalDigits.{numerals, all_digits}
+use Rattle.scenario_reader.proofs.DecimalDigits.{numerals, all-digits}
 
 -- a byte of a field is none below 33
-graphic_apart : (b c : ℕ) → c < 33 → is_graphic b ≡ true → b ≢ c
-graphic_apart b c low g e =
+graphic-apart : (b c : ℕ) → c < 33 → is_graphic b ≡ true → b ≢ c
+graphic-apart b c low g e =
     let least = leb-true 33 b (and_parts (nat_le 33 b) (nat_le b 126) g).0 in
     omega arith
 
 -- what a test says of a byte holds of each
-all_from : (P : ℕ → Type 0) (p : ℕ → Bool) → ((b : ℕ) → p b ≡ true → P b) → (bs : List ℕ) → list_all p bs ≡ true → All P bs
-all_from P p f [] e = All-nil P
-all_from P p f (b ∷ bs) e =
+all-from : (P : ℕ → Type 0) (p : ℕ → Bool) → ((b : ℕ) → p b ≡ true → P b) → (bs : List ℕ) → list_all p bs ≡ true → All P bs
+all-from P p f [] e = All-nil P
+all-from P p f (b ∷ bs) e =
     let q = and_parts (p b) (list_all p bs) e in
-    All-cons P b bs (f b q.0) (all_from P p f bs q.1)
+    All-cons P b bs (f b q.0) (all-from P p f bs q.1)
 
 -- the bytes of a field
-field_bytes : (field : List ℕ) → is_field field ≡ true → list_all is_graphic field ≡ true
-field_bytes field e = (and_parts (not (nat_eq (length field) 0)) (list_all is_graphic field) e).1
+field-bytes : (field : List ℕ) → is_field field ≡ true → list_all is_graphic field ≡ true
+field-bytes field e = (and_parts (not (nat_eq (length field) 0)) (list_all is_graphic field) e).1
 
 -- a field has no space
-no_space : (field : List ℕ) → is_field field ≡ true → All (λ b. is_space b ≡ false) field
-no_space field e = all_from (λ b. is_space b ≡ false) is_graphic (λ b g. ne_eqb b 32 (graphic_apart b 32 (omega arith) g)) field (field_bytes field e)
+no-space : (field : List ℕ) → is_field field ≡ true → All (λ b. is_space b ≡ false) field
+no-space field e = all-from (λ b. is_space b ≡ false) is_graphic (λ b g. ne_eqb b 32 (graphic-apart b 32 (omega arith) g)) field (field-bytes field e)
 
 -- the parts of a line of fields are those fields
-pub fields_back : (field : List ℕ) (fields : List (List ℕ)) → are_fields (field ∷ fields) ≡ true → fields_of (line_of (field ∷ fields)) ≡ field ∷ fields
-fields_back field [] e = slice_split_none is_space field (no_space field (and_parts (is_field field) true e).0)
-fields_back field (next ∷ fields) e =
+pub fields-back : (field : List ℕ) (fields : List (List ℕ)) → are_fields (field ∷ fields) ≡ true → fields_of (line_of (field ∷ fields)) ≡ field ∷ fields
+fields-back field [] e = slice_split_none is_space field (no-space field (and_parts (is_field field) true e).0)
+fields-back field (next ∷ fields) e =
     let p = and_parts (is_field field) (are_fields (next ∷ fields)) e in
-    slice_split_at is_space field 32 (line_of (next ∷ fields)) (no_space field p.0) refl ∙ ap (λ rest. field ∷ rest) (fields_back next fields p.1)
+    slice_split_at is_space field 32 (line_of (next ∷ fields)) (no-space field p.0) refl ∙ ap (λ rest. field ∷ rest) (fields-back next fields p.1)
 
 -- a field has no line feed
-field_no_feed : (field : List ℕ) → is_field field ≡ true → HasNoFeed field
-field_no_feed field e = all_from (λ b. b ≢ feed) is_graphic (λ b g. graphic_apart b 10 (omega arith) g) field (field_bytes field e)
+field-no-feed : (field : List ℕ) → is_field field ≡ true → HasNoFeed field
+field-no-feed field e = all-from (λ b. b ≢ feed) is_graphic (λ b g. graphic-apart b 10 (omega arith) g) field (field-bytes field e)
 
 -- a line of fields has no line feed
-pub line_no_feed : (fields : List (List ℕ)) → are_fields fields ≡ true → HasNoFeed (line_of fields)
-line_no_feed [] e = All-nil (λ b. b ≢ feed)
-line_no_feed (field ∷ []) e = field_no_feed field (and_parts (is_field field) true e).0
-line_no_feed (field ∷ next ∷ fields) e =
+pub line-no-feed : (fields : List (List ℕ)) → are_fields fields ≡ true → HasNoFeed (line_of fields)
+line-no-feed [] e = All-nil (λ b. b ≢ feed)
+line-no-feed (field ∷ []) e = field-no-feed field (and_parts (is_field field) true e).0
+line-no-feed (field ∷ next ∷ fields) e =
     let p = and_parts (is_field field) (are_fields (next ∷ fields)) e in
     let space : 32 ≢ feed = λ s. absurd (omega arith) in
-    All-append (λ b. b ≢ feed) field (32 ∷ line_of (next ∷ fields)) (field_no_feed field p.0) (All-cons (λ b. b ≢ feed) 32 (line_of (next ∷ fields)) space (line_no_feed (next ∷ fields) p.1))
+    All-append (λ b. b ≢ feed) field (32 ∷ line_of (next ∷ fields)) (field-no-feed field p.0) (All-cons (λ b. b ≢ feed) 32 (line_of (next ∷ fields)) space (line-no-feed (next ∷ fields) p.1))
 
 -- a letter may stand in a field
-letter_graphic : (b : ℕ) → is_letter b ≡ true → is_graphic b ≡ true
-letter_graphic b e = grind (arith, nat_tests)
+letter-graphic : (b : ℕ) → is_letter b ≡ true → is_graphic b ≡ true
+letter-graphic b e = grind (arith, nat_tests)
 
 -- and so may a byte of a name
-name_byte_graphic : (b : ℕ) → is_name_byte b ≡ true → is_graphic b ≡ true
-name_byte_graphic b e = grind (arith, nat_tests)
+name-byte-graphic : (b : ℕ) → is_name_byte b ≡ true → is_graphic b ≡ true
+name-byte-graphic b e = grind (arith, nat_tests)
 
 -- and so may a digit
-digit_graphic : (b : ℕ) → is_ascii_digit b ≡ true → is_graphic b ≡ true
-digit_graphic b e = grind (arith, nat_tests)
+digit-graphic : (b : ℕ) → is_ascii_digit b ≡ true → is_graphic b ≡ true
+digit-graphic b e = grind (arith, nat_tests)
 
 -- and so may all bytes of a kind that may
-all_graphic : (p : ℕ → Bool) → ((b : ℕ) → p b ≡ true → is_graphic b ≡ true) → (bs : List ℕ) → list_all p bs ≡ true → list_all is_graphic bs ≡ true
-all_graphic p f [] e = refl
-all_graphic p f (b ∷ bs) e =
+all-graphic : (p : ℕ → Bool) → ((b : ℕ) → p b ≡ true → is_graphic b ≡ true) → (bs : List ℕ) → list_all p bs ≡ true → list_all is_graphic bs ≡ true
+all-graphic p f [] e = refl
+all-graphic p f (b ∷ bs) e =
     let q = and_parts (p b) (list_all p bs) e in
-    and_from (is_graphic b) (list_all is_graphic bs) (f b q.0) (all_graphic p f bs q.1)
+    and_from (is_graphic b) (list_all is_graphic bs) (f b q.0) (all-graphic p f bs q.1)
 
 -- bytes that are some
-not_empty : (bs : List ℕ) → 0 < length bs → not (nat_eq (length bs) 0) ≡ true
-not_empty bs some = not_from_false (nat_eq (length bs) 0) (ne_eqb (length bs) 0 (λ e. omega arith))
+not-empty : (bs : List ℕ) → 0 < length bs → not (nat_eq (length bs) 0) ≡ true
+not-empty bs some = not_from_false (nat_eq (length bs) 0) (ne_eqb (length bs) 0 (λ e. omega arith))
 
 -- what begins as a name is a field
-begun_name : (bs : List ℕ) → begins_as_name bs ≡ true → is_field bs ≡ true
-begun_name [] e = cc
-begun_name (b ∷ bs) e =
+begun-name : (bs : List ℕ) → begins_as_name bs ≡ true → is_field bs ≡ true
+begun-name [] e = cc
+begun-name (b ∷ bs) e =
     let p = and_parts (is_letter b) (list_all is_name_byte bs) e in
-    and_from _ (list_all is_graphic (b ∷ bs)) (not_empty (b ∷ bs) (omega arith))
-    (and_from (is_graphic b) (list_all is_graphic bs) (letter_graphic b p.0) (all_graphic is_name_byte name_byte_graphic bs p.1))
+    and_from _ (list_all is_graphic (b ∷ bs)) (not-empty (b ∷ bs) (omega arith))
+    (and_from (is_graphic b) (list_all is_graphic bs) (letter-graphic b p.0) (all-graphic is_name_byte name-byte-graphic bs p.1))
 
 -- a name is a field
-pub name_field : (bs : List ℕ) → is_name bs ≡ true → is_field bs ≡ true
-name_field bs e =
+pub name-field : (bs : List ℕ) → is_name bs ≡ true → is_field bs ≡ true
+name-field bs e =
     let p = and_parts (begins_as_name bs && nat_le (length bs) 16) (not (is_kept_word bs)) e in
-    begun_name bs (and_parts (begins_as_name bs) (nat_le (length bs) 16) p.0).0
+    begun-name bs (and_parts (begins_as_name bs) (nat_le (length bs) 16) p.0).0
 
 -- digits may stand in a field
-all_digits_graphic : (bs : List ℕ) → all_ascii_digits bs ≡ true → list_all is_graphic bs ≡ true
-all_digits_graphic bs e = all_graphic is_ascii_digit digit_graphic bs (all_digits bs ∙ e)
+all-digits-graphic : (bs : List ℕ) → all_ascii_digits bs ≡ true → list_all is_graphic bs ≡ true
+all-digits-graphic bs e = all-graphic is_ascii_digit digit-graphic bs (all-digits bs ∙ e)
 
 -- a decimal form is a field
-pub number_field : (n : ℕ) → n < 2 ^ 64 → is_field (decimal n) ≡ true
-number_field n h = and_from (not (nat_eq (length (decimal n)) 0)) (list_all is_graphic (decimal n)) (not_empty (decimal n) (decimal_nonempty n h)) (all_digits_graphic (decimal n) (digits_decimal numerals n h))
+pub number-field : (n : ℕ) → n < 2 ^ 64 → is_field (decimal n) ≡ true
+number-field n h = and_from (not (nat_eq (length (decimal n)) 0)) (list_all is_graphic (decimal n)) (not-empty (decimal n) (decimal_nonempty n h)) (all-digits-graphic (decimal n) (digits_decimal numerals n h))

@@ -6,22 +6,22 @@ use Rattle.scenario_reader.specs.Forms.{one_field, has_form}
 use Rattle.scenario_reader.specs.declared.form.Part.{Part}
 
 -- where one field is taken, there is one
-pub one_left : (fields : List (List ℕ)) → one_field (λ field. true) fields ≡ cond (ltb 0 (length fields)) (Some 1) None
-one_left [] = refl
-one_left (f ∷ fields) = rw (lt-ltb 0 (suc (length fields)) (omega arith)) refl
+pub one-left : (fields : List (List ℕ)) → one_field (λ field. true) fields ≡ cond (ltb 0 (length fields)) (Some 1) None
+one-left [] = refl
+one-left (f ∷ fields) = rw (lt-ltb 0 (suc (length fields)) (omega arith)) refl
 
 -- a form at its end wants no field
-pub form_ends : (fields : List (List ℕ)) → has_form [] fields ≡ eqb (length fields) 0
-form_ends [] = refl
-form_ends (f ∷ fields) = sym (ne_eqb (suc (length fields)) 0 (omega arith))
+pub form-ends : (fields : List (List ℕ)) → has_form [] fields ≡ eqb (length fields) 0
+form-ends [] = refl
+form-ends (f ∷ fields) = sym (ne_eqb (suc (length fields)) 0 (omega arith))
 
 -- after the whole form, the fields have to be at their end too
-pub form_at_end : (form : List Part) (fields : List (List ℕ)) (i place : ℕ) → length form ≤ i → place ≤ length fields → has_form (drop i form) (drop place fields) ≡ eqb place (length fields)
-form_at_end form fields i place h k =
-    rw (drop_all i form h) (form_ends (drop place fields) ∙ same_test (length (drop place fields)) place (length fields) (length-drop place fields) k)
+pub form-at-end : (form : List Part) (fields : List (List ℕ)) (i place : ℕ) → length form ≤ i → place ≤ length fields → has_form (drop i form) (drop place fields) ≡ eqb place (length fields)
+form-at-end form fields i place h k =
+    rw (drop_all i form h) (form-ends (drop place fields) ∙ same-test (length (drop place fields)) place (length fields) (length-drop place fields) k)
   where
-    same_test : (left place count : ℕ) → left ≡ count - place → place ≤ count → eqb left 0 ≡ eqb place count
-    same_test left place count e k =
+    same-test : (left place count : ℕ) → left ≡ count - place → place ≤ count → eqb left 0 ≡ eqb place count
+    same-test left place count e k =
         elim (cases_eq place count) [
           | inl same ↦ eq-eqb left 0 (omega arith) ∙ sym (eq-eqb place count same)
           | inr other ↦ ne_eqb left 0 (omega arith) ∙ sym (ne_eqb place count other)

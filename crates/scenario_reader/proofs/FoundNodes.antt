@@ -12,7 +12,7 @@ use Rattle.route_finder.specs.Walks.{hop_of as hop_by, prop_over, IsAmong, AreAm
 use Rattle.route_finder.specs.declared.edge.Edge.{Edge}
 use Rattle.route_finder.proofs.LeastPropagations.{least_prop-within}
 use Rattle.route_finder.proofs.TracedWalk.{IsFewest, fewest-is}
-use Rattle.route_finder.proofs.LeastWalk.{finds_least_walk}
+use Rattle.route_finder.proofs.LeastWalk.{finds-least-walk}
 use Rattle.scenario_reader.specs.Nodes.{AreNumbered, touches, is_node, node_from, node_of, edges_of, route_between}
 use Rattle.scenario_reader.proofs.NodesByNumber.{named-same, are-network, node-known, ends-known, step-is}
 
@@ -89,7 +89,7 @@ found-nodes links from to hops numbered few some found =
     let a = node_of links from in
     let b = node_of links to in
     let apart : a ≢ b = λ same. nothing hops some (sym (ap (option_map (map hop_by)) (subst (λ n. least_walk edges n b ≡ Some []) (sym same) (no-walk edges b))) ∙ found) in
-    by (least_walk edges a b) (finds_least_walk edges a b (are-network links numbered few) apart) found apart where
+    by (least_walk edges a b) (finds-least-walk edges a b (are-network links numbered few) apart) found apart where
       nothing : (hops : List Hop) → 1 ≤ length hops → Some [] ≡ Some hops → ⊥
       nothing [] some same = omega (arith, some)
       nothing (hop ∷ hops) some same = (let clash : [] ≡ hop ∷ hops = same_Some [] (hop ∷ hops) same in cc)

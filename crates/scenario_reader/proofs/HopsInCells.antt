@@ -15,28 +15,28 @@ pub hops_few : (cells : List Hop) (len : ℕ) → length cells ≡ 16 → len �
 hops_few cells len whole few less = omega (arith, length-take-le len cells (omega (arith, whole)))
 
 -- the hop over a link that is found
-one_hop : (found : Option LinkEntry) (hops : List Hop) (hop : Hop) → option_map hop_of found ≡ Some hop → with_hop found hops ≡ hop ∷ hops
-one_hop None hops hop e = cc
-one_hop (Some entry) hops hop e = ap (λ h. h ∷ hops) (same_Some (hop_of entry) hop e)
+one-hop : (found : Option LinkEntry) (hops : List Hop) (hop : Hop) → option_map hop_of found ≡ Some hop → with_hop found hops ≡ hop ∷ hops
+one-hop None hops hop e = cc
+one-hop (Some entry) hops hop e = ap (λ h. h ∷ hops) (same_Some (hop_of entry) hop e)
 
-after_hop : (found : Option LinkEntry) (hops more : List Hop) → with_hop found (hops ++ more) ≡ with_hop found hops ++ more
-after_hop None hops more = refl
-after_hop (Some entry) hops more = refl
+after-hop : (found : Option LinkEntry) (hops more : List Hop) → with_hop found (hops ++ more) ≡ with_hop found hops ++ more
+after-hop None hops more = refl
+after-hop (Some entry) hops more = refl
 
-route_next : (links : List LinkEntry) (names : List (List ℕ)) (place : ℕ) (hop : Hop) → place < length names
+route-next : (links : List LinkEntry) (names : List (List ℕ)) (place : ℕ) (hop : Hop) → place < length names
     → option_map hop_of (link_named links (get_or names place [])) ≡ Some hop → route_over links (take (suc place) names) ≡ route_over links (take place names) ++ hop ∷ []
-route_next links [] place hop h found = absurd (omega arith)
-route_next links (name ∷ names) zero hop h found = one_hop (link_named links name) [] hop found
-route_next links (name ∷ names) (suc place) hop h found =
-    ap (with_hop (link_named links name)) (route_next links names place hop (omega arith) found)
-    ∙ after_hop (link_named links name) (route_over links (take place names)) (hop ∷ [])
+route-next links [] place hop h found = absurd (omega arith)
+route-next links (name ∷ names) zero hop h found = one-hop (link_named links name) [] hop found
+route-next links (name ∷ names) (suc place) hop h found =
+    ap (with_hop (link_named links name)) (route-next links names place hop (omega arith) found)
+    ∙ after-hop (link_named links name) (route_over links (take place names)) (hop ∷ [])
 
 -- a hop more over the next name
-pub route_more : (links : List LinkEntry) (names : List (List ℕ)) (place : ℕ) (field : List ℕ) (hop : Hop) → place < length names → field ≡ get_or names place []
+pub route-more : (links : List LinkEntry) (names : List (List ℕ)) (place : ℕ) (field : List ℕ) (hop : Hop) → place < length names → field ≡ get_or names place []
     → option_map hop_of (link_named links field) ≡ Some hop → route_over links (take (place + 1) names) ≡ route_over links (take place names) ++ hop ∷ []
-route_more links names place field hop h same found =
-    rw add-one (route_next links names place hop h (subst (λ f. option_map hop_of (link_named links f) ≡ Some hop) same found))
+route-more links names place field hop h same found =
+    rw add-one (route-next links names place hop h (subst (λ f. option_map hop_of (link_named links f) ≡ Some hop) same found))
 
 -- all of them
-pub whole_route : (links : List LinkEntry) (names : List (List ℕ)) (place : ℕ) → length names ≤ place → route_over links (take place names) ≡ route_over links names
-whole_route links names place h = ap (route_over links) (take_all place names h)
+pub whole-route : (links : List LinkEntry) (names : List (List ℕ)) (place : ℕ) → length names ≤ place → route_over links (take place names) ≡ route_over links names
+whole-route links names place h = ap (route_over links) (take_all place names h)

@@ -37,12 +37,12 @@ use Rattle.scenario_reader.specs.line.Operation.{MayPutOp, MayDo}
 use Rattle.scenario_reader.specs.Uses.{IsLight, blank, used_by}
 use Rattle.scenario_reader.specs.declared.item.Item.TheVariants as item
 use Rattle.scenario_reader.specs.declared.uses.Uses.{Uses}
-use Rattle.scenario_reader.proofs.RequestUses.{after_op, uses_added, op_used, used_length, loads_are, used_light, op_carries, op_load, load_before, same_use}
+use Rattle.scenario_reader.proofs.RequestUses.{after_op, uses-added, op-used, used-length, loads-are, used-light, op-carries, op-load, load-before, same-use}
 
 -- before the first line
-pub kept_begins : IsKeptBeside nothing_said [] [] [] [] 0
+pub kept-begins : IsKeptBeside nothing_said [] [] [] [] 0
 unfolding ops_load ops_over
-kept_begins = record {
+kept-begins = record {
   same_links = refl;
   same_requests = refl;
   same_callers = refl;
@@ -58,9 +58,9 @@ kept_begins = record {
 }
 
 -- links, requests and callers alone matter of what was read, and that the rounds are few
-kept_with : (said : Said) (links requests callers : List (List ℕ)) (uses : List Uses) (load : ℕ) (version : Option Version) (groups : List (List ℕ)) (rounds tail : Option ℕ) → IsKeptBeside said links requests callers uses load → IfSome rounds (λ count. count ≤ 524288)
+kept-with : (said : Said) (links requests callers : List (List ℕ)) (uses : List Uses) (load : ℕ) (version : Option Version) (groups : List (List ℕ)) (rounds tail : Option ℕ) → IsKeptBeside said links requests callers uses load → IfSome rounds (λ count. count ≤ 524288)
     → IsKeptBeside (record said { version = version; groups = groups; rounds = rounds; tail = tail }) links requests callers uses load
-kept_with said links requests callers uses load version groups rounds tail k few = record {
+kept-with said links requests callers uses load version groups rounds tail k few = record {
   same_links = k.same_links;
   same_requests = k.same_requests;
   same_callers = k.same_callers;
@@ -76,9 +76,9 @@ kept_with said links requests callers uses load version groups rounds tail k few
 }
 
 -- a link more
-pub kept_link : (said : Said) (links requests callers : List (List ℕ)) (uses : List Uses) (load : ℕ) (entry : LinkEntry) → IsKeptBeside said links requests callers uses load → MayPutLink said entry
+pub kept-link : (said : Said) (links requests callers : List (List ℕ)) (uses : List Uses) (load : ℕ) (entry : LinkEntry) → IsKeptBeside said links requests callers uses load → MayPutLink said entry
     → IsKeptBeside (with_item (item.Link entry) said) (links ++ entry.name ∷ []) requests callers uses load
-kept_link said links requests callers uses load entry k may = record {
+kept-link said links requests callers uses load entry k may = record {
   same_links = ap (λ names. names ++ entry.name ∷ []) k.same_links ∙ sym (map-append (λ (e : LinkEntry). e.name) said.links (entry ∷ []));
   same_requests = k.same_requests;
   same_callers = k.same_callers;
@@ -94,14 +94,14 @@ kept_link said links requests callers uses load entry k may = record {
 }
 
 -- a group more
-pub kept_group : (said : Said) (links requests callers : List (List ℕ)) (uses : List Uses) (load : ℕ) (name : List ℕ) → IsKeptBeside said links requests callers uses load
+pub kept-group : (said : Said) (links requests callers : List (List ℕ)) (uses : List Uses) (load : ℕ) (name : List ℕ) → IsKeptBeside said links requests callers uses load
     → IsKeptBeside (with_item (item.Group name) said) links requests callers uses load
-kept_group said links requests callers uses load name k = kept_with said links requests callers uses load said.version (said.groups ++ name ∷ []) said.rounds said.tail k k.few_rounds
+kept-group said links requests callers uses load name k = kept-with said links requests callers uses load said.version (said.groups ++ name ∷ []) said.rounds said.tail k k.few_rounds
 
 -- a quota more
-pub kept_quota : (said : Said) (links requests callers : List (List ℕ)) (uses : List Uses) (load : ℕ) (link : LinkNo) (quota : Quota) → IsKeptBeside said links requests callers uses load
+pub kept-quota : (said : Said) (links requests callers : List (List ℕ)) (uses : List Uses) (load : ℕ) (link : LinkNo) (quota : Quota) → IsKeptBeside said links requests callers uses load
     → IsKeptBeside (with_item (item.Quota link quota) said) links requests callers uses load
-kept_quota said links requests callers uses load link quota k = record {
+kept-quota said links requests callers uses load link quota k = record {
   same_links = k.same_links ∙ sym (quota-names (link_number link) quota said.links);
   same_requests = k.same_requests;
   same_callers = k.same_callers;
@@ -119,9 +119,9 @@ kept_quota said links requests callers uses load link quota k = record {
 -- ---- callers
 
 -- a caller more
-pub kept_caller : (said : Said) (links requests callers : List (List ℕ)) (uses : List Uses) (load : ℕ) (name : List ℕ) (group : ℕ) → IsDraft said → IsKeptBeside said links requests callers uses load → MayPutCaller said name group
+pub kept-caller : (said : Said) (links requests callers : List (List ℕ)) (uses : List Uses) (load : ℕ) (name : List ℕ) (group : ℕ) → IsDraft said → IsKeptBeside said links requests callers uses load → MayPutCaller said name group
     → IsKeptBeside (with_item (item.Caller name group) said) links requests (callers ++ name ∷ []) uses load
-kept_caller said links requests callers uses load name group d k may = record {
+kept-caller said links requests callers uses load name group d k may = record {
   same_links = k.same_links;
   same_requests = k.same_requests;
   same_callers = ap (λ names. names ++ name ∷ []) k.same_callers ∙ sym (map-append (λ (c : CallerEntry). c.name) said.callers (new_caller name group ∷ []));
@@ -141,21 +141,21 @@ kept_caller said links requests callers uses load name group d k may = record {
 -- ---- operations
 
 -- uses with a blank one after them
-use_more : (uses : List Uses) (n : ℕ) → get_or (uses ++ blank ∷ []) n blank ≡ get_or uses n blank
-use_more [] zero = refl
-use_more [] (suc n) = refl
-use_more (one ∷ uses) zero = refl
-use_more (one ∷ uses) (suc n) = use_more uses n
+use-more : (uses : List Uses) (n : ℕ) → get_or (uses ++ blank ∷ []) n blank ≡ get_or uses n blank
+use-more [] zero = refl
+use-more [] (suc n) = refl
+use-more (one ∷ uses) zero = refl
+use-more (one ∷ uses) (suc n) = use-more uses n
 
 -- a channel to which an operation is this was opened above
-done_opened : (what : Role) (c : ℕ) (above ops : List Op) → each_after (is_after what role.Opens) above ops ≡ true → list_any (is_in what c) ops ≡ true → list_any (is_in role.Opens c) (above ++ ops) ≡ true
+done-opened : (what : Role) (c : ℕ) (above ops : List Op) → each_after (is_after what role.Opens) above ops ≡ true → list_any (is_in what c) ops ≡ true → list_any (is_in role.Opens c) (above ++ ops) ≡ true
 unfolding each_after
-done_opened what c above [] opened any = cc
-done_opened what c above (op ∷ ops) opened any =
+done-opened what c above [] opened any = cc
+done-opened what c above (op ∷ ops) opened any =
     let split = and_parts (is_after what role.Opens above op) (each_after (is_after what role.Opens) (above ++ op ∷ []) ops) opened in
     elim (or_cases (is_in what c op) (list_any (is_in what c) ops) any) [
       | inl here ↦ any-later (is_in role.Opens c) above (op ∷ ops) (own (named what op) refl here split.0)
-      | inr later ↦ subst (λ os. list_any (is_in role.Opens c) os ≡ true) (append_assoc above (op ∷ []) ops) (done_opened what c (above ++ op ∷ []) ops split.1 later)
+      | inr later ↦ subst (λ os. list_any (is_in role.Opens c) os ≡ true) (append_assoc above (op ∷ []) ops) (done-opened what c (above ++ op ∷ []) ops split.1 later)
     ]
   where
     own : (chan : Option ℕ) → named what op ≡ chan → hits (λ n. nat_eq n c) (named what op) ≡ true → is_after what role.Opens above op ≡ true → list_any (is_in role.Opens c) above ≡ true
@@ -164,70 +164,70 @@ done_opened what c above (op ∷ ops) opened any =
         (let same : n ≡ c = eqb-true n c (sym (ap (hits (λ m. nat_eq m c)) is) ∙ here) in subst (λ m. list_any (is_in role.Opens m) above ≡ true) same (after-has what role.Opens above op n is after))
 
 -- what holds of the operations of each caller holds of those of the last
-each_last : (P : List Op → Type 0) (callers : List CallerEntry) → P [] → Each (λ (c : CallerEntry). P c.ops) callers → P (last_ops callers)
-each_last P [] none each = none
-each_last P (caller ∷ []) none each = each.0
-each_last P (caller ∷ next ∷ callers) none each = each_last P (next ∷ callers) none each.1
+each-last : (P : List Op → Type 0) (callers : List CallerEntry) → P [] → Each (λ (c : CallerEntry). P c.ops) callers → P (last_ops callers)
+each-last P [] none each = none
+each-last P (caller ∷ []) none each = each.0
+each-last P (caller ∷ next ∷ callers) none each = each-last P (next ∷ callers) none each.1
 
 -- a channel that the last caller has opened has a request
-pub opened_within : (said : Said) (c : ℕ) → IsDraft said → list_any (is_in role.Opens c) (last_ops said.callers) ≡ true → c < length said.requests
-opened_within said c d any =
-    each_last (HaveRequests said.requests) said.callers (λ n none. cc) (all-have (parts_said said) d.keeps.planned) c any
+pub opened-within : (said : Said) (c : ℕ) → IsDraft said → list_any (is_in role.Opens c) (last_ops said.callers) ≡ true → c < length said.requests
+opened-within said c d any =
+    each-last (HaveRequests said.requests) said.callers (λ n none. cc) (all-have (parts_said said) d.keeps.planned) c any
 
 -- a closing and a leaving are uses
-pub use_of : (what : Role) (c : ℕ) (ops : List Op) → ((op : Op) → is_in what c op ≡ true → is_in role.Uses c op ≡ true) → list_any (is_in role.Uses c) ops ≡ false → list_any (is_in what c) ops ≡ false
-use_of what c [] is none = refl
-use_of what c (op ∷ ops) is none =
+pub use-of : (what : Role) (c : ℕ) (ops : List Op) → ((op : Op) → is_in what c op ≡ true → is_in role.Uses c op ≡ true) → list_any (is_in role.Uses c) ops ≡ false → list_any (is_in what c) ops ≡ false
+use-of what c [] is none = refl
+use-of what c (op ∷ ops) is none =
     elim (cases_Bool (is_in what c op)) [
       | inl here ↦ absurd (let clash : true ≡ false = sym (ap (λ b. b || list_any (is_in role.Uses c) ops) (is op here)) ∙ none in cc)
-      | inr off ↦ ap (λ b. b || list_any (is_in what c) ops) off ∙ use_of what c ops is (rest (is_in role.Uses c op) (list_any (is_in role.Uses c) ops) none)
+      | inr off ↦ ap (λ b. b || list_any (is_in what c) ops) off ∙ use-of what c ops is (rest (is_in role.Uses c op) (list_any (is_in role.Uses c) ops) none)
     ]
   where
     rest : (a b : Bool) → (a || b) ≡ false → b ≡ false
     rest true b none = cc
     rest false b none = none
 
-pub closing_uses : (c : ℕ) (op : Op) → is_in role.Closes c op ≡ true → is_in role.Uses c op ≡ true
-closing_uses c (Open chan) is = cc
-closing_uses c (Send chan count gap size) is = cc
-closing_uses c (Close chan) is = is
-closing_uses c (Pour link count gap size) is = cc
-closing_uses c (Move old new) is = cc
+pub closing-uses : (c : ℕ) (op : Op) → is_in role.Closes c op ≡ true → is_in role.Uses c op ≡ true
+closing-uses c (Open chan) is = cc
+closing-uses c (Send chan count gap size) is = cc
+closing-uses c (Close chan) is = is
+closing-uses c (Pour link count gap size) is = cc
+closing-uses c (Move old new) is = cc
 
-leaving_uses : (c : ℕ) (op : Op) → is_in role.Leaves c op ≡ true → is_in role.Uses c op ≡ true
-leaving_uses c (Open chan) is = cc
-leaving_uses c (Send chan count gap size) is = cc
-leaving_uses c (Close chan) is = cc
-leaving_uses c (Pour link count gap size) is = cc
-leaving_uses c (Move old new) is = is
+leaving-uses : (c : ℕ) (op : Op) → is_in role.Leaves c op ≡ true → is_in role.Uses c op ≡ true
+leaving-uses c (Open chan) is = cc
+leaving-uses c (Send chan count gap size) is = cc
+leaving-uses c (Close chan) is = cc
+leaving-uses c (Pour link count gap size) is = cc
+leaving-uses c (Move old new) is = is
 
 -- the last caller has done nothing with a channel that is to be opened
-fresh_done : (what : Role) (said : Said) (c : ℕ) → IsDraft said → c ≡ length said.requests → each_after (is_after what role.Opens) [] (last_ops said.callers) ≡ true → list_any (is_in what c) (last_ops said.callers) ≡ false
-fresh_done what said c d new after =
+fresh-done : (what : Role) (said : Said) (c : ℕ) → IsDraft said → c ≡ length said.requests → each_after (is_after what role.Opens) [] (last_ops said.callers) ≡ true → list_any (is_in what c) (last_ops said.callers) ≡ false
+fresh-done what said c d new after =
     elim (cases_Bool (list_any (is_in what c) (last_ops said.callers))) [
-      | inl any ↦ absurd (let within = opened_within said c d (done_opened what c [] (last_ops said.callers) after any) in omega (arith, within, new))
+      | inl any ↦ absurd (let within = opened-within said c d (done-opened what c [] (last_ops said.callers) after any) in omega (arith, within, new))
       | inr none ↦ none
     ]
 
-fresh_use : (said : Said) (chan : ChanNo) → IsDraft said → channel_number chan ≡ length said.requests → uses_said said chan ≡ blank
+fresh-use : (said : Said) (chan : ChanNo) → IsDraft said → channel_number chan ≡ length said.requests → uses_said said chan ≡ blank
 unfolding each_after
-fresh_use said chan d new =
+fresh-use said chan d new =
     let used = used-in (parts_said said) d.keeps.there in
     let c = channel_number chan in
-    let uses = fresh_done role.Uses said c d new (last-passes (each_after (is_after role.Uses role.Opens) []) said.callers refl used.opened) in
-    let joins = fresh_done role.Joins said c d new (last-passes (each_after (is_after role.Joins role.Opens) []) said.callers refl used.onto_opened) in
-    same_use (uses_said said chan) blank (use_of role.Closes c (last_ops said.callers) (closing_uses c) uses) (use_of role.Leaves c (last_ops said.callers) (leaving_uses c) uses) uses joins
-    (get_or_past (loads_in said.callers) c 0 (let long = loads_are said d in omega (arith, long, new)))
+    let uses = fresh-done role.Uses said c d new (last-passes (each_after (is_after role.Uses role.Opens) []) said.callers refl used.opened) in
+    let joins = fresh-done role.Joins said c d new (last-passes (each_after (is_after role.Joins role.Opens) []) said.callers refl used.onto_opened) in
+    same-use (uses_said said chan) blank (use-of role.Closes c (last_ops said.callers) (closing-uses c) uses) (use-of role.Leaves c (last_ops said.callers) (leaving-uses c) uses) uses joins
+    (get_or_past (loads_in said.callers) c 0 (let long = loads-are said d in omega (arith, long, new)))
 
 -- a request more
-pub kept_open : (said : Said) (links requests callers : List (List ℕ)) (uses : List Uses) (load : ℕ) (entry : RequestEntry) → IsDraft said → IsKeptBeside said links requests callers uses load → MayPutOpen said entry
+pub kept-open : (said : Said) (links requests callers : List (List ℕ)) (uses : List Uses) (load : ℕ) (entry : RequestEntry) → IsDraft said → IsKeptBeside said links requests callers uses load → MayPutOpen said entry
     → IsKeptBeside (with_item (item.Open entry) said) links (requests ++ entry.name ∷ []) callers (uses ++ blank ∷ []) load
-kept_open said links requests callers uses load entry d k may =
+kept-open said links requests callers uses load entry d k may =
     let op = Open entry.request.chan in
     let some : 1 ≤ length said.callers = omega (arith, may.request.caller) in
     let longer = added-length (Open entry.request.chan) said.callers in
     let opened : (chan : ChanNo) → uses_said said chan ≡ uses_said (with_item (item.Open entry) said) chan =
-    λ chan. after_open said chan ∙ sym (uses_added said (with_item (item.Open entry) said) op chan some refl) in
+    λ chan. after-open said chan ∙ sym (uses-added said (with_item (item.Open entry) said) op chan some refl) in
     record {
       same_links = k.same_links;
       same_requests = ap (λ names. names ++ entry.name ∷ []) k.same_requests ∙ sym (map-append (λ (e : RequestEntry). e.name) said.requests (entry ∷ []));
@@ -235,14 +235,14 @@ kept_open said links requests callers uses load entry d k may =
       all_used = omega (arith, k.all_used, length-append uses (blank ∷ []), length-append said.requests (entry ∷ []));
       same_uses = λ n e found by.
           let own : actor_number e.caller ≡ length said.callers - 1 = omega (arith, by, longer) in
-          use_more uses n ∙ elim (get-more said.requests entry n e found) [
+          use-more uses n ∙ elim (get-more said.requests entry n e found) [
             | inl old ↦ k.same_uses n e old own ∙ opened e.request.chan
             | inr new ↦ get_or_past uses n blank (omega (arith, new.0, k.all_used))
-                ∙ sym (fresh_use said e.request.chan d (ap (λ (x : RequestEntry). channel_number x.request.chan) (sym new.1) ∙ may.request.number)) ∙ opened e.request.chan
+                ∙ sym (fresh-use said e.request.chan d (ap (λ (x : RequestEntry). channel_number x.request.chan) (sym new.1) ∙ may.request.number)) ∙ opened e.request.chan
           ];
       light = Each-append IsLight uses (blank ∷ []) k.light (omega arith, tt);
       same_load =
-          let more = open_load said.requests entry said.callers some in
+          let more = open-load said.requests entry said.callers some in
           let same = callers-load (parts_said said) entry (used-in (parts_said said) d.keeps.there) d.keeps.planned in
           k.same_load ∙ sym same ∙ sym more;
       few_links = k.few_links;
@@ -253,84 +253,84 @@ kept_open said links requests callers uses load entry d k may =
     }
   where
     -- an open is nothing to a channel but the opening
-    after_open : (s : Said) (chan : ChanNo) → uses_said s chan ≡ after_op (Open entry.request.chan) chan (loads_in s.callers) (uses_said s chan)
-    after_open s chan =
-        same_use (uses_said s chan) (after_op (Open entry.request.chan) chan (loads_in s.callers) (uses_said s chan)) (sym (or-false _)) (sym (or-false _)) (sym (or-false _)) (sym (or-false _)) (sym (load_before (loads_in s.callers) (channel_number chan)))
+    after-open : (s : Said) (chan : ChanNo) → uses_said s chan ≡ after_op (Open entry.request.chan) chan (loads_in s.callers) (uses_said s chan)
+    after-open s chan =
+        same-use (uses_said s chan) (after_op (Open entry.request.chan) chan (loads_in s.callers) (uses_said s chan)) (sym (or-false _)) (sym (or-false _)) (sym (or-false _)) (sym (or-false _)) (sym (load-before (loads_in s.callers) (channel_number chan)))
 
     -- and has no load
-    open_load : (requests : List RequestEntry) (e : RequestEntry) (cs : List CallerEntry) → 1 ≤ length cs → load_in (requests ++ e ∷ []) (add_op (Open e.request.chan) cs) ≡ load_in (requests ++ e ∷ []) cs
-    open_load requests e [] some = absurd (omega arith)
-    open_load requests e (c ∷ cs) some = (let more = op_load (requests ++ e ∷ []) (Open e.request.chan) (c ∷ cs) (omega arith) in omega (arith, more))
+    open-load : (requests : List RequestEntry) (e : RequestEntry) (cs : List CallerEntry) → 1 ≤ length cs → load_in (requests ++ e ∷ []) (add_op (Open e.request.chan) cs) ≡ load_in (requests ++ e ∷ []) cs
+    open-load requests e [] some = absurd (omega arith)
+    open-load requests e (c ∷ cs) some = (let more = op-load (requests ++ e ∷ []) (Open e.request.chan) (c ∷ cs) (omega arith) in omega (arith, more))
 
 -- the load with an operation that may be added is within the limit
-pub op_fits : (said : Said) (what : Op) → IsDraft said → MayDo (parts_said said) what → load_in said.requests said.callers + load_of said.requests (loads_in said.callers) what ≤ 262144
-op_fits said (Open chan) d may = absurd may
-op_fits said (Send chan count gap size) d may = may.load
-op_fits said (Close chan) d may = omega (arith, d.keeps.load)
-op_fits said (Pour link count gap size) d may = may.load
-op_fits said (Move old new) d may = may.load
+pub op-fits : (said : Said) (what : Op) → IsDraft said → MayDo (parts_said said) what → load_in said.requests said.callers + load_of said.requests (loads_in said.callers) what ≤ 262144
+op-fits said (Open chan) d may = absurd may
+op-fits said (Send chan count gap size) d may = may.load
+op-fits said (Close chan) d may = omega (arith, d.keeps.load)
+op-fits said (Pour link count gap size) d may = may.load
+op-fits said (Move old new) d may = may.load
 
 -- an operation more
-pub kept_op : (said : Said) (links requests callers : List (List ℕ)) (uses : List Uses) (load packets : ℕ) (what : Op) → IsDraft said → IsKeptBeside said links requests callers uses load → MayPutOp said what
+pub kept-op : (said : Said) (links requests callers : List (List ℕ)) (uses : List Uses) (load packets : ℕ) (what : Op) → IsDraft said → IsKeptBeside said links requests callers uses load → MayPutOp said what
     → packets ≡ load_of said.requests (loads_in said.callers) what → IsKeptBeside (with_item (item.Op what) said) links requests callers (used_by what uses) (load + packets)
-kept_op said links requests callers uses load packets what d k may of =
+kept-op said links requests callers uses load packets what d k may of =
     let longer = added-length what said.callers in
-    let more = op_load said.requests what said.callers may.some in
-    let carries = op_carries said links requests callers uses load what d k may.some may.op in
+    let more = op-load said.requests what said.callers may.some in
+    let carries = op-carries said links requests callers uses load what d k may.some may.op in
     record {
       same_links = k.same_links;
       same_requests = k.same_requests;
       same_callers = k.same_callers ∙ sym (added-names what said.callers);
-      all_used = used_length what uses ∙ k.all_used;
+      all_used = used-length what uses ∙ k.all_used;
       same_uses = λ n e found by.
           let own : actor_number e.caller ≡ length said.callers - 1 = omega (arith, by, longer) in
           let number : channel_number e.request.chan ≡ n = d.keeps.planned.requests n e found in
           let inside = slice_get_within said.requests n e found in
           ap (λ m. get_or (used_by what uses) m blank) (sym number)
-          ∙ op_used uses (loads_in said.callers) e.request.chan (uses_said said e.request.chan) (loads_are said d ∙ sym k.all_used) (omega (arith, inside, number, k.all_used)) (ap (λ m. get_or uses m blank) number ∙ k.same_uses n e found own) refl what carries
-          ∙ sym (uses_added said (with_item (item.Op what) said) what e.request.chan may.some refl);
-      light = used_light said what uses may.op k.light;
+          ∙ op-used uses (loads_in said.callers) e.request.chan (uses_said said e.request.chan) (loads-are said d ∙ sym k.all_used) (omega (arith, inside, number, k.all_used)) (ap (λ m. get_or uses m blank) number ∙ k.same_uses n e found own) refl what carries
+          ∙ sym (uses-added said (with_item (item.Op what) said) what e.request.chan may.some refl);
+      light = used-light said what uses may.op k.light;
       same_load = omega (arith, k.same_load, more, of);
       few_links = k.few_links;
       few_requests = k.few_requests;
       few_callers = omega (arith, k.few_callers, longer);
-      small_load = omega (arith, k.same_load, of, op_fits said what d may.op);
+      small_load = omega (arith, k.same_load, of, op-fits said what d may.op);
       few_rounds = k.few_rounds;
     }
 
 -- rounds
-pub kept_rounds : (said : Said) (links requests callers : List (List ℕ)) (uses : List Uses) (load count : ℕ) → IsKeptBeside said links requests callers uses load → count ≤ 524288
+pub kept-rounds : (said : Said) (links requests callers : List (List ℕ)) (uses : List Uses) (load count : ℕ) → IsKeptBeside said links requests callers uses load → count ≤ 524288
     → IsKeptBeside (with_item (item.Rounds count) said) links requests callers uses load
-kept_rounds said links requests callers uses load count k few = kept_with said links requests callers uses load said.version said.groups (Some count) said.tail k few
+kept-rounds said links requests callers uses load count k few = kept-with said links requests callers uses load said.version said.groups (Some count) said.tail k few
 
 -- the header
-pub kept_header : (said : Said) (links requests callers : List (List ℕ)) (uses : List Uses) (load : ℕ) (version : Version) → IsKeptBeside said links requests callers uses load
+pub kept-header : (said : Said) (links requests callers : List (List ℕ)) (uses : List Uses) (load : ℕ) (version : Version) → IsKeptBeside said links requests callers uses load
     → IsKeptBeside (with_item (item.Header version) said) links requests callers uses load
-kept_header said links requests callers uses load version k = kept_with said links requests callers uses load (Some version) said.groups said.rounds said.tail k k.few_rounds
+kept-header said links requests callers uses load version k = kept-with said links requests callers uses load (Some version) said.groups said.rounds said.tail k k.few_rounds
 
 -- the tail
-pub kept_tail : (said : Said) (links requests callers : List (List ℕ)) (uses : List Uses) (load : ℕ) (count : ℕ) → IsKeptBeside said links requests callers uses load
+pub kept-tail : (said : Said) (links requests callers : List (List ℕ)) (uses : List Uses) (load : ℕ) (count : ℕ) → IsKeptBeside said links requests callers uses load
     → IsKeptBeside (with_item (item.Tail count) said) links requests callers uses load
-kept_tail said links requests callers uses load count k = kept_with said links requests callers uses load said.version said.groups said.rounds (Some count) k k.few_rounds
+kept-tail said links requests callers uses load count k = kept-with said links requests callers uses load said.version said.groups said.rounds (Some count) k k.few_rounds
 
 -- ---- cells of links and callers
 
 -- a link, with one quota more in its place
-pub set_quota : (links : List LinkEntry) (quota : Quota) (place : ℕ) (entry link : LinkEntry) → slice_get links place ≡ Some entry → link ≡ with_its_quota quota entry → set links place link ≡ add_quota place quota links
-set_quota [] quota place entry link at is = refl
-set_quota (first ∷ links) quota zero entry link at is = ap (λ (e : LinkEntry). e ∷ links) (is ∙ ap (with_its_quota quota) (sym (same_Some first entry at)))
-set_quota (first ∷ links) quota (suc place) entry link at is = ap (λ es. first ∷ es) (set_quota links quota place entry link at is)
+pub set-quota : (links : List LinkEntry) (quota : Quota) (place : ℕ) (entry link : LinkEntry) → slice_get links place ≡ Some entry → link ≡ with_its_quota quota entry → set links place link ≡ add_quota place quota links
+set-quota [] quota place entry link at is = refl
+set-quota (first ∷ links) quota zero entry link at is = ap (λ (e : LinkEntry). e ∷ links) (is ∙ ap (with_its_quota quota) (sym (same_Some first entry at)))
+set-quota (first ∷ links) quota (suc place) entry link at is = ap (λ es. first ∷ es) (set-quota links quota place entry link at is)
 
 -- the last caller, with one operation more in its place
-pub set_last : (callers : List CallerEntry) (op : Op) (place : ℕ) (entry caller : CallerEntry) → place + 1 ≡ length callers → slice_get callers place ≡ Some entry
+pub set-last : (callers : List CallerEntry) (op : Op) (place : ℕ) (entry caller : CallerEntry) → place + 1 ≡ length callers → slice_get callers place ≡ Some entry
     → caller ≡ record { name = entry.name; group = entry.group; ops = entry.ops ++ op ∷ [] } → set callers place caller ≡ add_op op callers
-set_last [] op place entry caller last at is = absurd (omega (arith, last))
-set_last (c ∷ []) op zero entry caller last at is = ap (λ (e : CallerEntry). e ∷ []) (is ∙ ap (λ (e : CallerEntry). record { name = e.name; group = e.group; ops = e.ops ++ op ∷ [] }) (sym (same_Some c entry at)))
-set_last (c ∷ []) op (suc place) entry caller last at is = absurd (omega (arith, last))
-set_last (c ∷ next ∷ callers) op zero entry caller last at is = absurd (omega (arith, last))
-set_last (c ∷ next ∷ callers) op (suc place) entry caller last at is = ap (λ es. c ∷ es) (set_last (next ∷ callers) op place entry caller (omega (arith, last)) at is)
+set-last [] op place entry caller last at is = absurd (omega (arith, last))
+set-last (c ∷ []) op zero entry caller last at is = ap (λ (e : CallerEntry). e ∷ []) (is ∙ ap (λ (e : CallerEntry). record { name = e.name; group = e.group; ops = e.ops ++ op ∷ [] }) (sym (same_Some c entry at)))
+set-last (c ∷ []) op (suc place) entry caller last at is = absurd (omega (arith, last))
+set-last (c ∷ next ∷ callers) op zero entry caller last at is = absurd (omega (arith, last))
+set-last (c ∷ next ∷ callers) op (suc place) entry caller last at is = ap (λ es. c ∷ es) (set-last (next ∷ callers) op place entry caller (omega (arith, last)) at is)
 
 -- what follows where a call is Ok
-pub on_ok : {X Y : Type 0} (r : Result X Y) (P Q : Type 0) → (P → Q) → OnOk r P → OnOk r Q
-on_ok (Ok x) P Q f p = f p
-on_ok (Err e) P Q f p = tt
+pub on-ok : {X Y : Type 0} (r : Result X Y) (P Q : Type 0) → (P → Q) → OnOk r P → OnOk r Q
+on-ok (Ok x) P Q f p = f p
+on-ok (Err e) P Q f p = tt

@@ -5,21 +5,21 @@ use Rattle.route_finder.specs.Laws.{IsLeastOrNone}
 use Rattle.route_finder.specs.Trace.{least_walk}
 use Rattle.route_finder.specs.Walks.{hop_of as hop_by}
 use Rattle.route_finder.specs.declared.edge.Edge.{Edge}
-use Rattle.route_finder.proofs.LeastWalk.{finds_least_walk}
+use Rattle.route_finder.proofs.LeastWalk.{finds-least-walk}
 use Rattle.scenario_reader.specs.FoundRoutes.{IsLeastRoute, FindsLeastRoutes, TellsNodesApart}
 use Rattle.scenario_reader.specs.Nodes.{node_of, edges_of, route_between}
 use Rattle.scenario_reader.proofs.NodesByNumber.{are-network, node-same}
 
-pub finds_least_routes : FindsLeastRoutes
+pub finds-least-routes : FindsLeastRoutes
 unfolding route_between
-finds_least_routes links from to numbered few nodes =
+finds-least-routes links from to numbered few nodes =
     let apart : node_of links from ≢ node_of links to = λ same. nodes.apart (node-same 0 links from to nodes.from_node nodes.to_node same) in
-    let least = finds_least_walk (edges_of links) (node_of links from) (node_of links to) (are-network links numbered few) apart in
+    let least = finds-least-walk (edges_of links) (node_of links from) (node_of links to) (are-network links numbered few) apart in
     by links from to (least_walk (edges_of links) (node_of links from) (node_of links to)) least where
       by : (links : List LinkEntry) (from to : List ℕ) (walk : Option (List Edge)) → IsLeastOrNone (edges_of links) (node_of links from) (node_of links to) walk
           → IsLeastRoute links from to (option_map (map hop_by) walk)
       by links from to None none = none
       by links from to (Some walk) least = record { walk = walk; is_least = least; is_route = refl }
 
-pub tells_nodes_apart : TellsNodesApart
-tells_nodes_apart links one other known known' same = node-same 0 links one other known known' same
+pub tells-nodes-apart : TellsNodesApart
+tells-nodes-apart links one other known known' same = node-same 0 links one other known known' same

@@ -15,89 +15,89 @@ use Rattle.scenario_reader.specs.Forms.{number_rule}
 use Rattle.scenario_reader.specs.declared.cause.Cause.{Cause}
 
 -- the fields after the fifth
-pub after_words : (fields : List (List ℕ)) (i : ℕ) → field_at fields (5 + i) ≡ get_or (drop 5 fields) i []
-after_words fields i = sym (get_or-drop 5 fields i [])
+pub after-words : (fields : List (List ℕ)) (i : ℕ) → field_at fields (5 + i) ≡ get_or (drop 5 fields) i []
+after-words fields i = sym (get_or-drop 5 fields i [])
 
 -- a field that is there
-pub level_there : (hop : Hop) (fields : List (List ℕ)) (i : ℕ) → is_level_field hop (get_or fields i []) ≡ true → i < length fields
-level_there hop [] i level = cc
-level_there hop (field ∷ fields) zero level = omega arith
-level_there hop (field ∷ fields) (suc i) level = (let rest = level_there hop fields i level in omega (arith, rest))
+pub level-there : (hop : Hop) (fields : List (List ℕ)) (i : ℕ) → is_level_field hop (get_or fields i []) ≡ true → i < length fields
+level-there hop [] i level = cc
+level-there hop (field ∷ fields) zero level = omega arith
+level-there hop (field ∷ fields) (suc i) level = (let rest = level-there hop fields i level in omega (arith, rest))
 
 -- a field that is a level of its hop leaves the rest
-pub level_passes : (hops : List Hop) (fields : List (List ℕ)) (i : ℕ) (hop : Hop) → slice_get hops i ≡ Some hop
+pub level-passes : (hops : List Hop) (fields : List (List ℕ)) (i : ℕ) (hop : Hop) → slice_get hops i ≡ Some hop
     → is_level_field hop (get_or fields i []) ≡ true
     → are_level_fields (drop i hops) (drop i fields) ≡ are_level_fields (drop (suc i) hops) (drop (suc i) fields)
-level_passes [] fields i hop found level = cc
-level_passes (first ∷ hops) [] i hop found level = cc
-level_passes (first ∷ hops) (field ∷ fields) zero hop found level = (let same = same_Some first hop found in rw (same, level) refl)
-level_passes (first ∷ hops) (field ∷ fields) (suc i) hop found level = level_passes hops fields i hop found level
+level-passes [] fields i hop found level = cc
+level-passes (first ∷ hops) [] i hop found level = cc
+level-passes (first ∷ hops) (field ∷ fields) zero hop found level = (let same = same_Some first hop found in rw (same, level) refl)
+level-passes (first ∷ hops) (field ∷ fields) (suc i) hop found level = level-passes hops fields i hop found level
 
 -- one that isn't fails them all
-pub level_stops : (hops : List Hop) (fields : List (List ℕ)) (i : ℕ) (hop : Hop) → slice_get hops i ≡ Some hop
+pub level-stops : (hops : List Hop) (fields : List (List ℕ)) (i : ℕ) (hop : Hop) → slice_get hops i ≡ Some hop
     → is_level_field hop (get_or fields i []) ≡ false
     → are_level_fields (drop i hops) (drop i fields) ≡ false
-level_stops [] fields i hop found level = cc
-level_stops (first ∷ hops) [] zero hop found level = refl
-level_stops (first ∷ hops) [] (suc i) hop found level = none hops i hop found where
+level-stops [] fields i hop found level = cc
+level-stops (first ∷ hops) [] zero hop found level = refl
+level-stops (first ∷ hops) [] (suc i) hop found level = none hops i hop found where
   none : (hops : List Hop) (i : ℕ) (hop : Hop) → slice_get hops i ≡ Some hop → are_level_fields (drop i hops) [] ≡ false
   none [] i hop found = cc
   none (first ∷ hops) zero hop found = refl
   none (first ∷ hops) (suc i) hop found = none hops i hop found
-level_stops (first ∷ hops) (field ∷ fields) zero hop found level = (let same = same_Some first hop found in rw (same, level) refl)
-level_stops (first ∷ hops) (field ∷ fields) (suc i) hop found level = level_stops hops fields i hop found level
+level-stops (first ∷ hops) (field ∷ fields) zero hop found level = (let same = same_Some first hop found in rw (same, level) refl)
+level-stops (first ∷ hops) (field ∷ fields) (suc i) hop found level = level-stops hops fields i hop found level
 
 -- after the last hop another field fails them all
-pub levels_over : (hops : List Hop) (fields : List (List ℕ)) (n : ℕ) → n ≡ length hops → n < length fields
+pub levels-over : (hops : List Hop) (fields : List (List ℕ)) (n : ℕ) → n ≡ length hops → n < length fields
     → are_level_fields (drop n hops) (drop n fields) ≡ false
-levels_over [] [] zero whole within = absurd (omega (arith, within))
-levels_over [] (field ∷ fields) zero whole within = refl
-levels_over [] fields (suc n) whole within = cc
-levels_over (hop ∷ hops) fields zero whole within = cc
-levels_over (hop ∷ hops) [] (suc n) whole within = absurd (omega (arith, within))
-levels_over (hop ∷ hops) (field ∷ fields) (suc n) whole within = levels_over hops fields n (omega (arith, whole)) (omega (arith, within))
+levels-over [] [] zero whole within = absurd (omega (arith, within))
+levels-over [] (field ∷ fields) zero whole within = refl
+levels-over [] fields (suc n) whole within = cc
+levels-over (hop ∷ hops) fields zero whole within = cc
+levels-over (hop ∷ hops) [] (suc n) whole within = absurd (omega (arith, within))
+levels-over (hop ∷ hops) (field ∷ fields) (suc n) whole within = levels-over hops fields n (omega (arith, whole)) (omega (arith, within))
 
 -- ---- a field that was read as a number, or wasn't
 
-pub level_read : (hop : Hop) (fields : List (List ℕ)) (i most told : ℕ) (field : List ℕ) (r : Result ℕ Cause) → most ≡ length hop.bounds
+pub level-read : (hop : Hop) (fields : List (List ℕ)) (i most told : ℕ) (field : List ℕ) (r : Result ℕ Cause) → most ≡ length hop.bounds
     → field ≡ field_at fields (5 + i) → Judges r (number_rule 1 most field) (value_of field) → result_ok r ≡ Some told
     → (is_level_field hop (get_or (drop 5 fields) i []) ≡ true) × (told ≡ value_of (field_at fields (5 + i)))
-level_read hop fields i most told field (Ok value) bounds at judged is =
-    let same : field ≡ get_or (drop 5 fields) i [] = at ∙ after_words fields i in
+level-read hop fields i most told field (Ok value) bounds at judged is =
+    let same : field ≡ get_or (drop 5 fields) i [] = at ∙ after-words fields i in
     (rw (sym bounds, sym same, judged.0) refl, sym (same_Some value told is) ∙ judged.1 ∙ ap value_of at)
-level_read hop fields i most told field (Err cause) bounds at judged is = cc
+level-read hop fields i most told field (Err cause) bounds at judged is = cc
 
-pub level_refused : (hop : Hop) (fields : List (List ℕ)) (i most : ℕ) (field : List ℕ) (r : Result ℕ Cause) → most ≡ length hop.bounds
+pub level-refused : (hop : Hop) (fields : List (List ℕ)) (i most : ℕ) (field : List ℕ) (r : Result ℕ Cause) → most ≡ length hop.bounds
     → field ≡ field_at fields (5 + i) → Judges r (number_rule 1 most field) (value_of field) → result_ok r ≡ None
     → is_level_field hop (get_or (drop 5 fields) i []) ≡ false
-level_refused hop fields i most field (Ok value) bounds at judged is = cc
-level_refused hop fields i most field (Err cause) bounds at judged is =
-    let same : field ≡ get_or (drop 5 fields) i [] = at ∙ after_words fields i in
+level-refused hop fields i most field (Ok value) bounds at judged is = cc
+level-refused hop fields i most field (Err cause) bounds at judged is =
+    let same : field ≡ get_or (drop 5 fields) i [] = at ∙ after-words fields i in
     rw (sym bounds, sym same, judged) refl
 
 -- no levels are those of a route
-pub none_are : (hops : List Hop) (levels : List ℕ) → levels ≡ [] → AreLevels hops levels
+pub none-are : (hops : List Hop) (levels : List ℕ) → levels ≡ [] → AreLevels hops levels
 unfolding AreLevels
-none_are hops [] none = tt
-none_are hops (level ∷ levels) none = cc
+none-are hops [] none = tt
+none-are hops (level ∷ levels) none = cc
 
 -- the levels so far, and one more
-pub levels_more : (fields : List (List ℕ)) (i : ℕ) → i < length (drop 5 fields)
+pub levels-more : (fields : List (List ℕ)) (i : ℕ) → i < length (drop 5 fields)
     → map value_of (take (i + 1) (drop 5 fields)) ≡ map value_of (take i (drop 5 fields)) ++ value_of (field_at fields (5 + i)) ∷ []
-levels_more fields i within =
+levels-more fields i within =
     ap (map value_of) (take_more (drop 5 fields) i [] within)
     ∙ along (take i (drop 5 fields)) (get_or (drop 5 fields) i [])
-    ∙ ap (λ (f : List ℕ). map value_of (take i (drop 5 fields)) ++ value_of f ∷ []) (sym (after_words fields i))
+    ∙ ap (λ (f : List ℕ). map value_of (take i (drop 5 fields)) ++ value_of f ∷ []) (sym (after-words fields i))
   where
     along : (front : List (List ℕ)) (field : List ℕ) → map value_of (front ++ field ∷ []) ≡ map value_of front ++ value_of field ∷ []
     along [] field = refl
     along (first ∷ front) field = ap (λ (rest : List ℕ). value_of first ∷ rest) (along front field)
 
 -- a level of its hop may be offered there after those before it
-pub level_next : (hops : List Hop) (levels : List ℕ) (i level : ℕ) → AreLevels hops levels → i < length levels
+pub level-next : (hops : List Hop) (levels : List ℕ) (i level : ℕ) → AreLevels hops levels → i < length levels
     → level ≡ get_or levels i 0 → level ≤ next_levels hops (take i levels)
 unfolding AreLevels next_levels
-level_next hops [] i level are within is = absurd (omega (arith, within))
-level_next [] (first ∷ levels) i level are within is = absurd are
-level_next (hop ∷ hops) (first ∷ levels) zero level are within is = omega (arith, are.0.most, is)
-level_next (hop ∷ hops) (first ∷ levels) (suc i) level are within is = level_next hops levels i level are.1 (omega (arith, within)) is
+level-next hops [] i level are within is = absurd (omega (arith, within))
+level-next [] (first ∷ levels) i level are within is = absurd are
+level-next (hop ∷ hops) (first ∷ levels) zero level are within is = omega (arith, are.0.most, is)
+level-next (hop ∷ hops) (first ∷ levels) (suc i) level are within is = level-next hops levels i level are.1 (omega (arith, within)) is

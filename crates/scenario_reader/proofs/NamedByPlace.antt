@@ -13,49 +13,49 @@ use Rattle.call_script.specs.declared.entries.RequestEntry.{RequestEntry}
 use Rattle.scenario_reader.specs.Drafts.{Said, link_named, request_named, last_caller, if_own, own_request}
 
 -- a place among what is told of things is that among the things
-place_told : {X Y : Type 0} (tell : X → Y) (test : Y → Bool) (xs : List X) → position_or_len test (map tell xs) ≡ position_or_len (λ x. test (tell x)) xs
-place_told tell test [] = refl
-place_told tell test (x ∷ xs) = ap (λ n. cond (not (test (tell x))) (1 + n) 0) (place_told tell test xs)
+place-told : {X Y : Type 0} (tell : X → Y) (test : Y → Bool) (xs : List X) → position_or_len test (map tell xs) ≡ position_or_len (λ x. test (tell x)) xs
+place-told tell test [] = refl
+place-told tell test (x ∷ xs) = ap (λ n. cond (not (test (tell x))) (1 + n) 0) (place-told tell test xs)
 
 -- the place where one is found
-place_some : {X : Type 0} (test : X → Bool) (xs : List X) (n : ℕ) → position test xs ≡ Some n → position_or_len test xs ≡ n
-place_some test xs n e = grind (arith, common_steps)
+place-some : {X : Type 0} (test : X → Bool) (xs : List X) (n : ℕ) → position test xs ≡ Some n → position_or_len test xs ≡ n
+place-some test xs n e = grind (arith, common_steps)
 
 -- where none is found it is after all
-place_none : {X : Type 0} (test : X → Bool) (xs : List X) → position test xs ≡ None → length xs ≤ position_or_len test xs
-place_none test xs e = grind (arith, common_steps)
+place-none : {X : Type 0} (test : X → Bool) (xs : List X) → position test xs ≡ None → length xs ≤ position_or_len test xs
+place-none test xs e = grind (arith, common_steps)
 
 -- what stands at the place of a name has that name, and is the first that has it
-pub named_at : {X : Type 0} (name_of : X → List ℕ) (name : List ℕ) (xs : List X) (n : ℕ) → position (is_named name) (map name_of xs) ≡ Some n
+pub named-at : {X : Type 0} (name_of : X → List ℕ) (name : List ℕ) (xs : List X) (n : ℕ) → position (is_named name) (map name_of xs) ≡ Some n
     → slice_get xs n ≡ find (λ x. is_named name (name_of x)) xs
-named_at name_of name xs n e =
-    ap (slice_get xs) (sym (place_some (is_named name) (map name_of xs) n e) ∙ place_told name_of (is_named name) xs) ∙ sym (find_at (λ x. is_named name (name_of x)) xs)
+named-at name_of name xs n e =
+    ap (slice_get xs) (sym (place-some (is_named name) (map name_of xs) n e) ∙ place-told name_of (is_named name) xs) ∙ sym (find_at (λ x. is_named name (name_of x)) xs)
 
 -- a name without a place is that of none
-pub named_none : {X : Type 0} (name_of : X → List ℕ) (name : List ℕ) (xs : List X) → position (is_named name) (map name_of xs) ≡ None
+pub named-none : {X : Type 0} (name_of : X → List ℕ) (name : List ℕ) (xs : List X) → position (is_named name) (map name_of xs) ≡ None
     → find (λ x. is_named name (name_of x)) xs ≡ None
-named_none name_of name xs e =
-    let past = place_none (is_named name) (map name_of xs) e in
+named-none name_of name xs e =
+    let past = place-none (is_named name) (map name_of xs) e in
     find_at (λ x. is_named name (name_of x)) xs
-    ∙ slice_get_past xs (position_or_len (λ x. is_named name (name_of x)) xs) (omega (arith, past, place_told name_of (is_named name) xs, length-map xs name_of))
+    ∙ slice_get_past xs (position_or_len (λ x. is_named name (name_of x)) xs) (omega (arith, past, place-told name_of (is_named name) xs, length-map xs name_of))
 
 -- ---- in the words of a scenario
 
-pub link_at_place : (links : List LinkEntry) (names : List (List ℕ)) (name : List ℕ) (n : ℕ) → names ≡ link_names links → Some n ≡ position (is_named name) names
+pub link-at-place : (links : List LinkEntry) (names : List (List ℕ)) (name : List ℕ) (n : ℕ) → names ≡ link_names links → Some n ≡ position (is_named name) names
     → slice_get links n ≡ link_named links name
-link_at_place links names name n same e = named_at (λ (entry : LinkEntry). entry.name) name links n (ap (position (is_named name)) (sym same) ∙ sym e)
+link-at-place links names name n same e = named-at (λ (entry : LinkEntry). entry.name) name links n (ap (position (is_named name)) (sym same) ∙ sym e)
 
-pub no_link_there : (links : List LinkEntry) (names : List (List ℕ)) (name : List ℕ) → names ≡ link_names links → None ≡ position (is_named name) names
+pub no-link-there : (links : List LinkEntry) (names : List (List ℕ)) (name : List ℕ) → names ≡ link_names links → None ≡ position (is_named name) names
     → link_named links name ≡ None
-no_link_there links names name same e = named_none (λ (entry : LinkEntry). entry.name) name links (ap (position (is_named name)) (sym same) ∙ sym e)
+no-link-there links names name same e = named-none (λ (entry : LinkEntry). entry.name) name links (ap (position (is_named name)) (sym same) ∙ sym e)
 
-pub request_at_place : (requests : List RequestEntry) (names : List (List ℕ)) (name : List ℕ) (n : ℕ) → names ≡ request_names requests → Some n ≡ position (is_named name) names
+pub request-at-place : (requests : List RequestEntry) (names : List (List ℕ)) (name : List ℕ) (n : ℕ) → names ≡ request_names requests → Some n ≡ position (is_named name) names
     → slice_get requests n ≡ request_named requests name
-request_at_place requests names name n same e = named_at (λ (entry : RequestEntry). entry.name) name requests n (ap (position (is_named name)) (sym same) ∙ sym e)
+request-at-place requests names name n same e = named-at (λ (entry : RequestEntry). entry.name) name requests n (ap (position (is_named name)) (sym same) ∙ sym e)
 
-pub no_request_there : (requests : List RequestEntry) (names : List (List ℕ)) (name : List ℕ) → names ≡ request_names requests → None ≡ position (is_named name) names
+pub no-request-there : (requests : List RequestEntry) (names : List (List ℕ)) (name : List ℕ) → names ≡ request_names requests → None ≡ position (is_named name) names
     → request_named requests name ≡ None
-no_request_there requests names name same e = named_none (λ (entry : RequestEntry). entry.name) name requests (ap (position (is_named name)) (sym same) ∙ sym e)
+no-request-there requests names name same e = named-none (λ (entry : RequestEntry). entry.name) name requests (ap (position (is_named name)) (sym same) ∙ sym e)
 
 -- ---- own requests
 
@@ -65,17 +65,17 @@ pub record IsOwn (said : Said) (entry : RequestEntry) : Type 0 where
   pub found : slice_get said.requests place ≡ Some entry
   pub by : actor_number entry.caller ≡ last_caller said
 
-own_parts : (caller : ℕ) (found : Option RequestEntry) (entry : RequestEntry) → if_own caller found ≡ Some entry → (found ≡ Some entry) × (actor_number entry.caller ≡ caller)
-own_parts caller None entry e = cc
-own_parts caller (Some other) entry e =
+own-parts : (caller : ℕ) (found : Option RequestEntry) (entry : RequestEntry) → if_own caller found ≡ Some entry → (found ≡ Some entry) × (actor_number entry.caller ≡ caller)
+own-parts caller None entry e = cc
+own-parts caller (Some other) entry e =
     elim (cases_Bool (nat_eq (actor_number other.caller) caller)) [
       | inl own ↦ (let same = rw own at e in (same, ap (λ (r : RequestEntry). actor_number r.caller) (sym (same_Some other entry same)) ∙ eqb-true (actor_number other.caller) caller own))
       | inr apart ↦ absurd (let none = rw apart at e in cc)
     ]
 
-pub own_is : (said : Said) (name : List ℕ) (entry : RequestEntry) → own_request said name ≡ Some entry → IsOwn said entry
-own_is said name entry e =
-    let p = own_parts (last_caller said) (request_named said.requests name) entry e in
+pub own-is : (said : Said) (name : List ℕ) (entry : RequestEntry) → own_request said name ≡ Some entry → IsOwn said entry
+own-is said name entry e =
+    let p = own-parts (last_caller said) (request_named said.requests name) entry e in
     let test = λ (r : RequestEntry). is_named name r.name in
     record {
       place = position_or_len (λ (r : RequestEntry). is_named name r.name) said.requests;

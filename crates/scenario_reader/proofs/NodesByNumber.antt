@@ -17,7 +17,7 @@ use Rattle.route_finder.specs.Trace.{least_walk}
 use Rattle.route_finder.specs.Walks.{hop_of as hop_by, link_of, IsAmong, AreAmong, AreAbove, IsNetwork, Leads, IsLeastWalk}
 use Rattle.route_finder.specs.declared.edge.Edge.{Edge}
 use Rattle.route_finder.proofs.WalkReadOff.{least-route}
-use Rattle.route_finder.proofs.LeastWalk.{finds_least_walk}
+use Rattle.route_finder.proofs.LeastWalk.{finds-least-walk}
 use Rattle.scenario_reader.specs.Entries.{hop_of}
 use Rattle.scenario_reader.specs.Nodes.{AreNumbered, touches, is_node, node_from, node_of, edge_over, edges_of, route_between}
 
@@ -234,7 +234,7 @@ pub found-route : (links : List LinkEntry) (from to : List ℕ) (hops : List Hop
 unfolding route_between
 found-route links from to hops numbered few known known' apart found =
     by (least_walk (edges_of links) (node_of links from) (node_of links to))
-    (finds_least_walk (edges_of links) (node_of links from) (node_of links to) (are-network links numbered few) (λ same. apart (node-same 0 links from to known known' same))) found where
+    (finds-least-walk (edges_of links) (node_of links from) (node_of links to) (are-network links numbered few) (λ same. apart (node-same 0 links from to known known' same))) found where
       by : (walk : Option (List Edge)) → IsLeastOrNone (edges_of links) (node_of links from) (node_of links to) walk
           → option_map (map hop_by) walk ≡ Some hops → IsGoodRoute links hops
       by None none found = absurd (let clash : None ≡ Some hops = found in cc)

@@ -30,18 +30,18 @@ pub value-decimal : (n : ℕ) → n < 2 ^ 64 → value_of (decimal n) ≡ n
 value-decimal n h = digits_value-decimal numerals n h
 
 -- a decimal form passes as a number within these bounds
-pub decimal_passes : (low high n : ℕ) → low ≤ n → n ≤ high → high < 10 ^ 18 → number_rule low high (decimal n) ≡ None
-decimal_passes low high n least most small =
+pub decimal-passes : (low high n : ℕ) → low ≤ n → n ≤ high → high < 10 ^ 18 → number_rule low high (decimal n) ≡ None
+decimal-passes low high n least most small =
     let value = value-decimal n (omega arith) in
     rw (is_number-decimal n (omega arith), value, le-leb low n least, le-leb n high most) refl
 
 -- and so does each of a list
-pub decimals_pass : (low high : ℕ) (ns : List ℕ) → ((i : ℕ) → i < length ns → (low ≤ get_or ns i 0) × (get_or ns i 0 ≤ high)) → high < 10 ^ 18 → first_cause (map (number_rule low high) (map decimal ns)) ≡ None
-decimals_pass low high [] within small = refl
-decimals_pass low high (n ∷ ns) within small =
+pub decimals-pass : (low high : ℕ) (ns : List ℕ) → ((i : ℕ) → i < length ns → (low ≤ get_or ns i 0) × (get_or ns i 0 ≤ high)) → high < 10 ^ 18 → first_cause (map (number_rule low high) (map decimal ns)) ≡ None
+decimals-pass low high [] within small = refl
+decimals-pass low high (n ∷ ns) within small =
     let first = within 0 (omega arith) in
-    let rest = decimals_pass low high ns (λ i h. within (suc i) (omega arith)) small in
-    rw (decimal_passes low high n first.0 first.1 small) rest
+    let rest = decimals-pass low high ns (λ i h. within (suc i) (omega arith)) small in
+    rw (decimal-passes low high n first.0 first.1 small) rest
 
 -- the values of a list of decimal forms
 pub values-decimals : (ns : List ℕ) → ((i : ℕ) → i < length ns → get_or ns i 0 < 2 ^ 64) → map value_of (map decimal ns) ≡ ns

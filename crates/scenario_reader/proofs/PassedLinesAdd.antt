@@ -24,18 +24,18 @@ use Rattle.scenario_reader.specs.line.Request.{open_rule, request_said}
 use Rattle.scenario_reader.specs.declared.cause.Cause.{Cause}
 use Rattle.scenario_reader.specs.declared.form.Keyword.{Keyword}
 use Rattle.scenario_reader.specs.declared.item.Item.{Item}
-use Rattle.scenario_reader.proofs.kind.GroupMay.{group_may}
-use Rattle.scenario_reader.proofs.kind.CallerMay.{caller_may}
-use Rattle.scenario_reader.proofs.kind.LinkMay.{link_may}
-use Rattle.scenario_reader.proofs.kind.QuotaMay.{quota_may}
-use Rattle.scenario_reader.proofs.kind.SendMay.{send_may}
-use Rattle.scenario_reader.proofs.kind.CloseMay.{close_may}
-use Rattle.scenario_reader.proofs.kind.MoveMay.{move_may}
-use Rattle.scenario_reader.proofs.kind.PourMay.{pour_may}
-use Rattle.scenario_reader.proofs.kind.RequestMay.{open_may}
-use Rattle.scenario_reader.proofs.PassingLines.{judged_ok, stated_ok, made_some}
-use Rattle.scenario_reader.proofs.kind.RoundsMay.{rounds_may, tail_may}
-use Rattle.scenario_reader.proofs.kind.ScheduleMay.{schedule_may, do_may}
+use Rattle.scenario_reader.proofs.kind.GroupMay.{group-may}
+use Rattle.scenario_reader.proofs.kind.CallerMay.{caller-may}
+use Rattle.scenario_reader.proofs.kind.LinkMay.{link-may}
+use Rattle.scenario_reader.proofs.kind.QuotaMay.{quota-may}
+use Rattle.scenario_reader.proofs.kind.SendMay.{send-may}
+use Rattle.scenario_reader.proofs.kind.CloseMay.{close-may}
+use Rattle.scenario_reader.proofs.kind.MoveMay.{move-may}
+use Rattle.scenario_reader.proofs.kind.PourMay.{pour-may}
+use Rattle.scenario_reader.proofs.kind.RequestMay.{open-may}
+use Rattle.scenario_reader.proofs.PassingLines.{judged-ok, stated-ok, made-some}
+use Rattle.scenario_reader.proofs.kind.RoundsMay.{rounds-may, tail-may}
+use Rattle.scenario_reader.proofs.kind.ScheduleMay.{schedule-may, do-may}
 use Rattle.scenario_reader.specs.declared.cause.Cause.TheVariants as cause
 use Rattle.scenario_reader.specs.declared.form.Keyword.TheVariants as word
 use Rattle.scenario_reader.specs.declared.item.Item.TheVariants as item
@@ -43,96 +43,96 @@ use Rattle.scenario_reader.specs.declared.item.Item.TheVariants as item
 -- ---- each line
 
 -- what a line that begins with this word says
-says_as : (keyword : Keyword) (version : Version) (said : Said) (number : ℕ) (fields : List (List ℕ)) (what : Item) → IsDraft said → said.version ≡ Some version → may_stand version said keyword ≡ true
+says-as : (keyword : Keyword) (version : Version) (said : Said) (number : ℕ) (fields : List (List ℕ)) (what : Item) → IsDraft said → said.version ≡ Some version → may_stand version said keyword ≡ true
     → judge_as keyword version said number fields ≡ Ok what → MayAdd said what
-says_as word.Link version said number fields what draft v m e =
-    let p = stated_ok (link_rule version said fields) (option_map item.Link (link_said version said fields)) what e in
-    let made = made_some item.Link (link_said version said fields) what p.1 in
-    subst (MayAdd said) made.2 (link_may version said fields made.0 v m p.0 made.1)
-says_as word.Group version said number fields what draft v m e =
-    let p = judged_ok (group_rule said fields) (item.Group (field_at fields 1)) what e in
-    subst (MayAdd said) p.1 (group_may version said fields v m p.0)
-says_as word.Quota version said number fields what draft v m e =
-    let p = stated_ok (quota_rule said fields) (quota_said said fields) what e in
-    quota_may version said fields what draft v m p.0 p.1
-says_as word.Caller version said number fields what draft v m e =
-    let p = judged_ok (caller_rule version said fields) (item.Caller (field_at fields 1) (group_in said fields)) what e in
-    subst (MayAdd said) p.1 (caller_may version said fields v m p.0)
-says_as word.Open version said number fields what draft v m e =
-    let p = judged_ok (open_rule version said fields) (item.Open (request_said said fields)) what e in
-    subst (MayAdd said) p.1 (open_may version said fields draft v m p.0)
-says_as word.Send version said number fields what draft v m e =
-    let p = stated_ok (send_rule said fields) (option_map item.Op (send_said said fields)) what e in
-    let made = made_some item.Op (send_said said fields) what p.1 in
-    subst (MayAdd said) made.2 (send_may version said fields made.0 draft v m p.0 made.1)
-says_as word.Close version said number fields what draft v m e =
-    let p = stated_ok (close_rule said fields) (option_map item.Op (close_said said fields)) what e in
-    let made = made_some item.Op (close_said said fields) what p.1 in
-    subst (MayAdd said) made.2 (close_may version said fields made.0 draft v m p.0 made.1)
-says_as word.Move version said number fields what draft v m e =
-    let p = stated_ok (move_rule said fields) (option_map item.Op (move_said said fields)) what e in
-    let made = made_some item.Op (move_said said fields) what p.1 in
-    subst (MayAdd said) made.2 (move_may version said fields made.0 draft v m p.0 made.1)
-says_as word.Pour version said number fields what draft v m e =
-    let p = stated_ok (pour_rule said fields) (option_map item.Op (pour_said said fields)) what e in
-    let made = made_some item.Op (pour_said said fields) what p.1 in
-    subst (MayAdd said) made.2 (pour_may version said fields made.0 draft v m p.0 made.1)
-says_as word.Rounds version said number fields what draft v m e =
-    let p = judged_ok (rounds_rule fields) (item.Rounds (value_of (field_at fields 1))) what e in
-    subst (MayAdd said) p.1 (rounds_may version said fields v m p.0)
-says_as word.Tail version said number fields what draft v m e =
-    let p = judged_ok (tail_rule said fields) (item.Tail (value_of (field_at fields 1))) what e in
-    subst (MayAdd said) p.1 (tail_may version said fields v m p.0)
-says_as word.Schedule version said number fields what draft v m e =
-    let p = judged_ok (schedule_rule fields) item.Schedule what e in
-    subst (MayAdd said) p.1 (schedule_may version said v m)
-says_as word.Do version said number fields what draft v m e =
-    let p = stated_ok (do_rule said fields) (option_map item.Do (do_said said number fields)) what e in
-    let made = made_some item.Do (do_said said number fields) what p.1 in
-    subst (MayAdd said) made.2 (do_may version said number fields made.0 v m p.0 made.1)
-says_as other version said number fields what draft v m e = absurd (not_ok cause.Word what e)
+says-as word.Link version said number fields what draft v m e =
+    let p = stated-ok (link_rule version said fields) (option_map item.Link (link_said version said fields)) what e in
+    let made = made-some item.Link (link_said version said fields) what p.1 in
+    subst (MayAdd said) made.2 (link-may version said fields made.0 v m p.0 made.1)
+says-as word.Group version said number fields what draft v m e =
+    let p = judged-ok (group_rule said fields) (item.Group (field_at fields 1)) what e in
+    subst (MayAdd said) p.1 (group-may version said fields v m p.0)
+says-as word.Quota version said number fields what draft v m e =
+    let p = stated-ok (quota_rule said fields) (quota_said said fields) what e in
+    quota-may version said fields what draft v m p.0 p.1
+says-as word.Caller version said number fields what draft v m e =
+    let p = judged-ok (caller_rule version said fields) (item.Caller (field_at fields 1) (group_in said fields)) what e in
+    subst (MayAdd said) p.1 (caller-may version said fields v m p.0)
+says-as word.Open version said number fields what draft v m e =
+    let p = judged-ok (open_rule version said fields) (item.Open (request_said said fields)) what e in
+    subst (MayAdd said) p.1 (open-may version said fields draft v m p.0)
+says-as word.Send version said number fields what draft v m e =
+    let p = stated-ok (send_rule said fields) (option_map item.Op (send_said said fields)) what e in
+    let made = made-some item.Op (send_said said fields) what p.1 in
+    subst (MayAdd said) made.2 (send-may version said fields made.0 draft v m p.0 made.1)
+says-as word.Close version said number fields what draft v m e =
+    let p = stated-ok (close_rule said fields) (option_map item.Op (close_said said fields)) what e in
+    let made = made-some item.Op (close_said said fields) what p.1 in
+    subst (MayAdd said) made.2 (close-may version said fields made.0 draft v m p.0 made.1)
+says-as word.Move version said number fields what draft v m e =
+    let p = stated-ok (move_rule said fields) (option_map item.Op (move_said said fields)) what e in
+    let made = made-some item.Op (move_said said fields) what p.1 in
+    subst (MayAdd said) made.2 (move-may version said fields made.0 draft v m p.0 made.1)
+says-as word.Pour version said number fields what draft v m e =
+    let p = stated-ok (pour_rule said fields) (option_map item.Op (pour_said said fields)) what e in
+    let made = made-some item.Op (pour_said said fields) what p.1 in
+    subst (MayAdd said) made.2 (pour-may version said fields made.0 draft v m p.0 made.1)
+says-as word.Rounds version said number fields what draft v m e =
+    let p = judged-ok (rounds_rule fields) (item.Rounds (value_of (field_at fields 1))) what e in
+    subst (MayAdd said) p.1 (rounds-may version said fields v m p.0)
+says-as word.Tail version said number fields what draft v m e =
+    let p = judged-ok (tail_rule said fields) (item.Tail (value_of (field_at fields 1))) what e in
+    subst (MayAdd said) p.1 (tail-may version said fields v m p.0)
+says-as word.Schedule version said number fields what draft v m e =
+    let p = judged-ok (schedule_rule fields) item.Schedule what e in
+    subst (MayAdd said) p.1 (schedule-may version said v m)
+says-as word.Do version said number fields what draft v m e =
+    let p = stated-ok (do_rule said fields) (option_map item.Do (do_said said number fields)) what e in
+    let made = made-some item.Do (do_said said number fields) what p.1 in
+    subst (MayAdd said) made.2 (do-may version said number fields made.0 v m p.0 made.1)
+says-as other version said number fields what draft v m e = absurd (not-ok cause.Word what e)
   where
-    not_ok : (c : Cause) (what : Item) → ◌≡◌ {A = Result Item Cause} (Err c) (Ok what) → ⊥
-    not_ok c what e = cc
+    not-ok : (c : Cause) (what : Item) → ◌≡◌ {A = Result Item Cause} (Err c) (Ok what) → ⊥
+    not-ok c what e = cc
 
 -- what is judged Ok where a condition holds
-ok_where : (holds : Bool) (r : Result Item Cause) (c : Cause) (what : Item) → cond holds r (Err c) ≡ Ok what → (holds ≡ true) × (r ≡ Ok what)
-ok_where true r c what e = (refl, e)
-ok_where false r c what e = cc
+ok-where : (holds : Bool) (r : Result Item Cause) (c : Cause) (what : Item) → cond holds r (Err c) ≡ Ok what → (holds ≡ true) × (r ≡ Ok what)
+ok-where true r c what e = (refl, e)
+ok-where false r c what e = cc
 
 -- what is judged Ok unless a condition holds
-ok_unless : (fails : Bool) (r : Result Item Cause) (c : Cause) (what : Item) → cond fails (Err c) r ≡ Ok what → r ≡ Ok what
-ok_unless true r c what e = cc
-ok_unless false r c what e = e
+ok-unless : (fails : Bool) (r : Result Item Cause) (c : Cause) (what : Item) → cond fails (Err c) r ≡ Ok what → r ≡ Ok what
+ok-unless true r c what e = cc
+ok-unless false r c what e = e
 
 -- what a line after the header says
-says_word : (keyword : Option Keyword) (version : Version) (said : Said) (number : ℕ) (fields : List (List ℕ)) (what : Item) → IsDraft said → said.version ≡ Some version
+says-word : (keyword : Option Keyword) (version : Version) (said : Said) (number : ℕ) (fields : List (List ℕ)) (what : Item) → IsDraft said → said.version ≡ Some version
     → judge_word keyword version said number fields ≡ Ok what → MayAdd said what
-says_word None version said number fields what draft v e = cc
-says_word (Some keyword) version said number fields what draft v e =
-    let p = ok_where (may_stand version said keyword) (judge_as keyword version said number fields) cause.Word what e in
-    says_as keyword version said number fields what draft v p.0 p.1
+says-word None version said number fields what draft v e = cc
+says-word (Some keyword) version said number fields what draft v e =
+    let p = ok-where (may_stand version said keyword) (judge_as keyword version said number fields) cause.Word what e in
+    says-as keyword version said number fields what draft v p.0 p.1
 
-header_may : (found : Option Version) (said : Said) (what : Item) → said.version ≡ None → header_said found ≡ Ok what → MayAdd said what
-header_may None said what v e = cc
-header_may (Some version) said what v e = (let same : item.Header version ≡ what = cc in subst (MayAdd said) same v)
+header-may : (found : Option Version) (said : Said) (what : Item) → said.version ≡ None → header_said found ≡ Ok what → MayAdd said what
+header-may None said what v e = cc
+header-may (Some version) said what v e = (let same : item.Header version ≡ what = cc in subst (MayAdd said) same v)
 
 -- what a line of fields says, before and after the header
-says_after : (headed : Option Version) (said : Said) (number : ℕ) (fields : List (List ℕ)) (what : Item) → IsDraft said → said.version ≡ headed
+says-after : (headed : Option Version) (said : Said) (number : ℕ) (fields : List (List ℕ)) (what : Item) → IsDraft said → said.version ≡ headed
     → judge_after headed said number fields ≡ Ok what → MayAdd said what
-says_after None said number fields what draft v e = header_may (header_version fields) said what v e
-says_after (Some version) said number fields what draft v e = says_word (line_word (field_at fields 0)) version said number fields what draft v e
+says-after None said number fields what draft v e = header-may (header_version fields) said what v e
+says-after (Some version) said number fields what draft v e = says-word (line_word (field_at fields 0)) version said number fields what draft v e
 
 -- what a line says that is let pass may be added
-pub may_add : (said : Said) (number : ℕ) (line : List ℕ) (what : Item) → IsDraft said → judge said number line ≡ Ok what → MayAdd said what
+pub may-add : (said : Said) (number : ℕ) (line : List ℕ) (what : Item) → IsDraft said → judge said number line ≡ Ok what → MayAdd said what
 unfolding judge
-may_add said number line what draft e = by (is_passed_over line) e where
+may-add said number line what draft e = by (is_passed_over line) e where
   by : (over : Bool) → (if over then Ok item.Nothing else judge_fields said number (fields_of line)) ≡ Ok what → MayAdd said what
   by true e = (let same : item.Nothing ≡ what = cc in subst (MayAdd said) same tt)
-  by false e = says_after said.version said number (fields_of line) what draft refl (ok_unless (not (are_fields (fields_of line))) (judge_after said.version said number (fields_of line)) cause.Shape what e)
+  by false e = says-after said.version said number (fields_of line) what draft refl (ok-unless (not (are_fields (fields_of line))) (judge_after said.version said number (fields_of line)) cause.Shape what e)
 
 -- the same of the answer of a judge
-pub word_may : (keyword : Keyword) (version : Version) (said : Said) (number : ℕ) (fields : List (List ℕ)) (r : Result Item LineFault) → IsDraft said → said.version ≡ Some version
+pub word-may : (keyword : Keyword) (version : Version) (said : Said) (number : ℕ) (fields : List (List ℕ)) (r : Result Item LineFault) → IsDraft said → said.version ≡ Some version
     → AnswersWithRoom r (judge_word (Some keyword) version said number fields) → IfOk r (MayAdd said)
-word_may keyword version said number fields (Ok what) draft v e = says_word (Some keyword) version said number fields what draft v e
-word_may keyword version said number fields (Err fault) draft v e = tt
+word-may keyword version said number fields (Ok what) draft v e = says-word (Some keyword) version said number fields what draft v e
+word-may keyword version said number fields (Err fault) draft v e = tt

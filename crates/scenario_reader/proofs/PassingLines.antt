@@ -16,30 +16,30 @@ use Rattle.scenario_reader.specs.declared.cause.Cause.{Cause}
 use Rattle.scenario_reader.specs.declared.cause.Cause.TheVariants as cause
 
 -- what is judged Ok passes its rule, and is what was said
-pub judged_ok : {X : Type 0} (rule : Rule) (said what : X) → judged rule said ≡ Ok what → (rule ≡ None) × (said ≡ what)
-judged_ok None said what e = (refl, cc)
-judged_ok (Some c) said what e = cc
+pub judged-ok : {X : Type 0} (rule : Rule) (said what : X) → judged rule said ≡ Ok what → (rule ≡ None) × (said ≡ what)
+judged-ok None said what e = (refl, cc)
+judged-ok (Some c) said what e = cc
 
 -- the same of what may be said
-pub stated_ok : {X : Type 0} (rule : Rule) (said : Option X) (what : X) → stated rule said ≡ Ok what → (rule ≡ None) × (said ≡ Some what)
-stated_ok None (Some said) what e = (refl, cc)
-stated_ok None None what e = cc
-stated_ok (Some c) said what e = cc
+pub stated-ok : {X : Type 0} (rule : Rule) (said : Option X) (what : X) → stated rule said ≡ Ok what → (rule ≡ None) × (said ≡ Some what)
+stated-ok None (Some said) what e = (refl, cc)
+stated-ok None None what e = cc
+stated-ok (Some c) said what e = cc
 
 -- what is made of something that may be there
-pub made_some : {X Y : Type 0} (make : X → Y) (o : Option X) (y : Y) → option_map make o ≡ Some y → (x : X) × (o ≡ Some x) × (make x ≡ y)
-made_some make None y e = cc
-made_some make (Some x) y e = (x, refl, same_Some (make x) y e)
+pub made-some : {X Y : Type 0} (make : X → Y) (o : Option X) (y : Y) → option_map make o ≡ Some y → (x : X) × (o ≡ Some x) × (make x ≡ y)
+made-some make None y e = cc
+made-some make (Some x) y e = (x, refl, same_Some (make x) y e)
 
 -- a condition that passes holds
-pub unless_passes : (holds : Bool) (c : Cause) → unless holds c ≡ None → holds ≡ true
-unless_passes true c e = refl
-unless_passes false c e = cc
+pub unless-passes : (holds : Bool) (c : Cause) → unless holds c ≡ None → holds ≡ true
+unless-passes true c e = refl
+unless-passes false c e = cc
 
 -- two rules that pass
-pub both_pass : (first second : Rule) → or_else first second ≡ None → (first ≡ None) × (second ≡ None)
-both_pass None second e = (refl, e)
-both_pass (Some c) second e = cc
+pub both-pass : (first second : Rule) → or_else first second ≡ None → (first ≡ None) × (second ≡ None)
+both-pass None second e = (refl, e)
+both-pass (Some c) second e = cc
 
 -- each of the rules passes
 abbrev pub RulesPass : List Rule → Type 0
@@ -47,11 +47,11 @@ RulesPass [] = Unit {0}
 RulesPass (rule ∷ rules) = (rule ≡ None) × RulesPass rules
 
 -- rules that pass together pass each
-pub all_pass : (rules : List Rule) → first_cause rules ≡ None → RulesPass rules
-all_pass [] e = tt
-all_pass (rule ∷ rules) e =
-    let p = both_pass rule (first_cause rules) e in
-    (p.0, all_pass rules p.1)
+pub all-pass : (rules : List Rule) → first_cause rules ≡ None → RulesPass rules
+all-pass [] e = tt
+all-pass (rule ∷ rules) e =
+    let p = both-pass rule (first_cause rules) e in
+    (p.0, all-pass rules p.1)
 
 -- a field that passes as a number from `low` to `high`
 pub record IsNumberFrom (low high : ℕ) (field : List ℕ) : Type 0 where
@@ -60,57 +60,57 @@ pub record IsNumberFrom (low high : ℕ) (field : List ℕ) : Type 0 where
   pub most : value_of field ≤ high
 
 -- a field that passes is such a number
-pub number_passes : (low high : ℕ) (field : List ℕ) → number_rule low high field ≡ None → IsNumberFrom low high field
-number_passes low high field e =
-    let p = both_pass (unless (is_number field) cause.Number) (unless (nat_le low (value_of field) && nat_le (value_of field) high) cause.Range) e in
-    let range = and_parts (nat_le low (value_of field)) (nat_le (value_of field) high) (unless_passes _ cause.Range p.1) in
+pub number-passes : (low high : ℕ) (field : List ℕ) → number_rule low high field ≡ None → IsNumberFrom low high field
+number-passes low high field e =
+    let p = both-pass (unless (is_number field) cause.Number) (unless (nat_le low (value_of field) && nat_le (value_of field) high) cause.Range) e in
+    let range = and_parts (nat_le low (value_of field)) (nat_le (value_of field) high) (unless-passes _ cause.Range p.1) in
     record {
-      number = unless_passes (is_number field) cause.Number p.0;
+      number = unless-passes (is_number field) cause.Number p.0;
       least = leb-true low (value_of field) range.0;
       most = leb-true (value_of field) high range.1;
     }
 
 -- a field that passes as a name
-pub name_passes : (field : List ℕ) → name_rule field ≡ None → is_name field ≡ true
-name_passes field e = unless_passes (is_name field) cause.Name e
+pub name-passes : (field : List ℕ) → name_rule field ≡ None → is_name field ≡ true
+name-passes field e = unless-passes (is_name field) cause.Name e
 
 -- a field that passes as a new name
-pub new_name_passes : (known : List (List ℕ)) (field : List ℕ) → new_name_rule known field ≡ None → (is_name field ≡ true) × (not (is_among known field) ≡ true)
-new_name_passes known field e =
-    let p = both_pass (name_rule field) (unless (not (is_among known field)) cause.Known) e in
-    (name_passes field p.0, unless_passes (not (is_among known field)) cause.Known p.1)
+pub new-name-passes : (known : List (List ℕ)) (field : List ℕ) → new_name_rule known field ≡ None → (is_name field ≡ true) × (not (is_among known field) ≡ true)
+new-name-passes known field e =
+    let p = both-pass (name_rule field) (unless (not (is_among known field)) cause.Known) e in
+    (name-passes field p.0, unless-passes (not (is_among known field)) cause.Known p.1)
 
 -- a field that passes as a known name
-pub used_name_passes : (known : Bool) (field : List ℕ) → used_name_rule known field ≡ None → (is_name field ≡ true) × (known ≡ true)
-used_name_passes known field e =
-    let p = both_pass (name_rule field) (unless known cause.Unknown) e in
-    (name_passes field p.0, unless_passes known cause.Unknown p.1)
+pub used-name-passes : (known : Bool) (field : List ℕ) → used_name_rule known field ≡ None → (is_name field ≡ true) × (known ≡ true)
+used-name-passes known field e =
+    let p = both-pass (name_rule field) (unless known cause.Unknown) e in
+    (name-passes field p.0, unless-passes known cause.Unknown p.1)
 
 -- a number that isn't 0
-pub some_count : (n : ℕ) → not (nat_eq n 0) ≡ true → 1 ≤ n
-some_count n e = elim (cases_lt n 1) [ inl none ↦ absurd (both_ways (nat_eq n 0) (not-true (nat_eq n 0) e) (eq-eqb n 0 (omega arith))) | inr some ↦ some ]
+pub some-count : (n : ℕ) → not (nat_eq n 0) ≡ true → 1 ≤ n
+some-count n e = elim (cases_lt n 1) [ inl none ↦ absurd (both_ways (nat_eq n 0) (not-true (nat_eq n 0) e) (eq-eqb n 0 (omega arith))) | inr some ↦ some ]
 
 -- a list of length 0
-pub no_items : {X : Type 0} (xs : List X) → nat_eq (length xs) 0 ≡ true → xs ≡ []
-no_items xs e = nil_from_length xs (eqb-true (length xs) 0 e)
+pub no-items : {X : Type 0} (xs : List X) → nat_eq (length xs) 0 ≡ true → xs ≡ []
+no-items xs e = nil_from_length xs (eqb-true (length xs) 0 e)
 
 -- a choice of none
-pub not_said : {X : Type 0} (o : Option X) → is_none o ≡ true → o ≡ None
-not_said None e = refl
-not_said (Some x) e = cc
+pub not-said : {X : Type 0} (o : Option X) → is_none o ≡ true → o ≡ None
+not-said None e = refl
+not-said (Some x) e = cc
 
 -- where no number is refused, this one fits, and none after it is refused
-bad_part : (holds : Bool) (rest : Option ContractField) (bad : ContractField) → (if holds then rest else Some bad) ≡ None → (holds ≡ true) × (rest ≡ None)
-bad_part true rest bad e = (refl, e)
-bad_part false rest bad e = cc
+bad-part : (holds : Bool) (rest : Option ContractField) (bad : ContractField) → (if holds then rest else Some bad) ≡ None → (holds ≡ true) × (rest ≡ None)
+bad-part true rest bad e = (refl, e)
+bad-part false rest bad e = cc
 
 -- terms of which no number is refused are a contract
-pub none_bad : (terms : Traffic) → first_bad terms ≡ None → IsContract terms
-none_bad terms e =
-    let p = bad_part (fits_xmin terms) _ Xmin e in
-    let q = bad_part (fits_xave terms) _ Xave p.1 in
-    let r = bad_part (fits_interval terms) _ Interval q.1 in
-    let s = bad_part (fits_smax terms) None Smax r.1 in
+pub none-bad : (terms : Traffic) → first_bad terms ≡ None → IsContract terms
+none-bad terms e =
+    let p = bad-part (fits_xmin terms) _ Xmin e in
+    let q = bad-part (fits_xave terms) _ Xave p.1 in
+    let r = bad-part (fits_interval terms) _ Interval q.1 in
+    let s = bad-part (fits_smax terms) None Smax r.1 in
     let xmin = and_parts (nat_le 1 terms.xmin) (nat_le terms.xmin 1048576) p.0 in
     let xave = and_parts (nat_le terms.xmin terms.xave) (nat_le terms.xave 1048576) q.0 in
     let interval = and_parts (nat_le terms.xave terms.interval && nat_le terms.interval 16777216) (nat_le (burst_of terms) 256) r.0 in
@@ -128,10 +128,10 @@ none_bad terms e =
     }
 
 -- terms that are given passed the test
-given_terms : (b : Bool) (terms : Traffic) → is_some (if b then Some terms else None) ≡ true → b ≡ true
-given_terms true terms e = refl
-given_terms false terms e = cc
+given-terms : (b : Bool) (terms : Traffic) → is_some (if b then Some terms else None) ≡ true → b ≡ true
+given-terms true terms e = refl
+given-terms false terms e = cc
 
 -- four numbers that are a contract
-pub contract_passes : (terms : Traffic) → is_some (contract_of terms) ≡ true → IsContract terms
-contract_passes terms e = none_bad terms (not_said (first_bad terms) (given_terms (is_none (first_bad terms)) terms e))
+pub contract-passes : (terms : Traffic) → is_some (contract_of terms) ≡ true → IsContract terms
+contract-passes terms e = none-bad terms (not-said (first_bad terms) (given-terms (is_none (first_bad terms)) terms e))

@@ -12,7 +12,7 @@ use Rattle.scenario_reader.specs.Drafts.{link_named}
 use Rattle.scenario_reader.specs.Forms.{name_rule, used_name_rule}
 use Rattle.scenario_reader.specs.declared.cause.Cause.{Cause}
 use Rattle.scenario_reader.specs.declared.cause.Cause.TheVariants as cause
-use Rattle.scenario_reader.proofs.NamedByPlace.{link_at_place, no_link_there}
+use Rattle.scenario_reader.proofs.NamedByPlace.{link-at-place, no-link-there}
 
 -- what a place among the names tells of the links
 pub record IsPlaced (links : List LinkEntry) (field : List ℕ) (found : Option ℕ) : Type 0 where
@@ -23,14 +23,14 @@ pub record IsPlaced (links : List LinkEntry) (field : List ℕ) (found : Option 
 there : (links : List LinkEntry) (n : ℕ) → n < length links → is_some (slice_get links n) ≡ true
 there links n within = elim (slice_get_cases links n).1 [ inl at ↦ ap is_some at.2 | inr past ↦ (let beyond = past.0 in absurd (omega (arith, beyond, within))) ]
 
-pub link_placed : (links : List LinkEntry) (names : List (List ℕ)) (field : List ℕ) (found : Option ℕ) → names ≡ link_names links → found ≡ position (is_named field) names → IsPlaced links field found
-link_placed links names field None same is = record {
+pub link-placed : (links : List LinkEntry) (names : List (List ℕ)) (field : List ℕ) (found : Option ℕ) → names ≡ link_names links → found ≡ position (is_named field) names → IsPlaced links field found
+link-placed links names field None same is = record {
   place = is ∙ ap (position (is_named field)) same;
-  known = ap is_some (sym (no_link_there links names field same is));
+  known = ap is_some (sym (no-link-there links names field same is));
   at = λ n e. cc;
 }
-link_placed links names field (Some place) same is =
-    let here = link_at_place links names field place same is in
+link-placed links names field (Some place) same is =
+    let here = link-at-place links names field place same is in
     let within = (position-Some (is_named field) names place [] (sym is)).0 in
     record {
       place = is ∙ ap (position (is_named field)) same;
@@ -39,13 +39,13 @@ link_placed links names field (Some place) same is =
     }
 
 -- the place, or the cause
-pub place_states : (links : List LinkEntry) (field : List ℕ) (found : Option ℕ) (r : Result ℕ Cause) → name_rule field ≡ None → IsPlaced links field found → r ≡ ok_or found cause.Unknown
+pub place-states : (links : List LinkEntry) (field : List ℕ) (found : Option ℕ) (r : Result ℕ Cause) → name_rule field ≡ None → IsPlaced links field found → r ≡ ok_or found cause.Unknown
     → States r (used_name_rule (is_some (link_named links field)) field) (position (is_named field) (link_names links))
-place_states links field None r name is e =
+place-states links field None r name is e =
     subst (λ (x : Result ℕ Cause). States x (used_name_rule (is_some (link_named links field)) field) (position (is_named field) (link_names links))) (sym e) (rw (name, sym is.known) refl)
-place_states links field (Some place) r name is e =
+place-states links field (Some place) r name is e =
     subst (λ (x : Result ℕ Cause). States x (used_name_rule (is_some (link_named links field)) field) (position (is_named field) (link_names links))) (sym e) (rw (name, sym is.known) refl, sym is.place)
 
-pub place_found : (links : List LinkEntry) (field : List ℕ) (found : Option ℕ) (r : Result ℕ Cause) → IsPlaced links field found → r ≡ ok_or found cause.Unknown → IfOk r (λ place. slice_get links place ≡ link_named links field)
-place_found links field None r is e = subst (λ (x : Result ℕ Cause). IfOk x (λ place. slice_get links place ≡ link_named links field)) (sym e) tt
-place_found links field (Some place) r is e = subst (λ (x : Result ℕ Cause). IfOk x (λ place. slice_get links place ≡ link_named links field)) (sym e) (is.at place refl)
+pub place-found : (links : List LinkEntry) (field : List ℕ) (found : Option ℕ) (r : Result ℕ Cause) → IsPlaced links field found → r ≡ ok_or found cause.Unknown → IfOk r (λ place. slice_get links place ≡ link_named links field)
+place-found links field None r is e = subst (λ (x : Result ℕ Cause). IfOk x (λ place. slice_get links place ≡ link_named links field)) (sym e) tt
+place-found links field (Some place) r is e = subst (λ (x : Result ℕ Cause). IfOk x (λ place. slice_get links place ≡ link_named links field)) (sym e) (is.at place refl)

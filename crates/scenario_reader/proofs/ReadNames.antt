@@ -53,9 +53,9 @@ use Rattle.scenario_reader.specs.line.Rounds.{rounds_rule, tail_rule}
 use Rattle.scenario_reader.specs.line.Schedule.{schedule_rule, do_rule, do_said}
 use Rattle.scenario_reader.specs.line.Send.{send_rule, send_said}
 use Rattle.scenario_reader.specs.line.Table.{may_stand, line_word, judge_as, MayAdd}
-use Rattle.scenario_reader.proofs.DraftBecomesPlan.{draft_begins, draft_more, complete_draft}
-use Rattle.scenario_reader.proofs.PassingLines.{all_pass, both_pass, judged_ok, made_some, name_passes, new_name_passes, stated_ok, unless_passes, used_name_passes}
-use Rattle.scenario_reader.proofs.PassedLinesAdd.{may_add}
+use Rattle.scenario_reader.proofs.DraftBecomesPlan.{draft-begins, draft-more, complete-draft}
+use Rattle.scenario_reader.proofs.PassingLines.{all-pass, both-pass, judged-ok, made-some, name-passes, new-name-passes, stated-ok, unless-passes, used-name-passes}
+use Rattle.scenario_reader.proofs.PassedLinesAdd.{may-add}
 use Rattle.scenario_reader.proofs.kind.QuotaForm.{quota_few}
 
 -- ---- what a line names
@@ -74,26 +74,26 @@ NamesItem said (item.Caller name group) = is_name name ≡ true
 NamesItem said (item.Open entry) = NamesRequest said entry
 NamesItem said _ = Unit {0}
 
-link_named_so : (version : Version) (said : Said) (fields : List (List ℕ)) (entry : LinkEntry) → link_rule version said fields ≡ None → link_said version said fields ≡ Some entry → HasNames entry
-link_named_so version said fields entry rule says =
-    let p = all_pass (unless (is_link_line version fields) cause.Shape ∷ link_fields_rule said fields ∷ unless (nat_lt (length said.links) most_links) cause.Many ∷ unless (has_bounds (link_numbers fields)) cause.Levels ∷ []) rule in
-    let q = all_pass (new_name_rule (link_names said.links) (field_at fields 1) ∷ name_rule (field_at fields 2) ∷ name_rule (field_at fields 3) ∷ link_numbers_rule fields ∷ best_rule fields ∷ bound_numbers_rule (bound_fields fields) ∷ []) p.1.0 in
-    let made = made_some (link_with fields) _ entry says in
+link-named-so : (version : Version) (said : Said) (fields : List (List ℕ)) (entry : LinkEntry) → link_rule version said fields ≡ None → link_said version said fields ≡ Some entry → HasNames entry
+link-named-so version said fields entry rule says =
+    let p = all-pass (unless (is_link_line version fields) cause.Shape ∷ link_fields_rule said fields ∷ unless (nat_lt (length said.links) most_links) cause.Many ∷ unless (has_bounds (link_numbers fields)) cause.Levels ∷ []) rule in
+    let q = all-pass (new_name_rule (link_names said.links) (field_at fields 1) ∷ name_rule (field_at fields 2) ∷ name_rule (field_at fields 3) ∷ link_numbers_rule fields ∷ best_rule fields ∷ bound_numbers_rule (bound_fields fields) ∷ []) p.1.0 in
+    let made = made-some (link_with fields) _ entry says in
     subst HasNames made.2 (record {
-      name = (new_name_passes (link_names said.links) (field_at fields 1) q.0).0;
-      from = name_passes (field_at fields 2) q.1.0;
-      to = name_passes (field_at fields 3) q.1.1.0;
+      name = (new-name-passes (link_names said.links) (field_at fields 1) q.0).0;
+      from = name-passes (field_at fields 2) q.1.0;
+      to = name-passes (field_at fields 3) q.1.1.0;
     })
 
-group_named_so : (said : Said) (fields : List (List ℕ)) → group_rule said fields ≡ None → is_name (field_at fields 1) ≡ true
-group_named_so said fields rule =
-    let p = all_pass (unless (has_form group_form fields) cause.Shape ∷ new_name_rule said.groups (field_at fields 1) ∷ unless (nat_lt (length said.groups) most_groups) cause.Many ∷ []) rule in
-    (new_name_passes said.groups (field_at fields 1) p.1.0).0
+group-named-so : (said : Said) (fields : List (List ℕ)) → group_rule said fields ≡ None → is_name (field_at fields 1) ≡ true
+group-named-so said fields rule =
+    let p = all-pass (unless (has_form group_form fields) cause.Shape ∷ new_name_rule said.groups (field_at fields 1) ∷ unless (nat_lt (length said.groups) most_groups) cause.Many ∷ []) rule in
+    (new-name-passes said.groups (field_at fields 1) p.1.0).0
 
-caller_named_so : (version : Version) (said : Said) (fields : List (List ℕ)) → caller_rule version said fields ≡ None → is_name (field_at fields 1) ≡ true
-caller_named_so version said fields rule =
-    let p = all_pass (unless (is_caller_line version fields) cause.Shape ∷ new_name_rule (caller_names said.callers) (field_at fields 1) ∷ member_rule said fields ∷ unless (nat_lt (length said.callers) most_callers) cause.Many ∷ []) rule in
-    (new_name_passes (caller_names said.callers) (field_at fields 1) p.1.0).0
+caller-named-so : (version : Version) (said : Said) (fields : List (List ℕ)) → caller_rule version said fields ≡ None → is_name (field_at fields 1) ≡ true
+caller-named-so version said fields rule =
+    let p = all-pass (unless (is_caller_line version fields) cause.Shape ∷ new_name_rule (caller_names said.callers) (field_at fields 1) ∷ member_rule said fields ∷ unless (nat_lt (length said.callers) most_callers) cause.Many ∷ []) rule in
+    (new-name-passes (caller_names said.callers) (field_at fields 1) p.1.0).0
 
 abbrev eight-zeros : List ℕ
 eight-zeros = 0 ∷ 0 ∷ 0 ∷ 0 ∷ 0 ∷ 0 ∷ 0 ∷ 0 ∷ []
@@ -102,14 +102,14 @@ eight-loads : (numbers : List ℕ) → length numbers ≤ 8 → length (in_eight
 eight-loads numbers few =
     omega (arith, few, length-append numbers (drop (length numbers) eight-zeros), length-drop (length numbers) eight-zeros)
 
-quota_has_loads : (said : Said) (fields : List (List ℕ)) (what : Item) → quota_rule said fields ≡ None → quota_said said fields ≡ Some what → NamesItem said what
-quota_has_loads said fields what rule says = by (link_named said.links (field_at fields 1)) (quota_in said fields) refl says (both_pass (unless (has_form quota_form fields) cause.Shape) _ rule).0 where
+quota-has-loads : (said : Said) (fields : List (List ℕ)) (what : Item) → quota_rule said fields ≡ None → quota_said said fields ≡ Some what → NamesItem said what
+quota-has-loads said fields what rule says = by (link_named said.links (field_at fields 1)) (quota_in said fields) refl says (both-pass (unless (has_form quota_form fields) cause.Shape) _ rule).0 where
   by : (link : Option LinkEntry) (told : Option Quota) → quota_in said fields ≡ told → quota_on link told ≡ Some what → unless (has_form quota_form fields) cause.Shape ≡ None → NamesItem said what
   by None told q e form = cc
   by (Some link) None q e form = cc
   by (Some link) (Some quota) q e form =
-      let made = made_some (quota_of fields) (group_named said.groups (field_at fields 2)) quota q in
-      let few = quota_few fields (unless_passes (has_form quota_form fields) cause.Shape form) in
+      let made = made-some (quota_of fields) (group_named said.groups (field_at fields 2)) quota q in
+      let few = quota_few fields (unless-passes (has_form quota_form fields) cause.Shape form) in
       subst (NamesItem said) (same_Some (item.Quota link.shape.link quota) what e)
       (subst HasEightLoads made.2 (eight-loads (map value_of (load_fields fields)) (omega (arith, few, length-map (load_fields fields) value_of))))
 
@@ -128,86 +128,86 @@ nodes-named_so : (found : Bool) (from to : List ℕ) → (found ≡ true → (is
 nodes-named_so true from to named = named refl
 nodes-named_so false from to named = tt
 
-open_named_so : (version : Version) (said : Said) (fields : List (List ℕ)) → open_rule version said fields ≡ None → NamesRequest said (request_said said fields)
-open_named_so version said fields rule =
-    let p = all_pass (unless (is_open_line version fields) cause.Shape ∷ open_fields_rule said fields ∷ open_limits_rule said fields ∷ []) rule in
-    let q = all_pass (new_name_rule (request_names said.requests) (field_at fields 1) ∷ way_fields_rule said fields ∷ terms_rule fields ∷ number_rule 1 most_delay (after_route fields 6) ∷ jitter_rule fields ∷ []) p.1.0 in
-    let l = all_pass (unless (nat_lt (length said.requests) most_requests) cause.Many ∷ unless (is_some (contract_of (contract_told fields))) cause.Contract ∷ way_rule said fields ∷ []) p.1.1.0 in
+open-named-so : (version : Version) (said : Said) (fields : List (List ℕ)) → open_rule version said fields ≡ None → NamesRequest said (request_said said fields)
+open-named-so version said fields rule =
+    let p = all-pass (unless (is_open_line version fields) cause.Shape ∷ open_fields_rule said fields ∷ open_limits_rule said fields ∷ []) rule in
+    let q = all-pass (new_name_rule (request_names said.requests) (field_at fields 1) ∷ way_fields_rule said fields ∷ terms_rule fields ∷ number_rule 1 most_delay (after_route fields 6) ∷ jitter_rule fields ∷ []) p.1.0 in
+    let l = all-pass (unless (nat_lt (length said.requests) most_requests) cause.Many ∷ unless (is_some (contract_of (contract_told fields))) cause.Contract ∷ way_rule said fields ∷ []) p.1.1.0 in
     record {
-      name = (new_name_passes (request_names said.requests) (field_at fields 1) q.0).0;
+      name = (new-name-passes (request_names said.requests) (field_at fields 1) q.0).0;
       nodes = nodes-named_so (is_found fields) (field_at fields 3) (field_at fields 5) (λ is.
           let nodes : nodes_rule said fields ≡ None = rw is at q.1.0 in
-          let both = both_pass (node_rule said (field_at fields 3)) (node_rule said (field_at fields 5)) nodes in (
-            (used_name_passes (is_node said.links (field_at fields 3)) (field_at fields 3) both.0).0,
-            (used_name_passes (is_node said.links (field_at fields 5)) (field_at fields 5) both.1).0,
+          let both = both-pass (node_rule said (field_at fields 3)) (node_rule said (field_at fields 5)) nodes in (
+            (used-name-passes (is_node said.links (field_at fields 3)) (field_at fields 3) both.0).0,
+            (used-name-passes (is_node said.links (field_at fields 5)) (field_at fields 5) both.1).0,
           ));
       found = is-found_so said.links (is_found fields) (field_at fields 3) (field_at fields 5) (hops_in said fields) (λ is.
           let between : between_rule said (field_at fields 3) (field_at fields 5) ≡ None = rw is at l.1.1.0 in
-          let limits = both_pass (unless (not (is_named (field_at fields 5) (field_at fields 3))) cause.Route) (unless (is_some (route_between said.links (field_at fields 3) (field_at fields 5))) cause.Reach) between in
-          unless_passes (is_some (route_between said.links (field_at fields 3) (field_at fields 5))) cause.Reach limits.1);
+          let limits = both-pass (unless (not (is_named (field_at fields 5) (field_at fields 3))) cause.Route) (unless (is_some (route_between said.links (field_at fields 3) (field_at fields 5))) cause.Reach) between in
+          unless-passes (is_some (route_between said.links (field_at fields 3) (field_at fields 5))) cause.Reach limits.1);
     }
 
 -- ---- a line that passes
 
 -- an operation names nothing
-op_names : (said : Said) (rule : Option Cause) (op : Option Op) (what : Item) → ◌≡◌ {A = Option Item} (option_map item.Op op) (Some what) → NamesItem said what
-op_names said rule op what e = (let made = made_some item.Op op what e in subst (NamesItem said) made.2 tt)
+op-names : (said : Said) (rule : Option Cause) (op : Option Op) (what : Item) → ◌≡◌ {A = Option Item} (option_map item.Op op) (Some what) → NamesItem said what
+op-names said rule op what e = (let made = made-some item.Op op what e in subst (NamesItem said) made.2 tt)
 
-names_as : (keyword : Keyword) (version : Version) (said : Said) (number : ℕ) (fields : List (List ℕ)) (what : Item) → judge_as keyword version said number fields ≡ Ok what → NamesItem said what
-names_as word.Link version said number fields what e =
-    let p = stated_ok (link_rule version said fields) (option_map item.Link (link_said version said fields)) what e in
-    let made = made_some item.Link (link_said version said fields) what p.1 in
-    subst (NamesItem said) made.2 (link_named_so version said fields made.0 p.0 made.1)
-names_as word.Group version said number fields what e =
-    let p = judged_ok (group_rule said fields) (item.Group (field_at fields 1)) what e in
-    subst (NamesItem said) p.1 (group_named_so said fields p.0)
-names_as word.Quota version said number fields what e =
-    let p = stated_ok (quota_rule said fields) (quota_said said fields) what e in
-    quota_has_loads said fields what p.0 p.1
-names_as word.Caller version said number fields what e =
-    let p = judged_ok (caller_rule version said fields) (item.Caller (field_at fields 1) (group_in said fields)) what e in
-    subst (NamesItem said) p.1 (caller_named_so version said fields p.0)
-names_as word.Open version said number fields what e =
-    let p = judged_ok (open_rule version said fields) (item.Open (request_said said fields)) what e in
-    subst (NamesItem said) p.1 (open_named_so version said fields p.0)
-names_as word.Send version said number fields what e = op_names said (send_rule said fields) (send_said said fields) what (stated_ok (send_rule said fields) (option_map item.Op (send_said said fields)) what e).1
-names_as word.Close version said number fields what e = op_names said (close_rule said fields) (close_said said fields) what (stated_ok (close_rule said fields) (option_map item.Op (close_said said fields)) what e).1
-names_as word.Move version said number fields what e = op_names said (move_rule said fields) (move_said said fields) what (stated_ok (move_rule said fields) (option_map item.Op (move_said said fields)) what e).1
-names_as word.Pour version said number fields what e = op_names said (pour_rule said fields) (pour_said said fields) what (stated_ok (pour_rule said fields) (option_map item.Op (pour_said said fields)) what e).1
-names_as word.Rounds version said number fields what e = subst (NamesItem said) (judged_ok (rounds_rule fields) (item.Rounds (value_of (field_at fields 1))) what e).1 tt
-names_as word.Tail version said number fields what e = subst (NamesItem said) (judged_ok (tail_rule said fields) (item.Tail (value_of (field_at fields 1))) what e).1 tt
-names_as word.Schedule version said number fields what e = subst (NamesItem said) (judged_ok (schedule_rule fields) item.Schedule what e).1 tt
-names_as word.Do version said number fields what e =
-    let p = stated_ok (do_rule said fields) (option_map item.Do (do_said said number fields)) what e in
-    let made = made_some item.Do (do_said said number fields) what p.1 in
+names-as : (keyword : Keyword) (version : Version) (said : Said) (number : ℕ) (fields : List (List ℕ)) (what : Item) → judge_as keyword version said number fields ≡ Ok what → NamesItem said what
+names-as word.Link version said number fields what e =
+    let p = stated-ok (link_rule version said fields) (option_map item.Link (link_said version said fields)) what e in
+    let made = made-some item.Link (link_said version said fields) what p.1 in
+    subst (NamesItem said) made.2 (link-named-so version said fields made.0 p.0 made.1)
+names-as word.Group version said number fields what e =
+    let p = judged-ok (group_rule said fields) (item.Group (field_at fields 1)) what e in
+    subst (NamesItem said) p.1 (group-named-so said fields p.0)
+names-as word.Quota version said number fields what e =
+    let p = stated-ok (quota_rule said fields) (quota_said said fields) what e in
+    quota-has-loads said fields what p.0 p.1
+names-as word.Caller version said number fields what e =
+    let p = judged-ok (caller_rule version said fields) (item.Caller (field_at fields 1) (group_in said fields)) what e in
+    subst (NamesItem said) p.1 (caller-named-so version said fields p.0)
+names-as word.Open version said number fields what e =
+    let p = judged-ok (open_rule version said fields) (item.Open (request_said said fields)) what e in
+    subst (NamesItem said) p.1 (open-named-so version said fields p.0)
+names-as word.Send version said number fields what e = op-names said (send_rule said fields) (send_said said fields) what (stated-ok (send_rule said fields) (option_map item.Op (send_said said fields)) what e).1
+names-as word.Close version said number fields what e = op-names said (close_rule said fields) (close_said said fields) what (stated-ok (close_rule said fields) (option_map item.Op (close_said said fields)) what e).1
+names-as word.Move version said number fields what e = op-names said (move_rule said fields) (move_said said fields) what (stated-ok (move_rule said fields) (option_map item.Op (move_said said fields)) what e).1
+names-as word.Pour version said number fields what e = op-names said (pour_rule said fields) (pour_said said fields) what (stated-ok (pour_rule said fields) (option_map item.Op (pour_said said fields)) what e).1
+names-as word.Rounds version said number fields what e = subst (NamesItem said) (judged-ok (rounds_rule fields) (item.Rounds (value_of (field_at fields 1))) what e).1 tt
+names-as word.Tail version said number fields what e = subst (NamesItem said) (judged-ok (tail_rule said fields) (item.Tail (value_of (field_at fields 1))) what e).1 tt
+names-as word.Schedule version said number fields what e = subst (NamesItem said) (judged-ok (schedule_rule fields) item.Schedule what e).1 tt
+names-as word.Do version said number fields what e =
+    let p = stated-ok (do_rule said fields) (option_map item.Do (do_said said number fields)) what e in
+    let made = made-some item.Do (do_said said number fields) what p.1 in
     subst (NamesItem said) made.2 tt
-names_as other version said number fields what e = absurd (not_ok cause.Word what e)
+names-as other version said number fields what e = absurd (not-ok cause.Word what e)
   where
-    not_ok : (c : Cause) (what : Item) → ◌≡◌ {A = Result Item Cause} (Err c) (Ok what) → ⊥
-    not_ok c what e = cc
+    not-ok : (c : Cause) (what : Item) → ◌≡◌ {A = Result Item Cause} (Err c) (Ok what) → ⊥
+    not-ok c what e = cc
 
-names_word : (keyword : Option Keyword) (version : Version) (said : Said) (number : ℕ) (fields : List (List ℕ)) (what : Item) → judge_word keyword version said number fields ≡ Ok what → NamesItem said what
-names_word None version said number fields what e = cc
-names_word (Some keyword) version said number fields what e = by (may_stand version said keyword) e where
+names-word : (keyword : Option Keyword) (version : Version) (said : Said) (number : ℕ) (fields : List (List ℕ)) (what : Item) → judge_word keyword version said number fields ≡ Ok what → NamesItem said what
+names-word None version said number fields what e = cc
+names-word (Some keyword) version said number fields what e = by (may_stand version said keyword) e where
   by : (stands : Bool) → (if stands then judge_as keyword version said number fields else Err cause.Word) ≡ Ok what → NamesItem said what
-  by true e = names_as keyword version said number fields what e
+  by true e = names-as keyword version said number fields what e
   by false e = cc
 
-header_names : (found : Option Version) (said : Said) (what : Item) → header_said found ≡ Ok what → NamesItem said what
-header_names None said what e = cc
-header_names (Some version) said what e = (let same : item.Header version ≡ what = cc in subst (NamesItem said) same tt)
+header-names : (found : Option Version) (said : Said) (what : Item) → header_said found ≡ Ok what → NamesItem said what
+header-names None said what e = cc
+header-names (Some version) said what e = (let same : item.Header version ≡ what = cc in subst (NamesItem said) same tt)
 
-names_after : (headed : Option Version) (said : Said) (number : ℕ) (fields : List (List ℕ)) (what : Item) → judge_after headed said number fields ≡ Ok what → NamesItem said what
-names_after None said number fields what e = header_names (header_version fields) said what e
-names_after (Some version) said number fields what e = names_word (line_word (field_at fields 0)) version said number fields what e
+names-after : (headed : Option Version) (said : Said) (number : ℕ) (fields : List (List ℕ)) (what : Item) → judge_after headed said number fields ≡ Ok what → NamesItem said what
+names-after None said number fields what e = header-names (header_version fields) said what e
+names-after (Some version) said number fields what e = names-word (line_word (field_at fields 0)) version said number fields what e
 
-line_names : (said : Said) (number : ℕ) (line : List ℕ) (what : Item) → judge said number line ≡ Ok what → NamesItem said what
+line-names : (said : Said) (number : ℕ) (line : List ℕ) (what : Item) → judge said number line ≡ Ok what → NamesItem said what
 unfolding judge
-line_names said number line what e = by (is_passed_over line) (not (are_fields (fields_of line))) e where
+line-names said number line what e = by (is_passed_over line) (not (are_fields (fields_of line))) e where
   by : (over bad : Bool) → (if over then Ok item.Nothing else (if bad then Err cause.Shape else judge_after said.version said number (fields_of line))) ≡ Ok what → NamesItem said what
   by true bad e = (let same : item.Nothing ≡ what = cc in subst (NamesItem said) same tt)
   by false true e = cc
-  by false false e = names_after said.version said number (fields_of line) what e
+  by false false e = names-after said.version said number (fields_of line) what e
 
 -- ---- what was read so far
 
@@ -220,7 +220,7 @@ record IsNamed (said : Said) : Type 0 where
 
 nothing-named : IsNamed nothing_said
 nothing-named = record {
-  draft = draft_begins;
+  draft = draft-begins;
   named = record { links = tt; groups = tt; quotas = tt; nodes = tt; requests = tt; callers = tt };
   found = tt;
   alone = λ none. refl;
@@ -270,7 +270,7 @@ none-with_caller (first ∷ callers) caller none = cc
 named-more : (said : Said) (what : Item) → IsNamed said → MayAdd said what → NamesItem said what → IsNamed (with_item what said)
 named-more said item.Nothing n may names = n
 named-more said (item.Link entry) n may names = record {
-  draft = draft_more said (item.Link entry) n.draft may;
+  draft = draft-more said (item.Link entry) n.draft may;
   named = record {
     links = Each-append HasNames said.links (entry ∷ []) n.named.links (names, tt);
     groups = n.named.groups;
@@ -283,7 +283,7 @@ named-more said (item.Link entry) n may names = record {
   alone = n.alone;
 }
 named-more said (item.Group name) n may names = record {
-  draft = draft_more said (item.Group name) n.draft may;
+  draft = draft-more said (item.Group name) n.draft may;
   named = record {
     links = n.named.links;
     groups = Each-append (λ (g : List ℕ). is_name g ≡ true) said.groups (name ∷ []) n.named.groups (names, tt);
@@ -296,7 +296,7 @@ named-more said (item.Group name) n may names = record {
   alone = n.alone;
 }
 named-more said (item.Quota link quota) n may names = record {
-  draft = draft_more said (item.Quota link quota) n.draft may;
+  draft = draft-more said (item.Quota link quota) n.draft may;
   named = record {
     links = quota-kept HasNames quota (λ entry has. record { name = has.name; from = has.from; to = has.to }) (link_number link) said.links n.named.links;
     groups = n.named.groups;
@@ -309,7 +309,7 @@ named-more said (item.Quota link quota) n may names = record {
   alone = n.alone;
 }
 named-more said (item.Caller name group) n may names = record {
-  draft = draft_more said (item.Caller name group) n.draft may;
+  draft = draft-more said (item.Caller name group) n.draft may;
   named = record {
     links = n.named.links;
     groups = n.named.groups;
@@ -322,7 +322,7 @@ named-more said (item.Caller name group) n may names = record {
   alone = λ none. absurd (none-with_caller said.callers (new_caller name group) none);
 }
 named-more said (item.Open entry) n may names = record {
-  draft = draft_more said (item.Open entry) n.draft may;
+  draft = draft-more said (item.Open entry) n.draft may;
   named = record {
     links = n.named.links;
     groups = n.named.groups;
@@ -335,7 +335,7 @@ named-more said (item.Open entry) n may names = record {
   alone = λ none. (let nobody = ap length (none-with_op (Open entry.request.chan) said.callers none) in absurd (omega (arith, nobody, may.request.caller)));
 }
 named-more said (item.Op what) n may names = record {
-  draft = draft_more said (item.Op what) n.draft may;
+  draft = draft-more said (item.Op what) n.draft may;
   named = record {
     links = n.named.links;
     groups = n.named.groups;
@@ -347,17 +347,17 @@ named-more said (item.Op what) n may names = record {
   found = n.found;
   alone = λ none. n.alone (none-with_op what said.callers none);
 }
-named-more said (item.Header version) n may names = named-still said (with_item (item.Header version) said) refl refl refl refl n (draft_more said (item.Header version) n.draft may)
-named-more said (item.Rounds count) n may names = named-still said (with_item (item.Rounds count) said) refl refl refl refl n (draft_more said (item.Rounds count) n.draft may)
-named-more said (item.Tail count) n may names = named-still said (with_item (item.Tail count) said) refl refl refl refl n (draft_more said (item.Tail count) n.draft may)
-named-more said item.Schedule n may names = named-still said (with_item item.Schedule said) refl refl refl refl n (draft_more said item.Schedule n.draft may)
-named-more said (item.Do what) n may names = named-still said (with_item (item.Do what) said) refl refl refl refl n (draft_more said (item.Do what) n.draft may)
+named-more said (item.Header version) n may names = named-still said (with_item (item.Header version) said) refl refl refl refl n (draft-more said (item.Header version) n.draft may)
+named-more said (item.Rounds count) n may names = named-still said (with_item (item.Rounds count) said) refl refl refl refl n (draft-more said (item.Rounds count) n.draft may)
+named-more said (item.Tail count) n may names = named-still said (with_item (item.Tail count) said) refl refl refl refl n (draft-more said (item.Tail count) n.draft may)
+named-more said item.Schedule n may names = named-still said (with_item item.Schedule said) refl refl refl refl n (draft-more said item.Schedule n.draft may)
+named-more said (item.Do what) n may names = named-still said (with_item (item.Do what) said) refl refl refl refl n (draft-more said (item.Do what) n.draft may)
 
 -- ---- a whole text
 
 complete-read : (said : Said) (parts : PlanParts) (schedule : Schedule) → IsNamed said → is_complete said ≡ true → parts_said said ≡ parts → schedule_said said ≡ schedule → IsReadable parts schedule
 complete-read said parts schedule n complete same its =
-    subst (λ p. IsReadable p schedule) same (subst (IsReadable (parts_said said)) its (record { plan = complete_draft said n.draft complete; named = n.named; found = n.found; scheduled = n.draft.schedule }))
+    subst (λ p. IsReadable p schedule) same (subst (IsReadable (parts_said said)) its (record { plan = complete-draft said n.draft complete; named = n.named; found = n.found; scheduled = n.draft.schedule }))
 
 end-read : (ending : Ending) (count : ℕ) (said : Said) (parts : PlanParts) (schedule : Schedule) → IsNamed said → at_end ending count said ≡ PlanRead parts schedule → IsReadable parts schedule
 end-read all_given count said parts schedule n e = by (is_complete said) refl e where
@@ -375,7 +375,7 @@ lines-read [] ending count said parts schedule n e = end-read ending count said 
 lines-read (line ∷ lines) ending count said parts schedule n e = by (judge said (suc count) line) refl e (λ after named. lines-read lines ending (suc count) after parts schedule named) where
   by : (r : Result Item Cause) → judge said (suc count) line ≡ r → on_judged r (suc count) said (λ after. reading_of (suc count) lines ending after) ≡ PlanRead parts schedule
       → ((after : Said) → IsNamed after → reading_of (suc count) lines ending after ≡ PlanRead parts schedule → IsReadable parts schedule) → IsReadable parts schedule
-  by (Ok what) is e rest = rest (with_item what said) (named-more said what n (may_add said (suc count) line what n.draft is) (line_names said (suc count) line what is)) e
+  by (Ok what) is e rest = rest (with_item what said) (named-more said what n (may-add said (suc count) line what n.draft is) (line-names said (suc count) line what is)) e
   by (Err why) is e rest = cc
 
 pub what-is-readable : WhatIsReadIsReadable

@@ -16,7 +16,7 @@ use Rattle.scenario_reader.specs.FoundRoutes.{IsLeastRoute}
 use Rattle.scenario_reader.specs.Nodes.{AreNumbered}
 use Rattle.scenario_reader.specs.ReadPlans.{GoesByLeastWalk, RequestsGetTheLeastRoutes}
 use Rattle.scenario_reader.proofs.FoundNodes.{found-nodes}
-use Rattle.scenario_reader.proofs.LeastRoutes.{finds_least_routes}
+use Rattle.scenario_reader.proofs.LeastRoutes.{finds-least-routes}
 use Rattle.scenario_reader.proofs.NodesByNumber.{named-equal}
 use Rattle.scenario_reader.proofs.ReadNames.{what-is-readable}
 
@@ -28,7 +28,7 @@ least-route : (links : List LinkEntry) (route : List Hop) (found : Option (List 
 least-route links route None numbered few some is = tt
 least-route links route (Some (from, to)) numbered few some is =
     let ends = found-nodes links from to route numbered few some is in
-    subst (IsLeastRoute links from to) is (finds_least_routes links from to numbered few (record {
+    subst (IsLeastRoute links from to) is (finds-least-routes links from to numbered few (record {
       from_node = ends.first;
       to_node = ends.second;
       apart = λ same. true≢false (sym (named-equal to from same) ∙ ends.apart);

@@ -28,19 +28,19 @@ use Rattle.scenario_reader.specs.declared.reader.TheConstants.{MOST_BYTES}
 abbrev pub at_start : Cutting
 at_start = record { most = MOST_BYTES; taken = 0; pending = []; ended = false; number = 0; line = [] }
 
-pub foretells_at_start : {W R : Type 0} (k : Language W R) (left : Option (List ℕ)) → Foretells k left (ahead k at_start k.first left)
-foretells_at_start k None = tt
-foretells_at_start k (Some bytes) = refl
+pub foretells-at_start : {W R : Type 0} (k : Language W R) (left : Option (List ℕ)) → Foretells k left (ahead k at_start k.first left)
+foretells-at_start k None = tt
+foretells-at_start k (Some bytes) = refl
 
 -- what is ahead comes to the same after one line more
-pub foretells_next : {W R : Type 0} (k : Language W R) (told : Option (List ℕ)) (now after : Option R) → Foretells k told now → IfSome now (λ r. after ≡ Some r) → Foretells k told after
-foretells_next k None now after f e = tt
-foretells_next k (Some bytes) None after f e = cc
-foretells_next k (Some bytes) (Some r) after f e = e ∙ f
+pub foretells-next : {W R : Type 0} (k : Language W R) (told : Option (List ℕ)) (now after : Option R) → Foretells k told now → IfSome now (λ r. after ≡ Some r) → Foretells k told after
+foretells-next k None now after f e = tt
+foretells-next k (Some bytes) None after f e = cc
+foretells-next k (Some bytes) (Some r) after f e = e ∙ f
 
 -- a line that was let pass leaves the rest to be let pass
-pub passes_line : {W R : Type 0} (k : Language W R) (s t : Cutting) (said after : W) (left left' : Option (List ℕ)) → AnswersLine s t left left' → k.says said t.number t.line ≡ Ok after → PassesOn k s t said after left left'
-passes_line k s t said after left left' a says =
+pub passes-line : {W R : Type 0} (k : Language W R) (s t : Cutting) (said after : W) (left left' : Option (List ℕ)) → AnswersLine s t left left' → k.says said t.number t.line ≡ Ok after → PassesOn k s t said after left left'
+passes-line k s t said after left left' a says =
     let bytes = a.moves.bytes in
     record {
       bytes = bytes;
@@ -59,59 +59,59 @@ passes_line k s t said after left left' a says =
     }
 
 -- what is ahead comes to what the line says and what is ahead after it
-line_ahead : {W R : Type 0} (k : Language W R) (s t : Cutting) (said : W) (bytes rest : List ℕ) → IsByLine k → t.number ≡ s.number + 1 → outlook (allowance s) (s.pending ++ bytes) ≡ outlook_before (Ok Line) t.line (outlook (allowance t) (t.pending ++ rest))
+line-ahead : {W R : Type 0} (k : Language W R) (s t : Cutting) (said : W) (bytes rest : List ℕ) → IsByLine k → t.number ≡ s.number + 1 → outlook (allowance s) (s.pending ++ bytes) ≡ outlook_before (Ok Line) t.line (outlook (allowance t) (t.pending ++ rest))
     → k.on s.number (outlook (allowance s) (s.pending ++ bytes)) said ≡ judged_on k (k.says said t.number t.line) t.number (outlook (allowance t) (t.pending ++ rest))
-line_ahead k s t said bytes rest by number foretold =
+line-ahead k s t said bytes rest by number foretold =
     let next : suc s.number ≡ t.number = omega (arith, number) in
     let after = outlook (allowance t) (t.pending ++ rest) in
     ap (λ (o : Outlook). k.on s.number o said) foretold ∙ by.next s.number t.line after said ∙ ap (λ n. judged_on k (k.says said n t.line) n after) next
 
 -- after a line that is let pass it comes to the same
-same_ahead : {W R : Type 0} (k : Language W R) (s t : Cutting) (said after : W) (left left' : Option (List ℕ)) → IsByLine k → t.number ≡ s.number + 1 → BeforeLine (Ok Line) s t (bytes_ahead s left) (bytes_ahead t left')
+same-ahead : {W R : Type 0} (k : Language W R) (s t : Cutting) (said after : W) (left left' : Option (List ℕ)) → IsByLine k → t.number ≡ s.number + 1 → BeforeLine (Ok Line) s t (bytes_ahead s left) (bytes_ahead t left')
     → k.says said t.number t.line ≡ Ok after → IfSome (ahead k s said left) (λ r. ahead k t after left' ≡ Some r)
-same_ahead k s t said after None left' by number foretold says = tt
-same_ahead k s t said after (Some bytes) None by number foretold says = absurd foretold
-same_ahead k s t said after (Some bytes) (Some rest) by number foretold says =
-    ap Some (sym (line_ahead k s t said bytes rest by number foretold ∙ ap (λ j. judged_on k j t.number (outlook (allowance t) (t.pending ++ rest))) says))
+same-ahead k s t said after None left' by number foretold says = tt
+same-ahead k s t said after (Some bytes) None by number foretold says = absurd foretold
+same-ahead k s t said after (Some bytes) (Some rest) by number foretold says =
+    ap Some (sym (line-ahead k s t said bytes rest by number foretold ∙ ap (λ j. judged_on k j t.number (outlook (allowance t) (t.pending ++ rest))) says))
 
-pub line_reads : {W R : Type 0} (k : Language W R) (s t : Cutting) (said after : W) (left left' : Option (List ℕ)) → IsByLine k → IsCutting t → IsOf s left → AnswersLine s t left left' → BeforeLine (Ok Line) s t (bytes_ahead s left) (bytes_ahead t left')
+pub line-reads : {W R : Type 0} (k : Language W R) (s t : Cutting) (said after : W) (left left' : Option (List ℕ)) → IsByLine k → IsCutting t → IsOf s left → AnswersLine s t left left' → BeforeLine (Ok Line) s t (bytes_ahead s left) (bytes_ahead t left')
     → k.says said t.number t.line ≡ Ok after → ReadsOn k s t said after left left'
-line_reads k s t said after left left' by cutting of a foretold says = record {
+line-reads k s t said after left left' by cutting of a foretold says = record {
   number = a.number;
   most = a.moves.same_most;
   cutting = cutting;
   source = a.moves.same_source of;
-  passes = passes_line k s t said after left left' a says;
-  same = same_ahead k s t said after left left' by a.number foretold says;
+  passes = passes-line k s t said after left left' a says;
+  same = same-ahead k s t said after left left' by a.number foretold says;
 }
 
 -- a line that is refused is the verdict
-line_refused : {W R : Type 0} (k : Language W R) (s t : Cutting) (said : W) (left left' : Option (List ℕ)) (why : Cause) → IsByLine k → t.number ≡ s.number + 1 → BeforeLine (Ok Line) s t (bytes_ahead s left) (bytes_ahead t left')
+line-refused : {W R : Type 0} (k : Language W R) (s t : Cutting) (said : W) (left left' : Option (List ℕ)) (why : Cause) → IsByLine k → t.number ≡ s.number + 1 → BeforeLine (Ok Line) s t (bytes_ahead s left) (bytes_ahead t left')
     → k.says said t.number t.line ≡ Err why → IfSome (ahead k s said left) (λ r. r ≡ k.refused t.number why)
-line_refused k s t said None left' why by number foretold says = tt
-line_refused k s t said (Some bytes) None why by number foretold says = absurd foretold
-line_refused k s t said (Some bytes) (Some rest) why by number foretold says =
-    line_ahead k s t said bytes rest by number foretold ∙ ap (λ j. judged_on k j t.number (outlook (allowance t) (t.pending ++ rest))) says
+line-refused k s t said None left' why by number foretold says = tt
+line-refused k s t said (Some bytes) None why by number foretold says = absurd foretold
+line-refused k s t said (Some bytes) (Some rest) why by number foretold says =
+    line-ahead k s t said bytes rest by number foretold ∙ ap (λ j. judged_on k j t.number (outlook (allowance t) (t.pending ++ rest))) says
 
-pub refused_reads : {W R : Type 0} (k : Language W R) (s t : Cutting) (said after : W) (left left' : Option (List ℕ)) (faults faults' : ℕ) (e : ReadRefusal) → IsByLine k → t.number ≡ s.number + 1 → BeforeLine (Ok Line) s t (bytes_ahead s left) (bytes_ahead t left')
+pub refused-reads : {W R : Type 0} (k : Language W R) (s t : Cutting) (said after : W) (left left' : Option (List ℕ)) (faults faults' : ℕ) (e : ReadRefusal) → IsByLine k → t.number ≡ s.number + 1 → BeforeLine (Ok Line) s t (bytes_ahead s left) (bytes_ahead t left')
     → AddsLine {X = Unit {0}} (Err e) t.number after (k.says said t.number t.line) → ReadsLine k (Err e) s t said after left left' faults faults'
-refused_reads k s t said after left left' faults faults' (refusal.Refused at why) by number foretold adds =
-    subst (λ (n : ℕ). IfSome (ahead k s said left) (λ r. r ≡ k.refused n why)) (sym adds.0) (line_refused k s t said left left' why by number foretold adds.1)
-refused_reads k s t said after left left' faults faults' refusal.Memory by number foretold adds = tt
-refused_reads k s t said after left left' faults faults' refusal.ReadFault by number foretold adds = absurd adds
-refused_reads k s t said after left left' faults faults' (refusal.TooLong taken) by number foretold adds = absurd adds
+refused-reads k s t said after left left' faults faults' (refusal.Refused at why) by number foretold adds =
+    subst (λ (n : ℕ). IfSome (ahead k s said left) (λ r. r ≡ k.refused n why)) (sym adds.0) (line-refused k s t said left left' why by number foretold adds.1)
+refused-reads k s t said after left left' faults faults' refusal.Memory by number foretold adds = tt
+refused-reads k s t said after left left' faults faults' refusal.ReadFault by number foretold adds = absurd adds
+refused-reads k s t said after left left' faults faults' (refusal.TooLong taken) by number foretold adds = absurd adds
 
 -- where one byte too many was taken, the bytes come to that
-over_ahead : {W R : Type 0} (k : Language W R) (s t : Cutting) (taken : ℕ) (said : W) (left left' : Option (List ℕ)) → IsByLine k → BeforeLine (Err (LineTooLong taken)) s t (bytes_ahead s left) (bytes_ahead t left') → IfSome (ahead k s said left) (λ r. r ≡ k.over)
-over_ahead k s t taken said None left' by foretold = tt
-over_ahead k s t taken said (Some bytes) None by foretold = absurd foretold
-over_ahead k s t taken said (Some bytes) (Some rest) by foretold = ap (λ (o : Outlook). k.on s.number o said) foretold ∙ by.over s.number said
+over-ahead : {W R : Type 0} (k : Language W R) (s t : Cutting) (taken : ℕ) (said : W) (left left' : Option (List ℕ)) → IsByLine k → BeforeLine (Err (LineTooLong taken)) s t (bytes_ahead s left) (bytes_ahead t left') → IfSome (ahead k s said left) (λ r. r ≡ k.over)
+over-ahead k s t taken said None left' by foretold = tt
+over-ahead k s t taken said (Some bytes) None by foretold = absurd foretold
+over-ahead k s t taken said (Some bytes) (Some rest) by foretold = ap (λ (o : Outlook). k.on s.number o said) foretold ∙ by.over s.number said
 
-pub over_reads : {W R : Type 0} (k : Language W R) (s t : Cutting) (taken : ℕ) (said : W) (left left' : Option (List ℕ)) → IsByLine k → AnswersTooLong taken s t left left' → BeforeLine (Err (LineTooLong taken)) s t (bytes_ahead s left) (bytes_ahead t left') → TakesOneTooMany k taken s said left left'
-over_reads k s t taken said left left' by a foretold =
+pub over-reads : {W R : Type 0} (k : Language W R) (s t : Cutting) (taken : ℕ) (said : W) (left left' : Option (List ℕ)) → IsByLine k → AnswersTooLong taken s t left left' → BeforeLine (Err (LineTooLong taken)) s t (bytes_ahead s left) (bytes_ahead t left') → TakesOneTooMany k taken s said left left'
+over-reads k s t taken said left left' by a foretold =
     let m = a.stays.moves in
     record {
-      over = over_ahead k s t taken said left left' by foretold;
+      over = over-ahead k s t taken said left left' by foretold;
       one_more = omega (arith, a.count, a.over.too_many, m.same_most);
       bytes = m.bytes;
       from_source = m.from_source;
@@ -119,33 +119,33 @@ over_reads k s t taken said left left' by a foretold =
     }
 
 -- where the input is at its end, nothing is ahead
-end_ahead : {W R : Type 0} (k : Language W R) (s t : Cutting) (said : W) (left left' : Option (List ℕ)) → BeforeLine (Ok End) s t (bytes_ahead s left) (bytes_ahead t left') → IfSome (ahead k s said left) (λ r. r ≡ k.on s.number (record { lines = []; ending = all_given }) said)
-end_ahead k s t said None left' foretold = tt
-end_ahead k s t said (Some bytes) None foretold = absurd foretold
-end_ahead k s t said (Some bytes) (Some rest) foretold = ap (λ (o : Outlook). k.on s.number o said) foretold
+end-ahead : {W R : Type 0} (k : Language W R) (s t : Cutting) (said : W) (left left' : Option (List ℕ)) → BeforeLine (Ok End) s t (bytes_ahead s left) (bytes_ahead t left') → IfSome (ahead k s said left) (λ r. r ≡ k.on s.number (record { lines = []; ending = all_given }) said)
+end-ahead k s t said None left' foretold = tt
+end-ahead k s t said (Some bytes) None foretold = absurd foretold
+end-ahead k s t said (Some bytes) (Some rest) foretold = ap (λ (o : Outlook). k.on s.number o said) foretold
 
-pub end_reads : {W R : Type 0} (k : Language W R) (s t : Cutting) (said : W) (left left' : Option (List ℕ)) → IsOf s left → AnswersEnd s t left left' → BeforeLine (Ok End) s t (bytes_ahead s left) (bytes_ahead t left') → ComesToEnd k s t said said left left'
-end_reads k s t said left left' of a foretold = record {
+pub end-reads : {W R : Type 0} (k : Language W R) (s t : Cutting) (said : W) (left left' : Option (List ℕ)) → IsOf s left → AnswersEnd s t left left' → BeforeLine (Ok End) s t (bytes_ahead s left) (bytes_ahead t left') → ComesToEnd k s t said said left left'
+end-reads k s t said left left' of a foretold = record {
   number = a.stays.same_number;
   same = refl;
   nothing_left = a.stays.moves.same_source of a.done.at_end;
-  ends = end_ahead k s t said left left' foretold;
+  ends = end-ahead k s t said left left' foretold;
 }
 
 -- where it ends inside a line, what is ahead is that this line is cut
-cut_ahead : {W R : Type 0} (k : Language W R) (s t : Cutting) (line : ℕ) (said : W) (left left' : Option (List ℕ)) → IsByLine k → BeforeLine (Err (NoLineEnd line)) s t (bytes_ahead s left) (bytes_ahead t left') → IfSome (ahead k s said left) (λ r. r ≡ k.refused (suc s.number) cause.Cut)
-cut_ahead k s t line said None left' by foretold = tt
-cut_ahead k s t line said (Some bytes) None by foretold = absurd foretold
-cut_ahead k s t line said (Some bytes) (Some rest) by foretold = ap (λ (o : Outlook). k.on s.number o said) foretold ∙ by.cut s.number said
+cut-ahead : {W R : Type 0} (k : Language W R) (s t : Cutting) (line : ℕ) (said : W) (left left' : Option (List ℕ)) → IsByLine k → BeforeLine (Err (NoLineEnd line)) s t (bytes_ahead s left) (bytes_ahead t left') → IfSome (ahead k s said left) (λ r. r ≡ k.refused (suc s.number) cause.Cut)
+cut-ahead k s t line said None left' by foretold = tt
+cut-ahead k s t line said (Some bytes) None by foretold = absurd foretold
+cut-ahead k s t line said (Some bytes) (Some rest) by foretold = ap (λ (o : Outlook). k.on s.number o said) foretold ∙ by.cut s.number said
 
-pub cut_reads : {W R : Type 0} (k : Language W R) (s t : Cutting) (line : ℕ) (said : W) (left left' : Option (List ℕ)) → IsByLine k → AnswersNoLineEnd line s t left left' → BeforeLine (Err (NoLineEnd line)) s t (bytes_ahead s left) (bytes_ahead t left') → IfSome (ahead k s said left) (λ r. r ≡ k.refused line cause.Cut)
-cut_reads k s t line said left left' by a foretold =
+pub cut-reads : {W R : Type 0} (k : Language W R) (s t : Cutting) (line : ℕ) (said : W) (left left' : Option (List ℕ)) → IsByLine k → AnswersNoLineEnd line s t left left' → BeforeLine (Err (NoLineEnd line)) s t (bytes_ahead s left) (bytes_ahead t left') → IfSome (ahead k s said left) (λ r. r ≡ k.refused line cause.Cut)
+cut-reads k s t line said left left' by a foretold =
     let number : suc s.number ≡ line = omega (arith, a.place, a.stays.same_number) in
-    subst (λ (n : ℕ). IfSome (ahead k s said left) (λ r. r ≡ k.refused n cause.Cut)) number (cut_ahead k s t line said left left' by foretold)
+    subst (λ (n : ℕ). IfSome (ahead k s said left) (λ r. r ≡ k.refused n cause.Cut)) number (cut-ahead k s t line said left left' by foretold)
 
 -- where the source failed, no whole line is ahead, and no byte too many was taken
-pub passes_fault : {W R : Type 0} (k : Language W R) (s t : Cutting) (said : W) (left left' : Option (List ℕ)) (faults faults' : ℕ) → AnswersReadFault s t left left' faults faults' → StopsPassing k s said left left'
-passes_fault k s t said left left' faults faults' a =
+pub passes-fault : {W R : Type 0} (k : Language W R) (s t : Cutting) (said : W) (left left' : Option (List ℕ)) (faults faults' : ℕ) → AnswersReadFault s t left left' faults faults' → StopsPassing k s said left left'
+passes-fault k s t said left left' faults faults' a =
     let m = a.stays.moves in
     record {
       bytes = m.bytes;
@@ -156,12 +156,12 @@ passes_fault k s t said left left' faults faults' a =
     }
 
 -- before the first line no byte was taken
-pub passes_at_start : {W R : Type 0} (k : Language W R) (left : Option (List ℕ)) → PassesOn k at_start at_start k.first k.first left left
-passes_at_start k left = record { bytes = []; from_source = Consumes-nil left; counted = refl; same = λ more. refl }
+pub passes-at_start : {W R : Type 0} (k : Language W R) (left : Option (List ℕ)) → PassesOn k at_start at_start k.first k.first left left
+passes-at_start k left = record { bytes = []; from_source = Consumes-nil left; counted = refl; same = λ more. refl }
 
 -- and so on after one line more
-pub passes_next : {W R : Type 0} (k : Language W R) (r s t : Cutting) (first said after : W) (left left' left'' : Option (List ℕ)) → PassesOn k r s first said left left' → PassesOn k s t said after left' left'' → PassesOn k r t first after left left''
-passes_next k r s t first said after left left' left'' p q = record {
+pub passes-next : {W R : Type 0} (k : Language W R) (r s t : Cutting) (first said after : W) (left left' left'' : Option (List ℕ)) → PassesOn k r s first said left left' → PassesOn k s t said after left' left'' → PassesOn k r t first after left left''
+passes-next k r s t first said after left left' left'' p q = record {
   bytes = p.bytes ++ q.bytes;
   from_source = Consumes-trans left left' left'' p.bytes q.bytes p.from_source q.from_source;
   counted = omega (arith, p.counted, q.counted, length-append p.bytes q.bytes);
@@ -169,9 +169,9 @@ passes_next k r s t first said after left left' left'' p q = record {
 }
 
 -- what was taken up to a next line that a fault kept from being read is no more than may be read, and holds no whole line that is refused
-pub reads_to_fault : {W R : Type 0} (k : Language W R) (e : ReadRefusal) (s t : Cutting) (said after : W) (left left' left'' : Option (List ℕ)) (faults faults' : ℕ) → e ≡ refusal.ReadFault → s.most ≡ MOST_BYTES
+pub reads-to-fault : {W R : Type 0} (k : Language W R) (e : ReadRefusal) (s t : Cutting) (said after : W) (left left' left'' : Option (List ℕ)) (faults faults' : ℕ) → e ≡ refusal.ReadFault → s.most ≡ MOST_BYTES
     → PassesOn k at_start s k.first said left left' → ReadsLine k (Err e) s t said after left' left'' faults faults' → PassesFrom k.says k.first MOST_BYTES left left''
-reads_to_fault k e s t said after left left' left'' faults faults' is most p reads =
+reads-to-fault k e s t said after left left' left'' faults faults' is most p reads =
     let fails = rw is at reads in
     let q = fails.stops in
     record {
@@ -182,9 +182,9 @@ reads_to_fault k e s t said after left left' left'' faults faults' is most p rea
     }
 
 -- and what was taken where it is one byte too many is as many bytes as the refusal tells
-pub reads_too_many : {W R : Type 0} (k : Language W R) (e : ReadRefusal) (s t : Cutting) (taken : ℕ) (said after : W) (left left' left'' : Option (List ℕ)) (faults faults' : ℕ) → e ≡ refusal.TooLong taken → s.most ≡ MOST_BYTES
+pub reads-too-many : {W R : Type 0} (k : Language W R) (e : ReadRefusal) (s t : Cutting) (taken : ℕ) (said after : W) (left left' left'' : Option (List ℕ)) (faults faults' : ℕ) → e ≡ refusal.TooLong taken → s.most ≡ MOST_BYTES
     → PassesOn k at_start s k.first said left left' → ReadsLine k (Err e) s t said after left' left'' faults faults' → TakesTooMany taken MOST_BYTES left left''
-reads_too_many k e s t taken said after left left' left'' faults faults' is most p reads =
+reads-too-many k e s t taken said after left left' left'' faults faults' is most p reads =
     let q = rw is at reads in
     record {
       bytes = p.bytes ++ q.bytes;
@@ -201,19 +201,19 @@ foretold None r P e p = cc
 foretold (Some s) r P e p = subst P (same_Some s r e) p
 
 -- a refusal tells what the bytes come to
-pub tells_refused : {W R : Type 0} (k : Language W R) (e : ReadRefusal) (s t : Cutting) (said after : W) (told left left' : Option (List ℕ)) (faults faults' : ℕ) → s.most ≡ MOST_BYTES
+pub tells-refused : {W R : Type 0} (k : Language W R) (e : ReadRefusal) (s t : Cutting) (said after : W) (told left left' : Option (List ℕ)) (faults faults' : ℕ) → s.most ≡ MOST_BYTES
     → Foretells k told (ahead k s said left) → ReadsLine k (Err e) s t said after left left' faults faults' → IfSome told (λ bytes. Refuses k e (whole k bytes))
-tells_refused k e s t said after None left left' faults faults' most f reads = tt
-tells_refused k refusal.Memory s t said after (Some bytes) left left' faults faults' most f reads = tt
-tells_refused k refusal.ReadFault s t said after (Some bytes) left left' faults faults' most f reads = tt
-tells_refused k (refusal.TooLong taken) s t said after (Some bytes) left left' faults faults' most f reads =
+tells-refused k e s t said after None left left' faults faults' most f reads = tt
+tells-refused k refusal.Memory s t said after (Some bytes) left left' faults faults' most f reads = tt
+tells-refused k refusal.ReadFault s t said after (Some bytes) left left' faults faults' most f reads = tt
+tells-refused k (refusal.TooLong taken) s t said after (Some bytes) left left' faults faults' most f reads =
     (foretold (ahead k s said left) (whole k bytes) (λ r. r ≡ k.over) f reads.over, reads.one_more ∙ ap (λ n. n + 1) most)
-tells_refused k (refusal.Refused line cause) s t said after (Some bytes) left left' faults faults' most f reads =
+tells-refused k (refusal.Refused line cause) s t said after (Some bytes) left left' faults faults' most f reads =
     foretold (ahead k s said left) (whole k bytes) (λ r. r ≡ k.refused line cause) f reads
 
 -- a refusal that is handed on tells the same
-pub tells_handed : {X : Type 0} (r : Result X ReadRefusal) (e : ReadRefusal) (P : Result X ReadRefusal → Type 0) → IsErrAnd r (λ y. y ≡ e) → P (Err e) → P r
-tells_handed r e P h tells =
+pub tells-handed : {X : Type 0} (r : Result X ReadRefusal) (e : ReadRefusal) (P : Result X ReadRefusal → Type 0) → IsErrAnd r (λ y. y ≡ e) → P (Err e) → P r
+tells-handed r e P h tells =
     let p = err_from_is_err_and r h in
     subst P (sym p.1) (subst (λ y. P (Err y)) (sym p.2) tells)
 
@@ -227,27 +227,27 @@ ended k (Some bytes) s t said after left left' f end = record {
 }
 
 -- where they may not end there, the line that would be next is refused
-pub ended_early : {W R : Type 0} (k : Language W R) (told : Option (List ℕ)) (s t : Cutting) (said after : W) (left left' : Option (List ℕ)) (next : ℕ) (why : Cause) → IsByLine k → Foretells k told (ahead k s said left) → ComesToEnd k s t said after left left'
+pub ended-early : {W R : Type 0} (k : Language W R) (told : Option (List ℕ)) (s t : Cutting) (said after : W) (left left' : Option (List ℕ)) (next : ℕ) (why : Cause) → IsByLine k → Foretells k told (ahead k s said left) → ComesToEnd k s t said after left left'
     → next ≡ t.number + 1 → k.ends after ≡ Some why → TellsLines k (Err (refusal.Refused next why)) after told
 unfolding ended
-ended_early k None s t said after left left' next why by f end number ends = tt
-ended_early k (Some bytes) s t said after left left' next why by f end number ends =
+ended-early k None s t said after left left' next why by f end number ends = tt
+ended-early k (Some bytes) s t said after left left' next why by f end number ends =
     let line : suc t.number ≡ next = omega (arith, number) in
     (ended k (Some bytes) s t said after left left' f end).is ∙ by.end t.number after why ends ∙ ap (λ n. k.refused n why) line
 
 -- what the text comes to, whatever it is where it was read to its end
-pub comes_to : {W R : Type 0} (k : Language W R) (told : Option (List ℕ)) (said : W) (r : R) → TellsLines k (Ok tt) said told
+pub comes-to : {W R : Type 0} (k : Language W R) (told : Option (List ℕ)) (said : W) (r : R) → TellsLines k (Ok tt) said told
     → ((count : ℕ) → k.on count (record { lines = []; ending = all_given }) said ≡ r) → IfSome told (λ bytes. whole k bytes ≡ r)
-comes_to k None said r tells is = tt
-comes_to k (Some bytes) said r tells is = tells.is ∙ is tells.count
+comes-to k None said r tells is = tt
+comes-to k (Some bytes) said r tells is = tells.is ∙ is tells.count
 
 -- a scenario that is complete is read
-pub complete_end : (count : ℕ) (said : Said) (plan : PlanParts) (schedule : Schedule) → is_complete said ≡ true → plan ≡ parts_said said → schedule ≡ schedule_said said → at_end all_given count said ≡ PlanRead plan schedule
-complete_end count said plan schedule complete is given = rw complete (sym (ap₂ PlanRead is given))
+pub complete-end : (count : ℕ) (said : Said) (plan : PlanParts) (schedule : Schedule) → is_complete said ≡ true → plan ≡ parts_said said → schedule ≡ schedule_said said → at_end all_given count said ≡ PlanRead plan schedule
+complete-end count said plan schedule complete is given = rw complete (sym (ap₂ PlanRead is given))
 
 -- a scenario that may end is complete
-pub may_end : (said : Said) → end_rule said ≡ None → is_complete said ≡ true
-may_end said = by (is_complete said)
+pub may-end : (said : Said) → end_rule said ≡ None → is_complete said ≡ true
+may-end said = by (is_complete said)
   where
     by : (complete : Bool) → unless complete cause.End ≡ None → complete ≡ true
     by true is = refl

@@ -11,31 +11,31 @@ use Rattle.scenario_reader.specs.declared.cause.Cause.TheVariants as cause
 use Rattle.scenario_reader.proofs.PassingLines.{RulesPass}
 
 -- rules that pass each pass together
-pub pass_all : (rules : List Rule) → RulesPass rules → first_cause rules ≡ None
-pass_all [] p = refl
-pass_all (rule ∷ rules) p = rw p.0 (pass_all rules p.1)
+pub pass-all : (rules : List Rule) → RulesPass rules → first_cause rules ≡ None
+pass-all [] p = refl
+pass-all (rule ∷ rules) p = rw p.0 (pass-all rules p.1)
 
-pub unless_holds : (holds : Bool) (c : Cause) → holds ≡ true → unless holds c ≡ None
-unless_holds holds c e = rw e refl
+pub unless-holds : (holds : Bool) (c : Cause) → holds ≡ true → unless holds c ≡ None
+unless-holds holds c e = rw e refl
 
-pub name_back : (field : List ℕ) → is_name field ≡ true → name_rule field ≡ None
-name_back field e = unless_holds (is_name field) cause.Name e
+pub name-back : (field : List ℕ) → is_name field ≡ true → name_rule field ≡ None
+name-back field e = unless-holds (is_name field) cause.Name e
 
-pub new_name_back : (known : List (List ℕ)) (field : List ℕ) → is_name field ≡ true → is_among known field ≡ false → new_name_rule known field ≡ None
-new_name_back known field e new = rw (name_back field e, new) refl
+pub new-name-back : (known : List (List ℕ)) (field : List ℕ) → is_name field ≡ true → is_among known field ≡ false → new_name_rule known field ≡ None
+new-name-back known field e new = rw (name-back field e, new) refl
 
-pub used_name_back : (known : Bool) (field : List ℕ) → is_name field ≡ true → known ≡ true → used_name_rule known field ≡ None
-used_name_back known field e is = rw (name_back field e, is) refl
+pub used-name-back : (known : Bool) (field : List ℕ) → is_name field ≡ true → known ≡ true → used_name_rule known field ≡ None
+used-name-back known field e is = rw (name-back field e, is) refl
 
 -- a name is neither of the two words of the grammar
-pub name_no_word : (name : List ℕ) → is_name name ≡ true → (pointwise nat_eq name (codes "contract") ≡ false) × (pointwise nat_eq name (codes "plane") ≡ false)
-name_no_word name e =
+pub name-no-word : (name : List ℕ) → is_name name ≡ true → (pointwise nat_eq name (codes "contract") ≡ false) × (pointwise nat_eq name (codes "plane") ≡ false)
+name-no-word name e =
     let kept = not-true (is_kept_word name) (and_parts (begins_as_name name && nat_le (length name) 16) (not (is_kept_word name)) e).1 in
     or_parts (pointwise nat_eq name (codes "contract")) (pointwise nat_eq name (codes "plane")) kept
 
 -- what passes its rule is said
-pub judged_back : {X : Type 0} (rule : Rule) (x : X) → rule ≡ None → judged rule x ≡ Ok x
-judged_back rule x e = rw e refl
+pub judged-back : {X : Type 0} (rule : Rule) (x : X) → rule ≡ None → judged rule x ≡ Ok x
+judged-back rule x e = rw e refl
 
-pub stated_back : {X : Type 0} (rule : Rule) (said : Option X) (x : X) → rule ≡ None → said ≡ Some x → stated rule said ≡ Ok x
-stated_back rule said x e is = rw (e, is) refl
+pub stated-back : {X : Type 0} (rule : Rule) (said : Option X) (x : X) → rule ≡ None → said ≡ Some x → stated rule said ≡ Ok x
+stated-back rule said x e is = rw (e, is) refl

@@ -17,87 +17,87 @@ use Rattle.scenario_reader.specs.declared.form.Keyword.TheVariants as word
 abbrev pub rules_from : (List ℕ → Rule) → List (List ℕ) → ℕ → Rule
 rules_from rule fields place = first_cause (map rule (drop place fields))
 
-rules_next_suc : (rule : List ℕ → Rule) (fields : List (List ℕ)) (place : ℕ) → place < length fields → rules_from rule fields place ≡ or_else (rule (get_or fields place [])) (rules_from rule fields (suc place))
-rules_next_suc rule [] place h = absurd (omega arith)
-rules_next_suc rule (f ∷ fields) zero h = refl
-rules_next_suc rule (f ∷ fields) (suc place) h = rules_next_suc rule fields place (omega arith)
+rules-next-suc : (rule : List ℕ → Rule) (fields : List (List ℕ)) (place : ℕ) → place < length fields → rules_from rule fields place ≡ or_else (rule (get_or fields place [])) (rules_from rule fields (suc place))
+rules-next-suc rule [] place h = absurd (omega arith)
+rules-next-suc rule (f ∷ fields) zero h = refl
+rules-next-suc rule (f ∷ fields) (suc place) h = rules-next-suc rule fields place (omega arith)
 
 -- a field that passes leaves the cause to those after it
-pub rules_pass : (rule : List ℕ → Rule) (fields : List (List ℕ)) (place : ℕ) (field : List ℕ) → place < length fields → field ≡ get_or fields place [] → rule field ≡ None → rules_from rule fields place ≡ rules_from rule fields (place + 1)
-rules_pass rule fields place field h e n =
-    rw add-one (rules_next_suc rule fields place h ∙ ap (λ r. or_else r (rules_from rule fields (suc place))) (ap rule (sym e) ∙ n))
+pub rules-pass : (rule : List ℕ → Rule) (fields : List (List ℕ)) (place : ℕ) (field : List ℕ) → place < length fields → field ≡ get_or fields place [] → rule field ≡ None → rules_from rule fields place ≡ rules_from rule fields (place + 1)
+rules-pass rule fields place field h e n =
+    rw add-one (rules-next-suc rule fields place h ∙ ap (λ r. or_else r (rules_from rule fields (suc place))) (ap rule (sym e) ∙ n))
 
 -- a field that is refused gives the cause
-pub rules_stop : (rule : List ℕ → Rule) (fields : List (List ℕ)) (place : ℕ) (field : List ℕ) (cause : Cause) → place < length fields → field ≡ get_or fields place [] → rule field ≡ Some cause → rules_from rule fields place ≡ Some cause
-rules_stop rule fields place field cause h e n =
-    rules_next_suc rule fields place h ∙ ap (λ r. or_else r (rules_from rule fields (suc place))) (ap rule (sym e) ∙ n)
+pub rules-stop : (rule : List ℕ → Rule) (fields : List (List ℕ)) (place : ℕ) (field : List ℕ) (cause : Cause) → place < length fields → field ≡ get_or fields place [] → rule field ≡ Some cause → rules_from rule fields place ≡ Some cause
+rules-stop rule fields place field cause h e n =
+    rules-next-suc rule fields place h ∙ ap (λ r. or_else r (rules_from rule fields (suc place))) (ap rule (sym e) ∙ n)
 
 -- a route is within the line
-pub route_within : (fields : List (List ℕ)) → route_length fields ≤ length fields
-route_within [] = omega arith
-route_within (f ∷ fields) =
-    let rest = route_within fields in
+pub route-within : (fields : List (List ℕ)) → route_length fields ≤ length fields
+route-within [] = omega arith
+route-within (f ∷ fields) =
+    let rest = route-within fields in
     elim (is_word word.Contract f) as (λ t. cond t 0 (suc (route_length fields)) ≤ suc (length fields)) [ true ↦ omega arith | false ↦ omega arith ]
 
 -- the links of a route are as many as its hops
 pub length-route : (fields : List (List ℕ)) → length (route_fields fields) ≡ route_hops fields
 length-route fields =
-    length-take-le (route_hops fields) (drop 3 fields) (route_within (drop 3 fields))
+    length-take-le (route_hops fields) (drop 3 fields) (route-within (drop 3 fields))
 
 -- the link at a place of the route
-pub route_at : (fields : List (List ℕ)) (place : ℕ) → place < route_hops fields → get_or fields (3 + place) [] ≡ get_or (route_fields fields) place []
-route_at fields place h = sym (rw (get_or-take, get_or-drop) refl)
+pub route-at : (fields : List (List ℕ)) (place : ℕ) → place < route_hops fields → get_or fields (3 + place) [] ≡ get_or (route_fields fields) place []
+route-at fields place h = sym (rw (get_or-take, get_or-drop) refl)
 
 -- a call that hands on the cause of a rule that is after its own
-pub judges_stop : {X : Type 0} (r : Result X Cause) (rule : Rule) (said : X) (cause : Cause) → IsErrAnd r (λ y. y ≡ cause) → rule ≡ Some cause → Judges r rule said
-judges_stop r rule said cause h e =
+pub judges-stop : {X : Type 0} (r : Result X Cause) (rule : Rule) (said : X) (cause : Cause) → IsErrAnd r (λ y. y ≡ cause) → rule ≡ Some cause → Judges r rule said
+judges-stop r rule said cause h e =
     let p = err_from_is_err_and r h in
     rw (p.1) (e ∙ ap (λ y. Some y) (sym p.2))
 
 -- the front of the cells with one more number
-pub cells_more : (cells : List ℕ) (fields : List (List ℕ)) (place value : ℕ) → place < length fields → place < length cells → take place cells ≡ map value_of (take place fields) → value ≡ value_of (get_or fields place []) → take (place + 1) (set cells place value) ≡ map value_of (take (place + 1) fields)
-cells_more cells fields place value h k e v =
+pub cells-more : (cells : List ℕ) (fields : List (List ℕ)) (place value : ℕ) → place < length fields → place < length cells → take place cells ≡ map value_of (take place fields) → value ≡ value_of (get_or fields place []) → take (place + 1) (set cells place value) ≡ map value_of (take (place + 1) fields)
+cells-more cells fields place value h k e v =
     take_more_set cells place value k ∙ ap₂ (λ front last. front ++ last ∷ []) e v
     ∙ sym (ap (map value_of) (take_more fields place [] h) ∙ map-append value_of (take place fields) (get_or fields place [] ∷ []))
 
 -- the place of a bound among the last fields
-pub bound_place : (fields : List (List ℕ)) (count start left place : ℕ) → count ≡ length fields → start ≡ bound_start fields → left ≡ count - start → place < left → place < length (bound_fields fields)
-bound_place fields count start left place c s l h = omega (arith, length-drop (bound_start fields) fields)
+pub bound-place : (fields : List (List ℕ)) (count start left place : ℕ) → count ≡ length fields → start ≡ bound_start fields → left ≡ count - start → place < left → place < length (bound_fields fields)
+bound-place fields count start left place c s l h = omega (arith, length-drop (bound_start fields) fields)
 
 -- the field of a bound
-pub bound_field : (fields : List (List ℕ)) (start place : ℕ) → start ≡ bound_start fields → get_or fields (start + place) [] ≡ get_or (bound_fields fields) place []
-bound_field fields start place s = rw s (sym (rw get_or-drop refl))
+pub bound-field : (fields : List (List ℕ)) (start place : ℕ) → start ≡ bound_start fields → get_or fields (start + place) [] ≡ get_or (bound_fields fields) place []
+bound-field fields start place s = rw s (sym (rw get_or-drop refl))
 
 -- ---- the loads of a quota
 
 -- the place of a load among the last fields
-pub load_place : (fields : List (List ℕ)) (count place : ℕ) → count ≡ length (load_fields fields) → place < count → place < length (load_fields fields)
-load_place fields count place c l = omega (arith, c, l)
+pub load-place : (fields : List (List ℕ)) (count place : ℕ) → count ≡ length (load_fields fields) → place < count → place < length (load_fields fields)
+load-place fields count place c l = omega (arith, c, l)
 
 -- the field of a load
-pub load_field : (fields : List (List ℕ)) (place : ℕ) → get_or fields (6 + place) [] ≡ get_or (load_fields fields) place []
-load_field fields place = sym (rw get_or-drop refl)
+pub load-field : (fields : List (List ℕ)) (place : ℕ) → get_or fields (6 + place) [] ≡ get_or (load_fields fields) place []
+load-field fields place = sym (rw get_or-drop refl)
 
 -- the cells with one number more before the zeros
-set_filled : (fields : List (List ℕ)) (zeros : List ℕ) (place value : ℕ) → place < length fields → place < length zeros → value ≡ value_of (get_or fields place [])
+set-filled : (fields : List (List ℕ)) (zeros : List ℕ) (place value : ℕ) → place < length fields → place < length zeros → value ≡ value_of (get_or fields place [])
     → set (map value_of (take place fields) ++ drop place zeros) place value ≡ map value_of (take (suc place) fields) ++ drop (suc place) zeros
-set_filled [] zeros place value h k v = absurd (omega (arith, h))
-set_filled (f ∷ fields) [] place value h k v = absurd (omega (arith, k))
-set_filled (f ∷ fields) (z ∷ zeros) zero value h k v = ap (λ (n : ℕ). n ∷ zeros) v
-set_filled (f ∷ fields) (z ∷ zeros) (suc place) value h k v = ap (λ (ns : List ℕ). value_of f ∷ ns) (set_filled fields zeros place value (omega (arith, h)) (omega (arith, k)) v)
+set-filled [] zeros place value h k v = absurd (omega (arith, h))
+set-filled (f ∷ fields) [] place value h k v = absurd (omega (arith, k))
+set-filled (f ∷ fields) (z ∷ zeros) zero value h k v = ap (λ (n : ℕ). n ∷ zeros) v
+set-filled (f ∷ fields) (z ∷ zeros) (suc place) value h k v = ap (λ (ns : List ℕ). value_of f ∷ ns) (set-filled fields zeros place value (omega (arith, h)) (omega (arith, k)) v)
 
-pub cells_filled : (cells : List ℕ) (fields : List (List ℕ)) (zeros : List ℕ) (place value : ℕ) → place < length fields → place < length zeros → cells ≡ map value_of (take place fields) ++ drop place zeros → value ≡ value_of (get_or fields place [])
+pub cells-filled : (cells : List ℕ) (fields : List (List ℕ)) (zeros : List ℕ) (place value : ℕ) → place < length fields → place < length zeros → cells ≡ map value_of (take place fields) ++ drop place zeros → value ≡ value_of (get_or fields place [])
     → set cells place value ≡ map value_of (take (place + 1) fields) ++ drop (place + 1) zeros
-cells_filled cells fields zeros place value h k e v =
-    ap (λ (ns : List ℕ). set ns place value) e ∙ set_filled fields zeros place value h k v
+cells-filled cells fields zeros place value h k e v =
+    ap (λ (ns : List ℕ). set ns place value) e ∙ set-filled fields zeros place value h k v
     ∙ ap (λ (n : ℕ). map value_of (take n fields) ++ drop n zeros) (let next : suc place ≡ place + 1 = omega arith in next)
 
 -- all of them
-pub all_filled : (fields : List (List ℕ)) (zeros : List ℕ) (place : ℕ) → place ≡ length fields → map value_of (take place fields) ++ drop place zeros ≡ map value_of fields ++ drop (length (map value_of fields)) zeros
-all_filled fields zeros place same =
+pub all-filled : (fields : List (List ℕ)) (zeros : List ℕ) (place : ℕ) → place ≡ length fields → map value_of (take place fields) ++ drop place zeros ≡ map value_of fields ++ drop (length (map value_of fields)) zeros
+all-filled fields zeros place same =
     ap (λ (n : ℕ). map value_of (take n fields) ++ drop n zeros) same
     ∙ ap₂ (λ (front : List (List ℕ)) (n : ℕ). map value_of front ++ drop n zeros) (take_all (length fields) fields (omega arith)) (sym (length-map fields value_of))
 
 -- no field is left
-pub rules_over : (rule : List ℕ → Rule) (fields : List (List ℕ)) (place : ℕ) → length fields ≤ place → rules_from rule fields place ≡ None
-rules_over rule fields place past = ap (λ (left : List (List ℕ)). first_cause (map rule left)) (drop_all place fields past)
+pub rules-over : (rule : List ℕ → Rule) (fields : List (List ℕ)) (place : ℕ) → length fields ≤ place → rules_from rule fields place ≡ None
+rules-over rule fields place past = ap (λ (left : List (List ℕ)). first_cause (map rule left)) (drop_all place fields past)

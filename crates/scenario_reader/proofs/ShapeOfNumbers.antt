@@ -27,20 +27,20 @@ use Rattle.net_units.proofs.KnownByNumber.{same-link, same-actor, same-channel}
 
 -- ---- numbers
 
-pub link_is : (link : LinkNo) (n : ℕ) → n < 32 → link_number link ≡ n → link ≡ link_at n
-link_is link n h same = same-link link (link_at n) (omega (arith, same))
+pub link-is : (link : LinkNo) (n : ℕ) → n < 32 → link_number link ≡ n → link ≡ link_at n
+link-is link n h same = same-link link (link_at n) (omega (arith, same))
 
-pub actor_is : (actor : ActorNo) (n : ℕ) → n < 65 → actor_number actor ≡ n → actor ≡ actor_at n
-actor_is actor n h same = same-actor actor (actor_at n) (omega (arith, same))
+pub actor-is : (actor : ActorNo) (n : ℕ) → n < 65 → actor_number actor ≡ n → actor ≡ actor_at n
+actor-is actor n h same = same-actor actor (actor_at n) (omega (arith, same))
 
-pub channel_is : (chan : ChanNo) (n : ℕ) → n < 1048576 → channel_number chan ≡ n → chan ≡ channel_at n
-channel_is chan n h same = same-channel chan (channel_at n) (omega (arith, same))
+pub channel-is : (chan : ChanNo) (n : ℕ) → n < 1048576 → channel_number chan ≡ n → chan ≡ channel_at n
+channel-is chan n h same = same-channel chan (channel_at n) (omega (arith, same))
 
 -- ---- shapes
 
 -- shapes of the same numbers are the same
-same_shape : (a b : LinkShape) → a.link ≡ b.link → a.rate ≡ b.rate → a.cap ≡ b.cap → a.prop ≡ b.prop → a.buffer ≡ b.buffer → a.bounds ≡ b.bounds → a.test ≡ b.test → a.best ≡ b.best → a ≡ b
-same_shape a b link rate cap prop buffer bounds test best = λ i. record {
+same-shape : (a b : LinkShape) → a.link ≡ b.link → a.rate ≡ b.rate → a.cap ≡ b.cap → a.prop ≡ b.prop → a.buffer ≡ b.buffer → a.bounds ≡ b.bounds → a.test ≡ b.test → a.best ≡ b.best → a ≡ b
+same-shape a b link rate cap prop buffer bounds test best = λ i. record {
   link = link i;
   rate = rate i;
   cap = cap i;
@@ -73,19 +73,19 @@ where-some link test numbers true false bounds a b c x y z = cc
 where-some link test numbers true true false a b c x y z = cc
 
 -- numbers that pass the three tests have a shape
-pub shape_some : (link : LinkNo) (test : Test) (numbers : LinkNumbers) → has_rate numbers ≡ true → has_room numbers ≡ true → has_bounds numbers ≡ true
+pub shape-some : (link : LinkNo) (test : Test) (numbers : LinkNumbers) → has_rate numbers ≡ true → has_room numbers ≡ true → has_bounds numbers ≡ true
     → (shape : LinkShape) × (shape_of link test numbers ≡ Some shape) × IsShape link test numbers shape
 unfolding shape_of
-shape_some link test numbers rate room bounds =
+shape-some link test numbers rate room bounds =
     where-some link test numbers (has_rate numbers) (has_room numbers) (has_bounds numbers) refl refl refl rate room bounds
 
 -- which is the one with these numbers
-pub shape_is : (link : LinkNo) (test : Test) (numbers : LinkNumbers) (shape : LinkShape) → has_rate numbers ≡ true → has_room numbers ≡ true → has_bounds numbers ≡ true
+pub shape-is : (link : LinkNo) (test : Test) (numbers : LinkNumbers) (shape : LinkShape) → has_rate numbers ≡ true → has_room numbers ≡ true → has_bounds numbers ≡ true
     → IsShape link test numbers shape → shape_of link test numbers ≡ Some shape
-shape_is link test numbers shape rate room bounds is =
-    let found = shape_some link test numbers rate room bounds in
+shape-is link test numbers shape rate room bounds is =
+    let found = shape-some link test numbers rate room bounds in
     let its = found.2 in
-    found.1 ∙ ap Some (same_shape found.0 shape (its.link_is ∙ sym is.link_is) (its.rate_is ∙ sym is.rate_is) (its.cap_is ∙ sym is.cap_is)
+    found.1 ∙ ap Some (same-shape found.0 shape (its.link_is ∙ sym is.link_is) (its.rate_is ∙ sym is.rate_is) (its.cap_is ∙ sym is.cap_is)
     (its.prop_is ∙ sym is.prop_is) (its.buffer_is ∙ sym is.buffer_is) (its.bounds_are ∙ sym is.bounds_are) (its.test_is ∙ sym is.test_is) (its.best_is ∙ sym is.best_is))
 
 -- ---- refused numbers
@@ -99,18 +99,18 @@ pub record AreWithin (rate cap prop buffer best : ℕ) : Type 0 where
   pub bests : nat_le best 1024 ≡ true
 
 -- then the bounds decide
-pub bounds_decide : (rate cap prop buffer best : ℕ) (bounds : List ℕ) → AreWithin rate cap prop buffer best
+pub bounds-decide : (rate cap prop buffer best : ℕ) (bounds : List ℕ) → AreWithin rate cap prop buffer best
     → first_bad_field rate cap prop buffer best bounds ≡ (if nat_le (ceil_quotient cap rate) (bound_at bounds 1) then None else Some Bounds)
-bounds_decide rate cap prop buffer best bounds w = rw (w.rates, w.caps, w.props, w.buffers, w.bests) refl
+bounds-decide rate cap prop buffer best bounds w = rw (w.rates, w.caps, w.props, w.buffers, w.bests) refl
 
 -- whether the bounds fit is then all that is left
-bounds_fit : (fits : Bool) → (if fits then None else Some Bounds) ≡ None → fits ≡ true
-bounds_fit true e = refl
-bounds_fit false e = cc
+bounds-fit : (fits : Bool) → (if fits then None else Some Bounds) ≡ None → fits ≡ true
+bounds-fit true e = refl
+bounds-fit false e = cc
 
 -- the figures of a line are within their limits
-within_of : (link : LinkFields) → AreFigures link.figures → link.best ≤ 1024 → AreWithin link.figures.rate link.figures.cap link.figures.prop link.figures.buffer link.best
-within_of link are best = record {
+within-of : (link : LinkFields) → AreFigures link.figures → link.best ≤ 1024 → AreWithin link.figures.rate link.figures.cap link.figures.prop link.figures.buffer link.best
+within-of link are best = record {
   rates = and_from (nat_le 1 link.figures.rate) (nat_le link.figures.rate 65536) (le-leb 1 link.figures.rate are.rate_least) (le-leb link.figures.rate 65536 are.rate_most);
   caps = and_from (nat_le 1 link.figures.cap) (nat_le link.figures.cap 65536) (le-leb 1 link.figures.cap are.cap_least) (le-leb link.figures.cap 65536 are.cap_most);
   props = le-leb link.figures.prop 1048576 are.prop_most;
@@ -119,21 +119,21 @@ within_of link are best = record {
 }
 
 -- a shape that was made of a line's numbers is the one that they have
-pub made_shape : (link : LinkFields) (numbers bounds : List ℕ) (number : LinkNo) (test : Test) (shape : LinkShape) → AreFigures link.figures → link.best ≤ 1024
+pub made-shape : (link : LinkFields) (numbers bounds : List ℕ) (number : LinkNo) (test : Test) (shape : LinkShape) → AreFigures link.figures → link.best ≤ 1024
     → link.bounds ≡ bounds_of numbers → link.bounds ≡ Some bounds
     → first_bad_field link.figures.rate link.figures.cap link.figures.prop link.figures.buffer link.best bounds ≡ None
     → IsShapeOf number link.figures.rate link.figures.cap link.figures.prop link.figures.buffer bounds test link.best shape
     → (unless (has_bounds (numbers_with link numbers)) Levels ≡ None) × (shape_of number test (numbers_with link numbers) ≡ Some shape)
-made_shape link numbers bounds number test shape are best said some none is =
-    let w = within_of link are best in
+made-shape link numbers bounds number test shape are best said some none is =
+    let w = within-of link are best in
     let rising = cond_some (are_bounds numbers) numbers bounds (sym said ∙ some) in
-    let fits = bounds_fit (nat_le (ceil_quotient link.figures.cap link.figures.rate) (bound_at bounds 1))
-    (sym (bounds_decide link.figures.rate link.figures.cap link.figures.prop link.figures.buffer link.best bounds w) ∙ none) in
+    let fits = bounds-fit (nat_le (ceil_quotient link.figures.cap link.figures.rate) (bound_at bounds 1))
+    (sym (bounds-decide link.figures.rate link.figures.cap link.figures.prop link.figures.buffer link.best bounds w) ∙ none) in
     let whole : has_bounds (numbers_with link numbers) ≡ true =
     and_from (are_bounds numbers) (nat_le (ceil_quotient link.figures.cap link.figures.rate) (bound_at numbers 1)) rising.0
     (ap (λ (bs : List ℕ). nat_le (ceil_quotient link.figures.cap link.figures.rate) (bound_at bs 1)) rising.1 ∙ fits) in (
       rw whole refl,
-      shape_is number test (numbers_with link numbers) shape
+      shape-is number test (numbers_with link numbers) shape
           (and_from (is_within 1 65536 link.figures.rate) (is_within 1 65536 link.figures.cap) w.rates w.caps)
           (and_from (nat_le link.figures.prop 1048576 && nat_le link.figures.buffer 262144) (nat_le link.best 1024)
           (and_from (nat_le link.figures.prop 1048576) (nat_le link.figures.buffer 262144) w.props w.buffers) w.bests)

@@ -33,13 +33,13 @@ use Rattle.scenario_reader.specs.line.Quota.{quota_fields, quota_lines}
 use Rattle.scenario_reader.specs.line.Quota.{quota_rule, quota_said}
 use Rattle.scenario_reader.specs.declared.form.Keyword.TheVariants as word
 use Rattle.scenario_reader.specs.declared.item.Item.TheVariants as item
-use Rattle.scenario_reader.proofs.kind.GroupBack.{GroupsStand, group_here, group_is_line, group_back}
-use Rattle.scenario_reader.proofs.NamedBack.{find_back}
-use Rattle.scenario_reader.proofs.kind.QuotaBack.{IsNextQuota, quota_is_line, quota_says, quota_back}
-use Rattle.scenario_reader.proofs.SaysBack.{front, not_none}
-use Rattle.scenario_reader.proofs.RulesBack.{judged_back, stated_back}
-use Rattle.scenario_reader.proofs.SaysBack.{judged_as, Reads, reads_none, reads_one, reads_on}
-use Rattle.scenario_reader.proofs.WalkBack.{at_seam}
+use Rattle.scenario_reader.proofs.kind.GroupBack.{GroupsStand, group-here, group-is-line, group-back}
+use Rattle.scenario_reader.proofs.NamedBack.{find-back}
+use Rattle.scenario_reader.proofs.kind.QuotaBack.{IsNextQuota, quota-is-line, quota-says, quota-back}
+use Rattle.scenario_reader.proofs.SaysBack.{front, not-none}
+use Rattle.scenario_reader.proofs.RulesBack.{judged-back, stated-back}
+use Rattle.scenario_reader.proofs.SaysBack.{judged-as, Reads, reads-none, reads-one, reads-on}
+use Rattle.scenario_reader.proofs.WalkBack.{at-seam}
 
 -- ---- links whose quotas weren't read yet
 
@@ -49,48 +49,48 @@ with_quotas entry quotas = record { name = entry.name; from = entry.from; to = e
 abbrev pub bare : LinkEntry → LinkEntry
 bare entry = with_quotas entry []
 
-pub bare_names : (links : List LinkEntry) → link_names (map bare links) ≡ link_names links
-bare_names [] = refl
-bare_names (entry ∷ links) = ap (λ (names : List (List ℕ)). entry.name ∷ names) (bare_names links)
+pub bare-names : (links : List LinkEntry) → link_names (map bare links) ≡ link_names links
+bare-names [] = refl
+bare-names (entry ∷ links) = ap (λ (names : List (List ℕ)). entry.name ∷ names) (bare-names links)
 
-pub bare_lines : (links : List LinkEntry) → map link_fields (map bare links) ≡ map link_fields links
-bare_lines [] = refl
-bare_lines (entry ∷ links) = ap (λ (lines : List (List (List ℕ))). link_fields entry ∷ lines) (bare_lines links)
+pub bare-lines : (links : List LinkEntry) → map link_fields (map bare links) ≡ map link_fields links
+bare-lines [] = refl
+bare-lines (entry ∷ links) = ap (λ (lines : List (List (List ℕ))). link_fields entry ∷ lines) (bare-lines links)
 
-pub bare_unsplit : (links : List LinkEntry) → has_quotas (map bare links) ≡ false
-bare_unsplit [] = refl
-bare_unsplit (entry ∷ links) = bare_unsplit links
+pub bare-unsplit : (links : List LinkEntry) → has_quotas (map bare links) ≡ false
+bare-unsplit [] = refl
+bare-unsplit (entry ∷ links) = bare-unsplit links
 
-pub bare_each : (links : List LinkEntry) → Each (λ (entry : LinkEntry). entry.quotas ≡ []) (map bare links)
-bare_each [] = tt
-bare_each (entry ∷ links) = (refl, bare_each links)
+pub bare-each : (links : List LinkEntry) → Each (λ (entry : LinkEntry). entry.quotas ≡ []) (map bare links)
+bare-each [] = tt
+bare-each (entry ∷ links) = (refl, bare-each links)
 
-pub bare_named : (links : List LinkEntry) → Each HasNames links → Each HasNames (map bare links)
-bare_named [] named = tt
-bare_named (entry ∷ links) named = (record { name = named.0.name; from = named.0.from; to = named.0.to }, bare_named links named.1)
+pub bare-named : (links : List LinkEntry) → Each HasNames links → Each HasNames (map bare links)
+bare-named [] named = tt
+bare-named (entry ∷ links) named = (record { name = named.0.name; from = named.0.from; to = named.0.to }, bare-named links named.1)
 
-pub bare_kept : (version : Version) (links : List LinkEntry) → list_all (link_has_version version) links ≡ true → list_all (link_has_version version) (map bare links) ≡ true
-bare_kept version [] kept = refl
-bare_kept version (entry ∷ links) kept =
+pub bare-kept : (version : Version) (links : List LinkEntry) → list_all (link_has_version version) links ≡ true → list_all (link_has_version version) (map bare links) ≡ true
+bare-kept version [] kept = refl
+bare-kept version (entry ∷ links) kept =
     let both = and_parts (link_has_version version entry) (list_all (link_has_version version) links) kept in
-    and_from (link_has_version version entry) (list_all (link_has_version version) (map bare links)) both.0 (bare_kept version links both.1)
+    and_from (link_has_version version entry) (list_all (link_has_version version) (map bare links)) both.0 (bare-kept version links both.1)
 
-pub bare_numbers : (links : List LinkEntry) (first : ℕ) → ((k : ℕ) (entry : LinkEntry) → slice_get links k ≡ Some entry → link_number entry.shape.link ≡ first + k)
+pub bare-numbers : (links : List LinkEntry) (first : ℕ) → ((k : ℕ) (entry : LinkEntry) → slice_get links k ≡ Some entry → link_number entry.shape.link ≡ first + k)
     → (k : ℕ) (entry : LinkEntry) → slice_get (map bare links) k ≡ Some entry → link_number entry.shape.link ≡ first + k
-bare_numbers [] first numbers k entry found = cc
-bare_numbers (link ∷ links) first numbers zero entry found = ap (λ (e : LinkEntry). link_number e.shape.link) (sym (same_Some (bare link) entry found)) ∙ numbers 0 link refl
-bare_numbers (link ∷ links) first numbers (suc k) entry found = bare_numbers links (suc first) (λ n e at. numbers (suc n) e at ∙ omega arith) k entry found ∙ omega arith
+bare-numbers [] first numbers k entry found = cc
+bare-numbers (link ∷ links) first numbers zero entry found = ap (λ (e : LinkEntry). link_number e.shape.link) (sym (same_Some (bare link) entry found)) ∙ numbers 0 link refl
+bare-numbers (link ∷ links) first numbers (suc k) entry found = bare-numbers links (suc first) (λ n e at. numbers (suc n) e at ∙ omega arith) k entry found ∙ omega arith
 
 -- ---- groups
 
-group_read : (version : Version) (links : List LinkEntry) (groups : List (List ℕ)) (name : List ℕ) → has_groups version ≡ true → 1 ≤ length links → has_quotas links ≡ false → is_name name ≡ true → is_among groups name ≡ false → length groups < 4
+group-read : (version : Version) (links : List LinkEntry) (groups : List (List ℕ)) (name : List ℕ) → has_groups version ≡ true → 1 ≤ length links → has_quotas links ≡ false → is_name name ≡ true → is_among groups name ≡ false → length groups < 4
     → Reads (group_fields name ∷ []) (front version links groups [] []) (front version links (groups ++ name ∷ []) [] [])
-group_read version links groups name has some unsplit is new few =
+group-read version links groups name has some unsplit is new few =
     let said = front version links groups [] [] in
-    let line = group_is_line name is in
-    reads_one (group_fields name) said (item.Group name) line (λ number.
-    judged_as version said number (group_fields name) word.Group (item.Group name) line refl refl refl (rw (has, not_none links some, unsplit) refl)
-    (judged_back (group_rule said (group_fields name)) (item.Group name) (group_back said name is new few)))
+    let line = group-is-line name is in
+    reads-one (group_fields name) said (item.Group name) line (λ number.
+    judged-as version said number (group_fields name) word.Group (item.Group name) line refl refl refl (rw (has, not-none links some, unsplit) refl)
+    (judged-back (group_rule said (group_fields name)) (item.Group name) (group-back said name is new few)))
 
 -- the groups that are left
 pub record GroupsLeft (version : Version) (groups rest : List (List ℕ)) : Type 0 where
@@ -99,33 +99,33 @@ pub record GroupsLeft (version : Version) (groups rest : List (List ℕ)) : Type
   pub new : each_after is_new groups rest ≡ true
   pub few : length groups + length rest ≤ 4
 
-pub groups_read : (version : Version) (links : List LinkEntry) (groups rest : List (List ℕ)) → 1 ≤ length links → has_quotas links ≡ false → GroupsLeft version groups rest → Reads (map group_fields rest) (front version links groups [] []) (front version links (groups ++ rest) [] [])
+pub groups-read : (version : Version) (links : List LinkEntry) (groups rest : List (List ℕ)) → 1 ≤ length links → has_quotas links ≡ false → GroupsLeft version groups rest → Reads (map group_fields rest) (front version links groups [] []) (front version links (groups ++ rest) [] [])
 unfolding each_after
-groups_read version links groups [] some unsplit left = subst (λ (gs : List (List ℕ)). Reads [] (front version links groups [] []) (front version links gs [] [])) (sym (append-nil groups)) (reads_none (front version links groups [] []))
-groups_read version links groups (name ∷ rest) some unsplit left =
+groups-read version links groups [] some unsplit left = subst (λ (gs : List (List ℕ)). Reads [] (front version links groups [] []) (front version links gs [] [])) (sym (append-nil groups)) (reads-none (front version links groups [] []))
+groups-read version links groups (name ∷ rest) some unsplit left =
     let new = and_parts (is_new groups name) (each_after is_new (groups ++ name ∷ []) rest) left.new in
     let all = left.few in
     let longer = length-more groups name in
     let has = left.has (omega arith) in
-    let one = group_read version links groups name has some unsplit left.named.0 (not-true _ new.0) (omega (arith, all)) in
-    let others = groups_read version links (groups ++ name ∷ []) rest some unsplit (record { has = λ more. has; named = left.named.1; new = new.1; few = omega (arith, all, longer) }) in
+    let one = group-read version links groups name has some unsplit left.named.0 (not-true _ new.0) (omega (arith, all)) in
+    let others = groups-read version links (groups ++ name ∷ []) rest some unsplit (record { has = λ more. has; named = left.named.1; new = new.1; few = omega (arith, all, longer) }) in
     subst (λ (gs : List (List ℕ)). Reads (map group_fields (name ∷ rest)) (front version links groups [] []) (front version links gs [] [])) (append_assoc groups (name ∷ []) rest)
-    (reads_on (group_fields name ∷ []) (map group_fields rest) (front version links groups [] []) (front version links (groups ++ name ∷ []) [] []) (front version links ((groups ++ name ∷ []) ++ rest) [] []) one others)
+    (reads-on (group_fields name ∷ []) (map group_fields rest) (front version links groups [] []) (front version links (groups ++ name ∷ []) [] []) (front version links ((groups ++ name ∷ []) ++ rest) [] []) one others)
 
 -- ---- the first quotas of a link fit it where all of them do
 
-all_through : (test other : ℕ → Bool) (m count : ℕ) → ((k : ℕ) → test k ≡ true → other k ≡ true) → all_from test m count ≡ true → all_from other m count ≡ true
+all-through : (test other : ℕ → Bool) (m count : ℕ) → ((k : ℕ) → test k ≡ true → other k ≡ true) → all_from test m count ≡ true → all_from other m count ≡ true
 unfolding all_from
-all_through test other m zero through all = refl
-all_through test other m (suc count) through all =
+all-through test other m zero through all = refl
+all-through test other m (suc count) through all =
     let both = and_parts (test m) (all_from test (suc m) count) all in
-    and_from (other m) (all_from other (suc m) count) (through m both.0) (all_through test other (suc m) count through both.1)
+    and_from (other m) (all_from other (suc m) count) (through m both.0) (all-through test other (suc m) count through both.1)
 
-fits_front : (shape : LinkShape) (quotas more : List Quota) → quotas_fit shape (quotas ++ more) ≡ true → quotas_fit shape quotas ≡ true
-fits_front shape quotas more fit =
+fits-front : (shape : LinkShape) (quotas more : List Quota) → quotas_fit shape (quotas ++ more) ≡ true → quotas_fit shape quotas ≡ true
+fits-front shape quotas more fit =
     let both = and_parts (all_from (level_fits shape (quotas ++ more)) 1 (length shape.bounds)) (nat_le (total buffer_part (quotas ++ more)) shape.buffer) fit in
     and_from (all_from (level_fits shape quotas) 1 (length shape.bounds)) (nat_le (total buffer_part quotas) shape.buffer)
-    (all_through (level_fits shape (quotas ++ more)) (level_fits shape quotas) 1 (length shape.bounds) level both.0)
+    (all-through (level_fits shape (quotas ++ more)) (level_fits shape quotas) 1 (length shape.bounds) level both.0)
     (let sum = total-append buffer_part quotas more in
     let within : total buffer_part (quotas ++ more) ≤ shape.buffer = leb-true _ _ both.1 in
     le-leb (total buffer_part quotas) shape.buffer (omega (arith, sum, within)))
@@ -154,60 +154,60 @@ record StandsThere (before : List LinkEntry) (entry : LinkEntry) (after : List L
   number : link_number entry.shape.link ≡ length before
   apart : are_distinct (link_names (before ++ entry ∷ after)) ≡ true
 
-names_with : (before : List LinkEntry) (entry : LinkEntry) (after : List LinkEntry) (quotas : List Quota) → link_names (before ++ with_quotas entry quotas ∷ after) ≡ link_names (before ++ entry ∷ after)
-names_with [] entry after quotas = refl
-names_with (first ∷ before) entry after quotas = ap (λ (names : List (List ℕ)). first.name ∷ names) (names_with before entry after quotas)
+names-with : (before : List LinkEntry) (entry : LinkEntry) (after : List LinkEntry) (quotas : List Quota) → link_names (before ++ with_quotas entry quotas ∷ after) ≡ link_names (before ++ entry ∷ after)
+names-with [] entry after quotas = refl
+names-with (first ∷ before) entry after quotas = ap (λ (names : List (List ℕ)). first.name ∷ names) (names-with before entry after quotas)
 
-add_here : (before : List LinkEntry) (link : LinkEntry) (after : List LinkEntry) (n : ℕ) (quota : Quota) → n ≡ length before → add_quota n quota (before ++ link ∷ after) ≡ before ++ with_its_quota quota link ∷ after
-add_here [] link after zero quota same = refl
-add_here [] link after (suc n) quota same = cc
-add_here (first ∷ before) link after zero quota same = cc
-add_here (first ∷ before) link after (suc n) quota same = ap (λ (links : List LinkEntry). first ∷ links) (add_here before link after n quota (omega (arith, same)))
+add-here : (before : List LinkEntry) (link : LinkEntry) (after : List LinkEntry) (n : ℕ) (quota : Quota) → n ≡ length before → add_quota n quota (before ++ link ∷ after) ≡ before ++ with_its_quota quota link ∷ after
+add-here [] link after zero quota same = refl
+add-here [] link after (suc n) quota same = cc
+add-here (first ∷ before) link after zero quota same = cc
+add-here (first ∷ before) link after (suc n) quota same = ap (λ (links : List LinkEntry). first ∷ links) (add-here before link after n quota (omega (arith, same)))
 
-some_links : (before : List LinkEntry) (link : LinkEntry) (after : List LinkEntry) → 1 ≤ length (before ++ link ∷ after)
-some_links [] link after = omega arith
-some_links (first ∷ before) link after = omega arith
+some-links : (before : List LinkEntry) (link : LinkEntry) (after : List LinkEntry) → 1 ≤ length (before ++ link ∷ after)
+some-links [] link after = omega arith
+some-links (first ∷ before) link after = omega arith
 
-quota_read : (version : Version) (groups : List (List ℕ)) (before after : List LinkEntry) (entry : LinkEntry) (done : List Quota) (quota : Quota) → has_groups version ≡ true → GroupsStand groups → StandsThere before entry after
+quota-read : (version : Version) (groups : List (List ℕ)) (before after : List LinkEntry) (entry : LinkEntry) (done : List Quota) (quota : Quota) → has_groups version ≡ true → GroupsStand groups → StandsThere before entry after
     → is_of_new_group done quota ≡ true → quota_is_there groups quota ≡ true → quota_in_range quota ≡ true → quotas_fit entry.shape (done ++ quota ∷ []) ≡ true → HasEightLoads quota → LeavesUnused entry.shape.bounds quota
     → Reads (quota_fields groups entry quota ∷ []) (front version (before ++ with_quotas entry done ∷ after) groups [] []) (front version (before ++ with_quotas entry (done ++ quota ∷ []) ∷ after) groups [] [])
-quota_read version groups before after entry done quota has stand here new there range fit eight unused =
+quota-read version groups before after entry done quota has stand here new there range fit eight unused =
     let link = with_quotas entry done in
     let links = before ++ with_quotas entry done ∷ after in
     let said = front version (before ++ with_quotas entry done ∷ after) groups [] [] in
-    let some = some_links before link after in
+    let some = some-links before link after in
     let inside = and_parts (nat_le 1 quota.group) (nat_le quota.group (length groups)) there in
-    let distinct = ap are_distinct (names_with before entry after done) ∙ here.apart in
+    let distinct = ap are_distinct (names-with before entry after done) ∙ here.apart in
     let is : IsNextQuota said link quota = record {
       name = here.name;
-      found = find_back (λ (e : LinkEntry). e.name) [] links (length before) link distinct (at_seam before link after (length before) refl);
-      group = group_here groups quota.group stand (leb-true 1 quota.group inside.0) (leb-true quota.group (length groups) inside.1);
+      found = find-back (λ (e : LinkEntry). e.name) [] links (length before) link distinct (at-seam before link after (length before) refl);
+      group = group-here groups quota.group stand (leb-true 1 quota.group inside.0) (leb-true quota.group (length groups) inside.1);
       new = new;
       range = range;
       fit = fit;
       eight = eight;
       unused = unused;
     } in
-    let line = quota_is_line said link quota is in
-    subst (λ (ls : List LinkEntry). Reads (quota_fields groups entry quota ∷ []) said (front version ls groups [] [])) (add_here before link after (link_number entry.shape.link) quota here.number)
-    (reads_one (quota_fields groups link quota) said (item.Quota link.shape.link quota) line (λ number.
-    judged_as version said number (quota_fields groups link quota) word.Quota (item.Quota link.shape.link quota) line refl refl refl (rw (has, not_none links some) refl)
-    (stated_back (quota_rule said (quota_fields groups link quota)) (quota_said said (quota_fields groups link quota)) (item.Quota link.shape.link quota) (quota_back said link quota is) (quota_says said link quota is))))
+    let line = quota-is-line said link quota is in
+    subst (λ (ls : List LinkEntry). Reads (quota_fields groups entry quota ∷ []) said (front version ls groups [] [])) (add-here before link after (link_number entry.shape.link) quota here.number)
+    (reads-one (quota_fields groups link quota) said (item.Quota link.shape.link quota) line (λ number.
+    judged-as version said number (quota_fields groups link quota) word.Quota (item.Quota link.shape.link quota) line refl refl refl (rw (has, not-none links some) refl)
+    (stated-back (quota_rule said (quota_fields groups link quota)) (quota_said said (quota_fields groups link quota)) (item.Quota link.shape.link quota) (quota-back said link quota is) (quota-says said link quota is))))
 
-link_quotas_read : (version : Version) (groups : List (List ℕ)) (before after : List LinkEntry) (entry : LinkEntry) (done left : List Quota) → GroupsStand groups → StandsThere before entry after → QuotasLeft version groups entry done left
+link-quotas-read : (version : Version) (groups : List (List ℕ)) (before after : List LinkEntry) (entry : LinkEntry) (done left : List Quota) → GroupsStand groups → StandsThere before entry after → QuotasLeft version groups entry done left
     → Reads (map (quota_fields groups entry) left) (front version (before ++ with_quotas entry done ∷ after) groups [] []) (front version (before ++ with_quotas entry (done ++ left) ∷ after) groups [] [])
 unfolding each_after
-link_quotas_read version groups before after entry done [] stand here qs =
+link-quotas-read version groups before after entry done [] stand here qs =
     subst (λ (quotas : List Quota). Reads [] (front version (before ++ with_quotas entry done ∷ after) groups [] []) (front version (before ++ with_quotas entry quotas ∷ after) groups [] [])) (sym (append-nil done))
-    (reads_none (front version (before ++ with_quotas entry done ∷ after) groups [] []))
-link_quotas_read version groups before after entry done (quota ∷ left) stand here qs =
+    (reads-none (front version (before ++ with_quotas entry done ∷ after) groups [] []))
+link-quotas-read version groups before after entry done (quota ∷ left) stand here qs =
     let own = and_parts (is_of_new_group done quota) (each_after is_of_new_group (done ++ quota ∷ []) left) qs.own in
     let there = and_parts (quota_is_there groups quota) (list_all (quota_is_there groups) left) qs.there in
     let range = and_parts (quota_in_range quota) (list_all quota_in_range left) qs.range in
     let has = qs.has (omega arith) in
     let together : quotas_fit entry.shape ((done ++ quota ∷ []) ++ left) ≡ true = ap (quotas_fit entry.shape) (append_assoc done (quota ∷ []) left) ∙ qs.fit in
-    let one = quota_read version groups before after entry done quota has stand here own.0 there.0 range.0 (fits_front entry.shape (done ++ quota ∷ []) left together) qs.eight.0 qs.unused.0 in
-    let others = link_quotas_read version groups before after entry (done ++ quota ∷ []) left stand here (record {
+    let one = quota-read version groups before after entry done quota has stand here own.0 there.0 range.0 (fits-front entry.shape (done ++ quota ∷ []) left together) qs.eight.0 qs.unused.0 in
+    let others = link-quotas-read version groups before after entry (done ++ quota ∷ []) left stand here (record {
       has = λ more. has;
       own = own.1;
       there = there.1;
@@ -217,7 +217,7 @@ link_quotas_read version groups before after entry done (quota ∷ left) stand h
       unused = qs.unused.1;
     }) in
     subst (λ (quotas : List Quota). Reads (map (quota_fields groups entry) (quota ∷ left)) (front version (before ++ with_quotas entry done ∷ after) groups [] []) (front version (before ++ with_quotas entry quotas ∷ after) groups [] [])) (append_assoc done (quota ∷ []) left)
-    (reads_on (quota_fields groups entry quota ∷ []) (map (quota_fields groups entry) left) (front version (before ++ with_quotas entry done ∷ after) groups [] []) (front version (before ++ with_quotas entry (done ++ quota ∷ []) ∷ after) groups [] [])
+    (reads-on (quota_fields groups entry quota ∷ []) (map (quota_fields groups entry) left) (front version (before ++ with_quotas entry done ∷ after) groups [] []) (front version (before ++ with_quotas entry (done ++ quota ∷ []) ∷ after) groups [] [])
     (front version (before ++ with_quotas entry ((done ++ quota ∷ []) ++ left) ∷ after) groups [] []) one others)
 
 -- ---- the quotas of all links
@@ -228,27 +228,27 @@ pub record SharesLeft (version : Version) (groups : List (List ℕ)) (before res
   pub numbers : (k : ℕ) (entry : LinkEntry) → slice_get rest k ≡ Some entry → link_number entry.shape.link ≡ length before + k
   pub quotas : Each (λ (entry : LinkEntry). QuotasLeft version groups entry [] entry.quotas) rest
 
-bare_after : (before rest : List LinkEntry) (entry : LinkEntry) → link_names (before ++ entry ∷ map bare rest) ≡ link_names (before ++ entry ∷ rest)
-bare_after [] rest entry = ap (λ (names : List (List ℕ)). entry.name ∷ names) (bare_names rest)
-bare_after (first ∷ before) rest entry = ap (λ (names : List (List ℕ)). first.name ∷ names) (bare_after before rest entry)
+bare-after : (before rest : List LinkEntry) (entry : LinkEntry) → link_names (before ++ entry ∷ map bare rest) ≡ link_names (before ++ entry ∷ rest)
+bare-after [] rest entry = ap (λ (names : List (List ℕ)). entry.name ∷ names) (bare-names rest)
+bare-after (first ∷ before) rest entry = ap (λ (names : List (List ℕ)). first.name ∷ names) (bare-after before rest entry)
 
-pub shares_read : (version : Version) (groups : List (List ℕ)) (before rest : List LinkEntry) → GroupsStand groups → SharesLeft version groups before rest
+pub shares-read : (version : Version) (groups : List (List ℕ)) (before rest : List LinkEntry) → GroupsStand groups → SharesLeft version groups before rest
     → Reads (flat_map (quota_lines groups) rest) (front version (before ++ map bare rest) groups [] []) (front version (before ++ rest) groups [] [])
-shares_read version groups before [] stand left = reads_none (front version (before ++ []) groups [] [])
-shares_read version groups before (entry ∷ rest) stand left =
+shares-read version groups before [] stand left = reads-none (front version (before ++ []) groups [] [])
+shares-read version groups before (entry ∷ rest) stand left =
     let here : StandsThere before entry (map bare rest) = record {
       name = left.named.0.name;
       number = left.numbers 0 entry refl ∙ omega arith;
-      apart = ap are_distinct (bare_after before rest entry) ∙ left.apart;
+      apart = ap are_distinct (bare-after before rest entry) ∙ left.apart;
     } in
     let longer = length-more before entry in
-    let one = link_quotas_read version groups before (map bare rest) entry [] entry.quotas stand here left.quotas.0 in
-    let others = shares_read version groups (before ++ entry ∷ []) rest stand (record {
+    let one = link-quotas-read version groups before (map bare rest) entry [] entry.quotas stand here left.quotas.0 in
+    let others = shares-read version groups (before ++ entry ∷ []) rest stand (record {
       named = left.named.1;
       apart = ap (λ (links : List LinkEntry). are_distinct (link_names links)) (append_assoc before (entry ∷ []) rest) ∙ left.apart;
       numbers = λ k e found. left.numbers (suc k) e found ∙ omega (arith, longer);
       quotas = left.quotas.1;
     }) in
-    reads_on (quota_lines groups entry) (flat_map (quota_lines groups) rest) (front version (before ++ map bare (entry ∷ rest)) groups [] []) (front version (before ++ entry ∷ map bare rest) groups [] []) (front version (before ++ entry ∷ rest) groups [] []) one
+    reads-on (quota_lines groups entry) (flat_map (quota_lines groups) rest) (front version (before ++ map bare (entry ∷ rest)) groups [] []) (front version (before ++ entry ∷ map bare rest) groups [] []) (front version (before ++ entry ∷ rest) groups [] []) one
     (subst (λ (links : List LinkEntry). Reads (flat_map (quota_lines groups) rest) (front version (before ++ entry ∷ map bare rest) groups [] []) (front version links groups [] [])) (append_assoc before (entry ∷ []) rest)
     (subst (λ (links : List LinkEntry). Reads (flat_map (quota_lines groups) rest) (front version links groups [] []) (front version ((before ++ entry ∷ []) ++ rest) groups [] [])) (append_assoc before (entry ∷ []) (map bare rest)) others))

@@ -37,15 +37,15 @@ use Rattle.scenario_reader.specs.declared.cause.Cause.TheVariants as cause
 use Rattle.scenario_reader.specs.declared.item.Item.TheVariants as item
 use Rattle.scenario_reader.specs.Drafts.{with_item}
 use Rattle.scenario_reader.proofs.kind.GroupBack.{GroupsStand}
-use Rattle.scenario_reader.proofs.kind.CallerBack.{has_of}
-use Rattle.scenario_reader.proofs.LineText.{lines_of_text}
-use Rattle.scenario_reader.proofs.PlanBack.{links_read, callers_read}
+use Rattle.scenario_reader.proofs.kind.CallerBack.{has-of}
+use Rattle.scenario_reader.proofs.LineText.{lines-of-text}
+use Rattle.scenario_reader.proofs.PlanBack.{links-read, callers-read}
 use Rattle.scenario_reader.proofs.SaysBack.{front, whole}
-use Rattle.scenario_reader.proofs.kind.HeaderBack.{header_read}
-use Rattle.scenario_reader.proofs.kind.RoundsBack.{rounds_read, tail_read}
-use Rattle.scenario_reader.proofs.SaysBack.{Reads, leads_reading, leads_lines}
-use Rattle.scenario_reader.proofs.kind.ScheduleBack.{SomeLead, then_some, IsWhole, schedule_back}
-use Rattle.scenario_reader.proofs.SplitBack.{bare, bare_names, bare_lines, bare_unsplit, bare_named, bare_kept, bare_numbers, bare_each, groups_read, QuotasLeft, shares_read}
+use Rattle.scenario_reader.proofs.kind.HeaderBack.{header-read}
+use Rattle.scenario_reader.proofs.kind.RoundsBack.{rounds-read, tail-read}
+use Rattle.scenario_reader.proofs.SaysBack.{Reads, leads-reading, leads-lines}
+use Rattle.scenario_reader.proofs.kind.ScheduleBack.{SomeLead, then-some, IsWhole, schedule-back}
+use Rattle.scenario_reader.proofs.SplitBack.{bare, bare-names, bare-lines, bare-unsplit, bare-named, bare-kept, bare-numbers, bare-each, groups-read, QuotasLeft, shares-read}
 use Rattle.scenario_reader.proofs.WalkBack.{LinksStand, IsSound, OpSound}
 
 -- ---- what a plan's rules say of its parts
@@ -59,9 +59,9 @@ record PlanSays (parts : PlanParts) : Type 0 where
   ticks : (parts.rounds + parts.tail) * length parts.links ≤ 524288
   taken : list_all (λ (c : CallerEntry). list_all (pour_is_taken parts.links) c.ops) parts.callers ≡ true
 
-plan_says : (parts : PlanParts) → IsPlan parts → PlanSays parts
+plan-says : (parts : PlanParts) → IsPlan parts → PlanSays parts
 unfolding have_version have_links are_joined are_within_load pours_are_taken
-plan_says parts plan =
+plan-says parts plan =
     let rules = keeps-rules parts plan.kept in
     let version = version-in parts rules.version in
     let load = and_parts (nat_le (load_in parts.requests parts.callers) 262144) (nat_le ((parts.rounds + parts.tail) * length parts.links) 524288) rules.load in
@@ -75,31 +75,31 @@ plan_says parts plan =
       taken = rules.pours;
     }
 
-ops_sound : (version : Version) (links : List LinkEntry) (ops : List Op) → list_all (op_has_version version) ops ≡ true → list_all (pour_is_there links) ops ≡ true → list_all op_in_range ops ≡ true → list_all (pour_is_taken links) ops ≡ true → Each (OpSound version links) ops
-ops_sound version links [] kept there range taken = tt
-ops_sound version links (op ∷ ops) kept there range taken =
+ops-sound : (version : Version) (links : List LinkEntry) (ops : List Op) → list_all (op_has_version version) ops ≡ true → list_all (pour_is_there links) ops ≡ true → list_all op_in_range ops ≡ true → list_all (pour_is_taken links) ops ≡ true → Each (OpSound version links) ops
+ops-sound version links [] kept there range taken = tt
+ops-sound version links (op ∷ ops) kept there range taken =
     let a = and_parts (op_has_version version op) (list_all (op_has_version version) ops) kept in
     let b = and_parts (pour_is_there links op) (list_all (pour_is_there links) ops) there in
     let c = and_parts (op_in_range op) (list_all op_in_range ops) range in
     let d = and_parts (pour_is_taken links op) (list_all (pour_is_taken links) ops) taken in
-    (record { kept = a.0; there = b.0; range = c.0; taken = d.0 }, ops_sound version links ops a.1 b.1 c.1 d.1)
+    (record { kept = a.0; there = b.0; range = c.0; taken = d.0 }, ops-sound version links ops a.1 b.1 c.1 d.1)
 
-callers_sound : (version : Version) (links : List LinkEntry) (callers : List CallerEntry) → list_all (λ (c : CallerEntry). list_all (op_has_version version) c.ops) callers ≡ true → list_all (λ (c : CallerEntry). list_all (pour_is_there links) c.ops) callers ≡ true
+callers-sound : (version : Version) (links : List LinkEntry) (callers : List CallerEntry) → list_all (λ (c : CallerEntry). list_all (op_has_version version) c.ops) callers ≡ true → list_all (λ (c : CallerEntry). list_all (pour_is_there links) c.ops) callers ≡ true
     → list_all (λ (c : CallerEntry). list_all op_in_range c.ops) callers ≡ true → list_all (λ (c : CallerEntry). list_all (pour_is_taken links) c.ops) callers ≡ true → Each (λ (c : CallerEntry). Each (OpSound version links) c.ops) callers
-callers_sound version links [] kept there range taken = tt
-callers_sound version links (caller ∷ callers) kept there range taken =
+callers-sound version links [] kept there range taken = tt
+callers-sound version links (caller ∷ callers) kept there range taken =
     let a = and_parts (list_all (op_has_version version) caller.ops) (list_all (λ (c : CallerEntry). list_all (op_has_version version) c.ops) callers) kept in
     let b = and_parts (list_all (pour_is_there links) caller.ops) (list_all (λ (c : CallerEntry). list_all (pour_is_there links) c.ops) callers) there in
     let c = and_parts (list_all op_in_range caller.ops) (list_all (λ (c : CallerEntry). list_all op_in_range c.ops) callers) range in
     let d = and_parts (list_all (pour_is_taken links) caller.ops) (list_all (λ (c : CallerEntry). list_all (pour_is_taken links) c.ops) callers) taken in
-    (ops_sound version links caller.ops a.0 b.0 c.0 d.0, callers_sound version links callers a.1 b.1 c.1 d.1)
+    (ops-sound version links caller.ops a.0 b.0 c.0 d.0, callers-sound version links callers a.1 b.1 c.1 d.1)
 
 -- ---- before the callers
 
 -- the links, groups and quotas of a plan keep the rules so far
-begun_keeps : (parts : PlanParts) → IsPlan parts → KeepSoFar (parts_with parts.version parts.links parts.groups [] [] 0 0)
+begun-keeps : (parts : PlanParts) → IsPlan parts → KeepSoFar (parts_with parts.version parts.links parts.groups [] [] 0 0)
 unfolding have_version have_names are_there are_in_range are_few are_joined are_unclosed pours_are_taken moves_are_fit openings_of each_after ops_over ops_load
-begun_keeps parts plan =
+begun-keeps parts plan =
     let rules = keeps-rules parts plan.kept in
     let keep = rules.groups in
     let names = names-in parts rules.names in
@@ -133,40 +133,40 @@ begun_keeps parts plan =
     }
 
 -- a list with elements is none of those that any version has
-has_for : {X : Type 0} (xs : List X) (has : Bool) → (nat_eq (length xs) 0 || has) ≡ true → 1 ≤ length xs → has ≡ true
-has_for xs has either some = has_of (nat_eq (length xs) 0) has either (ne_eqb (length xs) 0 (λ e. omega (arith, e, some)))
+has-for : {X : Type 0} (xs : List X) (has : Bool) → (nat_eq (length xs) 0 || has) ≡ true → 1 ≤ length xs → has ≡ true
+has-for xs has either some = has-of (nat_eq (length xs) 0) has either (ne_eqb (length xs) 0 (λ e. omega (arith, e, some)))
 
 -- what holds of each holds at each place
-each_in : {X : Type 0} (P : X → Type 0) (xs : List X) → All P xs → Each P xs
-each_in P [] all = tt
-each_in P (x ∷ xs) all = (all 0 x (omega arith), each_in P xs (λ k d inside. all (suc k) d (omega (arith, inside))))
+each-in : {X : Type 0} (P : X → Type 0) (xs : List X) → All P xs → Each P xs
+each-in P [] all = tt
+each-in P (x ∷ xs) all = (all 0 x (omega arith), each-in P xs (λ k d inside. all (suc k) d (omega (arith, inside))))
 
 -- the quotas of each link are left
-quotas_left : (parts : PlanParts) → IsPlan parts → AreNamed parts → Each (λ (entry : LinkEntry). QuotasLeft parts.version parts.groups entry [] entry.quotas) parts.links
-quotas_left parts plan named =
+quotas-left : (parts : PlanParts) → IsPlan parts → AreNamed parts → Each (λ (entry : LinkEntry). QuotasLeft parts.version parts.groups entry [] entry.quotas) parts.links
+quotas-left parts plan named =
     let keep = (keeps-rules parts plan.kept).groups in
     let ls = parts.links in
     Each-by_place (λ (entry : LinkEntry). QuotasLeft parts.version parts.groups entry [] entry.quotas) parts.links (λ n e found. record {
-      has = has_for e.quotas (has_groups parts.version) (Each-at (λ (x : LinkEntry). quotas_have_version parts.version x ≡ true) ls n e (each-of (quotas_have_version parts.version) ls keep.version_links) found);
+      has = has-for e.quotas (has_groups parts.version) (Each-at (λ (x : LinkEntry). quotas_have_version parts.version x ≡ true) ls n e (each-of (quotas_have_version parts.version) ls keep.version_links) found);
       own = Each-at (λ (x : LinkEntry). have_own_groups x.quotas ≡ true) ls n e (each-of (λ (x : LinkEntry). have_own_groups x.quotas) ls keep.own) found;
       there = Each-at (λ (x : LinkEntry). list_all (quota_is_there parts.groups) x.quotas ≡ true) ls n e (each-of (λ (x : LinkEntry). list_all (quota_is_there parts.groups) x.quotas) ls keep.quotas_there) found;
       range = Each-at (λ (x : LinkEntry). list_all quota_in_range x.quotas ≡ true) ls n e (each-of (λ (x : LinkEntry). list_all quota_in_range x.quotas) ls keep.range) found;
       fit = Each-at (λ (x : LinkEntry). quotas_fit x.shape x.quotas ≡ true) ls n e (each-of (λ (x : LinkEntry). quotas_fit x.shape x.quotas) ls keep.fit) found;
       eight = Each-at (λ (x : LinkEntry). Each HasEightLoads x.quotas) ls n e named.quotas found;
-      unused = each_in (LeavesUnused e.shape.bounds) e.quotas (plan.planned.unused n e found);
+      unused = each-in (LeavesUnused e.shape.bounds) e.quotas (plan.planned.unused n e found);
     })
 
 -- before any caller nothing is loaded
-load_all : (requests : List RequestEntry) (callers : List CallerEntry) → load_in requests callers ≤ 262144 → load_in requests [] + ops_load requests (loads_in []) (ops_over callers) ≤ 262144
+load-all : (requests : List RequestEntry) (callers : List CallerEntry) → load_in requests callers ≤ 262144 → load_in requests [] + ops_load requests (loads_in []) (ops_over callers) ≤ 262144
 unfolding loads_after ops_load ops_over
-load_all requests callers few = omega (arith, few)
+load-all requests callers few = omega (arith, few)
 
 -- ---- all lines
 
-plan_leads : (parts : PlanParts) (schedule : Schedule) → IsPlan parts → AreNamed parts → HaveFoundRoutes parts → IsScheduleOf parts.callers schedule → SomeLead (plan_lines parts schedule) nothing_said (IsWhole parts schedule) 0
-plan_leads parts schedule plan named routes is =
+plan-leads : (parts : PlanParts) (schedule : Schedule) → IsPlan parts → AreNamed parts → HaveFoundRoutes parts → IsScheduleOf parts.callers schedule → SomeLead (plan_lines parts schedule) nothing_said (IsWhole parts schedule) 0
+plan-leads parts schedule plan named routes is =
     let rules = keeps-rules parts plan.kept in
-    let says = plan_says parts plan in
+    let says = plan-says parts plan in
     let names = names-in parts rules.names in
     let used = used-in parts rules.there in
     let ranges = ranges-in parts rules.range in
@@ -191,16 +191,16 @@ plan_leads parts schedule plan named routes is =
     let stand : LinksStand l = record { some = says.some; named = named.links; apart = names.links; numbers = plan.planned.links } in
     let groups_stand : GroupsStand gs = record { named = named.groups; apart = keep.named } in
     let some_bares : 1 ≤ length bares = (let some = says.some in omega (arith, some, length-map l bare)) in
-    let links = links_read v [] bares (record {
-      named = bare_named l named.links;
-      kept = bare_kept v l says.kept;
-      new = ap are_distinct (bare_names l) ∙ names.links;
+    let links = links-read v [] bares (record {
+      named = bare-named l named.links;
+      kept = bare-kept v l says.kept;
+      new = ap are_distinct (bare-names l) ∙ names.links;
       few = omega (arith, links_few, length-map l bare);
-      numbers = λ k e found. bare_numbers l 0 (λ n x at. plan.planned.links n x at ∙ omega arith) k e found ∙ omega arith;
-      unsplit = bare_each l;
+      numbers = λ k e found. bare-numbers l 0 (λ n x at. plan.planned.links n x at ∙ omega arith) k e found ∙ omega arith;
+      unsplit = bare-each l;
     }) in
-    let groups = groups_read v bares [] gs some_bares (bare_unsplit l) (record { has = has_for gs (has_groups v) keep.version_groups; named = named.groups; new = keep.named; few = omega (arith, keep.few) }) in
-    let shares = shares_read v gs [] l groups_stand (record { named = named.links; apart = names.links; numbers = λ k e found. plan.planned.links k e found ∙ omega arith; quotas = quotas_left parts plan named }) in
+    let groups = groups-read v bares [] gs some_bares (bare-unsplit l) (record { has = has-for gs (has_groups v) keep.version_groups; named = named.groups; new = keep.named; few = omega (arith, keep.few) }) in
+    let shares = shares-read v gs [] l groups_stand (record { named = named.links; apart = names.links; numbers = λ k e found. plan.planned.links k e found ∙ omega arith; quotas = quotas-left parts plan named }) in
     let sound : Each (IsSound v l) rs = Each-by_place (IsSound v l) rs (λ n e found. record {
       name = Each-at (λ (x : RequestEntry). is_name x.name ≡ true) rs n e named.requests found;
       there = Each-at (λ (x : RequestEntry). route_is_there l x ≡ true) rs n e (each-of (route_is_there l) rs used.routes) found;
@@ -215,52 +215,52 @@ plan_leads parts schedule plan named routes is =
     let unclosed = unclosed-in parts rules.unclosed in
     let moves = moves-in parts rules.moves in
     let load = says.load in
-    let callers = callers_read v l gs rs [] rs [] cs stand groups_stand (begun_keeps parts plan)
+    let callers = callers-read v l gs rs [] rs [] cs stand groups_stand (begun-keeps parts plan)
     (record { same = refl; stand = record { sound = sound; new = names.requests; few = omega (arith, requests_few); numbers = λ k e found. plan.planned.requests k e found ∙ omega arith }; named = tt })
-    (record { named = named.callers; new = names.callers; few = omega (arith, callers_few); kept = keep.version_callers; there = keep.callers_there; sound = callers_sound v l cs says.ops_kept used.pours ranges.ops says.taken; opened = used.opened; onto_opened = used.onto_opened; unclosed = unclosed.closed; unleft = unclosed.left; unused = moves.unused; unjoined = moves.unjoined; fit = moves.fit; load = load_all rs cs load })
+    (record { named = named.callers; new = names.callers; few = omega (arith, callers_few); kept = keep.version_callers; there = keep.callers_there; sound = callers-sound v l cs says.ops_kept used.pours ranges.ops says.taken; opened = used.opened; onto_opened = used.onto_opened; unclosed = unclosed.closed; unleft = unclosed.left; unused = moves.unused; unjoined = moves.unjoined; fit = moves.fit; load = load-all rs cs load })
     plan.planned.openings in
-    let end = schedule_back parts schedule named.callers names.callers few.callers is.items is.unwritten in
-    let tails = then_some (tail_fields parts.tail ∷ []) (schedule_lines cs schedule) rounded done (IsWhole parts schedule) (tail_read v l gs rs cs parts.rounds parts.tail ranges.tail says.ticks) end in
-    let rounds = then_some (rounds_fields parts.rounds ∷ []) (tail_fields parts.tail ∷ schedule_lines cs schedule) called rounded (IsWhole parts schedule) (rounds_read v l gs rs cs parts.rounds says.some ranges.rounds) tails in
+    let end = schedule-back parts schedule named.callers names.callers few.callers is.items is.unwritten in
+    let tails = then-some (tail_fields parts.tail ∷ []) (schedule_lines cs schedule) rounded done (IsWhole parts schedule) (tail-read v l gs rs cs parts.rounds parts.tail ranges.tail says.ticks) end in
+    let rounds = then-some (rounds_fields parts.rounds ∷ []) (tail_fields parts.tail ∷ schedule_lines cs schedule) called rounded (IsWhole parts schedule) (rounds-read v l gs rs cs parts.rounds says.some ranges.rounds) tails in
     let later = rounds_fields parts.rounds ∷ tail_fields parts.tail ∷ schedule_lines cs schedule in
     let call_lines = flat_map (caller_lines l gs rs) cs in
     let share_lines = flat_map (quota_lines gs) l in
-    let calls = then_some call_lines later split called (IsWhole parts schedule) callers.reads rounds in
-    let quotas = then_some share_lines (call_lines ++ later) grouped split (IsWhole parts schedule) shares calls in
-    let behind = then_some (map group_fields gs) (share_lines ++ (call_lines ++ later)) linked grouped (IsWhole parts schedule) groups quotas in
-    let bare_link_lines = subst (λ (lines : List (List (List ℕ))). Reads lines nobody linked) (bare_lines l) links in
-    let lines = then_some (map link_fields l) (map group_fields gs ++ (share_lines ++ (call_lines ++ later))) nobody linked (IsWhole parts schedule) bare_link_lines behind in
-    then_some (header_fields v ∷ []) (map link_fields l ++ (map group_fields gs ++ (share_lines ++ (call_lines ++ later)))) nothing_said nobody (IsWhole parts schedule) (header_read v) lines 0
+    let calls = then-some call_lines later split called (IsWhole parts schedule) callers.reads rounds in
+    let quotas = then-some share_lines (call_lines ++ later) grouped split (IsWhole parts schedule) shares calls in
+    let behind = then-some (map group_fields gs) (share_lines ++ (call_lines ++ later)) linked grouped (IsWhole parts schedule) groups quotas in
+    let bare_link_lines = subst (λ (lines : List (List (List ℕ))). Reads lines nobody linked) (bare-lines l) links in
+    let lines = then-some (map link_fields l) (map group_fields gs ++ (share_lines ++ (call_lines ++ later))) nobody linked (IsWhole parts schedule) bare_link_lines behind in
+    then-some (header_fields v ∷ []) (map link_fields l ++ (map group_fields gs ++ (share_lines ++ (call_lines ++ later)))) nothing_said nobody (IsWhole parts schedule) (header-read v) lines 0
 
 -- ---- the law
 
-pub text_is_read : APlansTextIsRead
+pub text-is-read : APlansTextIsRead
 unfolding reading plan_text
-text_is_read parts schedule plan named routes is few =
-    let lead = plan_leads parts schedule plan named routes is in
-    let are = leads_lines (plan_lines parts schedule) 0 lead.end nothing_said lead.after lead.leads in
+text-is-read parts schedule plan named routes is few =
+    let lead = plan-leads parts schedule plan named routes is in
+    let are = leads-lines (plan_lines parts schedule) 0 lead.end nothing_said lead.after lead.leads in
     record {
       again = schedule_said lead.after;
       is =
-          ap (λ rest. reading_on 0 rest nothing_said) (lines_of_text (plan_lines parts schedule) 4194304 are few)
-          ∙ leads_reading (plan_lines parts schedule) 0 lead.end nothing_said lead.after lead.leads
-          ∙ at_its_end lead.end lead.after lead.holds.complete
+          ap (λ rest. reading_on 0 rest nothing_said) (lines-of-text (plan_lines parts schedule) 4194304 are few)
+          ∙ leads-reading (plan_lines parts schedule) 0 lead.end nothing_said lead.after lead.leads
+          ∙ at-its-end lead.end lead.after lead.holds.complete
           ∙ ap (λ (p : PlanParts). PlanRead p (schedule_said lead.after)) lead.holds.parts_are;
       same = lead.holds.same;
     }
   where
-    at_its_end : (end : ℕ) (after : Said) → is_complete after ≡ true → (if is_complete after then PlanRead (parts_said after) (schedule_said after) else BadLine (suc end) cause.End) ≡ PlanRead (parts_said after) (schedule_said after)
-    at_its_end end after complete = rw complete refl
+    at-its-end : (end : ℕ) (after : Said) → is_complete after ≡ true → (if is_complete after then PlanRead (parts_said after) (schedule_said after) else BadLine (suc end) cause.End) ≡ PlanRead (parts_said after) (schedule_said after)
+    at-its-end end after complete = rw complete refl
 
 -- what was read of one text is the same
-one_read : (parts other : PlanParts) (schedule its : Schedule) → PlanRead parts schedule ≡ PlanRead other its → (parts ≡ other) × (schedule ≡ its)
-one_read parts other schedule its same = (cc, cc)
+one-read : (parts other : PlanParts) (schedule its : Schedule) → PlanRead parts schedule ≡ PlanRead other its → (parts ≡ other) × (schedule ≡ its)
+one-read parts other schedule its same = (cc, cc)
 
-pub text_of_one : ATextIsOfOnePlan
-text_of_one parts other schedule its plan its_plan named its_named routes its_routes is its_is few same =
-    let first = text_is_read parts schedule plan named routes is few in
-    let second = text_is_read other its its_plan its_named its_routes its_is (subst (λ (text : List ℕ). length text ≤ 4194304) same few) in
-    let one = one_read parts other first.again second.again (sym first.is ∙ ap (reading 4194304) same ∙ second.is) in
+pub text-of-one : ATextIsOfOnePlan
+text-of-one parts other schedule its plan its_plan named its_named routes its_routes is its_is few same =
+    let first = text-is-read parts schedule plan named routes is few in
+    let second = text-is-read other its its_plan its_named its_routes its_is (subst (λ (text : List ℕ). length text ≤ 4194304) same few) in
+    let one = one-read parts other first.again second.again (sym first.is ∙ ap (reading 4194304) same ∙ second.is) in
     record {
       parts_same = one.0;
       schedule_same = record {

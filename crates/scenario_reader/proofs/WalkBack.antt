@@ -35,7 +35,7 @@ use Rattle.scenario_reader.specs.BothWays.{AreNodesNamed, IsFoundRoute}
 use Rattle.scenario_reader.specs.BothWays.{HasNames}
 use Rattle.scenario_reader.specs.Drafts.{Said, link_named, if_own, is_used, is_joined_to}
 use Rattle.scenario_reader.specs.line.Move.{may_join}
-use Rattle.scenario_reader.proofs.KeptBesideDraft.{use_of, closing_uses}
+use Rattle.scenario_reader.proofs.KeptBesideDraft.{use-of, closing-uses}
 use Rattle.scenario_reader.specs.line.Operation.{op_fields, op_lines}
 use Rattle.scenario_reader.specs.Fields.{lines_if}
 use Rattle.scenario_reader.specs.line.Request.{open_fields}
@@ -43,24 +43,24 @@ use Rattle.scenario_reader.specs.line.Send.{send_fields}
 use Rattle.scenario_reader.specs.line.Close.{close_fields}
 use Rattle.scenario_reader.specs.line.Move.{move_fields, fields_between}
 use Rattle.scenario_reader.specs.line.Pour.{pour_fields}
-use Rattle.scenario_reader.proofs.kind.UsingBack.{are_packets, IsOpenHere}
-use Rattle.scenario_reader.proofs.NamedBack.{find_back}
+use Rattle.scenario_reader.proofs.kind.UsingBack.{are-packets, IsOpenHere}
+use Rattle.scenario_reader.proofs.NamedBack.{find-back}
 use Rattle.scenario_reader.proofs.kind.RequestBack.{IsHopHere}
 use Rattle.scenario_reader.proofs.SaysBack.{front}
-use Rattle.scenario_reader.proofs.kind.RequestBack.{open_read}
-use Rattle.scenario_reader.proofs.kind.SendBack.{send_read}
-use Rattle.scenario_reader.proofs.kind.CloseBack.{close_read}
-use Rattle.scenario_reader.proofs.kind.MoveBack.{move_read}
-use Rattle.scenario_reader.proofs.kind.PourBack.{pour_read}
+use Rattle.scenario_reader.proofs.kind.RequestBack.{open-read}
+use Rattle.scenario_reader.proofs.kind.SendBack.{send-read}
+use Rattle.scenario_reader.proofs.kind.CloseBack.{close-read}
+use Rattle.scenario_reader.proofs.kind.MoveBack.{move-read}
+use Rattle.scenario_reader.proofs.kind.PourBack.{pour-read}
 use Rattle.scenario_reader.proofs.SaysBack.{Reads}
 use Rattle.net_units.proofs.KnownByNumber.{same-link, same-channel}
 
 -- ---- lists
 
-pub at_seam : {X : Type 0} (xs : List X) (x : X) (ys : List X) (n : ℕ) → n ≡ length xs → slice_get (xs ++ x ∷ ys) n ≡ Some x
-at_seam [] x ys n same = ap (slice_get (x ∷ ys)) same
-at_seam (y ∷ xs) x ys zero same = absurd (omega (arith, same))
-at_seam (y ∷ xs) x ys (suc n) same = at_seam xs x ys n (omega (arith, same))
+pub at-seam : {X : Type 0} (xs : List X) (x : X) (ys : List X) (n : ℕ) → n ≡ length xs → slice_get (xs ++ x ∷ ys) n ≡ Some x
+at-seam [] x ys n same = ap (slice_get (x ∷ ys)) same
+at-seam (y ∷ xs) x ys zero same = absurd (omega (arith, same))
+at-seam (y ∷ xs) x ys (suc n) same = at-seam xs x ys n (omega (arith, same))
 
 -- ---- the links, all of which were read
 
@@ -78,32 +78,32 @@ record IsThere (links : List LinkEntry) (link : LinkNo) : Type 0 where
   name : is_name entry.name ≡ true
   named : link_named links entry.name ≡ Some entry
 
-is_there : (links : List LinkEntry) (link : LinkNo) → LinksStand links → has_link links link ≡ true → IsThere links link
-is_there links link stand there =
+is-there : (links : List LinkEntry) (link : LinkNo) → LinksStand links → has_link links link ≡ true → IsThere links link
+is-there links link stand there =
     elim (slice_get_cases links (link_number link)).1 [
       | inl at ↦ record {
         entry = at.0;
         found = at.2;
         same = same-link link at.0.shape.link (sym (stand.numbers (link_number link) at.0 at.2));
         name = (Each-at HasNames links (link_number link) at.0 stand.named at.2).name;
-        named = find_back (λ (e : LinkEntry). e.name) [] links (link_number link) at.0 stand.apart at.2;
+        named = find-back (λ (e : LinkEntry). e.name) [] links (link_number link) at.0 stand.apart at.2;
       }
       | inr past ↦ (let within : link_number link < length links = ltb-true (link_number link) (length links) there in absurd (omega (arith, past.0, within)))
     ]
 
-hop_here : (links : List LinkEntry) (hop : Hop) → LinksStand links → has_link links hop.link ≡ true → FollowsLink links hop → IsHopHere links hop
-hop_here links hop stand there follows =
-    let at = is_there links hop.link stand there in
-    record { entry = at.entry; found = at.found; is = same_hop hop at.entry.shape.link at.entry.shape.bounds at.entry.shape.prop (sym at.same) (sym (follows.bounds at.entry at.found)) (sym (follows.prop at.entry at.found)); name = at.name; named = at.named }
+hop-here : (links : List LinkEntry) (hop : Hop) → LinksStand links → has_link links hop.link ≡ true → FollowsLink links hop → IsHopHere links hop
+hop-here links hop stand there follows =
+    let at = is-there links hop.link stand there in
+    record { entry = at.entry; found = at.found; is = same-hop hop at.entry.shape.link at.entry.shape.bounds at.entry.shape.prop (sym at.same) (sym (follows.bounds at.entry at.found)) (sym (follows.prop at.entry at.found)); name = at.name; named = at.named }
   where
-    same_hop : (h : Hop) (link : LinkNo) (bounds : List ℕ) (prop : ℕ) → link ≡ h.link → bounds ≡ h.bounds → prop ≡ h.prop → record { link = link; bounds = bounds; prop = prop } ≡ h
-    same_hop h link bounds prop a b c = rw (a, b, c) refl
+    same-hop : (h : Hop) (link : LinkNo) (bounds : List ℕ) (prop : ℕ) → link ≡ h.link → bounds ≡ h.bounds → prop ≡ h.prop → record { link = link; bounds = bounds; prop = prop } ≡ h
+    same-hop h link bounds prop a b c = rw (a, b, c) refl
 
-hops_here : (links : List LinkEntry) (hops : List Hop) → LinksStand links → list_all (λ (hop : Hop). has_link links hop.link) hops ≡ true → Each (FollowsLink links) hops → Each (IsHopHere links) hops
-hops_here links [] stand there follows = tt
-hops_here links (hop ∷ hops) stand there follows =
+hops-here : (links : List LinkEntry) (hops : List Hop) → LinksStand links → list_all (λ (hop : Hop). has_link links hop.link) hops ≡ true → Each (FollowsLink links) hops → Each (IsHopHere links) hops
+hops-here links [] stand there follows = tt
+hops-here links (hop ∷ hops) stand there follows =
     let split = and_parts (has_link links hop.link) (list_all (λ (h : Hop). has_link links h.link) hops) there in
-    (hop_here links hop stand split.0 follows.0, hops_here links hops stand split.1 follows.1)
+    (hop-here links hop stand split.0 follows.0, hops-here links hops stand split.1 follows.1)
 
 -- ---- the requests that are left
 
@@ -124,9 +124,9 @@ pub record RestStands (version : Version) (links : List LinkEntry) (requests res
   pub few : length requests + length rest ≤ 1024
   pub numbers : (k : ℕ) (entry : RequestEntry) → slice_get rest k ≡ Some entry → channel_number entry.request.chan ≡ length requests + k
 
-rest_next : (version : Version) (links : List LinkEntry) (requests : List RequestEntry) (entry : RequestEntry) (rest : List RequestEntry) → RestStands version links requests (entry ∷ rest) → RestStands version links (requests ++ entry ∷ []) rest
+rest-next : (version : Version) (links : List LinkEntry) (requests : List RequestEntry) (entry : RequestEntry) (rest : List RequestEntry) → RestStands version links requests (entry ∷ rest) → RestStands version links (requests ++ entry ∷ []) rest
 unfolding each_after
-rest_next version links requests entry rest stand =
+rest-next version links requests entry rest stand =
     let longer = length-more requests entry in
     record {
       sound = stand.sound.1;
@@ -138,24 +138,24 @@ rest_next version links requests entry rest stand =
 
 -- ---- the load of what was read is no more than with all requests
 
-hops_less : (requests rest : List RequestEntry) (load n : ℕ) → load * hops_of (slice_get requests n) ≤ load * hops_of (slice_get (requests ++ rest) n)
-hops_less requests rest load n =
+hops-less : (requests rest : List RequestEntry) (load n : ℕ) → load * hops_of (slice_get requests n) ≤ load * hops_of (slice_get (requests ++ rest) n)
+hops-less requests rest load n =
     elim (slice_get_cases requests n).1 [
       | inl at ↦ (let same : load * hops_of (slice_get requests n) ≡ load * hops_of (slice_get (requests ++ rest) n) = ap (λ (found : Option RequestEntry). load * hops_of found) (sym (get-before requests rest n at.1)) in omega (arith, same))
       | inr past ↦ (let none : load * hops_of (slice_get requests n) ≡ load * 0 = ap (λ (found : Option RequestEntry). load * hops_of found) past.1 in let zero_load : load * 0 ≡ 0 = omega arith in omega (arith, none, zero_load))
     ]
 
-load_less : (requests rest : List RequestEntry) (loads : List ℕ) (op : Op) → load_of requests loads op ≤ load_of (requests ++ rest) loads op
-load_less requests rest loads (Open chan) = omega arith
-load_less requests rest loads (Send chan count gap size) = hops_less requests rest count (channel_number chan)
-load_less requests rest loads (Close chan) = omega arith
-load_less requests rest loads (Pour link count gap size) = omega arith
-load_less requests rest loads (Move old new) = hops_less requests rest (load_at loads old) (channel_number new)
+load-less : (requests rest : List RequestEntry) (loads : List ℕ) (op : Op) → load_of requests loads op ≤ load_of (requests ++ rest) loads op
+load-less requests rest loads (Open chan) = omega arith
+load-less requests rest loads (Send chan count gap size) = hops-less requests rest count (channel_number chan)
+load-less requests rest loads (Close chan) = omega arith
+load-less requests rest loads (Pour link count gap size) = omega arith
+load-less requests rest loads (Move old new) = hops-less requests rest (load_at loads old) (channel_number new)
 
-ops_less : (requests rest : List RequestEntry) (loads : List ℕ) (ops : List Op) → ops_load requests loads ops ≤ ops_load (requests ++ rest) loads ops
+ops-less : (requests rest : List RequestEntry) (loads : List ℕ) (ops : List Op) → ops_load requests loads ops ≤ ops_load (requests ++ rest) loads ops
 unfolding ops_load
-ops_less requests rest loads [] = omega arith
-ops_less requests rest loads (op ∷ ops) = (let one = load_less requests rest loads op in let others = ops_less requests rest (loads_with loads op) ops in omega (arith, one, others))
+ops-less requests rest loads [] = omega arith
+ops-less requests rest loads (op ∷ ops) = (let one = load-less requests rest loads op in let others = ops-less requests rest (loads_with loads op) ops in omega (arith, one, others))
 
 -- ---- within a caller
 
@@ -193,12 +193,12 @@ pub record Stepped (version : Version) (links : List LinkEntry) (groups : List (
   pub left : openings ≡ map opening_of rest
   pub reads : Reads (op_lines links all op) (front version links groups requests (callers ++ caller ∷ [])) (front version links groups after (callers ++ with_its_op op caller ∷ []))
 
-distinct_requests : (parts : PlanParts) → have_names parts ≡ true → are_distinct (request_names parts.requests) ≡ true
+distinct-requests : (parts : PlanParts) → have_names parts ≡ true → are_distinct (request_names parts.requests) ≡ true
 unfolding have_names
-distinct_requests parts names = (and_parts (are_distinct (link_names parts.links) && are_distinct (caller_names parts.callers)) (are_distinct (request_names parts.requests)) names).1
+distinct-requests parts names = (and_parts (are_distinct (link_names parts.links) && are_distinct (caller_names parts.callers)) (are_distinct (request_names parts.requests)) names).1
 
-some_callers : (callers : List CallerEntry) (caller : CallerEntry) → 1 ≤ length (callers ++ caller ∷ [])
-some_callers callers caller = (let longer = length-more callers caller in omega (arith, longer))
+some-callers : (callers : List CallerEntry) (caller : CallerEntry) → 1 ≤ length (callers ++ caller ∷ [])
+some-callers callers caller = (let longer = length-more callers caller in omega (arith, longer))
 
 -- the request of a channel that the caller has opened and not closed
 record IsOurs (version : Version) (links : List LinkEntry) (groups : List (List ℕ)) (all requests : List RequestEntry) (callers : List CallerEntry) (caller : CallerEntry) (chan : ChanNo) : Type 0 where
@@ -208,13 +208,13 @@ record IsOurs (version : Version) (links : List LinkEntry) (groups : List (List 
   found : slice_get requests (channel_number chan) ≡ Some entry
   among_all : slice_get all (channel_number chan) ≡ Some entry
 
-is_ours : (version : Version) (links : List LinkEntry) (groups : List (List ℕ)) (all requests rest : List RequestEntry) (callers : List CallerEntry) (caller : CallerEntry) (chan : ChanNo) → Stands version links groups all requests rest callers caller
+is-ours : (version : Version) (links : List LinkEntry) (groups : List (List ℕ)) (all requests rest : List RequestEntry) (callers : List CallerEntry) (caller : CallerEntry) (chan : ChanNo) → Stands version links groups all requests rest callers caller
     → list_any (is_in role.Opens (channel_number chan)) caller.ops ≡ true → list_any (is_in role.Closes (channel_number chan)) caller.ops ≡ false → IsOurs version links groups all requests callers caller chan
-is_ours version links groups all requests rest callers caller chan s opened unclosed =
+is-ours version links groups all requests rest callers caller chan s opened unclosed =
     let parts = parts_with version links groups requests (callers ++ caller ∷ []) 0 0 in
-    let has = opened-has parts (length callers) (channel_number chan) caller s.keeps.planned (at_seam callers caller [] (length callers) refl) opened in
+    let has = opened-has parts (length callers) (channel_number chan) caller s.keeps.planned (at-seam callers caller [] (length callers) refl) opened in
     let last : list_any (is_in role.Closes (channel_number chan)) (last_ops (callers ++ caller ∷ [])) ≡ false = ap (list_any (is_in role.Closes (channel_number chan))) (last-of callers caller) ∙ unclosed in
-    let find = find_back (λ (e : RequestEntry). e.name) [] requests (channel_number chan) has.entry (distinct_requests parts s.keeps.names) has.found in
+    let find = find-back (λ (e : RequestEntry). e.name) [] requests (channel_number chan) has.entry (distinct-requests parts s.keeps.names) has.found in
     let longer = length-more callers caller in
     let ours : nat_eq (actor_number has.entry.caller) (length (callers ++ caller ∷ []) - 1) ≡ true = eq-eqb (actor_number has.entry.caller) (length (callers ++ caller ∷ []) - 1) (omega (arith, has.by, longer)) in
     record {
@@ -231,10 +231,10 @@ is_ours version links groups all requests rest callers caller chan s opened uncl
     }
 
 -- nothing is opened, and the last caller has the operation
-plain_step : (version : Version) (links : List LinkEntry) (groups : List (List ℕ)) (all requests rest : List RequestEntry) (callers : List CallerEntry) (caller : CallerEntry) (op : Op) (openings : List Opening) (fields : List (List ℕ))
+plain-step : (version : Version) (links : List LinkEntry) (groups : List (List ℕ)) (all requests rest : List RequestEntry) (callers : List CallerEntry) (caller : CallerEntry) (op : Op) (openings : List Opening) (fields : List (List ℕ))
     → Stands version links groups all requests rest callers caller → openings ≡ map opening_of rest → op_fields links all op ≡ Some fields → KeepSoFar (parts_with version links groups requests (add_op op (callers ++ caller ∷ [])) 0 0)
     → Reads (fields ∷ []) (front version links groups requests (callers ++ caller ∷ [])) (front version links groups requests (add_op op (callers ++ caller ∷ []))) → Stepped version links groups all requests callers caller op openings
-plain_step version links groups all requests rest callers caller op openings fields s later is keeps reads = record {
+plain-step version links groups all requests rest callers caller op openings fields s later is keeps reads = record {
   after = requests;
   rest = rest;
   stands = record { keeps = subst (λ (cs : List CallerEntry). KeepSoFar (parts_with version links groups requests cs 0 0)) (added-last op callers caller) keeps; same = s.same; stand = s.stand; named = s.named; few = s.few };
@@ -244,22 +244,22 @@ plain_step version links groups all requests rest callers caller op openings fie
 }
 
 -- the load with one operation more, of what was read
-load_so_far : (version : Version) (links : List LinkEntry) (groups : List (List ℕ)) (all requests rest : List RequestEntry) (callers : List CallerEntry) (caller : CallerEntry) (op : Op) → Stands version links groups all requests rest callers caller
+load-so-far : (version : Version) (links : List LinkEntry) (groups : List (List ℕ)) (all requests rest : List RequestEntry) (callers : List CallerEntry) (caller : CallerEntry) (op : Op) → Stands version links groups all requests rest callers caller
     → load_in all (callers ++ caller ∷ []) + load_of all (loads_in (callers ++ caller ∷ [])) op ≤ 262144 → load_in requests (callers ++ caller ∷ []) + load_of requests (loads_in (callers ++ caller ∷ [])) op ≤ 262144
-load_so_far version links groups all requests rest callers caller op s load =
+load-so-far version links groups all requests rest callers caller op s load =
     let loads = loads_in (callers ++ caller ∷ []) in
     let whole : load_in (requests ++ rest) (callers ++ caller ∷ []) + load_of (requests ++ rest) loads op ≤ 262144 = subst (λ (es : List RequestEntry). load_in es (callers ++ caller ∷ []) + load_of es loads op ≤ 262144) s.same load in
-    let one = load_less requests rest loads op in
-    let others = ops_less requests rest [] (ops_over (callers ++ caller ∷ [])) in
+    let one = load-less requests rest loads op in
+    let others = ops-less requests rest [] (ops_over (callers ++ caller ∷ [])) in
     omega (arith, whole, one, others)
 
 -- what the operations of the last caller are not to a channel
-in_last : (what : Role) (callers : List CallerEntry) (caller : CallerEntry) (c : ℕ) → list_any (is_in what c) caller.ops ≡ false → list_any (is_in what c) (last_ops (callers ++ caller ∷ [])) ≡ false
-in_last what callers caller c none = ap (list_any (is_in what c)) (last-of callers caller) ∙ none
+in-last : (what : Role) (callers : List CallerEntry) (caller : CallerEntry) (c : ℕ) → list_any (is_in what c) caller.ops ≡ false → list_any (is_in what c) (last_ops (callers ++ caller ∷ [])) ≡ false
+in-last what callers caller c none = ap (list_any (is_in what c)) (last-of callers caller) ∙ none
 
 -- a request may be joined that was neither used nor joined
-joins_here : (said : Said) (old new : ChanNo) (from to : RequestEntry) → old ≡ from.request.chan → new ≡ to.request.chan → may_move said.links (Some from) (Some to) ≡ true → not (nat_eq (channel_number old) (channel_number new)) ≡ true → is_used said new ≡ false → is_joined_to said new ≡ false → may_join said (Some from) (Some to) ≡ true
-joins_here said old new from to is onto may apart unused unjoined =
+joins-here : (said : Said) (old new : ChanNo) (from to : RequestEntry) → old ≡ from.request.chan → new ≡ to.request.chan → may_move said.links (Some from) (Some to) ≡ true → not (nat_eq (channel_number old) (channel_number new)) ≡ true → is_used said new ≡ false → is_joined_to said new ≡ false → may_join said (Some from) (Some to) ≡ true
+joins-here said old new from to is onto may apart unused unjoined =
     let other : not (nat_eq (channel_number from.request.chan) (channel_number to.request.chan)) ≡ true = subst (λ (c : ChanNo). not (nat_eq (channel_number c) (channel_number to.request.chan)) ≡ true) is (subst (λ (c : ChanNo). not (nat_eq (channel_number old) (channel_number c)) ≡ true) onto apart) in
     let plain : not (is_used said to.request.chan) ≡ true = not_from_false (is_used said to.request.chan) (subst (λ (c : ChanNo). is_used said c ≡ false) onto unused) in
     let single : not (is_joined_to said to.request.chan) ≡ true = not_from_false (is_joined_to said to.request.chan) (subst (λ (c : ChanNo). is_joined_to said c ≡ false) onto unjoined) in
@@ -267,41 +267,41 @@ joins_here said old new from to is onto may apart unused unjoined =
     (and_from (may_move said.links (Some from) (Some to) && not (nat_eq (channel_number from.request.chan) (channel_number to.request.chan))) (not (is_used said to.request.chan))
     (and_from (may_move said.links (Some from) (Some to)) (not (nat_eq (channel_number from.request.chan) (channel_number to.request.chan))) may other) plain) single
 
-send_step : (version : Version) (links : List LinkEntry) (groups : List (List ℕ)) (all requests rest : List RequestEntry) (callers : List CallerEntry) (caller : CallerEntry) (chan : ChanNo) (count gap size : ℕ) (openings : List Opening)
+send-step : (version : Version) (links : List LinkEntry) (groups : List (List ℕ)) (all requests rest : List RequestEntry) (callers : List CallerEntry) (caller : CallerEntry) (chan : ChanNo) (count gap size : ℕ) (openings : List Opening)
     → Stands version links groups all requests rest callers caller → IsNextOp version links groups all callers caller (Send chan count gap size) → openings ≡ map opening_of rest → Stepped version links groups all requests callers caller (Send chan count gap size) openings
-send_step version links groups all requests rest callers caller chan count gap size openings s is later =
+send-step version links groups all requests rest callers caller chan count gap size openings s is later =
     let parts = parts_with version links groups requests (callers ++ caller ∷ []) 0 0 in
-    let ours = is_ours version links groups all requests rest callers caller chan s (after-has role.Uses role.Opens caller.ops (Send chan count gap size) (channel_number chan) refl is.opened) (apart-none role.Uses role.Closes caller.ops (Send chan count gap size) (channel_number chan) refl is.unclosed) in
-    let unleft = in_last role.Leaves callers caller (channel_number chan) (apart-none role.Keeps role.Leaves caller.ops (Send chan count gap size) (channel_number chan) refl is.unleft) in
-    let are = are_packets count gap size is.sound.range in
-    let load = load_so_far version links groups all requests rest callers caller (Send chan count gap size) s is.load in
+    let ours = is-ours version links groups all requests rest callers caller chan s (after-has role.Uses role.Opens caller.ops (Send chan count gap size) (channel_number chan) refl is.opened) (apart-none role.Uses role.Closes caller.ops (Send chan count gap size) (channel_number chan) refl is.unclosed) in
+    let unleft = in-last role.Leaves callers caller (channel_number chan) (apart-none role.Keeps role.Leaves caller.ops (Send chan count gap size) (channel_number chan) refl is.unleft) in
+    let are = are-packets count gap size is.sound.range in
+    let load = load-so-far version links groups all requests rest callers caller (Send chan count gap size) s is.load in
     let here : load_in requests (callers ++ caller ∷ []) + count * hops_of (Some ours.entry) ≤ 262144 = subst (λ (found : Option RequestEntry). load_in requests (callers ++ caller ∷ []) + count * hops_of found ≤ 262144) ours.found load in
-    plain_step version links groups all requests rest callers caller (Send chan count gap size) openings (send_fields count gap size ours.entry) s later (ap (option_map (send_fields count gap size)) ours.among_all)
+    plain-step version links groups all requests rest callers caller (Send chan count gap size) openings (send_fields count gap size ours.entry) s later (ap (option_map (send_fields count gap size)) ours.among_all)
     (send-keeps parts chan count gap size s.keeps (record { channel = ours.there; unleft = unleft; range = is.sound.range; load = load }))
-    (send_read version links groups requests (callers ++ caller ∷ []) chan count gap size ours.entry (some_callers callers caller) ours.here unleft are here)
+    (send-read version links groups requests (callers ++ caller ∷ []) chan count gap size ours.entry (some-callers callers caller) ours.here unleft are here)
 
-close_step : (version : Version) (links : List LinkEntry) (groups : List (List ℕ)) (all requests rest : List RequestEntry) (callers : List CallerEntry) (caller : CallerEntry) (chan : ChanNo) (openings : List Opening)
+close-step : (version : Version) (links : List LinkEntry) (groups : List (List ℕ)) (all requests rest : List RequestEntry) (callers : List CallerEntry) (caller : CallerEntry) (chan : ChanNo) (openings : List Opening)
     → Stands version links groups all requests rest callers caller → IsNextOp version links groups all callers caller (Close chan) → openings ≡ map opening_of rest → Stepped version links groups all requests callers caller (Close chan) openings
-close_step version links groups all requests rest callers caller chan openings s is later =
+close-step version links groups all requests rest callers caller chan openings s is later =
     let parts = parts_with version links groups requests (callers ++ caller ∷ []) 0 0 in
-    let ours = is_ours version links groups all requests rest callers caller chan s (after-has role.Uses role.Opens caller.ops (Close chan) (channel_number chan) refl is.opened) (apart-none role.Uses role.Closes caller.ops (Close chan) (channel_number chan) refl is.unclosed) in
-    plain_step version links groups all requests rest callers caller (Close chan) openings (close_fields ours.entry) s later (ap (option_map close_fields) ours.among_all)
+    let ours = is-ours version links groups all requests rest callers caller chan s (after-has role.Uses role.Opens caller.ops (Close chan) (channel_number chan) refl is.opened) (apart-none role.Uses role.Closes caller.ops (Close chan) (channel_number chan) refl is.unclosed) in
+    plain-step version links groups all requests rest callers caller (Close chan) openings (close_fields ours.entry) s later (ap (option_map close_fields) ours.among_all)
     (close-keeps parts chan s.keeps ours.there)
-    (close_read version links groups requests (callers ++ caller ∷ []) chan ours.entry (some_callers callers caller) ours.here)
+    (close-read version links groups requests (callers ++ caller ∷ []) chan ours.entry (some-callers callers caller) ours.here)
 
 -- a move between two requests of the caller
-move_step : (version : Version) (links : List LinkEntry) (groups : List (List ℕ)) (all requests rest : List RequestEntry) (callers : List CallerEntry) (caller : CallerEntry) (old new : ChanNo) (openings : List Opening)
+move-step : (version : Version) (links : List LinkEntry) (groups : List (List ℕ)) (all requests rest : List RequestEntry) (callers : List CallerEntry) (caller : CallerEntry) (old new : ChanNo) (openings : List Opening)
     → Stands version links groups all requests rest callers caller → IsNextOp version links groups all callers caller (Move old new) → openings ≡ map opening_of rest → Stepped version links groups all requests callers caller (Move old new) openings
-move_step version links groups all requests rest callers caller old new openings s is later =
+move-step version links groups all requests rest callers caller old new openings s is later =
     let parts = parts_with version links groups requests (callers ++ caller ∷ []) 0 0 in
     let op = Move old new in
     let unused = apart-none role.Joins role.Uses caller.ops (Move old new) (channel_number new) refl is.unused in
-    let ours = is_ours version links groups all requests rest callers caller old s (after-has role.Uses role.Opens caller.ops (Move old new) (channel_number old) refl is.opened) (apart-none role.Uses role.Closes caller.ops (Move old new) (channel_number old) refl is.unclosed) in
-    let onto = is_ours version links groups all requests rest callers caller new s (after-has role.Joins role.Opens caller.ops (Move old new) (channel_number new) refl is.onto_opened) (use_of role.Closes (channel_number new) caller.ops (closing_uses (channel_number new)) unused) in
-    let unleft = in_last role.Leaves callers caller (channel_number old) (apart-none role.Keeps role.Leaves caller.ops (Move old new) (channel_number old) refl is.unleft) in
-    let last_unused = in_last role.Uses callers caller (channel_number new) unused in
-    let last_unjoined = in_last role.Joins callers caller (channel_number new) (apart-none role.Joins role.Joins caller.ops (Move old new) (channel_number new) refl is.unjoined) in
-    let load = load_so_far version links groups all requests rest callers caller (Move old new) s is.load in
+    let ours = is-ours version links groups all requests rest callers caller old s (after-has role.Uses role.Opens caller.ops (Move old new) (channel_number old) refl is.opened) (apart-none role.Uses role.Closes caller.ops (Move old new) (channel_number old) refl is.unclosed) in
+    let onto = is-ours version links groups all requests rest callers caller new s (after-has role.Joins role.Opens caller.ops (Move old new) (channel_number new) refl is.onto_opened) (use-of role.Closes (channel_number new) caller.ops (closing-uses (channel_number new)) unused) in
+    let unleft = in-last role.Leaves callers caller (channel_number old) (apart-none role.Keeps role.Leaves caller.ops (Move old new) (channel_number old) refl is.unleft) in
+    let last_unused = in-last role.Uses callers caller (channel_number new) unused in
+    let last_unjoined = in-last role.Joins callers caller (channel_number new) (apart-none role.Joins role.Joins caller.ops (Move old new) (channel_number new) refl is.unjoined) in
+    let load = load-so-far version links groups all requests rest callers caller (Move old new) s is.load in
     let loads = loads_in (callers ++ caller ∷ []) in
     let here : load_in requests (callers ++ caller ∷ []) + load_at loads old * hops_of (Some onto.entry) ≤ 262144 = subst (λ (found : Option RequestEntry). load_in requests (callers ++ caller ∷ []) + load_at loads old * hops_of found ≤ 262144) onto.found load in
     let fits = and_parts (may_move links (slice_get all (channel_number old)) (slice_get all (channel_number new))) (not (nat_eq (channel_number old) (channel_number new))) is.fit in
@@ -310,30 +310,30 @@ move_step version links groups all requests rest callers caller old new openings
     ap (λ (found : Option RequestEntry). may_move links found (slice_get requests (channel_number new)) && not (nat_eq (channel_number old) (channel_number new))) ours.found ∙ ap (λ (found : Option RequestEntry). may_move links (Some ours.entry) found && not (nat_eq (channel_number old) (channel_number new))) onto.found
     ∙ and_from (may_move links (Some ours.entry) (Some onto.entry)) (not (nat_eq (channel_number old) (channel_number new))) may fits.1 in
     let said = front version links groups requests (callers ++ caller ∷ []) in
-    let joins = joins_here said old new ours.entry onto.entry ours.here.same onto.here.same may fits.1 last_unused last_unjoined in
-    plain_step version links groups all requests rest callers caller (Move old new) openings (move_fields ours.entry onto.entry) s later
+    let joins = joins-here said old new ours.entry onto.entry ours.here.same onto.here.same may fits.1 last_unused last_unjoined in
+    plain-step version links groups all requests rest callers caller (Move old new) openings (move_fields ours.entry onto.entry) s later
     (ap (λ (found : Option RequestEntry). fields_between found (slice_get all (channel_number new))) ours.among_all ∙ ap (fields_between (Some ours.entry)) onto.among_all)
     (move-keeps parts old new s.keeps (record { version = is.sound.kept; channel = ours.there; unleft = unleft; joined = onto.there.opened; fit = fit; unused = last_unused; unjoined = last_unjoined; load = load }))
-    (move_read version links groups requests (callers ++ caller ∷ []) old new ours.entry onto.entry (some_callers callers caller) is.sound.kept ours.here unleft onto.here joins here)
+    (move-read version links groups requests (callers ++ caller ∷ []) old new ours.entry onto.entry (some-callers callers caller) is.sound.kept ours.here unleft onto.here joins here)
 
-pour_step : (version : Version) (links : List LinkEntry) (groups : List (List ℕ)) (all requests rest : List RequestEntry) (callers : List CallerEntry) (caller : CallerEntry) (link : LinkNo) (count gap size : ℕ) (openings : List Opening) → LinksStand links
+pour-step : (version : Version) (links : List LinkEntry) (groups : List (List ℕ)) (all requests rest : List RequestEntry) (callers : List CallerEntry) (caller : CallerEntry) (link : LinkNo) (count gap size : ℕ) (openings : List Opening) → LinksStand links
     → Stands version links groups all requests rest callers caller → IsNextOp version links groups all callers caller (Pour link count gap size) → openings ≡ map opening_of rest → Stepped version links groups all requests callers caller (Pour link count gap size) openings
-pour_step version links groups all requests rest callers caller link count gap size openings stand s is later =
+pour-step version links groups all requests rest callers caller link count gap size openings stand s is later =
     let parts = parts_with version links groups requests (callers ++ caller ∷ []) 0 0 in
-    let at = is_there links link stand is.sound.there in
-    let are = are_packets count gap size is.sound.range in
-    let load = load_so_far version links groups all requests rest callers caller (Pour link count gap size) s is.load in
-    plain_step version links groups all requests rest callers caller (Pour link count gap size) openings (pour_fields count gap size at.entry) s later (ap (option_map (pour_fields count gap size)) at.found)
-    (pour-keeps parts link count gap size s.keeps (record { some = some_callers callers caller; version = is.sound.kept; there = is.sound.there; range = is.sound.range; load = load; taken = is.sound.taken }))
-    (pour_read version links groups requests (callers ++ caller ∷ []) link count gap size at.entry (some_callers callers caller) is.sound.kept
+    let at = is-there links link stand is.sound.there in
+    let are = are-packets count gap size is.sound.range in
+    let load = load-so-far version links groups all requests rest callers caller (Pour link count gap size) s is.load in
+    plain-step version links groups all requests rest callers caller (Pour link count gap size) openings (pour_fields count gap size at.entry) s later (ap (option_map (pour_fields count gap size)) at.found)
+    (pour-keeps parts link count gap size s.keeps (record { some = some-callers callers caller; version = is.sound.kept; there = is.sound.there; range = is.sound.range; load = load; taken = is.sound.taken }))
+    (pour-read version links groups requests (callers ++ caller ∷ []) link count gap size at.entry (some-callers callers caller) is.sound.kept
     (record { name = at.name; found = at.named; same = at.same; taken = ap takes_best_effort (sym at.found) ∙ is.sound.taken }) are load)
 
 -- the next request is that of the open
-open_step : (version : Version) (links : List LinkEntry) (groups : List (List ℕ)) (all requests rest : List RequestEntry) (callers : List CallerEntry) (caller : CallerEntry) (chan : ChanNo) (openings : List Opening) → LinksStand links
+open-step : (version : Version) (links : List LinkEntry) (groups : List (List ℕ)) (all requests rest : List RequestEntry) (callers : List CallerEntry) (caller : CallerEntry) (chan : ChanNo) (openings : List Opening) → LinksStand links
     → Stands version links groups all requests rest callers caller → record { caller = length callers; chan = channel_number chan } ∷ openings ≡ map opening_of rest → Stepped version links groups all requests callers caller (Open chan) openings
 unfolding each_after
-open_step version links groups all requests [] callers caller chan openings stand s later = cc
-open_step version links groups all requests (entry ∷ rest) callers caller chan openings stand s later =
+open-step version links groups all requests [] callers caller chan openings stand s later = cc
+open-step version links groups all requests (entry ∷ rest) callers caller chan openings stand s later =
     let parts = parts_with version links groups requests (callers ++ caller ∷ []) 0 0 in
     let first : record { caller = length callers; chan = channel_number chan } ≡ opening_of entry = cc in
     let others : openings ≡ map opening_of rest = cc in
@@ -343,7 +343,7 @@ open_step version links groups all requests (entry ∷ rest) callers caller chan
     let number : channel_number entry.request.chan ≡ length requests = s.stand.numbers 0 entry refl ∙ omega arith in
     let sound = s.stand.sound.0 in
     let longer = length-more callers caller in
-    let new = new_first requests entry rest s.stand.new in
+    let new = new-first requests entry rest s.stand.new in
     let few : length requests < 1024 = (let all_few = s.stand.few in omega (arith, all_few)) in
     let keeps = open-keeps parts entry s.keeps (record {
       version = sound.kept;
@@ -357,7 +357,7 @@ open_step version links groups all requests (entry ∷ rest) callers caller chan
       hops = sound.hops;
       terms = sound.terms;
     }) in
-    let reads = open_read version links groups requests (callers ++ caller ∷ []) entry (some_callers callers caller) (record {
+    let reads = open-read version links groups requests (callers ++ caller ∷ []) entry (some-callers callers caller) (record {
       kept = sound.kept;
       nodes = sound.nodes;
       found = sound.found;
@@ -369,7 +369,7 @@ open_step version links groups all requests (entry ∷ rest) callers caller chan
       number = number;
       caller = omega (arith, by, longer);
       callers = (let before = s.few in omega (arith, before, longer));
-      hops = hops_here links entry.request.route stand sound.there sound.hops;
+      hops = hops-here links entry.request.route stand sound.there sound.hops;
       route = sound.terms.route;
       joined = sound.joined;
       contract = sound.terms.contract;
@@ -377,14 +377,14 @@ open_step version links groups all requests (entry ∷ rest) callers caller chan
     }) in
     let to : add_op (Open entry.request.chan) (callers ++ caller ∷ []) ≡ callers ++ with_its_op (Open chan) caller ∷ [] =
     ap (λ (c : ChanNo). add_op (Open c) (callers ++ caller ∷ [])) (sym same) ∙ added-last (Open chan) callers caller in
-    let found : slice_get all (channel_number chan) ≡ Some entry = ap (λ (es : List RequestEntry). slice_get es (channel_number chan)) s.same ∙ at_seam requests entry rest (channel_number chan) (chan_is ∙ number) in
+    let found : slice_get all (channel_number chan) ≡ Some entry = ap (λ (es : List RequestEntry). slice_get es (channel_number chan)) s.same ∙ at-seam requests entry rest (channel_number chan) (chan_is ∙ number) in
     record {
       after = requests ++ entry ∷ [];
       rest = rest;
       stands = record {
         keeps = subst (λ (cs : List CallerEntry). KeepSoFar (parts_with version links groups (requests ++ entry ∷ []) cs 0 0)) to keeps;
         same = s.same ∙ sym (append_assoc requests (entry ∷ []) rest);
-        stand = rest_next version links requests entry rest s.stand;
+        stand = rest-next version links requests entry rest s.stand;
         named = Each-append (λ (e : RequestEntry). is_name e.name ≡ true) requests (entry ∷ []) s.named (sound.name, tt);
         few = s.few;
       };
@@ -393,14 +393,14 @@ open_step version links groups all requests (entry ∷ rest) callers caller chan
           (subst (λ (cs : List CallerEntry). Reads (open_fields links entry ∷ []) (front version links groups requests (callers ++ caller ∷ [])) (front version links groups (requests ++ entry ∷ []) cs)) to reads);
     }
   where
-    new_first : (es : List RequestEntry) (e : RequestEntry) (after_it : List RequestEntry) → each_after is_new (request_names es) (request_names (e ∷ after_it)) ≡ true → is_new (request_names es) e.name ≡ true
-    new_first es e after_it each = (and_parts (is_new (request_names es) e.name) (each_after is_new (request_names es ++ e.name ∷ []) (request_names after_it)) each).0
+    new-first : (es : List RequestEntry) (e : RequestEntry) (after_it : List RequestEntry) → each_after is_new (request_names es) (request_names (e ∷ after_it)) ≡ true → is_new (request_names es) e.name ≡ true
+    new-first es e after_it each = (and_parts (is_new (request_names es) e.name) (each_after is_new (request_names es ++ e.name ∷ []) (request_names after_it)) each).0
 
 -- any operation
-pub op_step : (version : Version) (links : List LinkEntry) (groups : List (List ℕ)) (all requests rest : List RequestEntry) (callers : List CallerEntry) (caller : CallerEntry) (op : Op) (openings : List Opening) → LinksStand links
+pub op-step : (version : Version) (links : List LinkEntry) (groups : List (List ℕ)) (all requests rest : List RequestEntry) (callers : List CallerEntry) (caller : CallerEntry) (op : Op) (openings : List Opening) → LinksStand links
     → Stands version links groups all requests rest callers caller → IsNextOp version links groups all callers caller op → opened_by (length callers) op ++ openings ≡ map opening_of rest → Stepped version links groups all requests callers caller op openings
-op_step version links groups all requests rest callers caller (Open chan) openings stand s is later = open_step version links groups all requests rest callers caller chan openings stand s later
-op_step version links groups all requests rest callers caller (Send chan count gap size) openings stand s is later = send_step version links groups all requests rest callers caller chan count gap size openings s is later
-op_step version links groups all requests rest callers caller (Close chan) openings stand s is later = close_step version links groups all requests rest callers caller chan openings s is later
-op_step version links groups all requests rest callers caller (Move old new) openings stand s is later = move_step version links groups all requests rest callers caller old new openings s is later
-op_step version links groups all requests rest callers caller (Pour link count gap size) openings stand s is later = pour_step version links groups all requests rest callers caller link count gap size openings stand s is later
+op-step version links groups all requests rest callers caller (Open chan) openings stand s is later = open-step version links groups all requests rest callers caller chan openings stand s later
+op-step version links groups all requests rest callers caller (Send chan count gap size) openings stand s is later = send-step version links groups all requests rest callers caller chan count gap size openings s is later
+op-step version links groups all requests rest callers caller (Close chan) openings stand s is later = close-step version links groups all requests rest callers caller chan openings s is later
+op-step version links groups all requests rest callers caller (Move old new) openings stand s is later = move-step version links groups all requests rest callers caller old new openings s is later
+op-step version links groups all requests rest callers caller (Pour link count gap size) openings stand s is later = pour-step version links groups all requests rest callers caller link count gap size openings stand s is later

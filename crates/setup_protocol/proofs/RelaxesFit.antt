@@ -8,7 +8,7 @@ use Rattle.net_units.specs.Numbers.{level_number}
 use Rattle.net_units.specs.declared.numbers.ChanNo.{ChanNo}
 use Rattle.net_units.specs.declared.numbers.Level.{Level}
 use Rattle.net_units.specs.declared.numbers.LinkNo.{LinkNo}
-use Rattle.net_units.proofs.BoundsInOrder.{bounds_parts, bound_at-rising, within_count}
+use Rattle.net_units.proofs.BoundsInOrder.{bounds-parts, bound_at-rising, within-count}
 use Rattle.hop_reservation.specs.Offers.{AreLevels, IsLevelOf}
 use Rattle.hop_reservation.specs.declared.route.Hop.{Hop}
 use Rattle.hop_reservation.proofs.OneMoreOffer.{levels-fit, AreLevels-at}
@@ -102,7 +102,7 @@ given-within delay before hops (first ∷ replies) levels index bounds are tell 
       go next (hop ∷ hops) [] index offer bounds are tell less = absurd are
       go next (hop ∷ hops) (level ∷ levels) zero offer bounds are tell less =
           let told = (tell offer).0 in
-          let count = within_count hop.bounds (max delay (bound_at hop.bounds (level_in first))) in
+          let count = within-count hop.bounds (max delay (bound_at hop.bounds (level_in first))) in
           let near = bound_at-rising hop.bounds level (reach_in first) bounds.0 are.0.is_level.least (omega (arith, told, are.0.up_to_reach)) (omega (arith, told, count)) in
           rw offer near
       go next (hop ∷ hops) (level ∷ levels) (suc index) offer bounds are tell less =
@@ -169,7 +169,7 @@ relaxing-fit request replies levels (suc left) to chan level up_bound bounds are
       let found : slice_get request.route left ≡ Some hop = ap (slice_get request.route) (sym same) ∙ at in
       let less = slice_get_within request.route left hop found in
       let own : IsLevelOf hop (get_or levels left 0) = AreLevels-at request.route levels left hop are found (omega (arith, less, whole, count)) in
-      let few = (bounds_parts hop.bounds (HaveBounds-at request.route left hop bounds found)).most in
+      let few = (bounds-parts hop.bounds (HaveBounds-at request.route left hop bounds found)).most in
       let number : level_number level ≡ get_or levels left 0 = ap level_number (sym parts.same_level) ∙ ap (λ i. level_number (level_of (get_or levels i 0))) same ∙ level_of-number (get_or levels left 0) own.least (omega (arith, own.most, few)) in
       let fit = fit-at request.delay request.route replies levels left within tell (omega (arith, less, whole)) in
       let before = before-within request.delay request.route replies levels left bounds within tell (omega (arith, less, whole)) in

@@ -5,7 +5,7 @@ use Rattle.std.proofs.lemmas.Bool.{cases_Bool, cases_lt, eqb-true}
 use Rattle.std.proofs.lemmas.Option.{slice_get_within}
 use Rattle.net_units.specs.LevelBounds.{are_bounds, bound_at}
 use Rattle.net_units.specs.declared.numbers.LinkNo.{LinkNo}
-use Rattle.net_units.proofs.BoundsInOrder.{bounds_parts, bound_at-most}
+use Rattle.net_units.proofs.BoundsInOrder.{bounds-parts, bound_at-most}
 use Rattle.traffic_contract.specs.Contract.{IsContract}
 use Rattle.hop_reservation.specs.Offers.{AreLevels, IsLevelOf}
 use Rattle.hop_reservation.specs.declared.route.Hop.{Hop}
@@ -107,7 +107,7 @@ relax-fits request levels (suc left) to ask bounds are whole is =
     (λ hop found shape same.
     let within = slice_get_within request.route (suc left - 1) hop found in
     let own : IsLevelOf hop (get_or levels (suc left - 1) 0) = AreLevels-at request.route levels (suc left - 1) hop are found (omega (arith, within, whole)) in
-    let few = (bounds_parts hop.bounds (HaveBounds-at request.route (suc left - 1) hop bounds found)).most in
+    let few = (bounds-parts hop.bounds (HaveBounds-at request.route (suc left - 1) hop bounds found)).most in
     let number = level_of-number (get_or levels (suc left - 1) 0) own.least (omega (arith, own.most, few)) in
     record {
       level_most = omega (arith, number, own.most, ap length same);

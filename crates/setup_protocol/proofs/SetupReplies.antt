@@ -8,7 +8,7 @@ use Rattle.net_units.specs.LevelBounds.{bound_at, levels_within}
 use Rattle.net_units.specs.Numbers.{level_number}
 use Rattle.net_units.specs.declared.numbers.ChanNo.{ChanNo}
 use Rattle.net_units.specs.declared.numbers.Level.{Level}
-use Rattle.net_units.proofs.BoundsInOrder.{bounds_parts, within_count, largest_within}
+use Rattle.net_units.proofs.BoundsInOrder.{bounds-parts, within-count, largest-within}
 use Rattle.traffic_contract.specs.Contract.{Traffic}
 use Rattle.link_steps.specs.declared.replies.Phase.TheVariants.{Tentative}
 use Rattle.link_steps.specs.declared.replies.Refusal.{Refusal}
@@ -66,12 +66,12 @@ IsReserved bounds delay _ = ⊥
 
 offer-reserved : (shape : LinkShape) (held : List Reservation) (chan : ChanNo) (contract : Traffic) (delay up_reach : ℕ) (level reach : Level) → MayOffer shape held chan contract delay up_reach level reach → IsReserved shape.bounds delay (Is.Offer level reach)
 offer-reserved shape held chan contract delay up_reach level reach may =
-    let parts = bounds_parts shape.bounds shape.bounds_rise in
+    let parts = bounds-parts shape.bounds shape.bounds_rise in
     let few = parts.most in
     let from : 1 ≤ level_number level = level.least in
     let upto = may.level_most in
-    let least = (largest_within shape.bounds (level_number level) (max delay (bound_at shape.bounds (level_number level))) shape.bounds_rise from upto (omega arith)).least in
-    let most = within_count shape.bounds (max delay (bound_at shape.bounds (level_number level))) in
+    let least = (largest-within shape.bounds (level_number level) (max delay (bound_at shape.bounds (level_number level))) shape.bounds_rise from upto (omega arith)).least in
+    let most = within-count shape.bounds (max delay (bound_at shape.bounds (level_number level))) in
     let reached : level_number reach ≡ levels_within shape.bounds (max delay (bound_at shape.bounds (level_number level))) = ap level_number may.reach_is ∙ level_of-number (levels_within shape.bounds (max delay (bound_at shape.bounds (level_number level)))) (omega (arith, least, from)) (omega (arith, most, few)) in
     (reached, upto, may-reach shape held chan contract delay up_reach level reach may)
 

@@ -11,7 +11,7 @@ use Rattle.net_units.specs.LevelBounds.{bound_at, levels_within}
 use Rattle.net_units.specs.Numbers.{level_number}
 use Rattle.net_units.specs.declared.numbers.Level.{Level}
 use Rattle.net_units.specs.declared.numbers.LinkNo.{LinkNo}
-use Rattle.net_units.proofs.BoundsInOrder.{bound_at-rising, bounds_parts, within_count}
+use Rattle.net_units.proofs.BoundsInOrder.{bound_at-rising, bounds-parts, within-count}
 use Rattle.hop_reservation.specs.Offers.{AreLevels, next_levels, next_bound}
 use Rattle.hop_reservation.specs.declared.route.Hop.{Hop}
 use Rattle.hop_reservation.proofs.OneMoreOffer.{next_levels-at, next_bound-at}
@@ -85,14 +85,14 @@ given-within request offers levels bounds within (suc j) less = by-hop (slice_ge
   by-hop None none = omega arith
   by-hop (Some hop) found =
       let fit = AreWithinReach-at request.delay request.route offers levels j hop within found (omega (arith, less)) in
-      bound_at-rising hop.bounds (get_or levels j 0) (levels_within hop.bounds (max request.delay (bound_at hop.bounds (get_or offers j 0)))) (HaveBounds-at request.route j hop bounds found) fit.is_level.least fit.up_to_reach (within_count hop.bounds (max request.delay (bound_at hop.bounds (get_or offers j 0))))
+      bound_at-rising hop.bounds (get_or levels j 0) (levels_within hop.bounds (max request.delay (bound_at hop.bounds (get_or offers j 0)))) (HaveBounds-at request.route j hop bounds found) fit.is_level.least fit.up_to_reach (within-count hop.bounds (max request.delay (bound_at hop.bounds (get_or offers j 0))))
 
 module _ {X : Type 0} (holds : Reservation → X) (request : Request) (offers levels : List ℕ) (k : ℕ) (hop : Hop) (held : X) (bounds : HaveBounds request.route) (within : AreWithinReach request.delay request.route offers levels) (stands : slice_get request.route k ≡ Some hop) (less : k < length offers) (tent : IsTent holds request offers k held) where
   -- the level is one of its hop's
   level-number : level_number (level_of (get_or levels k 0)) ≡ get_or levels k 0
   level-number =
       let fit = AreWithinReach-at request.delay request.route offers levels k hop within stands less in
-      let few = (bounds_parts hop.bounds (HaveBounds-at request.route k hop bounds stands)).most in
+      let few = (bounds-parts hop.bounds (HaveBounds-at request.route k hop bounds stands)).most in
       let most = fit.is_level.most in
       level_of-number (get_or levels k 0) fit.is_level.least (omega (arith, most, few))
 

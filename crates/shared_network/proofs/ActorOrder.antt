@@ -8,7 +8,7 @@ use Rattle.std.proofs.lemmas.Option.{same_Some}
 use Rattle.link_steps.specs.Lists.{Each}
 use Rattle.link_steps.proofs.SearchAndFilter.{Each-append, Each-if}
 use Rattle.step_stamp.specs.Lists.{Has, Differ, up_to}
-use Rattle.step_stamp.proofs.ListMembers.{differ_both, each_has, has_each}
+use Rattle.step_stamp.proofs.ListMembers.{differ-both, each-has, has-each}
 use Rattle.shared_network.proofs.SeatsJoined.{up_to-has}
 use Rattle.shared_network.proofs.PermutedLists.{differ-permuted, each-permuted}
 
@@ -22,7 +22,7 @@ below-top (suc n) = Each-append (λ k. k < suc n) (up_to n) (n ∷ []) (Each-if 
 up_to-differ : (n : ℕ) → Differ (up_to n)
 unfolding up_to
 up_to-differ zero = tt
-up_to-differ (suc n) = differ_both (up_to n) (n ∷ []) (up_to-differ n) ((λ none. none), tt) (λ k below last. (let lt = each_has (λ m. m < n) k (up_to n) (below-top n) below in top k lt last)) where
+up_to-differ (suc n) = differ-both (up_to n) (n ∷ []) (up_to-differ n) ((λ none. none), tt) (λ k below last. (let lt = each-has (λ m. m < n) k (up_to n) (below-top n) below in top k lt last)) where
   top : (k : ℕ) → k < n → Has k (n ∷ []) → ⊥
   top k lt (inl same) = omega (arith, lt, same)
   top k lt (inr none) = none
@@ -34,7 +34,7 @@ actors-in_order n ns is = subst (IsPermutation (up_to n)) (sym is) (IsPermutatio
 
 pub actors-there : (n a : ℕ) (ns : List ℕ) → IsPermutation (up_to n) ns → a < n → Has a ns
 actors-there n a ns moved below =
-    each_has (λ k. Has k ns) a (up_to n) (each-permuted (λ k. Has k ns) ns (up_to n) (IsPermutation-sym (up_to n) ns moved) (has_each (λ k. Has k ns) ns (λ k has. has))) (up_to-has n a below)
+    each-has (λ k. Has k ns) a (up_to n) (each-permuted (λ k. Has k ns) ns (up_to n) (IsPermutation-sym (up_to n) ns moved) (has-each (λ k. Has k ns) ns (λ k has. has))) (up_to-has n a below)
 
 pub actors-differ : (n : ℕ) (ns : List ℕ) → IsPermutation (up_to n) ns → Differ ns
 actors-differ n ns moved = subst Differ (map-id ns) (differ-permuted (λ k. k) (up_to n) ns moved (subst Differ (sym (map-id (up_to n))) (up_to-differ n)))

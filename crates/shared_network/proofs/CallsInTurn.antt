@@ -10,7 +10,7 @@ use Rattle.link_steps.specs.declared.asks.Ask.{Ask}
 use Rattle.link_steps.specs.declared.replies.Reply.{Reply}
 use Rattle.link_steps.proofs.SearchAndFilter.{Each-if, Each-append}
 use Rattle.step_stamp.specs.Views.{known_of}
-use Rattle.step_stamp.proofs.ListMembers.{begins_itself}
+use Rattle.step_stamp.proofs.ListMembers.{begins-itself}
 use Rattle.link_ledger.specs.Tokens.{Token, Steps, last_seen}
 use Rattle.link_ledger.specs.declared.entries.OwnEntry.{OwnEntry}
 use Rattle.shared_network.specs.Added.{AddsAbove}
@@ -23,7 +23,7 @@ begins-both xs ys zs one other = (one.0 ++ other.0, sym (append_assoc xs one.0 o
 
 module _ (table : TableId) (owners : List ActorNo) (links : List Link) where
   pub goes-none : (pass : Token) → MayStep table owners links pass → PassGoesOn table owners links pass pass
-  goes-none pass may = record { may_step = may; among = refl; knew = λ l. begins_itself (known_of l pass.view) }
+  goes-none pass may = record { may_step = may; among = refl; knew = λ l. begins-itself (known_of l pass.view) }
 
   pub goes-both : (pass between pass' : Token) → PassGoesOn table owners links pass between → PassGoesOn table owners links between pass' → PassGoesOn table owners links pass pass'
   goes-both pass between pass' one other = record {

@@ -39,7 +39,7 @@ use Rattle.link_ledger.specs.Owners.{OwnsAsk, IsOwner}
 use Rattle.link_ledger.specs.Tokens.{Token, Steps}
 use Rattle.link_ledger.specs.declared.entries.OwnEntry.{OwnEntry}
 use Rattle.link_ledger.proofs.JournalGrowth.{past_after, history-more, journal-told}
-use Rattle.link_ledger.proofs.OwnStaysExact.{one_at, rest_none}
+use Rattle.link_ledger.proofs.OwnStaysExact.{one-at, rest-none}
 use Rattle.shared_network.specs.Holds.{Hold, Free, Holds, hold_with, hold_of, IsHeld}
 use Rattle.shared_network.specs.Ready.{MayStep}
 use Rattle.shared_network.specs.Shifts.{NoneSubmitted}
@@ -76,18 +76,18 @@ module _ (table : TableId) (owners : List ActorNo) (links : List Link) (l : ℕ)
   more : history_in (steps.entries ++ own_entry a e ∷ []) ≡ done_in (own_entry a e) ∷ history_in steps.entries
   more = history-more steps.entries (own_entry a e)
 
-  legal_before : IsLegal steps.link (history_in steps.entries)
+  legal-before : IsLegal steps.link (history_in steps.entries)
   unfolding IsLegal
-  legal_before = (subst (IsLegal steps.link) more steps.acted.legal).0
+  legal-before = (subst (IsLegal steps.link) more steps.acted.legal).0
 
   -- the journal before the step, told by what the pass knew and the rest
   before : history_in steps.entries ≡ past_after steps.link (past_after steps.link [] known) rest
   before =
-      ap history_in (sym (journal-told steps.link steps.entries legal_before) ∙ ap (journal_of steps.link) (sym whole))
+      ap history_in (sym (journal-told steps.link steps.entries legal-before) ∙ ap (journal_of steps.link) (sym whole))
       ∙ history-told steps.link (known ++ rest) ∙ past-parts steps.link [] known rest
 
   none : marks_of (actor_number a) rest ≡ []
-  none = rest_none a l pass.view pass.own rest may.exact (subst (Has (actor_number a)) (sym may.acts) (inl refl)) (subst StampsRise (sym whole) steps.acted.rises) (λ m has on. steps.acted.own m (subst (Has m) whole has) on)
+  none = rest-none a l pass.view pass.own rest may.exact (subst (Has (actor_number a)) (sym may.acts) (inl refl)) (subst StampsRise (sym whole) steps.acted.rises) (λ m has on. steps.acted.own m (subst (Has m) whole has) on)
 
   owned : Each (λ (m : Mark). OwnsAsk owners m.actor m.ask) rest
   owned =
@@ -99,7 +99,7 @@ module _ (table : TableId) (owners : List ActorNo) (links : List Link) (l : ℕ)
       let hold : Hold = hold_of (channel_number chan) (own_at l pass.own) in
       let knew = (may.knows l steps.link steps.is_link).holds chan owner in
       subst (λ h. IsHeld hold (held_after steps.link.shape chan h)) (sym before)
-      (held-rest steps.link chan hold (past_after steps.link [] known) rest fits (subst (IsLegal steps.link) before legal_before) (off-marks owners a chan rest owner none owned) (subst (λ h. IsHeld hold (held_after steps.link.shape chan h)) (history-told steps.link known) knew))
+      (held-rest steps.link chan hold (past_after steps.link [] known) rest fits (subst (IsLegal steps.link) before legal-before) (off-marks owners a chan rest owner none owned) (subst (λ h. IsHeld hold (held_after steps.link.shape chan h)) (history-told steps.link known) knew))
 
   pub hold-after : (chan : ChanNo) → IsOwner owners a chan → IsHeld (hold_of (channel_number chan) (own_at l (pass.own ++ e ∷ []))) (held_after steps.link.shape chan (history_in (steps.entries ++ own_entry a e ∷ [])))
   unfolding scan_of
@@ -107,8 +107,8 @@ module _ (table : TableId) (owners : List ActorNo) (links : List Link) (l : ℕ)
       let c : ℕ = channel_number chan in
       let hold : Hold = hold_of c (own_at l pass.own) in
       let h : List Done = history_in steps.entries in
-      let next : IsHeld (hold_with c hold e.ask e.reply) (held_after steps.link.shape chan (done_in (own_entry a e) ∷ h)) = held-next steps.link.shape chan (clock_of h) (scan_of steps.link.shape h) (legal-channels steps.link.shape h (legal-admissible steps.link h fits legal_before)) hold e.ask e.reply (hold-before chan owner) in
-      let own : hold_of c (own_at l (pass.own ++ e ∷ [])) ≡ hold_with c hold e.ask e.reply = ap (hold_of c) (one_at l pass.own e steps.acted.link_is) ∙ hold-more c Free (own_at l pass.own) e in
+      let next : IsHeld (hold_with c hold e.ask e.reply) (held_after steps.link.shape chan (done_in (own_entry a e) ∷ h)) = held-next steps.link.shape chan (clock_of h) (scan_of steps.link.shape h) (legal-channels steps.link.shape h (legal-admissible steps.link h fits legal-before)) hold e.ask e.reply (hold-before chan owner) in
+      let own : hold_of c (own_at l (pass.own ++ e ∷ [])) ≡ hold_with c hold e.ask e.reply = ap (hold_of c) (one-at l pass.own e steps.acted.link_is) ∙ hold-more c Free (own_at l pass.own) e in
       subst (λ (x : Hold × List Done). IsHeld x.0 (held_after steps.link.shape chan x.1)) (λ i. (sym own i, sym more i)) next
 
   pub answers : (chan : ChanNo) → IsOwner owners a chan → AnswersOf steps.link chan (hold_of (channel_number chan) (own_at l pass.own)) e.ask e.reply

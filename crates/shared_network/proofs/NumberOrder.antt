@@ -7,7 +7,7 @@ use Rattle.std.proofs.lemmas.List.{length-map}
 use Rattle.link_steps.specs.Lists.{Each}
 use Rattle.link_steps.proofs.SearchAndFilter.{Each-map}
 use Rattle.step_stamp.specs.Lists.{Has, Differ, up_to}
-use Rattle.step_stamp.proofs.ListMembers.{each_has, has_each}
+use Rattle.step_stamp.proofs.ListMembers.{each-has, has-each}
 use Rattle.shared_network.proofs.ToldAtClosing.{map-has}
 
 -- each number is at least `low`, and above the one before
@@ -49,18 +49,18 @@ rising-counted low (n ∷ ns) rises below =
     (λ i. is i ∷ rising-counted (suc low) ns (subst (λ k. RisesBy (suc k) ns) is rises.1) (subst (λ t. Each (λ m. m < t) ns) top below.1) i)
 
 module _ {X : Type 0} (number : X → ℕ) where
-  from_first : (P : X → Type 0) (xs : List X) → ((j : ℕ) (d : X) → j < length xs → P (slice_index_or xs j d)) → Each P xs
-  from_first P [] all = tt
-  from_first P (x ∷ xs) all = (all 0 x (omega arith), from_first P xs (λ j d lt. all (suc j) d (omega (arith, lt))))
+  from-first : (P : X → Type 0) (xs : List X) → ((j : ℕ) (d : X) → j < length xs → P (slice_index_or xs j d)) → Each P xs
+  from-first P [] all = tt
+  from-first P (x ∷ xs) all = (all 0 x (omega arith), from-first P xs (λ j d lt. all (suc j) d (omega (arith, lt))))
 
   rising : (low : ℕ) (xs : List X) → IsNonDecreasingBy number xs → Differ (map number xs) → Each (λ (x : X). low ≤ number x) xs → RisesBy low (map number xs)
   rising low [] order differ least = tt
   rising low (x ∷ xs) order differ least = (
     least.0,
     rising (suc (number x)) xs (λ i j d le lt. order (suc i) (suc j) d (omega (arith, le)) (omega (arith, lt))) differ.1
-        (has_each (λ (y : X). suc (number x) ≤ number y) xs
+        (has-each (λ (y : X). suc (number x) ≤ number y) xs
         (λ y has.
-        let le = each_has (λ (z : X). number x ≤ number z) y xs (from_first (λ (z : X). number x ≤ number z) xs (λ j d lt. order 0 (suc j) d (omega arith) (omega (arith, lt)))) has in
+        let le = each-has (λ (z : X). number x ≤ number z) y xs (from-first (λ (z : X). number x ≤ number z) xs (λ j d lt. order 0 (suc j) d (omega arith) (omega (arith, lt)))) has in
         ⊎_elim
         (λ (same : number y ≡ number x). absurd (differ.0 (subst (λ n. Has n (map number xs)) same (map-has number xs y has))))
         (λ other. omega (arith, le, other))
@@ -72,7 +72,7 @@ module _ {X : Type 0} (number : X → ℕ) where
   ordered-numbers xs order differ below =
       let long : length (map number xs) ≡ length xs = length-map xs number in
       let top : length xs ≡ 0 + length (map number xs) = omega (arith, long) in
-      rising-counted 0 (map number xs) (rising 0 xs order differ (has_each (λ (x : X). 0 ≤ number x) xs (λ x has. omega arith)))
+      rising-counted 0 (map number xs) (rising 0 xs order differ (has-each (λ (x : X). 0 ≤ number x) xs (λ x has. omega arith)))
       (Each-map (λ n. n < 0 + length (map number xs)) number xs (subst (λ t. Each (λ (x : X). number x < t) xs) top below))
       ∙ counted-up_to (length (map number xs))
       ∙ ap up_to long

@@ -20,7 +20,7 @@ use Rattle.link_steps.proofs.ListParts.{Each-at}
 use Rattle.step_stamp.specs.Lists.{Has}
 use Rattle.step_stamp.specs.Views.{known_of}
 use Rattle.step_stamp.specs.declared.marks.Mark.{Mark}
-use Rattle.step_stamp.proofs.ListMembers.{each_has, has_left, has_right, has_each, has_kept, has_passed}
+use Rattle.step_stamp.proofs.ListMembers.{each-has, has-left, has-right, has-each, has-kept, has-passed}
 use Rattle.tick_plane.specs.Planes.{flight_in}
 use Rattle.link_ledger.specs.Journals.{mark_in, done_in, history_entry_of, marks_in, history_in, journal_of, told_after}
 use Rattle.link_ledger.specs.Own.{own_at, own_entry}
@@ -41,8 +41,8 @@ use Rattle.step_stamp.proofs.RisingStamps.{rises-length}
 
 has-reverse : {X : Type 0} (x : X) (xs : List X) → Has x xs → Has x (reverse xs)
 has-reverse x [] has = absurd has
-has-reverse x (y ∷ xs) (inl same) = subst (Has x) (sym (reverse-append (y ∷ []) xs)) (has_right x (reverse xs) (y ∷ []) (inl same))
-has-reverse x (y ∷ xs) (inr has) = subst (Has x) (sym (reverse-append (y ∷ []) xs)) (has_left x (reverse xs) (y ∷ []) (has-reverse x xs has))
+has-reverse x (y ∷ xs) (inl same) = subst (Has x) (sym (reverse-append (y ∷ []) xs)) (has-right x (reverse xs) (y ∷ []) (inl same))
+has-reverse x (y ∷ xs) (inr has) = subst (Has x) (sym (reverse-append (y ∷ []) xs)) (has-left x (reverse xs) (y ∷ []) (has-reverse x xs has))
 
 -- ---- a known journal
 
@@ -104,8 +104,8 @@ module _ (table : TableId) (owners : List ActorNo) (links : List Link) (pass : T
 
     own-answers : (e : OwnEntry) → Has e pass.own → link_number e.link ≡ l → Answers link (length links) (record { ask = e.ask; reply = e.reply })
     own-answers e has at =
-        let here : Has e (own_at l pass.own) = has_passed (λ (o : OwnEntry). eqb (link_number o.link) l) e pass.own (eq-eqb (link_number e.link) l at) has in
-        let among : Has (own_entry pass.actor e) journal = has_kept _ (own_entry pass.actor e) journal (subst (Has (own_entry pass.actor e)) (sym knew.owns) (map-has (own_entry pass.actor) (own_at l pass.own) e here)) in
+        let here : Has e (own_at l pass.own) = has-passed (λ (o : OwnEntry). eqb (link_number o.link) l) e pass.own (eq-eqb (link_number e.link) l at) has in
+        let among : Has (own_entry pass.actor e) journal = has-kept _ (own_entry pass.actor e) journal (subst (Has (own_entry pass.actor e)) (sym knew.owns) (map-has (own_entry pass.actor) (own_at l pass.own) e here)) in
         answers-in link (length links) (record { ask = e.ask; reply = e.reply }) (history_in journal) knew.legal asks-below few-entries (has-reverse _ (map done_in journal) (map-has done_in journal (own_entry pass.actor e) among))
 
   own-flies : (e : OwnEntry) → Has e pass.own → is_round e.ask ≡ true → link_number e.link < length links → Each (MayFly (length links)) (flight_in e.reply)
@@ -117,7 +117,7 @@ module _ (table : TableId) (owners : List ActorNo) (links : List Link) (pass : T
   -- the flights that the replies to the plane's asks begin
   pub rounds-fly : Each (λ (reply : Reply). Each (MayFly (length links)) (flight_in reply)) (map reply_in (rounds_in pass.own))
   rounds-fly =
-      let each : Each (λ (e : OwnEntry). is_round e.ask ≡ true → Each (MayFly (length links)) (flight_in e.reply)) pass.own = has_each _ pass.own (λ e has round. own-flies e has round (each_has (λ (o : OwnEntry). link_number o.link < length links) e pass.own may.linked has)) in
+      let each : Each (λ (e : OwnEntry). is_round e.ask ≡ true → Each (MayFly (length links)) (flight_in e.reply)) pass.own = has-each _ pass.own (λ e has round. own-flies e has round (each-has (λ (o : OwnEntry). link_number o.link < length links) e pass.own may.linked has)) in
       Each-map _ reply_in (rounds_in pass.own)
       (Each-if _ _ (rounds_in pass.own) (λ e both. both.1 both.0)
       (Each-both (λ (e : OwnEntry). is_round e.ask ≡ true) (λ (e : OwnEntry). is_round e.ask ≡ true → Each (MayFly (length links)) (flight_in e.reply)) (rounds_in pass.own) (Each-passes _ pass.own) (Each-filter _ _ pass.own each)))

@@ -19,7 +19,7 @@ use Rattle.step_stamp.specs.Lists.{Has}
 use Rattle.step_stamp.specs.Marks.{StampsRise}
 use Rattle.step_stamp.specs.Views.{known_of, saw}
 use Rattle.step_stamp.specs.declared.marks.Mark.{Mark}
-use Rattle.step_stamp.proofs.ListMembers.{begins_itself, begins_longer}
+use Rattle.step_stamp.proofs.ListMembers.{begins-itself, begins-longer}
 use Rattle.step_stamp.proofs.RisingStamps.{rises-append}
 use Rattle.link_ledger.specs.Journals.{history_in, journal_of, entries_of, marks_in}
 use Rattle.link_ledger.specs.Order.{AreInOrder}
@@ -28,7 +28,7 @@ use Rattle.link_ledger.specs.Tokens.{Token, IsLink, Steps}
 use Rattle.link_ledger.specs.declared.entries.Entry.{Entry}
 use Rattle.link_ledger.specs.declared.entries.OwnEntry.{OwnEntry}
 use Rattle.link_ledger.proofs.JournalGrowth.{marks-more, journal-told}
-use Rattle.link_ledger.proofs.OwnStaysExact.{exact-after, none_at}
+use Rattle.link_ledger.proofs.OwnStaysExact.{exact-after, none-at}
 use Rattle.link_ledger.specs.Owners.{IsOwner}
 use Rattle.channel_laws.specs.Laws.{held_after}
 use Rattle.shared_network.specs.Holds.{hold_of, IsHeld}
@@ -44,15 +44,15 @@ module _ (table : TableId) (owners : List ActorNo) (links : List Link) (l : ℕ)
   abbrev e : OwnEntry
   e = steps.entry
 
-  has_actor : Has (actor_number a) pass.view.actors
-  has_actor = subst (Has (actor_number a)) (sym may.acts) (inl refl)
+  has-actor : Has (actor_number a) pass.view.actors
+  has-actor = subst (Has (actor_number a)) (sym may.acts) (inl refl)
 
   -- the journal that it knows of the link
   journal : journal_of steps.link (known_of l pass'.view) ≡ steps.entries ++ own_entry a e ∷ []
   journal = ap (journal_of steps.link) (steps.acted.knows ∙ sym (marks-more steps.entries (own_entry a e))) ∙ journal-told steps.link (steps.entries ++ own_entry a e ∷ []) steps.acted.legal
 
   exact : IsExact a pass'.view (pass.own ++ e ∷ [])
-  exact = exact-after steps.link l a ask pass.view pass'.view steps.entries pass.own e has_actor may.exact steps.acted
+  exact = exact-after steps.link l a ask pass.view pass'.view steps.entries pass.own e has-actor may.exact steps.acted
 
   rises : StampsRise (map (own_mark a) (pass.own ++ e ∷ []))
   rises =
@@ -88,7 +88,7 @@ module _ (table : TableId) (owners : List ActorNo) (links : List Link) (l : ℕ)
   knows-there : (k : ℕ) (link : Link) → (k ≡ l → ⊥) → KnowsLink owners (length links) link k pass → KnowsLink owners (length links) link k pass'
   knows-there k link other knew =
       let known : known_of k pass.view ≡ known_of k pass'.view = sym (steps.acted.others k other) in
-      let own : own_at k pass.own ≡ own_at k pass'.own = sym (ap (own_at k) steps.own ∙ none_at l k pass.own e steps.acted.link_is other) in
+      let own : own_at k pass.own ≡ own_at k pass'.own = sym (ap (own_at k) steps.own ∙ none-at l k pass.own e steps.acted.link_is other) in
       record {
         legal = subst (λ ms. IsLegal link (history_in (journal_of link ms))) known knew.legal;
         order = subst (AreInOrder owners (length links)) known knew.order;
@@ -115,8 +115,8 @@ module _ (table : TableId) (owners : List ActorNo) (links : List Link) (l : ℕ)
   knew : (k : ℕ) → IsPrefix (known_of k pass.view) (known_of k pass'.view)
   knew k = ⊎_elim
       (λ (same : k ≡ l). subst (λ j. IsPrefix (known_of j pass.view) (known_of j pass'.view)) (sym same)
-      (subst (IsPrefix (known_of l pass.view)) (sym steps.acted.knows) (begins_longer (known_of l pass.view) (marks_in steps.entries) (own_mark a e ∷ []) steps.acted.begins)))
-      (λ other. subst (IsPrefix (known_of k pass.view)) (sym (steps.acted.others k other)) (begins_itself (known_of k pass.view)))
+      (subst (IsPrefix (known_of l pass.view)) (sym steps.acted.knows) (begins-longer (known_of l pass.view) (marks_in steps.entries) (own_mark a e ∷ []) steps.acted.begins)))
+      (λ other. subst (IsPrefix (known_of k pass.view)) (sym (steps.acted.others k other)) (begins-itself (known_of k pass.view)))
       (cases_eq k l)
 
   pub goes-on : PassGoesOn table owners links pass pass'
@@ -143,7 +143,7 @@ seen-goes table owners links top pass pass' least is may =
         knows = λ l link is. (let knew = may.knows l link is in record { legal = knew.legal; order = knew.order; owns = knew.owns; holds = knew.holds });
       };
       among = refl;
-      knew = λ l. begins_itself (known_of l pass.view);
+      knew = λ l. begins-itself (known_of l pass.view);
     })
 
 -- a step adds its ask

@@ -18,8 +18,8 @@ use Rattle.step_stamp.specs.Views.{known_of}
 use Rattle.step_stamp.specs.declared.marks.Drawn.{Drawn}
 use Rattle.step_stamp.specs.declared.marks.Mark.{Mark}
 use Rattle.step_stamp.specs.declared.views.View.{View}
-use Rattle.step_stamp.proofs.ListMembers.{each_has, has_left, has_right}
-use Rattle.step_stamp.proofs.RisingStamps.{longer_whole, longer_second}
+use Rattle.step_stamp.proofs.ListMembers.{each-has, has-left, has-right}
+use Rattle.step_stamp.proofs.RisingStamps.{longer-whole, longer-second}
 use Rattle.link_ledger.specs.Journals.{done_in, marks_in}
 use Rattle.link_ledger.specs.Own.{own_mark, own_drawn}
 use Rattle.link_ledger.specs.Tokens.{Token, IsLink}
@@ -39,8 +39,8 @@ prefix-then xs ys zs one other = (one.0 ++ other.0, sym (append_assoc xs one.0 o
 
 -- each of two lists in line begins the longer one
 longer-both : (xs ys : List Mark) → IsPrefix xs ys ⊎ IsPrefix ys xs → IsPrefix xs (longer xs ys) × IsPrefix ys (longer xs ys)
-longer-both xs ys (inl first) = (subst (IsPrefix xs) (sym (longer_second xs ys first)) first, subst (IsPrefix ys) (sym (longer_second xs ys first)) (prefix-same ys))
-longer-both xs ys (inr second) = (subst (IsPrefix xs) (sym (longer_whole xs xs ys refl second)) (prefix-same xs), subst (IsPrefix ys) (sym (longer_whole xs xs ys refl second)) second)
+longer-both xs ys (inl first) = (subst (IsPrefix xs) (sym (longer-second xs ys first)) first, subst (IsPrefix ys) (sym (longer-second xs ys first)) (prefix-same ys))
+longer-both xs ys (inr second) = (subst (IsPrefix xs) (sym (longer-whole xs xs ys refl second)) (prefix-same xs), subst (IsPrefix ys) (sym (longer-whole xs xs ys refl second)) second)
 
 -- ---- one pass after the other
 
@@ -98,7 +98,7 @@ given-more done closed closed' pass gone so more actor own has =
 
 -- what holds of all holds of one among them
 pub after : {X : Type 0} (P : X → Type 0) (all done rest : List X) (x : X) → done ++ x ∷ rest ≡ all → Each P all → P x
-after P all done rest x is each = each_has P x all each (subst (Has x) is (has_right x done (x ∷ rest) (inl refl)))
+after P all done rest x is each = each-has P x all each (subst (Has x) is (has-right x done (x ∷ rest) (inl refl)))
 
 -- ---- the links
 
@@ -127,8 +127,8 @@ settled-next links v0 v v' k l journal rules stays acts number joined marks is_l
     actors = joined.actors ∙ stays.actors;
     among = joined.among ∙ stays.among;
     knows = λ j none.
-        joined.others j (λ same. none (subst (Has j) (sym joined.links) (has_right j v.links (l ∷ []) (inl (sym same)))))
-        ∙ stays.knows j (λ has. none (subst (Has j) (sym joined.links) (has_left j v.links (l ∷ []) has)));
+        joined.others j (λ same. none (subst (Has j) (sym joined.links) (has-right j v.links (l ∷ []) (inl (sym same)))))
+        ∙ stays.knows j (λ has. none (subst (Has j) (sym joined.links) (has-left j v.links (l ∷ []) has)));
   },
 ) where
   all : (a : ℕ) → a < v.among → Has a v.actors
@@ -140,6 +140,6 @@ unfolding up_to
 up_to-has zero a below = absurd (omega (arith, below))
 up_to-has (suc n) a below =
     elim (cases_lt a n) [
-      | inl less ↦ has_left a (up_to n) (n ∷ []) (up_to-has n a less)
-      | inr from ↦ (let is : n ≡ a = omega (arith, below, from) in has_right a (up_to n) (n ∷ []) (inl is))
+      | inl less ↦ has-left a (up_to n) (n ∷ []) (up_to-has n a less)
+      | inr from ↦ (let is : n ≡ a = omega (arith, below, from) in has-right a (up_to n) (n ∷ []) (inl is))
     ]

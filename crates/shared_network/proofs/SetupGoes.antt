@@ -28,7 +28,7 @@ use Rattle.link_steps.proofs.ListParts.{Each-at}
 use Rattle.link_ledger.specs.Tokens.{IsLink}
 use Rattle.link_ledger.specs.Own.{own_at}
 use Rattle.link_ledger.specs.declared.entries.OwnEntry.{OwnEntry}
-use Rattle.link_ledger.proofs.OwnStaysExact.{one_at, none_at}
+use Rattle.link_ledger.proofs.OwnStaysExact.{one-at, none-at}
 use Rattle.shared_network.specs.Calls.{hold_at}
 use Rattle.setup_protocol.specs.Hops.{IsHopOf, RequestFits}
 use Rattle.shared_network.specs.Holds.{Hold, Free, Holds, reserved, denied, hold_with, hold_of, IsHeld}
@@ -53,10 +53,10 @@ pub record SetupRows (request : Request) (own : List OwnEntry) (replies : List R
 -- ---- what an entry makes of a hold
 
 pub hold-elsewhere : (chan : ChanNo) (hop : Hop) (own : List OwnEntry) (e : OwnEntry) → link_number e.link ≢ link_of hop → hold_at chan hop (own ++ e ∷ []) ≡ hold_at chan hop own
-hold-elsewhere chan hop own e other = ap (hold_of (channel_number chan)) (none_at (link_number e.link) (link_of hop) own e refl (λ same. other (sym same)))
+hold-elsewhere chan hop own e other = ap (hold_of (channel_number chan)) (none-at (link_number e.link) (link_of hop) own e refl (λ same. other (sym same)))
 
 pub hold-here : (chan : ChanNo) (hop : Hop) (own : List OwnEntry) (e : OwnEntry) → link_number e.link ≡ link_of hop → hold_at chan hop (own ++ e ∷ []) ≡ hold_with (channel_number chan) (hold_at chan hop own) e.ask e.reply
-hold-here chan hop own e on = ap (hold_of (channel_number chan)) (one_at (link_of hop) own e on) ∙ hold-more (channel_number chan) Free (own_at (link_of hop) own) e
+hold-here chan hop own e on = ap (hold_of (channel_number chan)) (one-at (link_of hop) own e on) ∙ hold-more (channel_number chan) Free (own_at (link_of hop) own) e
 
 pub on-own : (chan : ChanNo) (one other : Hold) → cond (eqb (channel_number chan) (channel_number chan)) one other ≡ one
 on-own chan one other = ap (λ b. cond b one other) (eq-eqb (channel_number chan) (channel_number chan) refl)
@@ -135,7 +135,7 @@ module _ (links : List Link) (request : Request) (own : List OwnEntry) (replies 
 
   is-reserved : length (offers_in replies) < length request.route → after_offers replies ≡ [] → progress_of request replies ≡ Reserving (offers_in replies) (reach_after 0 request.route replies) → AskedAt request.route n (λ hop. ask) e.link e.ask → SetupGoes request own replies e
   unfolding reply_at MayAnswer
-  is-reserved fewer alone is asked = by-reply e.reply refl (subst (λ bs. IsReserved bs request.delay e.reply) (sym (bounds-at n here on)) reserved_so) where
+  is-reserved fewer alone is asked = by-reply e.reply refl (subst (λ bs. IsReserved bs request.delay e.reply) (sym (bounds-at n here on)) reserved-so) where
     here : HopOf request n
     here = record { hop = asked.hop; stands = asked.stands }
 
@@ -145,8 +145,8 @@ module _ (links : List Link) (request : Request) (own : List OwnEntry) (replies 
     free : now n here ≡ Free
     free = way-free Free Holds request (HopOf request) now later replies e.reply rows.stands alone is here
 
-    reserved_so : IsReserved link.shape.bounds request.delay e.reply
-    reserved_so =
+    reserved-so : IsReserved link.shape.bounds request.delay e.reply
+    reserved-so =
         let a = answers-at here.hop on in
         let none = subst (λ h. IsHeld h (held_by request.chan a.scan.rows)) free a.held in
         reserve-reply link _ request.chan request.contract request.delay (reach_after 0 request.route replies) e.reply none (a.reply_is ∙ ap (reply_at link a.clock a.scan) asked.is) (subst (λ x. MayAnswer link.shape a.clock a.scan x e.reply) asked.is a.may)

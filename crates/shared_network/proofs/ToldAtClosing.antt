@@ -21,7 +21,7 @@ use Rattle.step_stamp.specs.Views.{known_of}
 use Rattle.step_stamp.specs.declared.marks.Drawn.{Drawn}
 use Rattle.step_stamp.specs.declared.marks.Mark.{Mark}
 use Rattle.step_stamp.specs.declared.views.View.{View}
-use Rattle.step_stamp.proofs.ListMembers.{each_has, has_each, has_split, has_kept, has_passed, get-has, has-get}
+use Rattle.step_stamp.proofs.ListMembers.{each-has, has-each, has-split, has-kept, has-passed, get-has, has-get}
 use Rattle.link_ledger.specs.Journals.{mark_in, done_in, history_entry_of, marks_in, history_in, told_after, journal_of}
 use Rattle.link_ledger.specs.Own.{own_mark, own_drawn, own_entry, own_at, IsAtPlace}
 use Rattle.link_ledger.specs.Tokens.{Token}
@@ -78,8 +78,8 @@ same-own actor own e o rises one other same =
 drawn-once : (ds : List Drawn) (d e : Drawn) → NoTwice ds → Has d ds → Has e ds → d.mark.stamp ≡ e.mark.stamp → d ≡ e
 drawn-once [] d e once one other same = absurd one
 drawn-once (x ∷ ds) d e once (inl is) (inl that) same = sym is ∙ that
-drawn-once (x ∷ ds) d e once (inl is) (inr has) same = absurd (each_has (λ (y : Drawn). y.mark.stamp ≡ x.mark.stamp → ⊥) e ds once.0 has (sym same ∙ ap (λ (y : Drawn). y.mark.stamp) (sym is)))
-drawn-once (x ∷ ds) d e once (inr has) (inl that) same = absurd (each_has (λ (y : Drawn). y.mark.stamp ≡ x.mark.stamp → ⊥) d ds once.0 has (same ∙ ap (λ (y : Drawn). y.mark.stamp) (sym that)))
+drawn-once (x ∷ ds) d e once (inl is) (inr has) same = absurd (each-has (λ (y : Drawn). y.mark.stamp ≡ x.mark.stamp → ⊥) e ds once.0 has (sym same ∙ ap (λ (y : Drawn). y.mark.stamp) (sym is)))
+drawn-once (x ∷ ds) d e once (inr has) (inl that) same = absurd (each-has (λ (y : Drawn). y.mark.stamp ≡ x.mark.stamp → ⊥) d ds once.0 has (same ∙ ap (λ (y : Drawn). y.mark.stamp) (sym that)))
 drawn-once (x ∷ ds) d e once (inr has) (inr had) same = drawn-once ds d e once.1 has had same
 
 -- what was drawn was drawn by a pass
@@ -92,7 +92,7 @@ record DrewIt (passes : List Token) (d : Drawn) : Type 0 where
 drew-it : (passes : List Token) (d : Drawn) → Has d (all_drawn passes) → DrewIt passes d
 unfolding all_drawn
 drew-it [] d has = absurd has
-drew-it (p ∷ passes) d has = ⊎_elim (λ mine. record { index = 0; pass = p; found = refl; has = mine }) (λ rest. (let it = drew-it passes d rest in record { index = suc it.index; pass = it.pass; found = it.found; has = it.has })) (has_split d p.view.drawn (all_drawn passes) has)
+drew-it (p ∷ passes) d has = ⊎_elim (λ mine. record { index = 0; pass = p; found = refl; has = mine }) (λ rest. (let it = drew-it passes d rest in record { index = suc it.index; pass = it.pass; found = it.found; has = it.has })) (has-split d p.view.drawn (all_drawn passes) has)
 
 -- ---- the journal and what a pass knew of it
 
@@ -119,7 +119,7 @@ module _ (table : TableId) (owners : List ActorNo) (links : List Link) (passes :
   stands-in i pass e found has =
       let may = Each-at (MayStep table owners links) passes i pass all.may_step found in
       let l : ℕ = link_number e.link in
-      let below : l < length links = each_has (λ (o : OwnEntry). link_number o.link < length links) e pass.own may.linked has in
+      let below : l < length links = each-has (λ (o : OwnEntry). link_number o.link < length links) e pass.own may.linked has in
       let at_link = stands-at links l below in
       let link : Link = at_link.0 in
       let long = numbered-length number_of journals (length links) settled.numbers in
@@ -128,7 +128,7 @@ module _ (table : TableId) (owners : List ActorNo) (links : List Link) (passes :
       let entries : List Entry = journal.entries in
       let there = settled-at l journal at_journal.1 in
       let knew = may.knows l link at_link.1 in
-      let placed = each_has (IsAtPlace pass.actor pass.view) e pass.own may.exact.placed has in
+      let placed = each-has (IsAtPlace pass.actor pass.view) e pass.own may.exact.placed has in
       let part = Each-at (IsPartOf v) passes i pass so.parts found in
       let legal : IsLegal link (history_in entries) = (journals-are-histories link (map done_in entries)).0 (there.0.legal link (ap (λ k. slice_get links k) there.1 ∙ at_link.1)) in
       let begins : IsPrefix (known_of l pass.view) (marks_in entries) = prefix-then (known_of l pass.view) (known_of l v) (marks_in entries) (part l) (subst (λ k. IsPrefix (known_of k v) (marks_in entries)) there.1 there.0.begins) in
@@ -136,9 +136,9 @@ module _ (table : TableId) (owners : List ActorNo) (links : List Link) (passes :
       let at_mark = comes-from mark_in (journal_of link (known_of l pass.view)) (e.place - 1) (own_mark pass.actor e) (ap (λ ms. slice_get ms (e.place - 1)) (told-marks link [] (known_of l pass.view)) ∙ placed.here) in
       let x : Entry = at_mark.from in
       let at_entry : slice_get entries (e.place - 1) ≡ Some x = ap (λ es. slice_get es (e.place - 1)) (sym told.1) ∙ get-left (journal_of link (known_of l pass.view)) told.0 (e.place - 1) x at_mark.found in
-      let mine : Has x (map (own_entry pass.actor) (own_at l pass.own)) = subst (Has x) knew.owns (has_passed (λ (y : Entry). eqb (actor_number y.actor) (actor_number pass.actor)) x (journal_of link (known_of l pass.view)) (eq-eqb (actor_number x.actor) (actor_number pass.actor) (ap (λ (m : Mark). actor_number m.actor) at_mark.is)) (get-has (journal_of link (known_of l pass.view)) (e.place - 1) x at_mark.found)) in
+      let mine : Has x (map (own_entry pass.actor) (own_at l pass.own)) = subst (Has x) knew.owns (has-passed (λ (y : Entry). eqb (actor_number y.actor) (actor_number pass.actor)) x (journal_of link (known_of l pass.view)) (eq-eqb (actor_number x.actor) (actor_number pass.actor) (ap (λ (m : Mark). actor_number m.actor) at_mark.is)) (get-has (journal_of link (known_of l pass.view)) (e.place - 1) x at_mark.found)) in
       let own = has-map (own_entry pass.actor) (own_at l pass.own) x mine in
-      let same : own.0 ≡ e = same-own pass.actor pass.own own.0 e may.rises (has_kept (λ (o : OwnEntry). eqb (link_number o.link) l) own.0 pass.own own.1) has (ap (λ (y : Entry). y.stamp) own.2 ∙ ap (λ (m : Mark). m.stamp) at_mark.is) in
+      let same : own.0 ≡ e = same-own pass.actor pass.own own.0 e may.rises (has-kept (λ (o : OwnEntry). eqb (link_number o.link) l) own.0 pass.own own.1) has (ap (λ (y : Entry). y.stamp) own.2 ∙ ap (λ (m : Mark). m.stamp) at_mark.is) in
       record { journal = journal; found = at_journal.1; least = placed.least; here = at_entry ∙ ap (λ z. Some z) (sym own.2 ∙ ap (own_entry pass.actor) same) }
 
   -- the entry at a place of a journal was asked by a pass
@@ -192,7 +192,7 @@ module _ (table : TableId) (owners : List ActorNo) (links : List Link) (passes :
     legal = λ l link journal is found. (let there = settled-at l journal found in there.0.legal link (ap (λ k. slice_get links k) there.1 ∙ is));
     rises = Each-if (IsSettled links v) (λ (journal : Journal). StampsRise (marks_in journal.entries)) journals (λ journal is. is.rises) settled.settled;
     apart = stamps-apart;
-    stands = has_each (λ (pass : Token). Each (StandsIn journals pass.actor) pass.own) passes (λ pass has. (let at = has-get passes pass has in has_each (StandsIn journals pass.actor) pass.own (λ e own. stands-in at.0 pass e at.1 own)));
+    stands = has-each (λ (pass : Token). Each (StandsIn journals pass.actor) pass.own) passes (λ pass has. (let at = has-get passes pass has in has-each (StandsIn journals pass.actor) pass.own (λ e own. stands-in at.0 pass e at.1 own)));
     of_one = of-one;
     in_order = Each-if (MayStep table owners links) (λ (pass : Token). StampsRise (map (own_mark pass.actor) pass.own)) passes (λ pass may. may.rises) all.may_step;
   }

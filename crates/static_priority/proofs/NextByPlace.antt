@@ -31,10 +31,10 @@ head_from-at level ([] ∷ higher) (suc place) key after within head before =
 head_from-at level ((first ∷ keys) ∷ higher) (suc place) key after within head before = let e = before 0 (omega arith) in absurd (cc)
 
 -- what is picked there
-pub picks_at : (queues : List (List ℕ)) (place level key : ℕ) (after : List ℕ) → level ≡ place + 1 → place < length queues
+pub picks-at : (queues : List (List ℕ)) (place level key : ℕ) (after : List ℕ) → level ≡ place + 1 → place < length queues
     → get_or queues place [] ≡ key ∷ after → ((k : ℕ) → k < place → get_or queues k [] ≡ [])
     → PicksHead queues (set queues place after) level key
-picks_at queues place level key after counted within head before =
+picks-at queues place level key after counted within head before =
     let place_is : level - 1 ≡ place = omega arith in
     record {
       after = after;

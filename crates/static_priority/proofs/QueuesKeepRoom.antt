@@ -16,107 +16,107 @@ abbrev pub seen_as : List (List ℕ) → ℕ → Queues
 seen_as queues spare = record { queues = queues; spare = spare }
 
 -- the keys at a place are those of the queue there
-pub keys_at : (queues : List (VecDeque ℕ Global)) (place : ℕ) (queue : VecDeque ℕ Global) → place < length queues
+pub keys-at : (queues : List (VecDeque ℕ Global)) (place : ℕ) (queue : VecDeque ℕ Global) → place < length queues
     → queue ≡ get_or queues place queue → get_or (map keys_of queues) place [] ≡ queue.items
-keys_at queues place queue within is = get_or-map keys_of queues place queue [] within ∙ ap keys_of (sym is)
+keys-at queues place queue within is = get_or-map keys_of queues place queue [] within ∙ ap keys_of (sym is)
 
 -- the length that a queue keeps is that of its list
-pub len_is : (queue : VecDeque ℕ Global) → deque_len queue ≡ length queue.items
-len_is queue = queue.ok.0
+pub len-is : (queue : VecDeque ℕ Global) → deque_len queue ≡ length queue.items
+len-is queue = queue.ok.0
 
 -- a queue with the same keys at its place leaves all keys as they are
-pub keys_stay : (queues : List (VecDeque ℕ Global)) (place : ℕ) (queue queue' : VecDeque ℕ Global) → place < length queues
+pub keys-stay : (queues : List (VecDeque ℕ Global)) (place : ℕ) (queue queue' : VecDeque ℕ Global) → place < length queues
     → queue ≡ get_or queues place queue → queue'.items ≡ queue.items → map keys_of (set queues place queue') ≡ map keys_of queues
-keys_stay queues place queue queue' within is same =
-    let there = keys_at queues place queue within is in
+keys-stay queues place queue queue' within is same =
+    let there = keys-at queues place queue within is in
     map-set keys_of queues place queue' ∙ (ap (λ keys. set (map keys_of queues) place keys) (same ∙ sym there) ∙ set-get_or (map keys_of queues) place [])
 
 -- a queue with no less room at its place leaves each the room that it has
-pub holds_stay : (queues : List (VecDeque ℕ Global)) (place room : ℕ) (queue queue' : VecDeque ℕ Global) → place < length queues
+pub holds-stay : (queues : List (VecDeque ℕ Global)) (place room : ℕ) (queue queue' : VecDeque ℕ Global) → place < length queues
     → queue ≡ get_or queues place queue → deque_capacity queue ≤ deque_capacity queue' → HoldsEach queues room → HoldsEach (set queues place queue') room
-holds_stay queues place room queue queue' within is grows holds =
+holds-stay queues place room queue queue' within is grows holds =
     let here : room ≤ deque_capacity queue = let at = holds place queue within in subst (λ (q : VecDeque ℕ Global). room ≤ deque_capacity q) (sym is) at in
     All-set (λ q. room ≤ deque_capacity q) queues place queue' (omega arith) holds
 
 -- one queue more has the room that is asked for
-pub holds_more : (queues : List (VecDeque ℕ Global)) (place room : ℕ) (queue' : VecDeque ℕ Global) → place < length queues
+pub holds-more : (queues : List (VecDeque ℕ Global)) (place room : ℕ) (queue' : VecDeque ℕ Global) → place < length queues
     → room ≤ deque_capacity queue' → AllWithin (λ q. room ≤ deque_capacity q) queues 0 place
     → AllWithin (λ q. room ≤ deque_capacity q) (set queues place queue') 0 (place + 1)
-holds_more queues place room queue' within here before =
+holds-more queues place room queue' within here before =
     AllWithin-more (λ q. room ≤ deque_capacity q) (set queues place queue') 0 place
     (AllWithin-set (λ q. room ≤ deque_capacity q) queues 0 place place queue' within here before)
     (λ d. rw get_or-set_same here)
 
 -- a queue that has a spare place can take a key
-pub can_push : (queues : List (VecDeque ℕ Global)) (waiting room place : ℕ) (queue : VecDeque ℕ Global) → HasRoomFor queues waiting room
+pub can-push : (queues : List (VecDeque ℕ Global)) (waiting room place : ℕ) (queue : VecDeque ℕ Global) → HasRoomFor queues waiting room
     → place < length queues → queue ≡ get_or queues place queue → waiting + 1 ≤ room → deque_len queue < deque_capacity queue
-can_push queues waiting room place queue has within is spare =
-    let there = keys_at queues place queue within is in
+can-push queues waiting room place queue has within is spare =
+    let there = keys-at queues place queue within is in
     let among = get_or-le-sum_by length (map keys_of queues) place [] (omega (arith, length-map queues keys_of)) in
     let few : length queue.items ≤ waiting = omega (arith, among, ap length there, has.counted) in
     let here : room ≤ deque_capacity queue = let at = has.holds place queue within in subst (λ (q : VecDeque ℕ Global). room ≤ deque_capacity q) (sym is) at in
-    omega (arith, len_is queue)
+    omega (arith, len-is queue)
 
 -- another queue at a place of a level keeps the room, where the number of waiting keys follows
-pub room_stays : (queues : List (VecDeque ℕ Global)) (waiting waiting' room place : ℕ) (queue queue' : VecDeque ℕ Global) → HasRoomFor queues waiting room
+pub room-stays : (queues : List (VecDeque ℕ Global)) (waiting waiting' room place : ℕ) (queue queue' : VecDeque ℕ Global) → HasRoomFor queues waiting room
     → place < length queues → place < 8 → queue ≡ get_or queues place queue → deque_capacity queue ≤ deque_capacity queue'
     → waiting' + length queue.items ≡ waiting + length queue'.items → waiting' ≤ room → HasRoomFor (set queues place queue') waiting' room
-room_stays queues waiting waiting' room place queue queue' has within low is grows counts within' =
+room-stays queues waiting waiting' room place queue queue' has within low is grows counts within' =
     let lists : List (List ℕ) = map keys_of queues in
-    let there = keys_at queues place queue within is in
+    let there = keys-at queues place queue within is in
     let sums = sum_by-set length lists place queue'.items [] (omega (arith, length-map queues keys_of)) in
     record {
       counted = rw (map-set keys_of queues place queue') (omega (arith, sums, ap length there, has.counted));
       within = within';
-      holds = holds_stay queues place room queue queue' within is grows has.holds;
+      holds = holds-stay queues place room queue queue' within is grows has.holds;
       past = λ k far. let apart : k ≢ place = omega arith in
           rw (map-set keys_of queues place queue') (get_or-set_other lists place k queue'.items [] apart ∙ has.past k far);
     }
 
 -- a queue of no length has no key
-pub no_keys : (queue : VecDeque ℕ Global) → deque_len queue ≡ 0 → queue.items ≡ []
-no_keys queue none = nil_from_length queue.items (omega (arith, len_is queue))
+pub no-keys : (queue : VecDeque ℕ Global) → deque_len queue ≡ 0 → queue.items ≡ []
+no-keys queue none = nil_from_length queue.items (omega (arith, len-is queue))
 
 -- where no queue has a length, no list has a key
-pub all_empty : (queues : List (VecDeque ℕ Global)) → All (λ queue. deque_len queue ≡ 0) queues → All (λ keys. keys ≡ []) (map keys_of queues)
-all_empty queues none = All-map (λ keys. keys ≡ []) keys_of queues (λ k d lt. no_keys (get_or queues k d) (none k d lt))
+pub all-empty : (queues : List (VecDeque ℕ Global)) → All (λ queue. deque_len queue ≡ 0) queues → All (λ keys. keys ≡ []) (map keys_of queues)
+all-empty queues none = All-map (λ keys. keys ≡ []) keys_of queues (λ k d lt. no-keys (get_or queues k d) (none k d lt))
 
 -- the same before a place
-pub empty_before : (queues : List (VecDeque ℕ Global)) (place : ℕ) → place < length queues → AllWithin (λ queue. deque_len queue ≡ 0) queues 0 place
+pub empty-before : (queues : List (VecDeque ℕ Global)) (place : ℕ) → place < length queues → AllWithin (λ queue. deque_len queue ≡ 0) queues 0 place
     → (k : ℕ) → k < place → get_or (map keys_of queues) k [] ≡ []
-empty_before [] place within none k lt = absurd (omega arith)
-empty_before (first ∷ queues) place within none k lt =
-    get_or-map keys_of (first ∷ queues) k first [] (omega arith) ∙ no_keys (get_or (first ∷ queues) k first) (none k first (omega arith) lt)
+empty-before [] place within none k lt = absurd (omega arith)
+empty-before (first ∷ queues) place within none k lt =
+    get_or-map keys_of (first ∷ queues) k first [] (omega arith) ∙ no-keys (get_or (first ∷ queues) k first) (none k first (omega arith) lt)
 
 -- keys wait at levels that a link can have
-pub place_is_level : (queues : List (VecDeque ℕ Global)) (waiting room place : ℕ) → HasRoomFor queues waiting room → place < length queues
+pub place-is-level : (queues : List (VecDeque ℕ Global)) (waiting room place : ℕ) → HasRoomFor queues waiting room → place < length queues
     → HoldsAt (λ queue. 0 < deque_len queue) queues place → place < 8
-place_is_level [] waiting room place has within some = absurd (omega arith)
-place_is_level (first ∷ queues) waiting room place has within some =
+place-is-level [] waiting room place has within some = absurd (omega arith)
+place-is-level (first ∷ queues) waiting room place has within some =
     let queue : VecDeque ℕ Global = get_or (first ∷ queues) place first in
     elim (cases_lt place 8) [
       | inl low ↦ low
       | inr far ↦ (
           let none : queue.items ≡ [] = sym (get_or-map keys_of (first ∷ queues) place first [] within) ∙ has.past place far in
-          absurd (omega (arith, ap length none, len_is queue, some first)))
+          absurd (omega (arith, ap length none, len-is queue, some first)))
     ]
 
 -- the lists with a key more at the end of a level's
-pub keys_pushed : (queues : List (VecDeque ℕ Global)) (lists : List (List ℕ)) (place level key : ℕ) (queue queue' : VecDeque ℕ Global)
+pub keys-pushed : (queues : List (VecDeque ℕ Global)) (lists : List (List ℕ)) (place level key : ℕ) (queue queue' : VecDeque ℕ Global)
     → map keys_of queues ≡ lists → place < length queues → queue ≡ get_or queues place queue → queue'.items ≡ queue.items ++ key ∷ []
     → place ≡ level - 1 → map keys_of (set queues place queue') ≡ with_pushed lists level key
-keys_pushed queues lists place level key queue queue' seen within is pushed counted =
-    let there = keys_at queues place queue within is in
+keys-pushed queues lists place level key queue queue' seen within is pushed counted =
+    let there = keys-at queues place queue within is in
     rw (← seen, ← counted, map-set keys_of queues place queue', pushed, there) refl
 
 -- queues that are seen alike
-pub seen_alike : (old new : List (List ℕ)) (spare spare' : ℕ) → old ≡ new → spare ≡ spare' → seen_as old spare ≡ seen_as new spare'
-seen_alike old new spare spare' queues room = rw (queues, room) refl
+pub seen-alike : (old new : List (List ℕ)) (spare spare' : ℕ) → old ≡ new → spare ≡ spare' → seen_as old spare ≡ seen_as new spare'
+seen-alike old new spare spare' queues room = rw (queues, room) refl
 
 -- where a queue has a key, a key waits
-pub some_wait : (queues : List (VecDeque ℕ Global)) (waiting room place key : ℕ) (after : List ℕ) (queue : VecDeque ℕ Global) → HasRoomFor queues waiting room
+pub some-wait : (queues : List (VecDeque ℕ Global)) (waiting room place key : ℕ) (after : List ℕ) (queue : VecDeque ℕ Global) → HasRoomFor queues waiting room
     → place < length queues → queue ≡ get_or queues place queue → queue.items ≡ key ∷ after → 1 ≤ waiting
-some_wait queues waiting room place key after queue has within is taken =
-    let there : get_or (map keys_of queues) place [] ≡ key ∷ after = keys_at queues place queue within is ∙ taken in
+some-wait queues waiting room place key after queue has within is taken =
+    let there : get_or (map keys_of queues) place [] ≡ key ∷ after = keys-at queues place queue within is ∙ taken in
     let among = get_or-le-sum_by length (map keys_of queues) place [] (omega (arith, length-map queues keys_of)) in
     omega (arith, among, ap length there, has.counted)

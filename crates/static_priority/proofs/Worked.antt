@@ -6,23 +6,23 @@ abbrev three : List (List ℕ)
 three = with_pushed (with_pushed (with_pushed ([] ∷ [] ∷ []) 2 7) 1 8) 2 9
 
 -- each level keeps its keys in their order
-kept_in_order : three ≡ (8 ∷ []) ∷ (7 ∷ 9 ∷ []) ∷ []
-kept_in_order = refl
+kept-in-order : three ≡ (8 ∷ []) ∷ (7 ∷ 9 ∷ []) ∷ []
+kept-in-order = refl
 
 -- the least level is served first
-level_1_first : head_of three ≡ Some (1, 8)
+level-1-first : head_of three ≡ Some (1, 8)
 unfolding head_from
-level_1_first = refl
+level-1-first = refl
 
 -- within a level the first to come is the first to leave
-key_7_then : head_of (left_of three) ≡ Some (2, 7)
+key-7-then : head_of (left_of three) ≡ Some (2, 7)
 unfolding head_from left_of
-key_7_then = refl
+key-7-then = refl
 
-key_9_then : head_of (left_of (left_of three)) ≡ Some (2, 9)
+key-9-then : head_of (left_of (left_of three)) ≡ Some (2, 9)
 unfolding head_from left_of
-key_9_then = refl
+key-9-then = refl
 
-none_then : head_of (left_of (left_of (left_of three))) ≡ None
+none-then : head_of (left_of (left_of (left_of three))) ≡ None
 unfolding head_from left_of
-none_then = refl
+none-then = refl

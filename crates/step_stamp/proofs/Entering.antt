@@ -18,45 +18,45 @@ use Rattle.step_stamp.specs.Placing.{hand_at}
 use Rattle.step_stamp.specs.Rule.{Tally, Begins, HasList, Fits, HoldsList, HoldsActor}
 use Rattle.step_stamp.specs.Seats.{EntersMark}
 use Rattle.step_stamp.specs.Views.{shelf, shelf_of, known_of, emptied, handed, entered, nobody}
-use Rattle.step_stamp.proofs.ListMembers.{begins_nothing, begins_itself, begins_longer}
+use Rattle.step_stamp.proofs.ListMembers.{begins-nothing, begins-itself, begins-longer}
 use Rattle.step_stamp.proofs.RisingStamps.{rises-append}
-use Rattle.step_stamp.proofs.Meeting.{most_left, drawn_left, still_lone}
-use Rattle.step_stamp.proofs.NewestShelf.{shelf_cases, shelf_here}
-use Rattle.step_stamp.proofs.MarkPlaces.{hand_was, hand_here, hand_else, hand_set, hand_before, hand_end, hand_beyond, at_short, placed_moved, placed_entered}
-use Rattle.step_stamp.proofs.ViewsRemain.{length-set, stands_joined}
-use Rattle.step_stamp.proofs.RuleThroughChanges.{Law, splits, copy_fits, nobody_fits, views_set, other_view, acts_live, acts_some, lists_live}
+use Rattle.step_stamp.proofs.Meeting.{most-left, drawn-left, still-lone}
+use Rattle.step_stamp.proofs.NewestShelf.{shelf-cases, shelf-here}
+use Rattle.step_stamp.proofs.MarkPlaces.{hand-was, hand-here, hand-else, hand-set, hand-before, hand-end, hand-beyond, at-short, placed-moved, placed-entered}
+use Rattle.step_stamp.proofs.ViewsRemain.{length-set, stands-joined}
+use Rattle.step_stamp.proofs.RuleThroughChanges.{Law, splits, copy-fits, nobody-fits, views-set, other-view, acts-live, acts_some, lists-live}
 
 -- the lists with one mark more at link l
 with_mark : ℕ → Mark → (ℕ → List Mark) → ℕ → List Mark
 with_mark l m log k = cond (eqb k l) (log l ++ m ∷ []) (log k)
 
-log_cases : (l : ℕ) (m : Mark) (log : ℕ → List Mark) (P : ℕ → List Mark → Type 0) → P l (log l ++ m ∷ []) → ((k : ℕ) → (k ≡ l → ⊥) → P k (log k)) → (k : ℕ) → P k (with_mark l m log k)
+log-cases : (l : ℕ) (m : Mark) (log : ℕ → List Mark) (P : ℕ → List Mark → Type 0) → P l (log l ++ m ∷ []) → ((k : ℕ) → (k ≡ l → ⊥) → P k (log k)) → (k : ℕ) → P k (with_mark l m log k)
 unfolding with_mark
-log_cases l m log P here else k = cond_both (eqb k l) (log l ++ m ∷ []) (log k) (P k) (λ on. subst (λ j. P j (log l ++ m ∷ [])) (sym (eqb-true k l on)) here) (λ no. else k (λ e. absurd (cc (no, eq-eqb k l e))))
+log-cases l m log P here else k = cond_both (eqb k l) (log l ++ m ∷ []) (log k) (P k) (λ on. subst (λ j. P j (log l ++ m ∷ [])) (sym (eqb-true k l on)) here) (λ no. else k (λ e. absurd (cc (no, eq-eqb k l e))))
 
 with_mark-here : (l : ℕ) (m : Mark) (log : ℕ → List Mark) → with_mark l m log l ≡ log l ++ m ∷ []
 unfolding with_mark
 with_mark-here l m log = ap (λ b. cond b (log l ++ m ∷ []) (log l)) (eq-eqb l l refl)
 
 with_mark-else : (l : ℕ) (m : Mark) (log : ℕ → List Mark) (k : ℕ) → (k ≡ l → ⊥) → with_mark l m log k ≡ log k
-with_mark-else l m log k = log_cases l m log (λ j ms. (j ≡ l → ⊥) → ms ≡ log j) (λ no. absurd (no refl)) (λ j _ _. refl) k
+with_mark-else l m log k = log-cases l m log (λ j ms. (j ≡ l → ⊥) → ms ≡ log j) (λ no. absurd (no refl)) (λ j _ _. refl) k
 
 -- what began a list still begins it
-begins_still : (l : ℕ) (m : Mark) (log : ℕ → List Mark) (k : ℕ) (sh : Shelf) → Begins (log k) sh → Begins (with_mark l m log k) sh
-begins_still l m log k sh = log_cases l m log (λ j ms. Begins (log j) sh → Begins ms sh)
-    (λ b. record { known = begins_longer sh.known (log l) (m ∷ []) b.known; first = begins_longer sh.first (log l) (m ∷ []) b.first; second = begins_longer sh.second (log l) (m ∷ []) b.second })
+begins-still : (l : ℕ) (m : Mark) (log : ℕ → List Mark) (k : ℕ) (sh : Shelf) → Begins (log k) sh → Begins (with_mark l m log k) sh
+begins-still l m log k sh = log-cases l m log (λ j ms. Begins (log j) sh → Begins ms sh)
+    (λ b. record { known = begins-longer sh.known (log l) (m ∷ []) b.known; first = begins-longer sh.first (log l) (m ∷ []) b.first; second = begins-longer sh.second (log l) (m ∷ []) b.second })
     (λ j _ b. b) k
 
 -- a view that hasn't the list fits as before
-apart_fits : (t : Tally) (l j : ℕ) (m : Mark) (u : View) → (t.seat l ≡ j → ⊥) → Fits t j u → Fits (record t { log = with_mark l m t.log }) j u
-apart_fits t l j m u apart g = record {
+apart-fits : (t : Tally) (l j : ℕ) (m : Mark) (u : View) → (t.seat l ≡ j → ⊥) → Fits t j u → Fits (record t { log = with_mark l m t.log }) j u
+apart-fits t l j m u apart g = record {
   seen = g.seen;
   saw = g.saw;
   among = g.among;
-  knows = λ k. begins_still l m t.log k (shelf_of k u.shelves) (g.knows k);
+  knows = λ k. begins-still l m t.log k (shelf_of k u.shelves) (g.knows k);
   has = λ k has.
       let was = g.has k has in
-      let same : with_mark l m t.log k ≡ t.log k = log_cases l m t.log (λ j' ms. (k ≡ j') → ms ≡ t.log j') (λ (e : k ≡ l). absurd (apart (ap t.seat (sym e) ∙ was.here))) (λ j' _ _. refl) k refl in
+      let same : with_mark l m t.log k ≡ t.log k = log-cases l m t.log (λ j' ms. (k ≡ j') → ms ≡ t.log j') (λ (e : k ≡ l). absurd (apart (ap t.seat (sym e) ∙ was.here))) (λ j' _ _. refl) k refl in
       record { here = was.here; whole = was.whole ∙ sym same; small = was.small };
   apart = g.apart;
   acts = λ a h. let was = g.acts a h in record { here = was.here; whole = was.whole; small = was.small };
@@ -68,8 +68,8 @@ apart_fits t l j m u apart g = record {
 }
 
 -- the link's seat with the mark
-entered_fits : (t : Tally) (id other l : ℕ) (v w : View) (m : Mark) → Fits t id v → Fits t other w → v.links ≡ l ∷ [] → w.hand ≡ drawn_for l m ∷ [] → m.stamp ≤ w.seen → Fits (record t { log = with_mark l m t.log }) id (entered l v w)
-entered_fits t id other l v w m f g links hand most =
+entered-fits : (t : Tally) (id other l : ℕ) (v w : View) (m : Mark) → Fits t id v → Fits t other w → v.links ≡ l ∷ [] → w.hand ≡ drawn_for l m ∷ [] → m.stamp ≤ w.seen → Fits (record t { log = with_mark l m t.log }) id (entered l v w)
+entered-fits t id other l v w m f g links hand most =
     let own = f.has l (subst (Has l) (sym links) (inl refl)) in
     let now_here = with_mark-here l m t.log in
     let more : known_of l v ++ drawn_marks w.hand ≡ known_of l v ++ m ∷ [] = ap (λ ds. known_of l v ++ drawn_marks ds) hand in
@@ -79,23 +79,23 @@ entered_fits t id other l v w m f g links hand most =
     record {
       seen = max-le f.seen g.seen;
       saw = record {
-        known = λ k. shelf_cases (λ s. Each (λ (x : Mark). x.stamp ≤ max v.seen w.seen) s.known) k sh v.shelves
+        known = λ k. shelf-cases (λ s. Each (λ (x : Mark). x.stamp ≤ max v.seen w.seen) s.known) k sh v.shelves
             (λ _. subst (Each (λ (x : Mark). x.stamp ≤ max v.seen w.seen)) (sym more)
-            (Each-append (λ (x : Mark). x.stamp ≤ max v.seen w.seen) (known_of l v) (m ∷ []) (most_left v w (known_of l v) (f.saw.known l)) (omega (arith, most, le-max_right v.seen w.seen), tt)))
-            (λ _. most_left v w (known_of k v) (f.saw.known k));
-        drawn = drawn_left v w v.drawn f.saw.drawn;
+            (Each-append (λ (x : Mark). x.stamp ≤ max v.seen w.seen) (known_of l v) (m ∷ []) (most-left v w (known_of l v) (f.saw.known l)) (omega (arith, most, le-max_right v.seen w.seen), tt)))
+            (λ _. most-left v w (known_of k v) (f.saw.known k));
+        drawn = drawn-left v w v.drawn f.saw.drawn;
       };
       among = f.among;
-      knows = λ k. shelf_cases (λ s. Begins (after.log k) s) k sh v.shelves
+      knows = λ k. shelf-cases (λ s. Begins (after.log k) s) k sh v.shelves
           (λ (e : l ≡ k). subst (λ q. Begins (after.log q) sh) e
-          (record { known = subst (IsPrefix (known_of l v ++ drawn_marks w.hand)) (marks ∙ sym now_here) (begins_itself (known_of l v ++ drawn_marks w.hand)); first = (begins_still l m t.log l (shelf_of l v.shelves) (f.knows l)).known; second = (begins_still l m t.log l (shelf_of l w.shelves) (g.knows l)).known }))
-          (λ _. begins_still l m t.log k (shelf_of k v.shelves) (f.knows k));
+          (record { known = subst (IsPrefix (known_of l v ++ drawn_marks w.hand)) (marks ∙ sym now_here) (begins-itself (known_of l v ++ drawn_marks w.hand)); first = (begins-still l m t.log l (shelf_of l v.shelves) (f.knows l)).known; second = (begins-still l m t.log l (shelf_of l w.shelves) (g.knows l)).known }))
+          (λ _. begins-still l m t.log k (shelf_of k v.shelves) (f.knows k));
       has = λ k has.
           let k_is : l ≡ k = ⊎_elim (λ (e : l ≡ k). e) (λ no. absurd no) (subst (Has k) links has) in
           let here : HasList after id l (entered l v w) =
           record {
             here = own.here;
-            whole = ap (λ (s : Shelf). s.known) (shelf_here l (known_of l v ++ drawn_marks w.hand) (known_of l v) (known_of l w) v.shelves) ∙ marks ∙ sym now_here;
+            whole = ap (λ (s : Shelf). s.known) (shelf-here l (known_of l v ++ drawn_marks w.hand) (known_of l v) (known_of l w) v.shelves) ∙ marks ∙ sym now_here;
             small = own.small;
           } in
           subst (λ q. HasList after id q (entered l v w)) k_is here;
@@ -104,25 +104,25 @@ entered_fits t id other l v w m f g links hand most =
       drew = f.drew;
       holds = f.holds;
       once = f.once;
-      spent = λ none. absurd (lists_live l v (subst (Has l) (sym links) (inl refl)) (f.spent none));
-      lone = still_lone l v w links f.lone;
+      spent = λ none. absurd (lists-live l v (subst (Has l) (sym links) (inl refl)) (f.spent none));
+      lone = still-lone l v w links f.lone;
     }
 
 module _ {S : Type 0} where
-  pub hands_over : (about : Opening) (id l a : ℕ) (v : View) → Has a v.actors → Splits {S = S} (Law about) id v (emptied v) (handed l v)
-  hands_over about id l a v own = splits about id v (emptied v) (handed l v) refl refl
+  pub hands-over : (about : Opening) (id l a : ℕ) (v : View) → Has a v.actors → Splits {S = S} (Law about) id v (emptied v) (handed l v)
+  hands-over about id l a v own = splits about id v (emptied v) (handed l v) refl refl
       (λ s at draws log p.
       let cut = set s.views id (emptied v) in
-      let short = at_short s.views id v at in
+      let short = at-short s.views id v at in
       let long : length cut ≡ length s.views = length-set s.views id (emptied v) in
-      placed_moved draws log (hand_at s.views) (hand_at (cut ++ handed l v ∷ [])) id (length s.views) short (hand_beyond s.views)
-      (subst (λ n. hand_at (cut ++ handed l v ∷ []) n ≡ v.hand) long (hand_end cut (handed l v)) ∙ sym (hand_was s.views id v at))
-      (hand_before cut (handed l v) id (λ e. absurd (short (e ∙ long))) ∙ hand_here s.views id v (emptied v) at)
-      (λ k not_a not_b. hand_before cut (handed l v) k (λ e. absurd (not_b (e ∙ long))) ∙ hand_else s.views id (emptied v) k not_a)
+      placed-moved draws log (hand_at s.views) (hand_at (cut ++ handed l v ∷ [])) id (length s.views) short (hand-beyond s.views)
+      (subst (λ n. hand_at (cut ++ handed l v ∷ []) n ≡ v.hand) long (hand-end cut (handed l v)) ∙ sym (hand-was s.views id v at))
+      (hand-before cut (handed l v) id (λ e. absurd (short (e ∙ long))) ∙ hand-here s.views id v (emptied v) at)
+      (λ k not_a not_b. hand-before cut (handed l v) k (λ e. absurd (not_b (e ∙ long))) ∙ hand-else s.views id (emptied v) k not_a)
       p)
       (λ t f. (
-        record { seen = f.seen; saw = record { known = f.saw.known; drawn = f.saw.drawn }; among = f.among; knows = f.knows; has = λ k h. (let was = f.has k h in record { here = was.here; whole = was.whole; small = was.small }); apart = f.apart; acts = f.acts; drew = f.drew; holds = tt; once = tt; spent = λ none. absurd (acts_live a v own (f.spent none)); lone = acts_some a v.actors own },
-        λ j. copy_fits t id j v v.hand l [] (acts_live a v own) f f.holds f.once (begins_nothing (t.log l)) tt,
+        record { seen = f.seen; saw = record { known = f.saw.known; drawn = f.saw.drawn }; among = f.among; knows = f.knows; has = λ k h. (let was = f.has k h in record { here = was.here; whole = was.whole; small = was.small }); apart = f.apart; acts = f.acts; drew = f.drew; holds = tt; once = tt; spent = λ none. absurd (acts-live a v own (f.spent none)); lone = acts_some a v.actors own },
+        λ j. copy-fits t id j v v.hand l [] (acts-live a v own) f f.holds f.once (begins-nothing (t.log l)) tt,
       ))
 
   -- a link's list takes the mark that a copy has in hand
@@ -131,7 +131,7 @@ module _ {S : Type 0} where
       let t = h.tally in
       let f = h.fits id v at in
       let both = entered l v w in
-      let g = other_view (Fits t) s.views id other both w apart h.fits there in
+      let g = other-view (Fits t) s.views id other both w apart h.fits there in
       let own = f.has l (subst (Has l) (sym links) (inl refl)) in
       let after : Tally = record t { log = with_mark l m t.log } in
       let in_draws : Has (drawn_for l m) t.draws = (subst (Each (λ (d : Drawn). Has d t.draws)) hand g.holds).0 in
@@ -142,29 +142,29 @@ module _ {S : Type 0} where
         numbered = h.numbered;
         room = h.room;
         acting = h.acting;
-        rises = log_cases l m t.log (λ k ms. StampsRise ms) (rises-append 0 v.seen (t.log l) m (h.rises l) (subst (Each (λ (x : Mark). x.stamp ≤ v.seen)) own.whole (f.saw.known l)) (omega arith) above) (λ k _. h.rises k);
-        drawn = log_cases l m t.log (λ k ms. Each (λ (x : Mark). Has (drawn_for k x) t.draws) ms) (Each-append (λ (x : Mark). Has (drawn_for l x) t.draws) (t.log l) (m ∷ []) (h.drawn l) (in_draws, tt)) (λ k _. h.drawn k);
-        placed = placed_entered t.draws t.log after.log (hand_at s.views) (hand_at (set (set s.views id both) other nobody)) other l m
-            (sym (hand_set s.views id v both at refl other) ∙ hand_was (set s.views id both) other w there ∙ hand)
+        rises = log-cases l m t.log (λ k ms. StampsRise ms) (rises-append 0 v.seen (t.log l) m (h.rises l) (subst (Each (λ (x : Mark). x.stamp ≤ v.seen)) own.whole (f.saw.known l)) (omega arith) above) (λ k _. h.rises k);
+        drawn = log-cases l m t.log (λ k ms. Each (λ (x : Mark). Has (drawn_for k x) t.draws) ms) (Each-append (λ (x : Mark). Has (drawn_for l x) t.draws) (t.log l) (m ∷ []) (h.drawn l) (in_draws, tt)) (λ k _. h.drawn k);
+        placed = placed-entered t.draws t.log after.log (hand_at s.views) (hand_at (set (set s.views id both) other nobody)) other l m
+            (sym (hand-set s.views id v both at refl other) ∙ hand-was (set s.views id both) other w there ∙ hand)
             (with_mark-here l m t.log)
             (λ k no_l. with_mark-else l m t.log k no_l)
-            (hand_here (set s.views id both) other w nobody there)
-            (λ k elsewhere. hand_else (set s.views id both) other nobody k elsewhere ∙ hand_set s.views id v both at refl k)
+            (hand-here (set s.views id both) other w nobody there)
+            (λ k elsewhere. hand-else (set s.views id both) other nobody k elsewhere ∙ hand-set s.views id v both at refl k)
             h.placed;
-        seated = λ k lt. stands_joined (HoldsList k) s.views id other (t.seat k) v w both at there (λ has. has) (λ has. subst (Has k) no_links has) (h.seated k lt);
-        owned = λ a lt. stands_joined (HoldsActor a) s.views id other (t.owner a) v w both at there (λ has. has) (λ has. subst (Has a) no_actors has) (h.owned a lt);
-        fits = views_set (Fits after) (set s.views id both) other nobody
-            (λ j u _ e. views_set (Fits after) s.views id both
-            (λ i x elsewhere e'. apart_fits t l i m x (λ has. elsewhere (sym has ∙ own.here)) (h.fits i x e'))
-            (entered_fits t id other l v w m f g links hand most) j u e)
-            (nobody_fits after other);
+        seated = λ k lt. stands-joined (HoldsList k) s.views id other (t.seat k) v w both at there (λ has. has) (λ has. subst (Has k) no_links has) (h.seated k lt);
+        owned = λ a lt. stands-joined (HoldsActor a) s.views id other (t.owner a) v w both at there (λ has. has) (λ has. subst (Has a) no_actors has) (h.owned a lt);
+        fits = views-set (Fits after) (set s.views id both) other nobody
+            (λ j u _ e. views-set (Fits after) s.views id both
+            (λ i x elsewhere e'. apart-fits t l i m x (λ has. elsewhere (sym has ∙ own.here)) (h.fits i x e'))
+            (entered-fits t id other l v w m f g links hand most) j u e)
+            (nobody-fits after other);
       }
 
 -- ---- what entering tells
 
-pub entered_facts : (l : ℕ) (k w : View) (m : Mark) → w.hand ≡ drawn_for l m ∷ [] → w.seen ≡ m.stamp → k.seen < m.stamp → EntersMark l k (entered l k w) m
-entered_facts l k w m hand saw above = record {
-  list = ap (λ (s : Shelf). s.known) (shelf_here l (known_of l k ++ drawn_marks w.hand) (known_of l k) (known_of l w) k.shelves) ∙ ap (λ ds. known_of l k ++ drawn_marks ds) hand;
+pub entered-facts : (l : ℕ) (k w : View) (m : Mark) → w.hand ≡ drawn_for l m ∷ [] → w.seen ≡ m.stamp → k.seen < m.stamp → EntersMark l k (entered l k w) m
+entered-facts l k w m hand saw above = record {
+  list = ap (λ (s : Shelf). s.known) (shelf-here l (known_of l k ++ drawn_marks w.hand) (known_of l k) (known_of l w) k.shelves) ∙ ap (λ ds. known_of l k ++ drawn_marks ds) hand;
   saw = ap (max k.seen) saw ∙ max-eq_right (omega (arith, above));
   among = refl;
 }

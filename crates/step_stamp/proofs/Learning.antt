@@ -18,18 +18,18 @@ use Rattle.step_stamp.specs.Marks.{StampsRise, drawn_marks, by_actor, of_actor, 
 use Rattle.step_stamp.specs.Placing.{hand_at}
 use Rattle.step_stamp.specs.Rule.{Fits, HoldsList, HoldsActor, KeepsRule, Learnt}
 use Rattle.step_stamp.specs.Views.{known_of, first_of, second_of, saw}
-use Rattle.step_stamp.proofs.ListMembers.{has_prefix, each_has, has_passed, has_kept, passes_test, filter_none, prefixes}
-use Rattle.step_stamp.proofs.RisingStamps.{numbered_rise, draws_filter, same_stamp, no_twice, most_drawn}
-use Rattle.step_stamp.proofs.MarkPlaces.{hand_set, placed_same}
-use Rattle.step_stamp.proofs.ViewsRemain.{stands_set}
-use Rattle.step_stamp.proofs.RuleThroughChanges.{Law, views_set, acts_live, acts_some}
+use Rattle.step_stamp.proofs.ListMembers.{has-prefix, each-has, has-passed, has-kept, passes-test, filter-none, prefixes}
+use Rattle.step_stamp.proofs.RisingStamps.{numbered-rise, draws-filter, same-stamp, no-twice, most-drawn}
+use Rattle.step_stamp.proofs.MarkPlaces.{hand-set, placed-same}
+use Rattle.step_stamp.proofs.ViewsRemain.{stands-set}
+use Rattle.step_stamp.proofs.RuleThroughChanges.{Law, views-set, acts-live, acts_some}
 
 -- what a view has drawn was drawn
-pub drawn_of : (about : Opening) (words : List ℕ) (views : List View) (id : ℕ) (v : View) (h : KeepsRule about words views) → get_elem? views id ≡ some v → (d : Drawn) → Has d v.drawn → Has d h.tally.draws
-drawn_of about words views id v h at d has =
+pub drawn-of : (about : Opening) (words : List ℕ) (views : List View) (id : ℕ) (v : View) (h : KeepsRule about words views) → get_elem? views id ≡ some v → (d : Drawn) → Has d v.drawn → Has d h.tally.draws
+drawn-of about words views id v h at d has =
     let a = actor_number d.mark.actor in
-    let acts = each_has (λ (x : Drawn). Has (actor_number x.mark.actor) v.actors) d v.drawn (h.fits id v at).drew has in
-    has_kept (by_actor a) d h.tally.draws (subst (Has d) ((h.fits id v at).acts a acts).whole (has_passed (by_actor a) d v.drawn (eq-eqb a a refl) has))
+    let acts = each-has (λ (x : Drawn). Has (actor_number x.mark.actor) v.actors) d v.drawn (h.fits id v at).drew has in
+    has-kept (by_actor a) d h.tally.draws (subst (Has d) ((h.fits id v at).acts a acts).whole (has-passed (by_actor a) d v.drawn (eq-eqb a a refl) has))
 
 -- what the rule says of a view
 pub learnt : (about : Opening) (words : List ℕ) (views : List View) (id : ℕ) (v : View) → KeepsRule about words views → get_elem? views id ≡ some v → Learnt v
@@ -43,57 +43,57 @@ learnt about words views id v h at =
       joined = λ l has. subst (IsPrefix (second_of l v)) (sym (f.has l has).whole) (f.knows l).second;
       in_line = λ l. prefixes (first_of l v) (second_of l v) (t.log l) (f.knows l).first (f.knows l).second;
       rises = λ l has. subst StampsRise (sym (f.has l has).whole) (h.rises l);
-      few = most_drawn (2 ^ 40) v.drawn (λ a. few_of a (of_actor a v.drawn) refl);
-      once = no_twice v.drawn (λ a. rise_of a (of_actor a v.drawn) refl) (λ d e hd he. same_stamp 0 t.draws d e (numbered_rise 0 t.draws h.numbered) (drawn_of about words views id v h at d hd) (drawn_of about words views id v h at e he));
-      in_turn = λ a. rise_of a (of_actor a v.drawn) refl;
-      own = λ l m known acts. own_of l m known acts;
-      all = λ least every l m known. own_of l m known (every (actor_number m.actor) (below_among least (actor_number m.actor) (each_has (λ (d : Drawn). actor_number d.mark.actor < t.actors) (drawn_for l m) t.draws h.acting (made_of l m known))));
+      few = most-drawn (2 ^ 40) v.drawn (λ a. few-of a (of_actor a v.drawn) refl);
+      once = no-twice v.drawn (λ a. rise-of a (of_actor a v.drawn) refl) (λ d e hd he. same-stamp 0 t.draws d e (numbered-rise 0 t.draws h.numbered) (drawn-of about words views id v h at d hd) (drawn-of about words views id v h at e he));
+      in_turn = λ a. rise-of a (of_actor a v.drawn) refl;
+      own = λ l m known acts. own-of l m known acts;
+      all = λ least every l m known. own-of l m known (every (actor_number m.actor) (below-among least (actor_number m.actor) (each-has (λ (d : Drawn). actor_number d.mark.actor < t.actors) (drawn_for l m) t.draws h.acting (made-of l m known))));
     }
   where
     -- a mark known is drawn
-    made_of : (l : ℕ) (m : Mark) → Has m (known_of l v) → Has (drawn_for l m) h.tally.draws
-    made_of l m known =
-        each_has (λ (x : Mark). Has (drawn_for l x) h.tally.draws) m (h.tally.log l) (h.drawn l) (has_prefix m (known_of l v) (h.tally.log l) ((h.fits id v at).knows l).known known)
+    made-of : (l : ℕ) (m : Mark) → Has m (known_of l v) → Has (drawn_for l m) h.tally.draws
+    made-of l m known =
+        each-has (λ (x : Mark). Has (drawn_for l x) h.tally.draws) m (h.tally.log l) (h.drawn l) (has-prefix m (known_of l v) (h.tally.log l) ((h.fits id v at).knows l).known known)
 
     -- and by this view where it has the actor
-    own_of : (l : ℕ) (m : Mark) → Has m (known_of l v) → Has (actor_number m.actor) v.actors → Has (drawn_for l m) v.drawn
-    own_of l m known acts =
+    own-of : (l : ℕ) (m : Mark) → Has m (known_of l v) → Has (actor_number m.actor) v.actors → Has (drawn_for l m) v.drawn
+    own-of l m known acts =
         let a = actor_number m.actor in
-        let mine : Has (drawn_for l m) (of_actor a h.tally.draws) = has_passed (by_actor a) (drawn_for l m) h.tally.draws (eq-eqb a a refl) (made_of l m known) in
-        has_kept (by_actor a) (drawn_for l m) v.drawn (subst (Has (drawn_for l m)) (sym ((h.fits id v at).acts a acts).whole) mine)
+        let mine : Has (drawn_for l m) (of_actor a h.tally.draws) = has-passed (by_actor a) (drawn_for l m) h.tally.draws (eq-eqb a a refl) (made-of l m known) in
+        has-kept (by_actor a) (drawn_for l m) v.drawn (subst (Has (drawn_for l m)) (sym ((h.fits id v at).acts a acts).whole) mine)
 
-    below_among : 1 ≤ v.among → (a : ℕ) → a < h.tally.actors → a < v.among
-    below_among least a lt = ⊎_elim (λ (none : v.among ≡ 0). absurd (omega (arith, none, least))) (λ (is : v.among ≡ h.tally.actors). omega (arith, is, lt)) (h.fits id v at).among
+    below-among : 1 ≤ v.among → (a : ℕ) → a < h.tally.actors → a < v.among
+    below-among least a lt = ⊎_elim (λ (none : v.among ≡ 0). absurd (omega (arith, none, least))) (λ (is : v.among ≡ h.tally.actors). omega (arith, is, lt)) (h.fits id v at).among
 
     -- the actor of a mark drawn is one of the view's
-    acts_of : (d : Drawn) → Has d v.drawn → Has (actor_number d.mark.actor) v.actors
-    acts_of d has = each_has (λ (x : Drawn). Has (actor_number x.mark.actor) v.actors) d v.drawn (h.fits id v at).drew has
+    acts-of : (d : Drawn) → Has d v.drawn → Has (actor_number d.mark.actor) v.actors
+    acts-of d has = each-has (λ (x : Drawn). Has (actor_number x.mark.actor) v.actors) d v.drawn (h.fits id v at).drew has
 
     -- where an actor has drawn a mark here, all that it drew is here
-    whole_of : (a : ℕ) (d : Drawn) (ds : List Drawn) → of_actor a v.drawn ≡ d ∷ ds → of_actor a h.tally.draws ≡ d ∷ ds
-    whole_of a d ds is =
+    whole-of : (a : ℕ) (d : Drawn) (ds : List Drawn) → of_actor a v.drawn ≡ d ∷ ds → of_actor a h.tally.draws ≡ d ∷ ds
+    whole-of a d ds is =
         let there : Has d (of_actor a v.drawn) = subst (Has d) (sym is) (inl refl) in
-        let a_is : actor_number d.mark.actor ≡ a = eqb-true (actor_number d.mark.actor) a (passes_test (by_actor a) d v.drawn there) in
-        sym ((h.fits id v at).acts a (subst (λ k. Has k v.actors) a_is (acts_of d (has_kept (by_actor a) d v.drawn there)))).whole ∙ is
+        let a_is : actor_number d.mark.actor ≡ a = eqb-true (actor_number d.mark.actor) a (passes-test (by_actor a) d v.drawn there) in
+        sym ((h.fits id v at).acts a (subst (λ k. Has k v.actors) a_is (acts-of d (has-kept (by_actor a) d v.drawn there)))).whole ∙ is
 
-    rise_of : (a : ℕ) (ds : List Drawn) → of_actor a v.drawn ≡ ds → StampsRise (drawn_marks ds)
-    rise_of a [] is = tt
-    rise_of a (d ∷ ds) is = subst (λ xs. StampsRise (drawn_marks xs)) (whole_of a d ds is) (draws_filter (by_actor a) 0 h.tally.draws (numbered_rise 0 h.tally.draws h.numbered))
+    rise-of : (a : ℕ) (ds : List Drawn) → of_actor a v.drawn ≡ ds → StampsRise (drawn_marks ds)
+    rise-of a [] is = tt
+    rise-of a (d ∷ ds) is = subst (λ xs. StampsRise (drawn_marks xs)) (whole-of a d ds is) (draws-filter (by_actor a) 0 h.tally.draws (numbered-rise 0 h.tally.draws h.numbered))
 
-    few_of : (a : ℕ) (ds : List Drawn) → of_actor a v.drawn ≡ ds → length ds ≤ 2 ^ 40
-    few_of a [] is = omega arith
-    few_of a (d ∷ ds) is = subst (λ (xs : List Drawn). length xs ≤ 2 ^ 40) (whole_of a d ds is) (h.room a)
+    few-of : (a : ℕ) (ds : List Drawn) → of_actor a v.drawn ≡ ds → length ds ≤ 2 ^ 40
+    few-of a [] is = omega arith
+    few-of a (d ∷ ds) is = subst (λ (xs : List Drawn). length xs ≤ 2 ^ 40) (whole-of a d ds is) (h.room a)
 
-no_drawn : (n : ℕ) (ds : List Drawn) → n ≡ length ds → n ≡ 0 → ds ≡ []
-no_drawn n [] count none = refl
-no_drawn n (d ∷ ds) count none = absurd (omega (arith, count, none))
+no-drawn : (n : ℕ) (ds : List Drawn) → n ≡ length ds → n ≡ 0 → ds ≡ []
+no-drawn n [] count none = refl
+no-drawn n (d ∷ ds) count none = absurd (omega (arith, count, none))
 
 -- a pass that has drawn nothing knows no mark of its actor
-pub fresh_still : (a n : ℕ) (v w : View) → Learnt v → w ≡ v → Has a v.actors → n ≡ length v.drawn → n ≡ 0 → (l : ℕ) → marks_of a (known_of l w) ≡ []
-fresh_still a n v w told is acts count none l =
+pub fresh-still : (a n : ℕ) (v w : View) → Learnt v → w ≡ v → Has a v.actors → n ≡ length v.drawn → n ≡ 0 → (l : ℕ) → marks_of a (known_of l w) ≡ []
+fresh-still a n v w told is acts count none l =
     ap (λ (x : View). marks_of a (known_of l x)) is
-    ∙ filter_none (λ (m : Mark). eqb (actor_number m.actor) a) (known_of l v)
-    (λ m has on. subst (Has (drawn_for l m)) (no_drawn n v.drawn count none) (told.own l m has (subst (λ k. Has k v.actors) (sym (eqb-true (actor_number m.actor) a on)) acts)))
+    ∙ filter-none (λ (m : Mark). eqb (actor_number m.actor) a) (known_of l v)
+    (λ m has on. subst (Has (drawn_for l m)) (no-drawn n v.drawn count none) (told.own l m has (subst (λ k. Has k v.actors) (sym (eqb-true (actor_number m.actor) a on)) acts)))
 
 module _ {S : Type 0} where
   -- a load tells this of the view
@@ -128,10 +128,10 @@ module _ {S : Type 0} where
               acting = h.acting;
               rises = h.rises;
               drawn = h.drawn;
-              placed = placed_same t.draws t.log (hand_at s.views) (hand_at (set s.views id (saw (slice_index s.words 0) me.0))) (hand_set s.views id me.0 (saw (slice_index s.words 0) me.0) at refl) h.placed;
-              seated = λ l small. stands_set (HoldsList l) s.views id (t.seat l) me.0 (saw (slice_index s.words 0) me.0) at (λ has. has) (h.seated l small);
-              owned = λ b small. stands_set (HoldsActor b) s.views id (t.owner b) me.0 (saw (slice_index s.words 0) me.0) at (λ has. has) (h.owned b small);
-              fits = views_set (Fits t) s.views id (saw (slice_index s.words 0) me.0) (λ j u _ e. h.fits j u e)
+              placed = placed-same t.draws t.log (hand_at s.views) (hand_at (set s.views id (saw (slice_index s.words 0) me.0))) (hand-set s.views id me.0 (saw (slice_index s.words 0) me.0) at refl) h.placed;
+              seated = λ l small. stands-set (HoldsList l) s.views id (t.seat l) me.0 (saw (slice_index s.words 0) me.0) at (λ has. has) (h.seated l small);
+              owned = λ b small. stands-set (HoldsActor b) s.views id (t.owner b) me.0 (saw (slice_index s.words 0) me.0) at (λ has. has) (h.owned b small);
+              fits = views-set (Fits t) s.views id (saw (slice_index s.words 0) me.0) (λ j u _ e. h.fits j u e)
                   (record {
                     seen = omega (arith, n);
                     saw = record {
@@ -146,7 +146,7 @@ module _ {S : Type 0} where
                     drew = f.drew;
                     holds = f.holds;
                     once = f.once;
-                    spent = λ none. absurd (acts_live a me.0 acts (f.spent none));
+                    spent = λ none. absurd (acts-live a me.0 acts (f.spent none));
                     lone = acts_some a me.0.actors acts;
                   });
             }),

@@ -11,38 +11,38 @@ use Rattle.link_steps.specs.Lists.{Each}
 use Rattle.step_stamp.specs.Lists.{Has, Differ}
 
 module _ {X : Type 0} where
-  pub has_left : (x : X) (xs ys : List X) → Has x xs → Has x (xs ++ ys)
-  has_left x [] ys h = absurd h
-  has_left x (y ∷ xs) ys h = ⊎_elim (λ e. inl e) (λ t. inr (has_left x xs ys t)) h
+  pub has-left : (x : X) (xs ys : List X) → Has x xs → Has x (xs ++ ys)
+  has-left x [] ys h = absurd h
+  has-left x (y ∷ xs) ys h = ⊎_elim (λ e. inl e) (λ t. inr (has-left x xs ys t)) h
 
-  pub has_right : (x : X) (xs ys : List X) → Has x ys → Has x (xs ++ ys)
-  has_right x [] ys h = h
-  has_right x (y ∷ xs) ys h = inr (has_right x xs ys h)
+  pub has-right : (x : X) (xs ys : List X) → Has x ys → Has x (xs ++ ys)
+  has-right x [] ys h = h
+  has-right x (y ∷ xs) ys h = inr (has-right x xs ys h)
 
-  pub has_prefix : (x : X) (xs ys : List X) → IsPrefix xs ys → Has x xs → Has x ys
-  has_prefix x xs ys p h = subst (Has x) p.1 (has_left x xs p.0 h)
+  pub has-prefix : (x : X) (xs ys : List X) → IsPrefix xs ys → Has x xs → Has x ys
+  has-prefix x xs ys p h = subst (Has x) p.1 (has-left x xs p.0 h)
 
-  pub each_has : (P : X → Type 0) (x : X) (xs : List X) → Each P xs → Has x xs → P x
-  each_has P x [] each h = absurd h
-  each_has P x (y ∷ xs) each h = ⊎_elim (λ (e : y ≡ x). subst P e each.0) (λ t. each_has P x xs each.1 t) h
+  pub each-has : (P : X → Type 0) (x : X) (xs : List X) → Each P xs → Has x xs → P x
+  each-has P x [] each h = absurd h
+  each-has P x (y ∷ xs) each h = ⊎_elim (λ (e : y ≡ x). subst P e each.0) (λ t. each-has P x xs each.1 t) h
 
-  pub has_each : (P : X → Type 0) (xs : List X) → ((x : X) → Has x xs → P x) → Each P xs
-  has_each P [] all = tt
-  has_each P (x ∷ xs) all = (all x (inl refl), has_each P xs (λ y h. all y (inr h)))
+  pub has-each : (P : X → Type 0) (xs : List X) → ((x : X) → Has x xs → P x) → Each P xs
+  has-each P [] all = tt
+  has-each P (x ∷ xs) all = (all x (inl refl), has-each P xs (λ y h. all y (inr h)))
 
-  pub has_passed : (p : X → Bool) (x : X) (xs : List X) → p x ≡ true → Has x xs → Has x (filter p xs)
-  has_passed p x [] on h = absurd h
-  has_passed p x (y ∷ xs) on h =
+  pub has-passed : (p : X → Bool) (x : X) (xs : List X) → p x ≡ true → Has x xs → Has x (filter p xs)
+  has-passed p x [] on h = absurd h
+  has-passed p x (y ∷ xs) on h =
       cond_both (p y) (y ∷ filter p xs) (filter p xs) (Has x)
-      (λ _. ⊎_elim (λ (e : y ≡ x). inl e) (λ t. inr (has_passed p x xs on t)) h)
-      (λ no. ⊎_elim (λ (e : y ≡ x). absurd (cc (sym (ap p e) ∙ no, on))) (λ t. has_passed p x xs on t) h)
+      (λ _. ⊎_elim (λ (e : y ≡ x). inl e) (λ t. inr (has-passed p x xs on t)) h)
+      (λ no. ⊎_elim (λ (e : y ≡ x). absurd (cc (sym (ap p e) ∙ no, on))) (λ t. has-passed p x xs on t) h)
 
-  pub has_kept : (p : X → Bool) (x : X) (xs : List X) → Has x (filter p xs) → Has x xs
-  has_kept p x [] = λ h. absurd h
-  has_kept p x (y ∷ xs) =
+  pub has-kept : (p : X → Bool) (x : X) (xs : List X) → Has x (filter p xs) → Has x xs
+  has-kept p x [] = λ h. absurd h
+  has-kept p x (y ∷ xs) =
       cond_both (p y) (y ∷ filter p xs) (filter p xs) (λ l. Has x l → Has x (y ∷ xs))
-      (λ _ h. ⊎_elim (λ (e : y ≡ x). inl e) (λ t. inr (has_kept p x xs t)) h)
-      (λ _ h. inr (has_kept p x xs h))
+      (λ _ h. ⊎_elim (λ (e : y ≡ x). inl e) (λ t. inr (has-kept p x xs t)) h)
+      (λ _ h. inr (has-kept p x xs h))
 
   pub length-passed : (p : X → Bool) (xs : List X) → length (filter p xs) ≤ length xs
   length-passed p [] = omega arith
@@ -50,18 +50,18 @@ module _ {X : Type 0} where
       let rest = length-passed p xs in
       cond_both (p x) (x ∷ filter p xs) (filter p xs) (λ l. length l ≤ suc (length xs)) (λ _. omega (arith, rest)) (λ _. omega (arith, rest))
 
-  pub begins_nothing : (xs : List X) → IsPrefix [] xs
-  begins_nothing xs = (xs, refl)
+  pub begins-nothing : (xs : List X) → IsPrefix [] xs
+  begins-nothing xs = (xs, refl)
 
-  pub begins_itself : (xs : List X) → IsPrefix xs xs
-  begins_itself xs = ([], append-nil xs)
+  pub begins-itself : (xs : List X) → IsPrefix xs xs
+  begins-itself xs = ([], append-nil xs)
 
-  pub begins_longer : (xs ys zs : List X) → IsPrefix xs ys → IsPrefix xs (ys ++ zs)
-  begins_longer xs ys zs p = (p.0 ++ zs, sym (append_assoc xs p.0 zs) ∙ ap (λ w. w ++ zs) p.1)
+  pub begins-longer : (xs ys zs : List X) → IsPrefix xs ys → IsPrefix xs (ys ++ zs)
+  begins-longer xs ys zs p = (p.0 ++ zs, sym (append_assoc xs p.0 zs) ∙ ap (λ w. w ++ zs) p.1)
 
-pub has_split : {X : Type 0} (x : X) (xs ys : List X) → Has x (xs ++ ys) → Has x xs ⊎ Has x ys
-has_split x [] ys h = inr h
-has_split x (y ∷ xs) ys h = ⊎_elim (λ (e : y ≡ x). inl (inl e)) (λ t. ⊎_elim (λ in_xs. inl (inr in_xs)) (λ in_ys. inr in_ys) (has_split x xs ys t)) h
+pub has-split : {X : Type 0} (x : X) (xs ys : List X) → Has x (xs ++ ys) → Has x xs ⊎ Has x ys
+has-split x [] ys h = inr h
+has-split x (y ∷ xs) ys h = ⊎_elim (λ (e : y ≡ x). inl (inl e)) (λ t. ⊎_elim (λ in_xs. inl (inr in_xs)) (λ in_ys. inr in_ys) (has-split x xs ys t)) h
 
 -- an element at a place stands in the list, and one that stands there has a place
 pub get-has : {X : Type 0} (xs : List X) (k : ℕ) (x : X) → slice_get xs k ≡ Some x → Has x xs
@@ -74,53 +74,53 @@ has-get [] x has = absurd has
 has-get (y ∷ xs) x (inl is) = (0, ap Some is)
 has-get (y ∷ xs) x (inr has) = (let rest = has-get xs x has in (suc rest.0, rest.1))
 
-pub passes_test : {X : Type 0} (p : X → Bool) (x : X) (xs : List X) → Has x (filter p xs) → p x ≡ true
-passes_test p x [] = λ h. absurd h
-passes_test p x (y ∷ xs) =
+pub passes-test : {X : Type 0} (p : X → Bool) (x : X) (xs : List X) → Has x (filter p xs) → p x ≡ true
+passes-test p x [] = λ h. absurd h
+passes-test p x (y ∷ xs) =
     cond_both (p y) (y ∷ filter p xs) (filter p xs) (λ l. Has x l → p x ≡ true)
-    (λ on h. ⊎_elim (λ (e : y ≡ x). sym (ap p e) ∙ on) (λ t. passes_test p x xs t) h)
-    (λ _ h. passes_test p x xs h)
+    (λ on h. ⊎_elim (λ (e : y ≡ x). sym (ap p e) ∙ on) (λ t. passes-test p x xs t) h)
+    (λ _ h. passes-test p x xs h)
 
-pub filter_none : {X : Type 0} (p : X → Bool) (xs : List X) → ((x : X) → Has x xs → p x ≡ true → ⊥) → filter p xs ≡ []
-filter_none p [] none = refl
-filter_none p (x ∷ xs) none =
-    cond_both (p x) (x ∷ filter p xs) (filter p xs) (λ l. l ≡ []) (λ on. absurd (none x (inl refl) on)) (λ _. filter_none p xs (λ y has on. none y (inr has) on))
+pub filter-none : {X : Type 0} (p : X → Bool) (xs : List X) → ((x : X) → Has x xs → p x ≡ true → ⊥) → filter p xs ≡ []
+filter-none p [] none = refl
+filter-none p (x ∷ xs) none =
+    cond_both (p x) (x ∷ filter p xs) (filter p xs) (λ l. l ≡ []) (λ on. absurd (none x (inl refl) on)) (λ _. filter-none p xs (λ y has on. none y (inr has) on))
 
-pub has_first : (a : ℕ) (xs : List ℕ) → take 1 xs ≡ a ∷ [] → Has a xs
-has_first a [] e = absurd (cc e)
-has_first a (x ∷ xs) e = inl (cc e)
+pub has-first : (a : ℕ) (xs : List ℕ) → take 1 xs ≡ a ∷ [] → Has a xs
+has-first a [] e = absurd (cc e)
+has-first a (x ∷ xs) e = inl (cc e)
 
 -- ---- numbers that all differ: in what a filter passes, in two lists without a number in common, and the last one
-pub differ_kept : (p : ℕ → Bool) (ns : List ℕ) → Differ ns → Differ (filter p ns)
-differ_kept p [] differ = tt
-differ_kept p (n ∷ ns) differ =
-    cond_both (p n) (n ∷ filter p ns) (filter p ns) Differ (λ _. ((λ has. differ.0 (has_kept p n ns has)), differ_kept p ns differ.1)) (λ _. differ_kept p ns differ.1)
+pub differ-kept : (p : ℕ → Bool) (ns : List ℕ) → Differ ns → Differ (filter p ns)
+differ-kept p [] differ = tt
+differ-kept p (n ∷ ns) differ =
+    cond_both (p n) (n ∷ filter p ns) (filter p ns) Differ (λ _. ((λ has. differ.0 (has-kept p n ns has)), differ-kept p ns differ.1)) (λ _. differ-kept p ns differ.1)
 
-pub differ_both : (ms ns : List ℕ) → Differ ms → Differ ns → ((n : ℕ) → Has n ms → Has n ns → ⊥) → Differ (ms ++ ns)
-differ_both [] ns one other apart = other
-differ_both (m ∷ ms) ns one other apart = (
-  (λ has. ⊎_elim (λ before. one.0 before) (λ after. apart m (inl refl) after) (has_split m ms ns has)),
-  differ_both ms ns one.1 other (λ n before after. apart n (inr before) after),
+pub differ-both : (ms ns : List ℕ) → Differ ms → Differ ns → ((n : ℕ) → Has n ms → Has n ns → ⊥) → Differ (ms ++ ns)
+differ-both [] ns one other apart = other
+differ-both (m ∷ ms) ns one other apart = (
+  (λ has. ⊎_elim (λ before. one.0 before) (λ after. apart m (inl refl) after) (has-split m ms ns has)),
+  differ-both ms ns one.1 other (λ n before after. apart n (inr before) after),
 )
 
-pub differ_last : (n : ℕ) (ns : List ℕ) → Differ (ns ++ n ∷ []) → Has n ns → ⊥
-differ_last n [] differ has = has
-differ_last n (m ∷ ns) differ has = ⊎_elim (λ (e : m ≡ n). differ.0 (subst (λ k. Has k (ns ++ n ∷ [])) (sym e) (has_right n ns (n ∷ []) (inl refl)))) (λ rest. differ_last n ns differ.1 rest) has
+pub differ-last : (n : ℕ) (ns : List ℕ) → Differ (ns ++ n ∷ []) → Has n ns → ⊥
+differ-last n [] differ has = has
+differ-last n (m ∷ ns) differ has = ⊎_elim (λ (e : m ≡ n). differ.0 (subst (λ k. Has k (ns ++ n ∷ [])) (sym e) (has-right n ns (n ∷ []) (inl refl)))) (λ rest. differ-last n ns differ.1 rest) has
 
 pub prefix_length : {X : Type 0} (xs ys : List X) → IsPrefix xs ys → length xs ≤ length ys
 prefix_length xs ys p = omega (arith, sym (ap length p.1) ∙ length-append xs p.0)
 
 -- a beginning as long as the whole is the whole
-pub prefix_whole : {X : Type 0} (xs ys : List X) → IsPrefix xs ys → length ys ≤ length xs → xs ≡ ys
-prefix_whole [] [] p le = refl
-prefix_whole [] (y ∷ ys) p le = absurd (omega arith)
-prefix_whole (x ∷ xs) [] p le = absurd (cc (p.1))
-prefix_whole (x ∷ xs) (y ∷ ys) p le = let rest = prefix_whole xs ys (p.0, cc (p.1)) (omega arith) in cc (p.1, rest)
+pub prefix-whole : {X : Type 0} (xs ys : List X) → IsPrefix xs ys → length ys ≤ length xs → xs ≡ ys
+prefix-whole [] [] p le = refl
+prefix-whole [] (y ∷ ys) p le = absurd (omega arith)
+prefix-whole (x ∷ xs) [] p le = absurd (cc (p.1))
+prefix-whole (x ∷ xs) (y ∷ ys) p le = let rest = prefix-whole xs ys (p.0, cc (p.1)) (omega arith) in cc (p.1, rest)
 
 -- two beginnings of one list
 pub prefixes : {X : Type 0} (xs ys zs : List X) → IsPrefix xs zs → IsPrefix ys zs → IsPrefix xs ys ⊎ IsPrefix ys xs
-prefixes [] ys zs p q = inl (begins_nothing ys)
-prefixes (x ∷ xs) [] zs p q = inr (begins_nothing (x ∷ xs))
+prefixes [] ys zs p q = inl (begins-nothing ys)
+prefixes (x ∷ xs) [] zs p q = inr (begins-nothing (x ∷ xs))
 prefixes (x ∷ xs) (y ∷ ys) [] p q = absurd (cc (p.1))
 prefixes (x ∷ xs) (y ∷ ys) (z ∷ zs) p q =
     let heads : x ≡ y = cc (p.1, q.1) in

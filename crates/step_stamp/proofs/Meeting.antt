@@ -18,27 +18,27 @@ use Rattle.step_stamp.specs.Placing.{hand_at}
 use Rattle.step_stamp.specs.Rule.{Begins, OfOneLink, Learnt}
 use Rattle.step_stamp.specs.Seats.{Meets}
 use Rattle.step_stamp.specs.Views.{shelf, known_of, second_of, shown, entered, taken, nobody}
-use Rattle.step_stamp.proofs.RisingStamps.{longer_both, longer_whole, longer_second, in_their_order}
-use Rattle.step_stamp.proofs.NewestShelf.{shelf_cases, shelf_here, shelf_else, known_shown}
-use Rattle.step_stamp.proofs.MarkPlaces.{placed_same}
-use Rattle.step_stamp.proofs.RuleThroughChanges.{Law, hands_cut, splits, joins, copy_fits, acts_live, acts_some, lists_live}
+use Rattle.step_stamp.proofs.RisingStamps.{longer-both, longer-whole, longer-second, in-their-order}
+use Rattle.step_stamp.proofs.NewestShelf.{shelf-cases, shelf-here, shelf-else, known-shown}
+use Rattle.step_stamp.proofs.MarkPlaces.{placed-same}
+use Rattle.step_stamp.proofs.RuleThroughChanges.{Law, hands-cut, splits, joins, copy-fits, acts-live, acts_some, lists-live}
 
 -- stamps that the one or the other had seen are at most what is seen after a join, those of drawn marks too
-pub most_left : (v w : View) (ms : List Mark) → Each (λ (m : Mark). m.stamp ≤ v.seen) ms → Each (λ (m : Mark). m.stamp ≤ max v.seen w.seen) ms
-most_left v w ms most = Each-if (λ (m : Mark). m.stamp ≤ v.seen) (λ (m : Mark). m.stamp ≤ max v.seen w.seen) ms (λ m le. omega (arith, le, le-max_left v.seen w.seen)) most
+pub most-left : (v w : View) (ms : List Mark) → Each (λ (m : Mark). m.stamp ≤ v.seen) ms → Each (λ (m : Mark). m.stamp ≤ max v.seen w.seen) ms
+most-left v w ms most = Each-if (λ (m : Mark). m.stamp ≤ v.seen) (λ (m : Mark). m.stamp ≤ max v.seen w.seen) ms (λ m le. omega (arith, le, le-max_left v.seen w.seen)) most
 
-pub most_right : (v w : View) (ms : List Mark) → Each (λ (m : Mark). m.stamp ≤ w.seen) ms → Each (λ (m : Mark). m.stamp ≤ max v.seen w.seen) ms
-most_right v w ms most = Each-if (λ (m : Mark). m.stamp ≤ w.seen) (λ (m : Mark). m.stamp ≤ max v.seen w.seen) ms (λ m le. omega (arith, le, le-max_right v.seen w.seen)) most
+pub most-right : (v w : View) (ms : List Mark) → Each (λ (m : Mark). m.stamp ≤ w.seen) ms → Each (λ (m : Mark). m.stamp ≤ max v.seen w.seen) ms
+most-right v w ms most = Each-if (λ (m : Mark). m.stamp ≤ w.seen) (λ (m : Mark). m.stamp ≤ max v.seen w.seen) ms (λ m le. omega (arith, le, le-max_right v.seen w.seen)) most
 
-pub drawn_left : (v w : View) (ds : List Drawn) → Each (λ (d : Drawn). d.mark.stamp ≤ v.seen) ds → Each (λ (d : Drawn). d.mark.stamp ≤ max v.seen w.seen) ds
-drawn_left v w ds most = Each-if (λ (d : Drawn). d.mark.stamp ≤ v.seen) (λ (d : Drawn). d.mark.stamp ≤ max v.seen w.seen) ds (λ d le. omega (arith, le, le-max_left v.seen w.seen)) most
+pub drawn-left : (v w : View) (ds : List Drawn) → Each (λ (d : Drawn). d.mark.stamp ≤ v.seen) ds → Each (λ (d : Drawn). d.mark.stamp ≤ max v.seen w.seen) ds
+drawn-left v w ds most = Each-if (λ (d : Drawn). d.mark.stamp ≤ v.seen) (λ (d : Drawn). d.mark.stamp ≤ max v.seen w.seen) ds (λ d le. omega (arith, le, le-max_left v.seen w.seen)) most
 
-pub drawn_right : (v w : View) (ds : List Drawn) → Each (λ (d : Drawn). d.mark.stamp ≤ w.seen) ds → Each (λ (d : Drawn). d.mark.stamp ≤ max v.seen w.seen) ds
-drawn_right v w ds most = Each-if (λ (d : Drawn). d.mark.stamp ≤ w.seen) (λ (d : Drawn). d.mark.stamp ≤ max v.seen w.seen) ds (λ d le. omega (arith, le, le-max_right v.seen w.seen)) most
+pub drawn-right : (v w : View) (ds : List Drawn) → Each (λ (d : Drawn). d.mark.stamp ≤ w.seen) ds → Each (λ (d : Drawn). d.mark.stamp ≤ max v.seen w.seen) ds
+drawn-right v w ds most = Each-if (λ (d : Drawn). d.mark.stamp ≤ w.seen) (λ (d : Drawn). d.mark.stamp ≤ max v.seen w.seen) ds (λ d le. omega (arith, le, le-max_right v.seen w.seen)) most
 
 -- a link's seat speaks of that link alone once a copy for it has joined
-pub still_lone : (l : ℕ) (v w : View) → v.links ≡ l ∷ [] → (v.actors ≡ [] → OfOneLink v) → v.actors ≡ [] → OfOneLink (entered l v w)
-still_lone l v w links lone none =
+pub still-lone : (l : ℕ) (v w : View) → v.links ≡ l ∷ [] → (v.actors ≡ [] → OfOneLink v) → v.actors ≡ [] → OfOneLink (entered l v w)
+still-lone l v w links lone none =
     let was = lone none in
     record {
       link = l;
@@ -55,7 +55,7 @@ still_lone l v w links lone none =
 
 module _ {S : Type 0} where
   pub shows : (about : Opening) (id l : ℕ) (v : View) → (v ≡ nobody → ⊥) → Splits {S = S} (Law about) id v v (shown l v)
-  shows about id l v live = splits about id v v (shown l v) refl refl (λ s at draws log p. placed_same draws log (hand_at s.views) (hand_at (set s.views id v ++ shown l v ∷ [])) (hands_cut s.views id v v (shown l v) at refl refl) p) (λ t f. (f, λ j. copy_fits t id j v [] l (known_of l v) live f tt tt (f.knows l).known (f.saw.known l)))
+  shows about id l v live = splits about id v v (shown l v) refl refl (λ s at draws log p. placed-same draws log (hand_at s.views) (hand_at (set s.views id v ++ shown l v ∷ [])) (hands-cut s.views id v v (shown l v) at refl refl) p) (λ t f. (f, λ j. copy-fits t id j v [] l (known_of l v) live f tt tt (f.knows l).known (f.saw.known l)))
 
   -- a copy of a link's seat joins a pass
   pub takes : (about : Opening) (id l a : ℕ) (v : View) (other : ℕ) (w : View) → Has a v.actors → w.hand ≡ [] → w.links ≡ [] → w.actors ≡ [] → Joins {S = S} (Law about) id v other w (taken l v w) nobody
@@ -66,22 +66,22 @@ module _ {S : Type 0} where
       record {
         seen = max-le f.seen g.seen;
         saw = record {
-          known = λ k. shelf_cases (λ s. Each (λ (m : Mark). m.stamp ≤ max v.seen w.seen) s.known) k sh v.shelves
-              (λ _. longer_both (Each (λ (m : Mark). m.stamp ≤ max v.seen w.seen)) (known_of l v) (known_of l w) (most_left v w (known_of l v) (f.saw.known l)) (most_right v w (known_of l w) (g.saw.known l)))
-              (λ _. most_left v w (known_of k v) (f.saw.known k));
-          drawn = drawn_left v w v.drawn f.saw.drawn;
+          known = λ k. shelf-cases (λ s. Each (λ (m : Mark). m.stamp ≤ max v.seen w.seen) s.known) k sh v.shelves
+              (λ _. longer-both (Each (λ (m : Mark). m.stamp ≤ max v.seen w.seen)) (known_of l v) (known_of l w) (most-left v w (known_of l v) (f.saw.known l)) (most-right v w (known_of l w) (g.saw.known l)))
+              (λ _. most-left v w (known_of k v) (f.saw.known k));
+          drawn = drawn-left v w v.drawn f.saw.drawn;
         };
         among = f.among;
-        knows = λ k. shelf_cases (λ s. Begins (t.log k) s) k sh v.shelves
+        knows = λ k. shelf-cases (λ s. Begins (t.log k) s) k sh v.shelves
             (λ (e : l ≡ k). subst (λ n. Begins (t.log n) sh) e
-            (record { known = longer_both (λ ms. IsPrefix ms (t.log l)) (known_of l v) (known_of l w) (f.knows l).known (g.knows l).known; first = (f.knows l).known; second = (g.knows l).known }))
+            (record { known = longer-both (λ ms. IsPrefix ms (t.log l)) (known_of l v) (known_of l w) (f.knows l).known (g.knows l).known; first = (f.knows l).known; second = (g.knows l).known }))
             (λ _. f.knows k);
         has = λ k h.
             let was = f.has k h in
             record {
               here = was.here;
-              whole = shelf_cases (λ s. s.known ≡ t.log k) k sh v.shelves
-                  (λ (e : l ≡ k). longer_whole (t.log k) (known_of l v) (known_of l w) (subst (λ n. known_of n v ≡ t.log k) (sym e) was.whole) (subst (λ n. IsPrefix (known_of l w) (t.log n)) e (g.knows l).known))
+              whole = shelf-cases (λ s. s.known ≡ t.log k) k sh v.shelves
+                  (λ (e : l ≡ k). longer-whole (t.log k) (known_of l v) (known_of l w) (subst (λ n. known_of n v ≡ t.log k) (sym e) was.whole) (subst (λ n. IsPrefix (known_of l w) (t.log n)) e (g.knows l).known))
                   (λ _. was.whole);
               small = was.small;
             };
@@ -90,7 +90,7 @@ module _ {S : Type 0} where
         drew = f.drew;
         holds = f.holds;
         once = f.once;
-        spent = λ none. absurd (acts_live a v acts (f.spent none));
+        spent = λ none. absurd (acts-live a v acts (f.spent none));
         lone = acts_some a v.actors acts;
       })
 
@@ -103,13 +103,13 @@ module _ {S : Type 0} where
       record {
         seen = max-le f.seen g.seen;
         saw = record {
-          known = λ k. shelf_cases (λ s. Each (λ (m : Mark). m.stamp ≤ max v.seen w.seen) s.known) k sh v.shelves
-              (λ _. subst (Each (λ (m : Mark). m.stamp ≤ max v.seen w.seen)) (sym same) (most_left v w (known_of l v) (f.saw.known l)))
-              (λ _. most_left v w (known_of k v) (f.saw.known k));
-          drawn = drawn_left v w v.drawn f.saw.drawn;
+          known = λ k. shelf-cases (λ s. Each (λ (m : Mark). m.stamp ≤ max v.seen w.seen) s.known) k sh v.shelves
+              (λ _. subst (Each (λ (m : Mark). m.stamp ≤ max v.seen w.seen)) (sym same) (most-left v w (known_of l v) (f.saw.known l)))
+              (λ _. most-left v w (known_of k v) (f.saw.known k));
+          drawn = drawn-left v w v.drawn f.saw.drawn;
         };
         among = f.among;
-        knows = λ k. shelf_cases (λ s. Begins (t.log k) s) k sh v.shelves
+        knows = λ k. shelf-cases (λ s. Begins (t.log k) s) k sh v.shelves
             (λ (e : l ≡ k). subst (λ n. Begins (t.log n) sh) e
             (record { known = subst (λ ms. IsPrefix ms (t.log l)) (sym same) (f.knows l).known; first = (f.knows l).known; second = (g.knows l).known }))
             (λ _. f.knows k);
@@ -117,7 +117,7 @@ module _ {S : Type 0} where
             let was = f.has k h in
             record {
               here = was.here;
-              whole = shelf_cases (λ s. s.known ≡ t.log k) k sh v.shelves
+              whole = shelf-cases (λ s. s.known ≡ t.log k) k sh v.shelves
                   (λ (e : l ≡ k). same ∙ ap (λ n. known_of n v) e ∙ was.whole)
                   (λ _. was.whole);
               small = was.small;
@@ -127,36 +127,36 @@ module _ {S : Type 0} where
         drew = f.drew;
         holds = f.holds;
         once = f.once;
-        spent = λ none. absurd (lists_live l v (subst (Has l) (sym links) (inl refl)) (f.spent none));
-        lone = still_lone l v w links f.lone;
+        spent = λ none. absurd (lists-live l v (subst (Has l) (sym links) (inl refl)) (f.spent none));
+        lone = still-lone l v w links f.lone;
       })
 
 -- ---- what a meeting tells
 
-pub met_facts : (l : ℕ) (v k : View) → k.links ≡ l ∷ [] → Learnt (entered l k (shown l v)) → Learnt (taken l v (shown l (entered l k (shown l v))))
+pub met-facts : (l : ℕ) (v k : View) → k.links ≡ l ∷ [] → Learnt (entered l k (shown l v)) → Learnt (taken l v (shown l (entered l k (shown l v))))
     → Meets l v k (taken l v (shown l (entered l k (shown l v)))) (entered l k (shown l v))
-met_facts l v k links of_link of_pass =
+met-facts l v k links of_link of_pass =
     let k' = entered l k (shown l v) in
     let p' = taken l v (shown l k') in
     let here : Has l k.links = subst (Has l) (sym links) (inl refl) in
-    let shelf_k = shelf_here l (known_of l k ++ []) (known_of l k) (known_of l (shown l v)) k.shelves in
+    let shelf_k = shelf-here l (known_of l k ++ []) (known_of l k) (known_of l (shown l v)) k.shelves in
     let kept : known_of l k' ≡ known_of l k = ap (λ (s : Shelf). s.known) shelf_k ∙ append-nil (known_of l k) in
-    let second : second_of l k' ≡ known_of l v = ap (λ (s : Shelf). s.second) shelf_k ∙ known_shown l v in
+    let second : second_of l k' ≡ known_of l v = ap (λ (s : Shelf). s.second) shelf_k ∙ known-shown l v in
     let begins : IsPrefix (known_of l v) (known_of l k) = subst (λ (x : List Mark × List Mark). IsPrefix x.0 x.1) (λ i. (second i, kept i)) (of_link.joined l here) in
     let rises : StampsRise (known_of l k) = subst StampsRise kept (of_link.rises l here) in
     let knows : known_of l p' ≡ known_of l k =
-    ap (λ (s : Shelf). s.known) (shelf_here l (longer (known_of l v) (known_of l (shown l k'))) (known_of l v) (known_of l (shown l k')) v.shelves)
-    ∙ ap (longer (known_of l v)) (known_shown l k' ∙ kept)
-    ∙ longer_second (known_of l v) (known_of l k) begins in
+    ap (λ (s : Shelf). s.known) (shelf-here l (longer (known_of l v) (known_of l (shown l k'))) (known_of l v) (known_of l (shown l k')) v.shelves)
+    ∙ ap (longer (known_of l v)) (known-shown l k' ∙ kept)
+    ∙ longer-second (known_of l v) (known_of l k) begins in
     record {
       begins = begins;
       rises = rises;
       own = λ m has acts. of_pass.own l m (subst (Has m) (sym knows) has) acts;
-      in_turn = λ a acts. in_their_order a l (known_of l k) v.drawn rises (of_pass.in_turn a)
+      in_turn = λ a acts. in-their-order a l (known_of l k) v.drawn rises (of_pass.in_turn a)
           (λ m has is. of_pass.own l m (subst (Has m) (sym knows) has) (subst (λ n. Has n v.actors) (sym is) acts));
       knows = knows;
       keeps = kept;
-      others = λ j other. ap (λ (s : Shelf). s.known) (shelf_else l j (shelf l (longer (known_of l v) (known_of l (shown l k'))) (known_of l v) (known_of l (shown l k'))) v.shelves refl other);
+      others = λ j other. ap (λ (s : Shelf). s.known) (shelf-else l j (shelf l (longer (known_of l v) (known_of l (shown l k'))) (known_of l v) (known_of l (shown l k'))) v.shelves refl other);
       saw = refl;
       both_saw = refl;
       drawn = refl;

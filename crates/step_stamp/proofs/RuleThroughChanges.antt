@@ -18,87 +18,87 @@ use Rattle.step_stamp.specs.Placing.{hand_at, Placed}
 use Rattle.step_stamp.specs.Rule.{Tally, Begins, OfOneLink, Fits, Stands, HoldsList, HoldsActor, KeepsRule}
 use Rattle.step_stamp.specs.Marks.{NoTwice}
 use Rattle.step_stamp.specs.Views.{shelf, known_of, nobody, copy}
-use Rattle.step_stamp.proofs.ListMembers.{begins_nothing}
-use Rattle.step_stamp.proofs.MarkPlaces.{hand_set, hand_more, placed_same}
-use Rattle.step_stamp.proofs.NewestShelf.{shelf_cases, no_known, no_shelf}
-use Rattle.step_stamp.proofs.ViewsRemain.{length-set, stands_cut, stands_joined, stands_moved}
+use Rattle.step_stamp.proofs.ListMembers.{begins-nothing}
+use Rattle.step_stamp.proofs.MarkPlaces.{hand-set, hand-more, placed-same}
+use Rattle.step_stamp.proofs.NewestShelf.{shelf-cases, no-known, no-shelf}
+use Rattle.step_stamp.proofs.ViewsRemain.{length-set, stands-cut, stands-joined, stands-moved}
 
 -- ---- a fact of each view
 
 -- after a change of one
-pub views_set : (F : ℕ → View → Type 0) (views : List View) (id : ℕ) (w : View) → ((j : ℕ) (u : View) → (j ≡ id → ⊥) → get_elem? views j ≡ some u → F j u) → F id w
+pub views-set : (F : ℕ → View → Type 0) (views : List View) (id : ℕ) (w : View) → ((j : ℕ) (u : View) → (j ≡ id → ⊥) → get_elem? views j ≡ some u → F j u) → F id w
     → (j : ℕ) (u : View) → get_elem? (set views id w) j ≡ some u → F j u
-views_set F views id w others mine j u e =
+views-set F views id w others mine j u e =
     ⊎_elim
     (λ (x : (j ≡ id) × (w ≡ u)). subst (λ (y : ℕ × View). F y.0 y.1) (λ i. (sym x.0 i, x.1 i)) mine)
     (λ (x : (j ≢ id) × (get_elem? views j ≡ some u)). others j u x.0 x.1)
     (at_set views id j w u e)
 
 -- with a new one, wherever it stands, and at the end
-views_more : (F : ℕ → View → Type 0) (views : List View) (w : View) → ((j : ℕ) (u : View) → get_elem? views j ≡ some u → F j u) → ((j : ℕ) → F j w)
+views-more : (F : ℕ → View → Type 0) (views : List View) (w : View) → ((j : ℕ) (u : View) → get_elem? views j ≡ some u → F j u) → ((j : ℕ) → F j w)
     → (j : ℕ) (u : View) → get_elem? (views ++ w ∷ []) j ≡ some u → F j u
-views_more F views w others new j u e = ⊎_elim (λ was. others j u was) (λ (same : w ≡ u). subst (F j) same (new j)) (at_snoc views w u j e)
+views-more F views w others new j u e = ⊎_elim (λ was. others j u was) (λ (same : w ≡ u). subst (F j) same (new j)) (at_snoc views w u j e)
 
-pub views_end : (F : ℕ → View → Type 0) (views : List View) (w : View) (n : ℕ) → length views ≡ n → ((j : ℕ) (u : View) → get_elem? views j ≡ some u → F j u) → F n w
+pub views-end : (F : ℕ → View → Type 0) (views : List View) (w : View) (n : ℕ) → length views ≡ n → ((j : ℕ) (u : View) → get_elem? views j ≡ some u → F j u) → F n w
     → (j : ℕ) (u : View) → get_elem? (views ++ w ∷ []) j ≡ some u → F j u
-views_end F [] w n long others mine zero u e = subst (λ (x : ℕ × View). F x.0 x.1) (λ i. (sym long i, some-injective w u e i)) mine
-views_end F [] w n long others mine (suc j) u e = absurd (some-ne-none u (sym e))
-views_end F (x ∷ views) w n long others mine zero u e = others zero u e
-views_end F (x ∷ views) w n long others mine (suc j) u e =
-    views_end (λ k. F (suc k)) views w (length views) refl (λ k y at. others (suc k) y at) (subst (λ k. F k w) (sym long) mine) j u e
+views-end F [] w n long others mine zero u e = subst (λ (x : ℕ × View). F x.0 x.1) (λ i. (sym long i, some-injective w u e i)) mine
+views-end F [] w n long others mine (suc j) u e = absurd (some-ne-none u (sym e))
+views-end F (x ∷ views) w n long others mine zero u e = others zero u e
+views-end F (x ∷ views) w n long others mine (suc j) u e =
+    views-end (λ k. F (suc k)) views w (length views) refl (λ k y at. others (suc k) y at) (subst (λ k. F k w) (sym long) mine) j u e
 
 -- of two views apart, what the second one has once the first has changed
-pub other_view : (F : ℕ → View → Type 0) (views : List View) (id other : ℕ) (both w : View) → (other ≡ id → ⊥) → ((j : ℕ) (u : View) → get_elem? views j ≡ some u → F j u) → get_elem? (set views id both) other ≡ some w → F other w
-other_view F views id other both w apart all there =
+pub other-view : (F : ℕ → View → Type 0) (views : List View) (id other : ℕ) (both w : View) → (other ≡ id → ⊥) → ((j : ℕ) (u : View) → get_elem? views j ≡ some u → F j u) → get_elem? (set views id both) other ≡ some w → F other w
+other-view F views id other both w apart all there =
     ⊎_elim (λ (t : (other ≡ id) × (both ≡ w)). absurd (apart t.0)) (λ (t : (other ≢ id) × (get_elem? views other ≡ some w)). all other w t.1) (at_set views id other both w there)
 
 -- ---- hands through a change that leaves each mark where it is
 
-pub hands_cut : (views : List View) (id : ℕ) (v left right : View) → get_elem? views id ≡ some v → left.hand ≡ v.hand → right.hand ≡ [] → (k : ℕ) → hand_at (set views id left ++ right ∷ []) k ≡ hand_at views k
-hands_cut views id v left right at same none k = hand_more (set views id left) right none k ∙ hand_set views id v left at same k
+pub hands-cut : (views : List View) (id : ℕ) (v left right : View) → get_elem? views id ≡ some v → left.hand ≡ v.hand → right.hand ≡ [] → (k : ℕ) → hand_at (set views id left ++ right ∷ []) k ≡ hand_at views k
+hands-cut views id v left right at same none k = hand-more (set views id left) right none k ∙ hand-set views id v left at same k
 
-pub hands_joined : (views : List View) (id : ℕ) (v : View) (other : ℕ) (w both : View) → get_elem? views id ≡ some v → get_elem? (set views id both) other ≡ some w → both.hand ≡ v.hand → w.hand ≡ []
+pub hands-joined : (views : List View) (id : ℕ) (v : View) (other : ℕ) (w both : View) → get_elem? views id ≡ some v → get_elem? (set views id both) other ≡ some w → both.hand ≡ v.hand → w.hand ≡ []
     → (k : ℕ) → hand_at (set (set views id both) other nobody) k ≡ hand_at views k
-hands_joined views id v other w both at there same none k = hand_set (set views id both) other w nobody there (sym none) k ∙ hand_set views id v both at same k
+hands-joined views id v other w both at there same none k = hand-set (set views id both) other w nobody there (sym none) k ∙ hand-set views id v both at same k
 
 -- ---- views that fit anywhere
 
 -- nobody speaks of no link
-no_link : OfOneLink nobody
-no_link = record { link = 0; lists = λ k h. absurd h; drawn = refl; alone = tt }
+no-link : OfOneLink nobody
+no-link = record { link = 0; lists = λ k h. absurd h; drawn = refl; alone = tt }
 
 -- a view with an actor, or with a list of a link, isn't spent
-pub acts_live : (a : ℕ) (v : View) → Has a v.actors → v ≡ nobody → ⊥
-acts_live a v has is = subst (λ (x : View). Has a x.actors) is has
+pub acts-live : (a : ℕ) (v : View) → Has a v.actors → v ≡ nobody → ⊥
+acts-live a v has is = subst (λ (x : View). Has a x.actors) is has
 
-pub lists_live : (l : ℕ) (v : View) → Has l v.links → v ≡ nobody → ⊥
-lists_live l v has is = subst (λ (x : View). Has l x.links) is has
+pub lists-live : (l : ℕ) (v : View) → Has l v.links → v ≡ nobody → ⊥
+lists-live l v has is = subst (λ (x : View). Has l x.links) is has
 
 -- a view with an actor isn't one without
 pub acts_some : {X : Type 0} (a : ℕ) (actors : List ℕ) → Has a actors → actors ≡ [] → X
 acts_some a actors has none = absurd (subst (Has a) none has)
 
 -- one without a shelf knows nothing, so it has seen all that
-pub no_shelf_seen : (top l : ℕ) → Each (λ (m : Mark). m.stamp ≤ top) (known_of l nobody)
-no_shelf_seen top l = subst (Each (λ (m : Mark). m.stamp ≤ top)) (sym (no_known l)) tt
+pub no-shelf-seen : (top l : ℕ) → Each (λ (m : Mark). m.stamp ≤ top) (known_of l nobody)
+no-shelf-seen top l = subst (Each (λ (m : Mark). m.stamp ≤ top)) (sym (no-known l)) tt
 
 -- one that knows nothing
-pub nobody_fits : (t : Tally) (j : ℕ) → Fits t j nobody
-nobody_fits t j = record { seen = omega arith; saw = record { known = λ l. no_shelf_seen 0 l; drawn = tt }; among = inl refl; apart = tt; once = tt; knows = λ l. no_shelf (t.log l) l; has = λ l h. absurd h; acts = λ a h. absurd h; drew = tt; holds = tt; spent = λ _. refl; lone = λ _. no_link }
+pub nobody-fits : (t : Tally) (j : ℕ) → Fits t j nobody
+nobody-fits t j = record { seen = omega arith; saw = record { known = λ l. no-shelf-seen 0 l; drawn = tt }; among = inl refl; apart = tt; once = tt; knows = λ l. no-shelf (t.log l) l; has = λ l h. absurd h; acts = λ a h. absurd h; drew = tt; holds = tt; spent = λ _. refl; lone = λ _. no-link }
 
 -- a copy with a part of what a view knows
-pub copy_fits : (t : Tally) (id j : ℕ) (v : View) (hand : List Drawn) (l : ℕ) (known : List Mark) → (v ≡ nobody → ⊥) → Fits t id v → Each (λ (d : Drawn). Has d t.draws) hand → NoTwice hand → IsPrefix known (t.log l)
+pub copy-fits : (t : Tally) (id j : ℕ) (v : View) (hand : List Drawn) (l : ℕ) (known : List Mark) → (v ≡ nobody → ⊥) → Fits t id v → Each (λ (d : Drawn). Has d t.draws) hand → NoTwice hand → IsPrefix known (t.log l)
     → Each (λ (m : Mark). m.stamp ≤ v.seen) known → Fits t j (copy v hand (shelf l known [] []))
-copy_fits t id j v hand l known live f holds once begins seen = record {
+copy-fits t id j v hand l known live f holds once begins seen = record {
   seen = f.seen;
   saw = record {
-    known = λ k. shelf_cases (λ s. Each (λ (m : Mark). m.stamp ≤ v.seen) s.known) k (shelf l known [] []) [] (λ _. seen) (λ _. no_shelf_seen v.seen k);
+    known = λ k. shelf-cases (λ s. Each (λ (m : Mark). m.stamp ≤ v.seen) s.known) k (shelf l known [] []) [] (λ _. seen) (λ _. no-shelf-seen v.seen k);
     drawn = tt;
   };
   among = f.among;
-  knows = λ k. shelf_cases (λ s. Begins (t.log k) s) k (shelf l known [] []) []
-      (λ (e : l ≡ k). record { known = subst (λ n. IsPrefix known (t.log n)) e begins; first = begins_nothing (t.log k); second = begins_nothing (t.log k) })
-      (λ _. no_shelf (t.log k) k);
+  knows = λ k. shelf-cases (λ s. Begins (t.log k) s) k (shelf l known [] []) []
+      (λ (e : l ≡ k). record { known = subst (λ n. IsPrefix known (t.log n)) e begins; first = begins-nothing (t.log k); second = begins-nothing (t.log k) })
+      (λ _. no-shelf (t.log k) k);
   has = λ k h. absurd h;
   apart = tt;
   acts = λ a h. absurd h;
@@ -138,9 +138,9 @@ module _ {S : Type 0} where
         rises = h.rises;
         drawn = h.drawn;
         placed = hands s at h.tally.draws h.tally.log h.placed;
-        seated = λ l lt. stands_cut (HoldsList l) s.views id (t.seat l) v left right at (λ has. subst (Has l) (sym links) has) (h.seated l lt);
-        owned = λ a lt. stands_cut (HoldsActor a) s.views id (t.owner a) v left right at (λ has. subst (Has a) (sym actors) has) (h.owned a lt);
-        fits = views_more (Fits t) (set s.views id left) right (views_set (Fits t) s.views id left (λ j u _ e. h.fits j u e) parts.0) parts.1;
+        seated = λ l lt. stands-cut (HoldsList l) s.views id (t.seat l) v left right at (λ has. subst (Has l) (sym links) has) (h.seated l lt);
+        owned = λ a lt. stands-cut (HoldsActor a) s.views id (t.owner a) v left right at (λ has. subst (Has a) (sym actors) has) (h.owned a lt);
+        fits = views-more (Fits t) (set s.views id left) right (views-set (Fits t) s.views id left (λ j u _ e. h.fits j u e) parts.0) parts.1;
       }
 
   -- a view is put together with a copy, and all lists stay
@@ -148,7 +148,7 @@ module _ {S : Type 0} where
       → ((t : Tally) → Fits t id v → Fits t other w → Fits t id both) → Joins (Law about) id v other w both nobody
   joins about id v other w both same none links actors no_links no_actors how s h at apart there =
       let t = h.tally in
-      let theirs = other_view (Fits t) s.views id other both w apart h.fits there in
+      let theirs = other-view (Fits t) s.views id other both w apart h.fits there in
       record {
         tally = t;
         opening = h.opening;
@@ -158,16 +158,16 @@ module _ {S : Type 0} where
         acting = h.acting;
         rises = h.rises;
         drawn = h.drawn;
-        placed = placed_same h.tally.draws h.tally.log (hand_at s.views) (hand_at (set (set s.views id both) other nobody)) (hands_joined s.views id v other w both at there same none) h.placed;
-        seated = λ l lt. stands_joined (HoldsList l) s.views id other (t.seat l) v w both at there (λ has. subst (Has l) (sym links) has) (λ has. subst (Has l) no_links has) (h.seated l lt);
-        owned = λ a lt. stands_joined (HoldsActor a) s.views id other (t.owner a) v w both at there (λ has. subst (Has a) (sym actors) has) (λ has. subst (Has a) no_actors has) (h.owned a lt);
-        fits = views_set (Fits t) (set s.views id both) other nobody
-            (λ j u _ e. views_set (Fits t) s.views id both (λ i x _ e'. h.fits i x e') (how t (h.fits id v at) theirs) j u e)
-            (nobody_fits t other);
+        placed = placed-same h.tally.draws h.tally.log (hand_at s.views) (hand_at (set (set s.views id both) other nobody)) (hands-joined s.views id v other w both at there same none) h.placed;
+        seated = λ l lt. stands-joined (HoldsList l) s.views id other (t.seat l) v w both at there (λ has. subst (Has l) (sym links) has) (λ has. subst (Has l) no_links has) (h.seated l lt);
+        owned = λ a lt. stands-joined (HoldsActor a) s.views id other (t.owner a) v w both at there (λ has. subst (Has a) (sym actors) has) (λ has. subst (Has a) no_actors has) (h.owned a lt);
+        fits = views-set (Fits t) (set s.views id both) other nobody
+            (λ j u _ e. views-set (Fits t) s.views id both (λ i x _ e'. h.fits i x e') (how t (h.fits id v at) theirs) j u e)
+            (nobody-fits t other);
       }
 
   -- a view is cut in two, and what it had of one link or one actor goes to the new one
-  pub hands_on : (about : Opening) (id : ℕ) (v left right : View) → left.hand ≡ v.hand → right.hand ≡ [] → (seat_now owner_now : (ℕ → ℕ) → ℕ → ℕ → ℕ)
+  pub hands-on : (about : Opening) (id : ℕ) (v left right : View) → left.hand ≡ v.hand → right.hand ≡ [] → (seat_now owner_now : (ℕ → ℕ) → ℕ → ℕ → ℕ)
       → ((views : List View) → get_elem? views id ≡ some v → (seat : ℕ → ℕ) (l : ℕ) → Stands views (seat l) (HoldsList l) → Stands (set views id left ++ right ∷ []) (seat_now seat (length views) l) (HoldsList l))
       → ((views : List View) → get_elem? views id ≡ some v → (owner : ℕ → ℕ) (a : ℕ) → Stands views (owner a) (HoldsActor a) → Stands (set views id left ++ right ∷ []) (owner_now owner (length views) a) (HoldsActor a))
       → ((t : Tally) (new : ℕ) → Fits t id v
@@ -175,7 +175,7 @@ module _ {S : Type 0} where
       × Fits (record t { seat = seat_now t.seat new; owner = owner_now t.owner new }) new right
       × ((j : ℕ) (u : View) → (j ≡ id → ⊥) → Fits t j u → Fits (record t { seat = seat_now t.seat new; owner = owner_now t.owner new }) j u))
       → Splits (Law about) id v left right
-  hands_on about id v left right same none seat_now owner_now lists actors how s h at =
+  hands-on about id v left right same none seat_now owner_now lists actors how s h at =
       let t = h.tally in
       let new = length s.views in
       let now : Tally = record t { seat = seat_now t.seat new; owner = owner_now t.owner new } in
@@ -189,21 +189,21 @@ module _ {S : Type 0} where
         acting = h.acting;
         rises = h.rises;
         drawn = h.drawn;
-        placed = placed_same h.tally.draws h.tally.log (hand_at s.views) (hand_at (set s.views id left ++ right ∷ [])) (hands_cut s.views id v left right at same none) h.placed;
+        placed = placed-same h.tally.draws h.tally.log (hand_at s.views) (hand_at (set s.views id left ++ right ∷ [])) (hands-cut s.views id v left right at same none) h.placed;
         seated = λ l lt. lists s.views at t.seat l (h.seated l lt);
         owned = λ a lt. actors s.views at t.owner a (h.owned a lt);
-        fits = views_end (Fits now) (set s.views id left) right new (length-set s.views id left) (views_set (Fits now) s.views id left (λ j u apart e. parts.2 j u apart (h.fits j u e)) parts.0) parts.1;
+        fits = views-end (Fits now) (set s.views id left) right new (length-set s.views id left) (views-set (Fits now) s.views id left (λ j u apart e. parts.2 j u apart (h.fits j u e)) parts.0) parts.1;
       }
 
   -- two views are put together for good: what the other had is this one's
-  pub joins_all : (about : Opening) (id : ℕ) (v : View) (other : ℕ) (w both : View) → both.hand ≡ v.hand → w.hand ≡ []
+  pub joins-all : (about : Opening) (id : ℕ) (v : View) (other : ℕ) (w both : View) → both.hand ≡ v.hand → w.hand ≡ []
       → ((l : ℕ) → Has l v.links → Has l both.links) → ((l : ℕ) → Has l w.links → Has l both.links) → ((a : ℕ) → Has a v.actors → Has a both.actors) → ((a : ℕ) → Has a w.actors → Has a both.actors)
       → ((t : Tally) → (other ≡ id → ⊥) → Fits t id v → Fits t other w
       → Fits (record t { seat = λ k. cond (eqb (t.seat k) other) id (t.seat k); owner = λ k. cond (eqb (t.owner k) other) id (t.owner k) }) id both)
       → Joins (Law about) id v other w both nobody
-  joins_all about id v other w both same none links their_links actors their_actors how s h at apart there =
+  joins-all about id v other w both same none links their_links actors their_actors how s h at apart there =
       let t = h.tally in
-      let theirs = other_view (Fits t) s.views id other both w apart h.fits there in
+      let theirs = other-view (Fits t) s.views id other both w apart h.fits there in
       let now : Tally = record t { seat = λ k. cond (eqb (t.seat k) other) id (t.seat k); owner = λ k. cond (eqb (t.owner k) other) id (t.owner k) } in
       record {
         tally = now;
@@ -214,13 +214,13 @@ module _ {S : Type 0} where
         acting = h.acting;
         rises = h.rises;
         drawn = h.drawn;
-        placed = placed_same h.tally.draws h.tally.log (hand_at s.views) (hand_at (set (set s.views id both) other nobody)) (hands_joined s.views id v other w both at there same none) h.placed;
-        seated = λ l lt. stands_moved (HoldsList l) s.views id other (t.seat l) v w both at apart there (links l) (their_links l) (h.seated l lt);
-        owned = λ a lt. stands_moved (HoldsActor a) s.views id other (t.owner a) v w both at apart there (actors a) (their_actors a) (h.owned a lt);
+        placed = placed-same h.tally.draws h.tally.log (hand_at s.views) (hand_at (set (set s.views id both) other nobody)) (hands-joined s.views id v other w both at there same none) h.placed;
+        seated = λ l lt. stands-moved (HoldsList l) s.views id other (t.seat l) v w both at apart there (links l) (their_links l) (h.seated l lt);
+        owned = λ a lt. stands-moved (HoldsActor a) s.views id other (t.owner a) v w both at apart there (actors a) (their_actors a) (h.owned a lt);
         fits = λ j u e. ⊎_elim
-            (λ (x : (j ≡ other) × (nobody ≡ u)). subst (Fits now j) x.1 (nobody_fits now j))
+            (λ (x : (j ≡ other) × (nobody ≡ u)). subst (Fits now j) x.1 (nobody-fits now j))
             (λ (x : (j ≢ other) × (get_elem? (set s.views id both) j ≡ some u)).
-            views_set (λ k y. (k ≡ other → ⊥) → Fits now k y) s.views id both
+            views-set (λ k y. (k ≡ other → ⊥) → Fits now k y) s.views id both
             (λ k y _ e' elsewhere.
             let g = h.fits k y e' in
             record {

@@ -29,94 +29,94 @@ use Rattle.tenet_app.specs.declared.status.Status.TheVariants as status
 
 -- ---- what is found goes by the numbers of the levels alone
 
-given_number : (levels : List (Option Levels)) (c : ℕ)
+given-number : (levels : List (Option Levels)) (c : ℕ)
     → option_map levels_of (given_at levels c) ≡ slice_index_or (levels_given levels) c None
-given_number [] c = refl
-given_number (one ∷ levels) zero = refl
-given_number (one ∷ levels) (suc c) = given_number levels c
+given-number [] c = refl
+given-number (one ∷ levels) zero = refl
+given-number (one ∷ levels) (suc c) = given-number levels c
 
-same_request : (plan : PlanParts) (entry : Option RequestEntry) (one other : Option Levels) (i : ℕ)
+same-request : (plan : PlanParts) (entry : Option RequestEntry) (one other : Option Levels) (i : ℕ)
     → option_map levels_of one ≡ option_map levels_of other → terms_of_request plan entry one i ≡ terms_of_request plan entry other i
-same_request plan None one other i same = refl
-same_request plan (Some entry) None None i same = refl
-same_request plan (Some entry) None (Some other) i same = cc
-same_request plan (Some entry) (Some one) None i same = cc
-same_request plan (Some entry) (Some one) (Some other) i same = (let numbers : levels_of one ≡ levels_of other = cc in rw numbers refl)
+same-request plan None one other i same = refl
+same-request plan (Some entry) None None i same = refl
+same-request plan (Some entry) None (Some other) i same = cc
+same-request plan (Some entry) (Some one) None i same = cc
+same-request plan (Some entry) (Some one) (Some other) i same = (let numbers : levels_of one ≡ levels_of other = cc in rw numbers refl)
 
-same_terms : (plan : PlanParts) (one other : List (Option Levels)) (c i : ℕ) → levels_given one ≡ levels_given other
+same-terms : (plan : PlanParts) (one other : List (Option Levels)) (c i : ℕ) → levels_given one ≡ levels_given other
     → terms_at plan one c i ≡ terms_at plan other c i
 unfolding terms_at
-same_terms plan one other c i same =
-    same_request plan (slice_get plan.requests c) (given_at one c) (given_at other c) i
-    (given_number one c ∙ ap (λ (ls : List (Option (List ℕ))). slice_index_or ls c None) same ∙ sym (given_number other c))
+same-terms plan one other c i same =
+    same-request plan (slice_get plan.requests c) (given_at one c) (given_at other c) i
+    (given-number one c ∙ ap (λ (ls : List (Option (List ℕ))). slice_index_or ls c None) same ∙ sym (given-number other c))
 
-same_row : (plan : PlanParts) (one other : List (Option Levels)) (row : HopRow) → levels_given one ≡ levels_given other
+same-row : (plan : PlanParts) (one other : List (Option Levels)) (row : HopRow) → levels_given one ≡ levels_given other
     → terms_of_row plan one row ≡ terms_of_row plan other row
 unfolding terms_of_row
-same_row plan one other row same = rw (same_terms plan one other (channel_number row.chan) (row.hop - 1) same) refl
+same-row plan one other row same = rw (same-terms plan one other (channel_number row.chan) (row.hop - 1) same) refl
 
-same_below : (plan : PlanParts) (one other : List (Option Levels)) (above rows : List HopRow) → levels_given one ≡ levels_given other
+same-below : (plan : PlanParts) (one other : List (Option Levels)) (above rows : List HopRow) → levels_given one ≡ levels_given other
     → finding_below plan one above rows ≡ finding_below plan other above rows
 unfolding finding_below fault_of
-same_below plan one other above [] same = refl
-same_below plan one other above (row ∷ rows) same =
-    ap (λ terms. found (fault_under terms above row) (length above) (finding_below plan one (row ∷ above) rows)) (same_row plan one other row same)
-    ∙ ap (found (fault_under (terms_of_row plan other row) above row) (length above)) (same_below plan one other (row ∷ above) rows same)
+same-below plan one other above [] same = refl
+same-below plan one other above (row ∷ rows) same =
+    ap (λ terms. found (fault_under terms above row) (length above) (finding_below plan one (row ∷ above) rows)) (same-row plan one other row same)
+    ∙ ap (found (fault_under (terms_of_row plan other row) above row) (length above)) (same-below plan one other (row ∷ above) rows same)
 
 -- ---- one status and one text
 
-one_finding : (parts : PlanParts) (given : List (Option (List ℕ))) (rows : List HopRow) (answer other : Status) (text text_other : List ℕ)
+one-finding : (parts : PlanParts) (given : List (Option (List ℕ))) (rows : List HopRow) (answer other : Status) (text text_other : List ℕ)
     → DueOfAudit parts given rows answer text → DueOfAudit parts given rows other text_other → (answer ≡ other) × (text ≡ text_other)
-one_finding parts given rows answer other text text_other one two =
-    (one.done ∙ sym two.done, one.finding ∙ ap finding_line (same_below parts one.levels two.levels [] rows (one.same ∙ sym two.same)) ∙ sym two.finding)
+one-finding parts given rows answer other text text_other one two =
+    (one.done ∙ sym two.done, one.finding ∙ ap finding_line (same-below parts one.levels two.levels [] rows (one.same ∙ sym two.same)) ∙ sym two.finding)
 
-one_due : (r : AuditReading) (answer other : Status) (text text_other : List ℕ) → IsAuditDue answer text r
+one-due : (r : AuditReading) (answer other : Status) (text text_other : List ℕ) → IsAuditDue answer text r
     → IsAuditDue other text_other r → (answer ≡ other) × (text ≡ text_other)
-one_due (AuditRead parts given rows) answer other text text_other one two = one_finding parts given rows answer other text text_other one two
-one_due (BadAuditLine line why) answer other text text_other one two = (one.0 ∙ sym two.0, one.1 ∙ sym two.1)
-one_due TooManyAuditBytes answer other text text_other one two = (one.0 ∙ sym two.0, one.1 ∙ sym two.1)
+one-due (AuditRead parts given rows) answer other text text_other one two = one-finding parts given rows answer other text text_other one two
+one-due (BadAuditLine line why) answer other text text_other one two = (one.0 ∙ sym two.0, one.1 ∙ sym two.1)
+one-due TooManyAuditBytes answer other text text_other one two = (one.0 ∙ sym two.0, one.1 ∙ sym two.1)
 
 -- ---- an answer without a fault
 
-at_bytes : (left : Option (List ℕ)) (bytes : List ℕ) (P : AuditReading → Type 0) → left ≡ Some bytes → AuditBytes left P
+at-bytes : (left : Option (List ℕ)) (bytes : List ℕ) (P : AuditReading → Type 0) → left ≡ Some bytes → AuditBytes left P
     → P (audit_reading MOST_BYTES bytes)
-at_bytes left bytes P is come = subst (λ told. AuditBytes told P) is come
+at-bytes left bytes P is come = subst (λ told. AuditBytes told P) is come
 
-due_done : (before after : Ends) (bytes : List ℕ) → before.left ≡ Some bytes → AuditsDone before after → AuditDueFor status.Done bytes
-due_done before after bytes is done =
-    let read : audit_reading MOST_BYTES bytes ≡ AuditRead done.parts (levels_given done.levels) done.rows = at_bytes before.left bytes (λ r. r ≡ AuditRead done.parts (levels_given done.levels) done.rows) is done.read in
+due-done : (before after : Ends) (bytes : List ℕ) → before.left ≡ Some bytes → AuditsDone before after → AuditDueFor status.Done bytes
+due-done before after bytes is done =
+    let read : audit_reading MOST_BYTES bytes ≡ AuditRead done.parts (levels_given done.levels) done.rows = at-bytes before.left bytes (λ r. r ≡ AuditRead done.parts (levels_given done.levels) done.rows) is done.read in
     let text = finding_line (finding_of done.parts done.levels done.rows) in
     record { text = text; due = subst (IsAuditDue status.Done text) (sym read) (record { levels = done.levels; same = refl; done = refl; finding = refl }) }
 
-answers_due : (before after : Ends) (answer : Status) (bytes : List ℕ) → before.left ≡ Some bytes → MeetsNoFault before after
+answers-due : (before after : Ends) (answer : Status) (bytes : List ℕ) → before.left ≡ Some bytes → MeetsNoFault before after
     → Audits answer before after → (answer ≡ status.Memory) ⊎ AuditDueFor answer bytes
-answers_due before after status.Done bytes is none audits = inr (due_done before after bytes is audits)
-answers_due before after status.Memory bytes is none audits = inl refl
-answers_due before after status.Words bytes is none audits = absurd audits
-answers_due before after status.ReadFault bytes is none audits = absurd (none.read audits.rises)
-answers_due before after status.WriteFault bytes is none audits = absurd (none.write audits.rises)
-answers_due before after (status.Refused line told) bytes is none audits =
-    inr (record { text = refusal_line line told; due = at_bytes before.left bytes (IsAuditDue (status.Refused line told) (refusal_line line told)) is audits.due })
-answers_due before after status.TooLong bytes is none audits =
-    let over : audit_reading MOST_BYTES bytes ≡ TooManyAuditBytes = at_bytes before.left bytes (λ r. r ≡ TooManyAuditBytes) is audits.over in
+answers-due before after status.Done bytes is none audits = inr (due-done before after bytes is audits)
+answers-due before after status.Memory bytes is none audits = inl refl
+answers-due before after status.Words bytes is none audits = absurd audits
+answers-due before after status.ReadFault bytes is none audits = absurd (none.read audits.rises)
+answers-due before after status.WriteFault bytes is none audits = absurd (none.write audits.rises)
+answers-due before after (status.Refused line told) bytes is none audits =
+    inr (record { text = refusal_line line told; due = at-bytes before.left bytes (IsAuditDue (status.Refused line told) (refusal_line line told)) is audits.due })
+answers-due before after status.TooLong bytes is none audits =
+    let over : audit_reading MOST_BYTES bytes ≡ TooManyAuditBytes = at-bytes before.left bytes (λ r. r ≡ TooManyAuditBytes) is audits.over in
     inr (record { text = []; due = subst (IsAuditDue status.TooLong []) (sym over) (refl, refl) })
 
 pub audits-determine : AuditsDetermine
-audits-determine = record { answers = answers_due; one = one_due }
+audits-determine = record { answers = answers-due; one = one-due }
 
 -- ---- what is written
 
-due_as : (left : Option (List ℕ)) (r : AuditReading) (P : AuditReading → Type 0) → AuditBytes left (λ found. found ≡ r) → P r
+due-as : (left : Option (List ℕ)) (r : AuditReading) (P : AuditReading → Type 0) → AuditBytes left (λ found. found ≡ r) → P r
     → AuditBytes left P
-due_as None r P read due = tt
-due_as (Some bytes) r P read due = subst P (sym read) due
+due-as None r P read due = tt
+due-as (Some bytes) r P read due = subst P (sym read) due
 
 -- what was found was told
-table_told : (before after : Ends) (answer : Status) (parts : PlanParts) (levels : List (Option Levels)) (rows : List HopRow) (finding : Finding)
+table-told : (before after : Ends) (answer : Status) (parts : PlanParts) (levels : List (Option Levels)) (rows : List HopRow) (finding : Finding)
     → IsPlan parts → AreAccepted parts levels → AuditBytes before.left (λ r. r ≡ AuditRead parts (levels_given levels) rows) → IsAtEnd after.left
     → IsFindingOf parts levels rows finding → TellsFinding finding answer before.written after.written before.write_faults after.write_faults
     → Audits answer before after
-table_told before after status.Done parts levels rows finding plan accepted read ended is tells = record {
+table-told before after status.Done parts levels rows finding plan accepted read ended is tells = record {
   parts = parts;
   levels = levels;
   rows = rows;
@@ -128,42 +128,42 @@ table_told before after status.Done parts levels rows finding plan accepted read
   kept = λ count same. is.kept count (is.value ∙ same);
   written = subst (λ f. Appends before.written after.written (finding_line f)) is.value tells;
 }
-table_told before after status.Memory parts levels rows finding plan accepted read ended is tells = tells
-table_told before after status.Words parts levels rows finding plan accepted read ended is tells = absurd tells
-table_told before after status.ReadFault parts levels rows finding plan accepted read ended is tells = absurd tells
-table_told before after status.WriteFault parts levels rows finding plan accepted read ended is tells = record {
+table-told before after status.Memory parts levels rows finding plan accepted read ended is tells = tells
+table-told before after status.Words parts levels rows finding plan accepted read ended is tells = absurd tells
+table-told before after status.ReadFault parts levels rows finding plan accepted read ended is tells = absurd tells
+table-told before after status.WriteFault parts levels rows finding plan accepted read ended is tells = record {
   rises = tells.0;
-  written = due_as before.left (AuditRead parts (levels_given levels) rows) (FrontOfAudit before.written after.written) read (record {
+  written = due-as before.left (AuditRead parts (levels_given levels) rows) (FrontOfAudit before.written after.written) read (record {
     answer = status.Done;
     text = finding_line finding;
     due = record { levels = levels; same = refl; done = refl; finding = ap finding_line is.value };
     front = tells.1;
   });
 }
-table_told before after (status.Refused line why) parts levels rows finding plan accepted read ended is tells = absurd tells
-table_told before after status.TooLong parts levels rows finding plan accepted read ended is tells = absurd tells
+table-told before after (status.Refused line why) parts levels rows finding plan accepted read ended is tells = absurd tells
+table-told before after status.TooLong parts levels rows finding plan accepted read ended is tells = absurd tells
 
 -- an input was read
 pub audits-table : (before after : Ends) (answer : Status) (parts : PlanParts) (levels : List (Option Levels)) (rows : List HopRow)
     → IsPlan parts → AreAccepted parts levels → AuditBytes before.left (λ r. r ≡ AuditRead parts (levels_given levels) rows) → IsAtEnd after.left
     → AnswersTable parts levels rows answer before.written after.written before.write_faults after.write_faults → Audits answer before after
 audits-table before after answer parts levels rows plan accepted read ended (TableTold finding is tells) =
-    table_told before after answer parts levels rows finding plan accepted read ended is tells
+    table-told before after answer parts levels rows finding plan accepted read ended is tells
 audits-table before after answer parts levels rows plan accepted read ended (TableUntold is keeps) = subst (λ a. Audits a before after) (sym is) keeps
 
 -- a line was refused
-refused_audits : (before after : Ends) (answer : Status) (line : ℕ) (why : Cause)
+refused-audits : (before after : Ends) (answer : Status) (line : ℕ) (why : Cause)
     → AuditBytes before.left (λ r. r ≡ BadAuditLine line why)
     → TellsRefusal line why answer before.written after.written before.write_faults after.write_faults → Audits answer before after
-refused_audits before after answer line why told (RefusalTold is appends) =
+refused-audits before after answer line why told (RefusalTold is appends) =
     subst (λ a. Audits a before after) (sym is)
-    (record { due = due_as before.left (BadAuditLine line why) (IsAuditDue (status.Refused line why) (refusal_line line why)) told (refl, refl); written = appends })
-refused_audits before after answer line why told (FrontTold is rises part) =
+    (record { due = due-as before.left (BadAuditLine line why) (IsAuditDue (status.Refused line why) (refusal_line line why)) told (refl, refl); written = appends })
+refused-audits before after answer line why told (FrontTold is rises part) =
     subst (λ a. Audits a before after) (sym is)
-    (record { rises = rises; written = due_as before.left (BadAuditLine line why) (FrontOfAudit before.written after.written) told (record { answer = status.Refused line why; text = refusal_line line why; due = (refl, refl); front = part }) })
-refused_audits before after answer line why told (NotTold is keeps) = subst (λ a. Audits a before after) (sym is) keeps
+    (record { rises = rises; written = due-as before.left (BadAuditLine line why) (FrontOfAudit before.written after.written) told (record { answer = status.Refused line why; text = refusal_line line why; due = (refl, refl); front = part }) })
+refused-audits before after answer line why told (NotTold is keeps) = subst (λ a. Audits a before after) (sym is) keeps
 
 pub audits-refused : (before after : Ends) (answer : Status) (why_not : ReadRefusal) (line : ℕ) (why : Cause)
     → why_not ≡ refusal.Refused line why → AuditBytes before.left (RefusesReading why_not)
     → TellsRefusal line why answer before.written after.written before.write_faults after.write_faults → Audits answer before after
-audits-refused before after answer why_not line why is told tells = refused_audits before after answer line why (subst (λ r. AuditBytes before.left (RefusesReading r)) is told) tells
+audits-refused before after answer why_not line why is told tells = refused-audits before after answer line why (subst (λ r. AuditBytes before.left (RefusesReading r)) is told) tells

@@ -19,7 +19,7 @@ use Rattle.scenario_reader.specs.PlanText.{plan_text}
 use Rattle.scenario_reader.specs.Reading.{PlanRead, reading}
 use Rattle.scenario_reader.specs.declared.reader.TheConstants.{MOST_BYTES}
 use Rattle.scenario_reader.proofs.ReadNames.{what-is-readable}
-use Rattle.scenario_reader.proofs.TextBack.{text_is_read}
+use Rattle.scenario_reader.proofs.TextBack.{text-is-read}
 use Rattle.tenet_app.specs.Again.{EveryRaceIsPlayedAgain, RacesArePlayedAgain}
 use Rattle.tenet_app.specs.Playing.{IsDueFor, Reports}
 use Rattle.tenet_app.specs.declared.status.Status.TheVariants as status
@@ -70,7 +70,7 @@ report-due parts schedule again entries read played packets =
 
 pub races-are-played-again : RacesArePlayedAgain
 races-are-played-again parts closed schedule entries plan named routes race few =
-    let back : ReadsAs (reading MOST_BYTES (plan_text parts schedule)) parts schedule = text_is_read parts schedule plan named routes (can-stand parts.callers schedule race.language race.written) few in
+    let back : ReadsAs (reading MOST_BYTES (plan_text parts schedule)) parts schedule = text-is-read parts schedule plan named routes (can-stand parts.callers schedule race.language race.written) few in
     let played : IsPlayed (network_of parts) back.again (reverse entries) = still-played (network_of parts) back.again schedule (reverse entries) back.same race.written race.played in
     record { again = back.again; read = back.is; played = played; due = report-due parts schedule back.again entries back.is played }
 

@@ -39,18 +39,18 @@ Spaced-last gap least t ticks some spaced h =
     omega (arith, g, e, f)
 
 -- the entry that is `gap` places before the end of a list in order of time is at gap - 1 of the same list, newest first
-gap_before : (gap : ℕ) (past : List ℕ) → 1 ≤ gap → gap ≤ length past → get_or (reverse past) (length past - gap) 0 ≡ get_or (drop (gap - 1) past) 0 0
-gap_before gap past some h =
+gap-before : (gap : ℕ) (past : List ℕ) → 1 ≤ gap → gap ≤ length past → get_or (reverse past) (length past - gap) 0 ≡ get_or (drop (gap - 1) past) 0 0
+gap-before gap past some h =
     get_or-reverse past (length past - gap) 0 (omega arith) ∙ ap (λ k. get_or past k 0) (omega arith) ∙ sym (get_or-drop (gap - 1) past 0 0)
 
 -- t may follow at the distance of `gap` places
-follows_at : (gap least t : ℕ) (past : List ℕ) → 1 ≤ gap → Decides (starts_before t least (drop (gap - 1) past)) (gap ≤ length (reverse past) → get_or (reverse past) (length (reverse past) - gap) 0 + least ≤ t)
-follows_at gap least t past some =
+follows-at : (gap least t : ℕ) (past : List ℕ) → 1 ≤ gap → Decides (starts_before t least (drop (gap - 1) past)) (gap ≤ length (reverse past) → get_or (reverse past) (length (reverse past) - gap) 0 + least ≤ t)
+follows-at gap least t past some =
     let n : length (reverse past) ≡ length past = length-reverse past in
     let m : length (drop (gap - 1) past) ≡ length past - (gap - 1) = length-drop (gap - 1) past in
     Decides-like _
-    (λ f h. (rw n (let e = gap_before gap past some (omega arith) in let g = f (omega arith) in omega (arith, e, g))))
-    (λ f h. (let e = gap_before gap past some (omega arith) in let g = rw n at (f (omega arith)) in omega (arith, e, g)))
+    (λ f h. (rw n (let e = gap-before gap past some (omega arith) in let g = f (omega arith) in omega (arith, e, g))))
+    (λ f h. (let e = gap-before gap past some (omega arith) in let g = rw n at (f (omega arith)) in omega (arith, e, g)))
     (starts_before-tells t least (drop (gap - 1) past))
 
 -- a list that keeps a contract and the tick t after it keep it together exactly where t may follow
@@ -63,7 +63,7 @@ Decides-may_follow c past t some kept =
       bursts = Spaced-push (burst_of c) c.interval t (reverse past) some kept.bursts both.1;
     })
     (λ all. (Spaced-last 1 c.xmin t (reverse past) (omega arith) all.neighbours, Spaced-last (burst_of c) c.interval t (reverse past) some all.bursts))
-    (Decides-and _ _ (follows_at 1 c.xmin t past (omega arith)) (follows_at (burst_of c) c.interval t past some))
+    (Decides-and _ _ (follows-at 1 c.xmin t past (omega arith)) (follows-at (burst_of c) c.interval t past some))
 
 -- the empty list keeps every contract
 Keeps-nil : (c : Traffic) → Keeps c []

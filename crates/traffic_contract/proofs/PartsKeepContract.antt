@@ -69,8 +69,8 @@ Spaced-first gap least t ticks all h =
     let e : zero + gap ≡ gap = omega arith in rw e at (all.apart zero (omega arith))
 
 -- the first entry of what stands `gap` places on
-first_on : (gap least t : ℕ) (ticks : List ℕ) → Decides (starts_after t least (drop gap ticks)) (gap < length ticks → t + least ≤ get_or ticks gap 0)
-first_on gap least t ticks =
+first-on : (gap least t : ℕ) (ticks : List ℕ) → Decides (starts_after t least (drop gap ticks)) (gap < length ticks → t + least ≤ get_or ticks gap 0)
+first-on gap least t ticks =
     let e : get_or (drop gap ticks) 0 0 ≡ get_or ticks gap 0 = get_or-drop gap ticks 0 0 ∙ ap (λ k. get_or ticks k 0) (add-zero gap) in
     let n : length (drop gap ticks) ≡ length ticks - gap = length-drop gap ticks in
     Decides-like _ (λ f h. (rw e at (f (omega arith)))) (λ f h. (rw e (f (omega arith)))) (starts_after-tells t least (drop gap ticks))
@@ -82,7 +82,7 @@ Decides-are_spaced gap least [] = (λ _. record { apart = λ i h. absurd (omega 
 Decides-are_spaced gap least (t ∷ ticks) =
     Decides-like _ (λ both. record { apart = Spaced-cons gap least t ticks both.0 both.1 })
     (λ all. (Spaced-first gap least t ticks all, Spaced-rest gap least t ticks all))
-    (Decides-and _ _ (first_on gap least t (t ∷ ticks)) (Decides-are_spaced gap least ticks))
+    (Decides-and _ _ (first-on gap least t (t ∷ ticks)) (Decides-are_spaced gap least ticks))
 
 -- the test of a list in order of time says whether it keeps the contract
 pub Decides-keeps : (c : Traffic) (ticks : List ℕ) → Decides (keeps c ticks) (Keeps c ticks)

@@ -16,10 +16,10 @@ use Rattle.traffic_contract.proofs.PartsKeepContract.{Keeps-drop, Keeps-take, Sp
 -- ---- a list whose entries all fall into a window
 
 -- an entry is at least so many least gaps after the first as it stands places after it
-gaps_before : (least : ℕ) (ticks : List ℕ) (i : ℕ) → Spaced 1 least ticks → i < length ticks → get_or ticks 0 0 + i * least ≤ get_or ticks i 0
-gaps_before least ticks zero spaced h = omega arith
-gaps_before least ticks (suc i) spaced h =
-    let before = gaps_before least ticks i spaced (omega arith) in
+gaps-before : (least : ℕ) (ticks : List ℕ) (i : ℕ) → Spaced 1 least ticks → i < length ticks → get_or ticks 0 0 + i * least ≤ get_or ticks i 0
+gaps-before least ticks zero spaced h = omega arith
+gaps-before least ticks (suc i) spaced h =
+    let before = gaps-before least ticks i spaced (omega arith) in
     let step = spaced.apart i (omega arith) in
     let e : get_or ticks (i + 1) 0 ≡ get_or ticks (suc i) 0 = ap (λ k. get_or ticks k 0) (omega arith) in
     omega (arith, before, step, e)
@@ -30,11 +30,11 @@ record AllIn (from w : ℕ) (ticks : List ℕ) : Type 0 where
   before : (i : ℕ) → i < length ticks → get_or ticks i 0 < from + w
 
 -- no more entries than least gaps begun
-fits_gaps : (least : ℕ) (ticks : List ℕ) (from w : ℕ) → 1 ≤ least → Spaced 1 least ticks → AllIn from w ticks → length ticks ≤ ceil_quotient w least
-fits_gaps least ticks from w some spaced inside =
+fits-gaps : (least : ℕ) (ticks : List ℕ) (from w : ℕ) → 1 ≤ least → Spaced 1 least ticks → AllIn from w ticks → length ticks ≤ ceil_quotient w least
+fits-gaps least ticks from w some spaced inside =
     ⊎_elim (λ (none : length ticks < 1). omega arith)
     (λ (any : 1 ≤ length ticks).
-    let far = gaps_before least ticks (length ticks - 1) spaced (omega arith) in
+    let far = gaps-before least ticks (length ticks - 1) spaced (omega arith) in
     let first = inside.after 0 (omega arith) in
     let last = inside.before (length ticks - 1) (omega arith) in
     let up : w ≤ ceil_quotient w least * least = (div_ceil_times w least some).0 in
@@ -43,8 +43,8 @@ fits_gaps least ticks from w some spaced inside =
     (cases_lt (length ticks) 1)
 
 -- no more than a burst in an interval
-fits_burst : (c : Traffic) (ticks : List ℕ) (from w : ℕ) → Keeps c ticks → w ≤ c.interval → AllIn from w ticks → length ticks ≤ burst_of c
-fits_burst c ticks from w kept short inside =
+fits-burst : (c : Traffic) (ticks : List ℕ) (from w : ℕ) → Keeps c ticks → w ≤ c.interval → AllIn from w ticks → length ticks ≤ burst_of c
+fits-burst c ticks from w kept short inside =
     ⊎_elim (λ (more : burst_of c < length ticks).
     let apart = kept.bursts.apart 0 (omega arith) in
     let e : get_or ticks (0 + burst_of c) 0 ≡ get_or ticks (burst_of c) 0 = ap (λ k. get_or ticks k 0) (omega arith) in
@@ -84,7 +84,7 @@ length-le-most_in : (c : Traffic) (q : ℕ) (ticks : List ℕ) (from w : ℕ) �
 length-le-most_in c zero ticks from w valid kept inside none =
     let whole : w % c.interval ≡ w = (let e = div-add-mod' w c.interval in let f = rw none at e in omega arith) in
     let short : w < c.interval = omega (arith, whole, valid.xmin_least, valid.xave_least, valid.interval_least) in
-    omega (arith, most_in-short c w none, fits_burst c ticks from w kept (omega arith) inside, fits_gaps c.xmin ticks from w valid.xmin_least kept.neighbours inside)
+    omega (arith, most_in-short c w none, fits-burst c ticks from w kept (omega arith) inside, fits-gaps c.xmin ticks from w valid.xmin_least kept.neighbours inside)
 length-le-most_in c (suc q) ticks from w valid kept inside more =
     let some : 1 ≤ c.interval = omega (arith, valid.xmin_least, valid.xave_least, valid.interval_least) in
     let long : c.interval ≤ w = (let e = div-add-mod' w c.interval in let f = rw more at e in omega arith) in
@@ -104,8 +104,8 @@ filter-past from w (t ∷ ticks) past =
     rw out (filter-past from w ticks (λ i h. past (suc i) (omega arith)))
 
 -- later entries of a spaced list aren't below the first
-first_least : (least t : ℕ) (ticks : List ℕ) (i : ℕ) → Spaced 1 least (t ∷ ticks) → i < length ticks → t ≤ get_or ticks i 0
-first_least least t ticks i spaced h = omega (arith, gaps_before least (t ∷ ticks) (suc i) spaced (omega arith))
+first-least : (least t : ℕ) (ticks : List ℕ) (i : ℕ) → Spaced 1 least (t ∷ ticks) → i < length ticks → t ≤ get_or ticks i 0
+first-least least t ticks i spaced h = omega (arith, gaps-before least (t ∷ ticks) (suc i) spaced (omega arith))
 
 -- where no entry is before the window, those in it come first
 filter-front : (least from w : ℕ) (ticks : List ℕ) → Spaced 1 least ticks → ((i : ℕ) → i < length ticks → from ≤ get_or ticks i 0) → filter (is_in_window from w) ticks ≡ take (length (filter (is_in_window from w) ticks)) ticks
@@ -115,13 +115,13 @@ filter-front least from w (t ∷ ticks) spaced late =
     let yes : is_in_window from w t ≡ true = and_from (leb from t) (ltb t (from + w)) (le-leb from t (late 0 (omega arith))) (lt-ltb t (from + w) inside) in
     rw yes (ap (λ ts. t ∷ ts) (filter-front least from w ticks (Spaced-rest 1 least t ticks spaced) (λ i h. late (suc i) (omega arith)))))
     (λ (past : from + w ≤ t).
-    let none : filter (is_in_window from w) (t ∷ ticks) ≡ [] = filter-past from w (t ∷ ticks) (all_past from w t ticks past (λ i h. first_least least t ticks i spaced h)) in
+    let none : filter (is_in_window from w) (t ∷ ticks) ≡ [] = filter-past from w (t ∷ ticks) (all-past from w t ticks past (λ i h. first-least least t ticks i spaced h)) in
     rw none refl)
     (cases_lt t (from + w))
   where
-    all_past : (from w t : ℕ) (ticks : List ℕ) → from + w ≤ t → ((i : ℕ) → i < length ticks → t ≤ get_or ticks i 0) → (i : ℕ) → i < length (t ∷ ticks) → from + w ≤ get_or (t ∷ ticks) i 0
-    all_past from w t ticks past after zero h = past
-    all_past from w t ticks past after (suc i) h = omega (arith, after i (omega arith))
+    all-past : (from w t : ℕ) (ticks : List ℕ) → from + w ≤ t → ((i : ℕ) → i < length ticks → t ≤ get_or ticks i 0) → (i : ℕ) → i < length (t ∷ ticks) → from + w ≤ get_or (t ∷ ticks) i 0
+    all-past from w t ticks past after zero h = past
+    all-past from w t ticks past after (suc i) h = omega (arith, after i (omega arith))
 
 -- the entries in a window keep the contract
 Keeps-window : (c : Traffic) (from w : ℕ) (ticks : List ℕ) → Keeps c ticks → Keeps c (filter (is_in_window from w) ticks)
@@ -131,13 +131,13 @@ Keeps-window c from w (t ∷ ticks) kept =
     let out : is_in_window from w t ≡ false = and_left (leb from t) (ltb t (from + w)) (lt-leb from t early) in
     rw out (Keeps-window c from w ticks (Keeps-drop c 1 (t ∷ ticks) kept)))
     (λ (late : from ≤ t).
-    let front = filter-front c.xmin from w (t ∷ ticks) kept.neighbours (all_late from t ticks late (λ i h. first_least c.xmin t ticks i kept.neighbours h)) in
+    let front = filter-front c.xmin from w (t ∷ ticks) kept.neighbours (all-late from t ticks late (λ i h. first-least c.xmin t ticks i kept.neighbours h)) in
     subst (Keeps c) (sym front) (Keeps-take c (length (filter (is_in_window from w) (t ∷ ticks))) (t ∷ ticks) kept))
     (cases_lt t from)
   where
-    all_late : (from t : ℕ) (ticks : List ℕ) → from ≤ t → ((i : ℕ) → i < length ticks → t ≤ get_or ticks i 0) → (i : ℕ) → i < length (t ∷ ticks) → from ≤ get_or (t ∷ ticks) i 0
-    all_late from t ticks late after zero h = late
-    all_late from t ticks late after (suc i) h = omega (arith, after i (omega arith))
+    all-late : (from t : ℕ) (ticks : List ℕ) → from ≤ t → ((i : ℕ) → i < length ticks → t ≤ get_or ticks i 0) → (i : ℕ) → i < length (t ∷ ticks) → from ≤ get_or (t ∷ ticks) i 0
+    all-late from t ticks late after zero h = late
+    all-late from t ticks late after (suc i) h = omega (arith, after i (omega arith))
 
 -- a list that keeps a contract has no more entries in any window than the contract's bound
 pub count_in-le : (c : Traffic) (ticks : List ℕ) (from w : ℕ) → IsContract c → Keeps c ticks → count_in ticks from w ≤ most_in c w

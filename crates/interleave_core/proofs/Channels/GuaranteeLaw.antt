@@ -7,7 +7,7 @@ use Rattle.std.specs.List.{slice_get}
 use Rattle.std.specs.Prelude.{nat_eq, nat_lt}
 use Rattle.net_units.specs.Numbers.{link_number, actor_number, channel_number}
 use Rattle.net_units.specs.declared.Kind.TheVariants.{Jitter}
-use Rattle.net_units.proofs.BoundsInOrder.{bound_least}
+use Rattle.net_units.proofs.BoundsInOrder.{bound-least}
 use Rattle.link_steps.specs.declared.asks.Ask.{Ask}
 use Rattle.link_steps.specs.declared.asks.Ask.TheVariants.{Reserve, Arrive}
 use Rattle.link_steps.specs.declared.asks.Packet.{Packet}
@@ -76,7 +76,7 @@ have-ticks network request levels delay keeps i at =
     let level = AreLevels-at request.route levels i at.hop keeps.have_levels.are_levels at.stands (omega (arith, whole, within)) in
     let most = level.most in
     let same : length at.hop.bounds ≡ length at.link.shape.bounds = ap length at.bounds in
-    bound_least at.link.shape.bounds (get_or levels i 0) at.link.shape.bounds_rise level.least (omega (arith, most, same))
+    bound-least at.link.shape.bounds (get_or levels i 0) at.link.shape.bounds_rise level.least (omega (arith, most, same))
 
 ticks-same : (own : List Arrival) → Each (λ p. p.eligible ≡ p.at) own → map tick_of_packet own ≡ map arrival_of own
 ticks-same [] each = refl

@@ -10,7 +10,7 @@ use Rattle.std.specs.Prelude.{find, nat_eq, nat_lt}
 use Rattle.net_units.specs.LevelBounds.{bound_at}
 use Rattle.net_units.specs.Numbers.{link_number, channel_number, level_number}
 use Rattle.net_units.specs.declared.numbers.ChanNo.{ChanNo}
-use Rattle.net_units.proofs.BoundsInOrder.{bound_least}
+use Rattle.net_units.proofs.BoundsInOrder.{bound-least}
 use Rattle.hop_reservation.specs.Routes.{link_of}
 use Rattle.link_steps.specs.declared.asks.Ask.TheVariants.{Arrive}
 use Rattle.link_steps.specs.declared.asks.Packet.{Packet}
@@ -136,7 +136,7 @@ ready-held network request i near far past packet terms fits sound asked run cha
         found = found;
         settled = λ tentative. settled (ap (λ k. k.phase) (sym own.is) ∙ tentative);
         counts = λ closes. (let less = counts (ap (λ k. k.phase) (sym own.is) ∙ closes) in let same : own.row.terms.count ≡ terms.count = ap (λ k. k.count) own.is in omega (arith, less, same, ticks));
-        some = bound_least far.link.shape.bounds (level_number own.row.terms.level) far.link.shape.bounds_rise order.level_least order.level_most;
+        some = bound-least far.link.shape.bounds (level_number own.row.terms.level) far.link.shape.bounds_rise order.level_least order.level_most;
         reckons = (let same : own.row.terms.up_bound ≡ bound_at near.link.shape.bounds (get_level levelled.levels) = ap (λ k. k.up_bound) own.is ∙ kept.up_bound ∙ ap (λ h. Rattle.setup_protocol.specs.Setup.bound_if h (get_level levelled.levels)) near.stands ∙ ap (λ bs. bound_at bs (get_level levelled.levels)) near.bounds in omega (arith, same));
       };
     } where

@@ -5,7 +5,7 @@ use Rattle.std.specs.List.{list_all}
 use Rattle.std.specs.Prelude.{nat_eq, nat_le, All}
 use Rattle.link_server.proofs.Words.{last_bound, newest, Closing, is_phase}
 use Rattle.release_hold.specs.Hold.{has_passed}
-use Rattle.release_hold.proofs.NewestDecidesHold.{all_passed}
+use Rattle.release_hold.proofs.NewestDecidesHold.{all-passed}
 use Rattle.link_steps.specs.Hold.{hold_ended}
 use Rattle.link_server.specs.HoldsAgree.{HoldsAgree}
 
@@ -19,7 +19,7 @@ over-without count passed = elim (cases_Bool (nat_eq count 0)) [
 -- the bounds of all ticks have passed where that of the newest one has
 all-with-newest : (top t tick : ℕ) (past : List ℕ) → All (λ earlier. earlier ≤ tick) past → nat_le (tick + top) t ≡ (nat_le (tick + top) t && list_all (has_passed top t) past)
 all-with-newest top t tick past least = elim (cases_Bool (nat_le (tick + top) t)) [
-  | inl is ↦ rw (is, all_passed top t tick past least (leb-true (tick + top) t is)) refl
+  | inl is ↦ rw (is, all-passed top t tick past least (leb-true (tick + top) t is)) refl
   | inr is ↦ rw is refl
 ]
 

@@ -185,26 +185,26 @@ channels-without (row ∷ rows) (suc i) = ap (λ all. channel_in row ∷ all) (c
 
 pub index-without : (index keys : List ℕ) (rows : List ServedRow) (i : ℕ) → IsIndex index keys (channels_in rows) → i < length rows → IsIndex index (remove keys i) (channels_in (remove rows i))
 index-without index keys rows i is inside = subst (IsIndex index (remove keys i)) (sym (channels-without rows i)) (record {
-  long = (let same = is.long in omega (arith, same, fewer, fewer-keys, as_long));
+  long = (let same = is.long in omega (arith, same, fewer, fewer-keys, as-long));
   apart = apart-left keys i within is.apart;
   leads = λ k d below. left k d below (cases_lt k i);
 }) where
-  as_long : length (channels_in rows) ≡ length rows
-  as_long = length-map rows channel_in
+  as-long : length (channels_in rows) ≡ length rows
+  as-long = length-map rows channel_in
 
   within : i < length keys
-  within = (let same = is.long in omega (arith, same, as_long, inside))
+  within = (let same = is.long in omega (arith, same, as-long, inside))
 
   fewer : length (remove (channels_in rows) i) + 1 ≡ length rows
-  fewer = (let less = length-remove (channels_in rows) i (omega (arith, as_long, inside)) in omega (arith, less, as_long, inside))
+  fewer = (let less = length-remove (channels_in rows) i (omega (arith, as-long, inside)) in omega (arith, less, as-long, inside))
 
   fewer-keys : length (remove keys i) + 1 ≡ length keys
   fewer-keys = (let less = length-remove keys i within in omega (arith, less, within))
 
   left : (k d : ℕ) → k < length (remove (channels_in rows) i) → (k < i) ⊎ (i ≤ k) → LeadsTo index (get_or (remove (channels_in rows) i) k d) (get_or (remove keys i) k 0)
   left k d below (inl before) =
-      subst (λ n. LeadsTo index n (get_or (remove keys i) k 0)) (sym (get_or-remove_below (channels_in rows) i d k before (omega (arith, as_long, inside))))
-      (subst (LeadsTo index (get_or (channels_in rows) k d)) (sym (get_or-remove_below keys i 0 k before within)) (is.leads k d (omega (arith, below, fewer, as_long))))
+      subst (λ n. LeadsTo index n (get_or (remove keys i) k 0)) (sym (get_or-remove_below (channels_in rows) i d k before (omega (arith, as-long, inside))))
+      (subst (LeadsTo index (get_or (channels_in rows) k d)) (sym (get_or-remove_below keys i 0 k before within)) (is.leads k d (omega (arith, below, fewer, as-long))))
   left k d below (inr past) =
-      subst (λ n. LeadsTo index n (get_or (remove keys i) k 0)) (sym (get_or-remove_above (channels_in rows) i d k past (omega (arith, as_long, inside))))
-      (subst (LeadsTo index (get_or (channels_in rows) (k + 1) d)) (sym (get_or-remove_above keys i 0 k past within)) (is.leads (k + 1) d (omega (arith, below, fewer, as_long))))
+      subst (λ n. LeadsTo index n (get_or (remove keys i) k 0)) (sym (get_or-remove_above (channels_in rows) i d k past (omega (arith, as-long, inside))))
+      (subst (LeadsTo index (get_or (channels_in rows) (k + 1) d)) (sym (get_or-remove_above keys i 0 k past within)) (is.leads (k + 1) d (omega (arith, below, fewer, as-long))))

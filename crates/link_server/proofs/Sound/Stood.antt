@@ -3,7 +3,7 @@
 use Rattle.std.proofs.Common.{◌≡◌, ℕ, zero, suc, ◌+◌, ◌*◌, ◌^◌, ◌<◌, ◌≤◌, List, [], ◌∷◌, length, map, take, ⊎_elim, sym, ap, subst, arith}
 use Rattle.std.proofs.Math.Nat.{mul-le-mul_right}
 use Rattle.std.proofs.lemmas.Bool.{cases_lt}
-use Rattle.net_units.proofs.BoundsInOrder.{bound_least}
+use Rattle.net_units.proofs.BoundsInOrder.{bound-least}
 use Rattle.link_server.proofs.Words.{level_number, total, newest, Ask, Phase, Tentative, Committed, Closing, Reply, Offer, LinkShape, AskFits, ReserveFits, Each, Reservation, clock_of, scan_of, whole, LinkState, Offered, Wanted, kept_in}
 use Rattle.traffic_contract.proofs.LoadLimits.{most_in-some}
 use Rattle.traffic_contract.specs.Contract.{IsContract, most_in, burst_of}
@@ -90,9 +90,9 @@ newest-stood shape k early stood =
 
 -- each keeps a unit
 stay-some : (shape : LinkShape) (terms : Reservation) (phase : Phase) → level_number terms.level ≤ length shape.bounds → level_number terms.reach ≤ length shape.bounds → 1 ≤ stay_in phase shape.bounds terms
-stay-some shape terms Tentative level reach = omega (arith, bound_least shape.bounds (level_number terms.reach) shape.bounds_rise terms.reach.least reach)
-stay-some shape terms Committed level reach = omega (arith, bound_least shape.bounds (level_number terms.level) shape.bounds_rise terms.level.least level)
-stay-some shape terms Closing level reach = omega (arith, bound_least shape.bounds (level_number terms.level) shape.bounds_rise terms.level.least level)
+stay-some shape terms Tentative level reach = omega (arith, bound-least shape.bounds (level_number terms.reach) shape.bounds_rise terms.reach.least reach)
+stay-some shape terms Committed level reach = omega (arith, bound-least shape.bounds (level_number terms.level) shape.bounds_rise terms.level.least level)
+stay-some shape terms Closing level reach = omega (arith, bound-least shape.bounds (level_number terms.level) shape.bounds_rise terms.level.least level)
 
 -- so a reservation keeps a unit
 units-some : (shape : LinkShape) (terms : Reservation) → IsContract terms.contract → level_number terms.level ≤ length shape.bounds → level_number terms.reach ≤ length shape.bounds → 1 ≤ kept_units shape.bounds terms

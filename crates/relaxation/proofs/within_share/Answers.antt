@@ -4,12 +4,12 @@ use Rattle.net_units.specs.Numbers.{level_number}
 use Rattle.net_units.specs.LevelBounds.{bound_at, levels_within}
 use Rattle.net_units.proofs.BoundsInOrder.{bound_at-rising}
 use Rattle.relaxation.specs.Allotment.{capped}
-use Rattle.relaxation.proofs.HopAllotment.{up_to-least, relaxed_level}
+use Rattle.relaxation.proofs.HopAllotment.{up_to-least, relaxed-level}
 use Rattle.relaxation.proofs.within_share.Goals as goal
 
 pub returns-clause-least : goal.returns-clause-least
 returns-clause-least c =
-    let fits = relaxed_level c.args.limit c.args.offer.now.hop (level_number c.args.offer.now.level) c.args.share c.bound_of.ensures.valid c.requires.level c.requires.limit in
+    let fits = relaxed-level c.args.limit c.args.offer.now.hop (level_number c.args.offer.now.level) c.args.share c.bound_of.ensures.valid c.requires.level c.requires.limit in
     let far = c.cut-within.ensures ∙ ap (λ b. capped c.args.limit (b + c.args.share)) c.bound_of.ensures.value in
     rw (c.in-Some.ensures.value ∙ ap (levels_within c.args.offer.now.hop.bounds) far) fits.no_sooner
 

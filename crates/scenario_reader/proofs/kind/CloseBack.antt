@@ -8,39 +8,39 @@ use Rattle.scenario_reader.specs.Drafts.{Said, own_request}
 use Rattle.scenario_reader.specs.Forms.{has_form, used_name_rule}
 use Rattle.scenario_reader.specs.line.Using.{is_closed_request}
 use Rattle.scenario_reader.specs.line.Close.{close_form, close_rule, close_said, close_fields}
-use Rattle.scenario_reader.proofs.RulesBack.{pass_all, used_name_back, stated_back}
-use Rattle.scenario_reader.proofs.kind.UsingBack.{IsOpenHere, not_closed}
+use Rattle.scenario_reader.proofs.RulesBack.{pass-all, used-name-back, stated-back}
+use Rattle.scenario_reader.proofs.kind.UsingBack.{IsOpenHere, not-closed}
 use Rattle.net_units.specs.Text.{is_name}
 use Rattle.scenario_reader.specs.Fields.{are_fields}
-use Rattle.scenario_reader.proofs.FieldText.{name_field}
+use Rattle.scenario_reader.proofs.FieldText.{name-field}
 use Rattle.std.proofs.lemmas.Bool.{and_from}
 use Rattle.call_script.specs.Growing.{add_op}
 use Rattle.call_script.specs.declared.entries.CallerEntry.{CallerEntry}
 use Rattle.call_script.specs.declared.entries.LinkEntry.{LinkEntry}
 use Rattle.call_script.specs.declared.version.Version.{Version}
-use Rattle.scenario_reader.proofs.SaysBack.{judged_as, Reads, reads_one, front, not_none}
+use Rattle.scenario_reader.proofs.SaysBack.{judged-as, Reads, reads-one, front, not-none}
 use Rattle.call_script.specs.declared.operations.Op.TheVariants as op
 use Rattle.scenario_reader.specs.declared.cause.Cause.TheVariants as cause
 use Rattle.scenario_reader.specs.declared.form.Keyword.TheVariants as word
 use Rattle.scenario_reader.specs.declared.item.Item.TheVariants as item
 
-pub close_back : (said : Said) (chan : ChanNo) (entry : RequestEntry) → IsOpenHere said chan entry → close_rule said (close_fields entry) ≡ None
-close_back said chan entry is =
+pub close-back : (said : Said) (chan : ChanNo) (entry : RequestEntry) → IsOpenHere said chan entry → close_rule said (close_fields entry) ≡ None
+close-back said chan entry is =
     let fields = close_fields entry in
-    pass_all (unless (has_form close_form fields) cause.Shape ∷ used_name_rule (is_some (own_request said entry.name)) entry.name ∷ unless (not (is_closed_request said (own_request said entry.name))) cause.Closed ∷ [])
-    (refl, (used_name_back (is_some (own_request said entry.name)) entry.name is.name (ap is_some is.own), (not_closed said chan entry is, tt)))
+    pass-all (unless (has_form close_form fields) cause.Shape ∷ used_name_rule (is_some (own_request said entry.name)) entry.name ∷ unless (not (is_closed_request said (own_request said entry.name))) cause.Closed ∷ [])
+    (refl, (used-name-back (is_some (own_request said entry.name)) entry.name is.name (ap is_some is.own), (not-closed said chan entry is, tt)))
 
-pub close_says : (said : Said) (chan : ChanNo) (entry : RequestEntry) → IsOpenHere said chan entry → close_said said (close_fields entry) ≡ Some (op.Close chan)
-close_says said chan entry is = rw is.own (ap (λ (c : ChanNo). Some (op.Close c)) (sym is.same))
+pub close-says : (said : Said) (chan : ChanNo) (entry : RequestEntry) → IsOpenHere said chan entry → close_said said (close_fields entry) ≡ Some (op.Close chan)
+close-says said chan entry is = rw is.own (ap (λ (c : ChanNo). Some (op.Close c)) (sym is.same))
 
-pub close_is_line : (entry : RequestEntry) → is_name entry.name ≡ true → are_fields (close_fields entry) ≡ true
-close_is_line entry is = rw (name_field entry.name is) refl
+pub close-is-line : (entry : RequestEntry) → is_name entry.name ≡ true → are_fields (close_fields entry) ≡ true
+close-is-line entry is = rw (name-field entry.name is) refl
 
-pub close_read : (version : Version) (links : List LinkEntry) (groups : List (List ℕ)) (requests : List RequestEntry) (callers : List CallerEntry) (chan : ChanNo) (entry : RequestEntry) → 1 ≤ length callers → IsOpenHere (front version links groups requests callers) chan entry
+pub close-read : (version : Version) (links : List LinkEntry) (groups : List (List ℕ)) (requests : List RequestEntry) (callers : List CallerEntry) (chan : ChanNo) (entry : RequestEntry) → 1 ≤ length callers → IsOpenHere (front version links groups requests callers) chan entry
     → Reads (close_fields entry ∷ []) (front version links groups requests callers) (front version links groups requests (add_op (op.Close chan) callers))
-close_read version links groups requests callers chan entry some is =
+close-read version links groups requests callers chan entry some is =
     let said = front version links groups requests callers in
-    let line = close_is_line entry is.name in
-    reads_one (close_fields entry) said (item.Op (op.Close chan)) line (λ number.
-    judged_as version said number (close_fields entry) word.Close (item.Op (op.Close chan)) line refl refl refl (and_from (not (nat_eq (length callers) 0)) true (not_none callers some) refl)
-    (stated_back (close_rule said (close_fields entry)) (option_map item.Op (close_said said (close_fields entry))) (item.Op (op.Close chan)) (close_back said chan entry is) (ap (option_map item.Op) (close_says said chan entry is))))
+    let line = close-is-line entry is.name in
+    reads-one (close_fields entry) said (item.Op (op.Close chan)) line (λ number.
+    judged-as version said number (close_fields entry) word.Close (item.Op (op.Close chan)) line refl refl refl (and_from (not (nat_eq (length callers) 0)) true (not-none callers some) refl)
+    (stated-back (close_rule said (close_fields entry)) (option_map item.Op (close_said said (close_fields entry))) (item.Op (op.Close chan)) (close-back said chan entry is) (ap (option_map item.Op) (close-says said chan entry is))))

@@ -11,21 +11,21 @@ use Rattle.scenario_reader.specs.line.Using.{is_closed_request}
 use Rattle.scenario_reader.specs.line.Close.{close_form, close_rule, close_of, close_said}
 use Rattle.scenario_reader.specs.Kept.{IsDraft}
 use Rattle.scenario_reader.specs.line.Operation.{MayPutOp}
-use Rattle.scenario_reader.proofs.ReadBefore.{longer_than_none, linked_by}
-use Rattle.scenario_reader.proofs.PassingLines.{all_pass, made_some}
-use Rattle.scenario_reader.proofs.kind.UsingMay.{opened_channel}
+use Rattle.scenario_reader.proofs.ReadBefore.{longer-than-none, linked-by}
+use Rattle.scenario_reader.proofs.PassingLines.{all-pass, made-some}
+use Rattle.scenario_reader.proofs.kind.UsingMay.{opened-channel}
 use Rattle.scenario_reader.specs.declared.cause.Cause.TheVariants as cause
 
-pub close_may : (version : Version) (said : Said) (fields : List (List ℕ)) (what : Op) → IsDraft said → said.version ≡ Some version
+pub close-may : (version : Version) (said : Said) (fields : List (List ℕ)) (what : Op) → IsDraft said → said.version ≡ Some version
     → (not (nat_eq (length said.callers) 0) && is_none said.rounds) ≡ true → close_rule said fields ≡ None → close_said said fields ≡ Some what → MayPutOp said what
-close_may version said fields what draft v stands rule says =
-    let p = all_pass (unless (has_form close_form fields) cause.Shape ∷ used_name_rule (is_some (own_request said (field_at fields 1))) (field_at fields 1)
+close-may version said fields what draft v stands rule says =
+    let p = all-pass (unless (has_form close_form fields) cause.Shape ∷ used_name_rule (is_some (own_request said (field_at fields 1))) (field_at fields 1)
     ∷ unless (not (is_closed_request said (own_request said (field_at fields 1)))) cause.Closed ∷ []) rule in
     let may = and_parts (not (nat_eq (length said.callers) 0)) (is_none said.rounds) stands in
-    let some = longer_than_none said.callers may.0 in
-    let made = made_some close_of (own_request said (field_at fields 1)) what says in
+    let some = longer-than-none said.callers may.0 in
+    let made = made-some close_of (own_request said (field_at fields 1)) what says in
     subst (MayPutOp said) made.2 (record {
-      before = linked_by version said draft v may.0 may.1;
+      before = linked-by version said draft v may.0 may.1;
       some = some;
-      op = opened_channel said (field_at fields 1) made.0 draft some made.1 p.1.1.0;
+      op = opened-channel said (field_at fields 1) made.0 draft some made.1 p.1.1.0;
     })

@@ -6,7 +6,7 @@ use Rattle.std.proofs.lemmas.List.{drop_all, length-map}
 use Rattle.net_units.specs.Numbers.{link_number, link_at}
 use Rattle.net_units.specs.Quotient.{ceil_quotient}
 use Rattle.net_units.specs.LevelBounds.{bound_at}
-use Rattle.net_units.proofs.BoundsInOrder.{AreBounds, bounds_parts}
+use Rattle.net_units.proofs.BoundsInOrder.{AreBounds, bounds-parts}
 use Rattle.traffic_contract.specs.declared.admission.Test.{Test}
 use Rattle.traffic_contract.specs.declared.admission.Test.TheVariants.{Whole, Least}
 use Rattle.call_script.specs.Rules.{link_has_version, link_names}
@@ -21,12 +21,12 @@ use Rattle.scenario_reader.specs.Entries.{LinkNumbers, has_bounds, shape_of}
 use Rattle.scenario_reader.specs.Fields.{field_at, are_fields}
 use Rattle.scenario_reader.specs.Forms.{is_among, has_form, name_rule, new_name_rule, number_rule}
 use Rattle.scenario_reader.specs.line.Link.{is_link_line, bound_fields, best_in, link_numbers, link_numbers_rule, best_rule, bound_numbers_rule, link_fields_rule, link_rule, link_said, bounds_fields, link_fields, best_fields}
-use Rattle.scenario_reader.proofs.ShapeOfNumbers.{link_is, shape_is}
-use Rattle.scenario_reader.proofs.NumberText.{value-decimal, decimal_passes, decimals_pass, values-decimals}
-use Rattle.scenario_reader.proofs.RulesBack.{pass_all, unless_holds, name_back, new_name_back, stated_back}
-use Rattle.scenario_reader.proofs.FieldText.{name_field, number_field}
-use Rattle.scenario_reader.proofs.LineFields.{both_fields, numbers_fields}
-use Rattle.scenario_reader.proofs.SaysBack.{judged_as, Reads, reads_one, front}
+use Rattle.scenario_reader.proofs.ShapeOfNumbers.{link-is, shape-is}
+use Rattle.scenario_reader.proofs.NumberText.{value-decimal, decimal-passes, decimals-pass, values-decimals}
+use Rattle.scenario_reader.proofs.RulesBack.{pass-all, unless-holds, name-back, new-name-back, stated-back}
+use Rattle.scenario_reader.proofs.FieldText.{name-field, number-field}
+use Rattle.scenario_reader.proofs.LineFields.{both-fields, numbers-fields}
+use Rattle.scenario_reader.proofs.SaysBack.{judged-as, Reads, reads-one, front}
 use Rattle.scenario_reader.specs.declared.cause.Cause.TheVariants as cause
 use Rattle.scenario_reader.specs.declared.form.Part.TheVariants as part
 use Rattle.scenario_reader.specs.declared.form.Keyword.TheVariants as word
@@ -46,27 +46,27 @@ record IsBehind (version : Version) (entry : LinkEntry) (rest : List (List ℕ))
   best_passes : best_rule (front_with entry rest) ≡ None
 
 -- 1 to 8 bounds end a link line
-pub bounds_form : (fs : List (List ℕ)) → 1 ≤ length fs → length fs ≤ 8 → has_form (part.Bounds ∷ []) fs ≡ true
-bounds_form fs least most = rw (le-leb 1 (length fs) least, le-leb (length fs) 8 most) (ap (λ gs. has_form [] gs) (drop_all (length fs) fs (omega arith)))
+pub bounds-form : (fs : List (List ℕ)) → 1 ≤ length fs → length fs ≤ 8 → has_form (part.Bounds ∷ []) fs ≡ true
+bounds-form fs least most = rw (le-leb 1 (length fs) least, le-leb (length fs) 8 most) (ap (λ gs. has_form [] gs) (drop_all (length fs) fs (omega arith)))
 
-pub entry_bounds : (entry : LinkEntry) → AreBounds entry.shape.bounds
-entry_bounds entry = bounds_parts entry.shape.bounds entry.shape.bounds_rise
+pub entry-bounds : (entry : LinkEntry) → AreBounds entry.shape.bounds
+entry-bounds entry = bounds-parts entry.shape.bounds entry.shape.bounds_rise
 
-bounds_end : (entry : LinkEntry) → has_form (part.Bounds ∷ []) (map decimal entry.shape.bounds) ≡ true
-bounds_end entry =
-    let b = entry_bounds entry in
+bounds-end : (entry : LinkEntry) → has_form (part.Bounds ∷ []) (map decimal entry.shape.bounds) ≡ true
+bounds-end entry =
+    let b = entry-bounds entry in
     let count = length-map entry.shape.bounds decimal in
-    bounds_form (map decimal entry.shape.bounds) (omega (arith, b.least)) (omega (arith, b.most))
+    bounds-form (map decimal entry.shape.bounds) (omega (arith, b.least)) (omega (arith, b.most))
 
-plain_after : (version : Version) (entry : LinkEntry) → entry.shape.best ≡ 0 → IsBehind version entry (bounds_fields entry.shape.bounds)
-plain_after version entry none = record { form = rw (bounds_end entry) refl; bounds = refl; best = sym none; best_passes = refl }
+plain-after : (version : Version) (entry : LinkEntry) → entry.shape.best ≡ 0 → IsBehind version entry (bounds_fields entry.shape.bounds)
+plain-after version entry none = record { form = rw (bounds-end entry) refl; bounds = refl; best = sym none; best_passes = refl }
 
-best_after : (version : Version) (entry : LinkEntry) → has_best_effort version ≡ true → 1 ≤ entry.shape.best → IsBehind version entry (codes "best" ∷ decimal entry.shape.best ∷ bounds_fields entry.shape.bounds)
-best_after version entry has some = record {
-  form = rw (has, bounds_end entry) refl;
+best-after : (version : Version) (entry : LinkEntry) → has_best_effort version ≡ true → 1 ≤ entry.shape.best → IsBehind version entry (codes "best" ∷ decimal entry.shape.best ∷ bounds_fields entry.shape.bounds)
+best-after version entry has some = record {
+  form = rw (has, bounds-end entry) refl;
   bounds = refl;
   best = value-decimal entry.shape.best (omega (arith, entry.shape.best_most));
-  best_passes = decimal_passes 1 1024 entry.shape.best some entry.shape.best_most (omega arith);
+  best_passes = decimal-passes 1 1024 entry.shape.best some entry.shape.best_most (omega arith);
 }
 
 -- ---- what the line says
@@ -74,10 +74,10 @@ best_after version entry has some = record {
 numbers_of : LinkEntry → LinkNumbers
 numbers_of entry = record { rate = entry.shape.rate; cap = entry.shape.cap; prop = entry.shape.prop; buffer = entry.shape.buffer; best = entry.shape.best; bounds = entry.shape.bounds }
 
-numbers_again : (version : Version) (entry : LinkEntry) (rest : List (List ℕ)) → IsBehind version entry rest → link_numbers (front_with entry rest) ≡ numbers_of entry
+numbers-again : (version : Version) (entry : LinkEntry) (rest : List (List ℕ)) → IsBehind version entry rest → link_numbers (front_with entry rest) ≡ numbers_of entry
 unfolding numbers_of
-numbers_again version entry rest after =
-    let b = entry_bounds entry in
+numbers-again version entry rest after =
+    let b = entry-bounds entry in
     let rate = value-decimal entry.shape.rate (omega (arith, entry.shape.rate_most)) in
     let cap = value-decimal entry.shape.cap (omega (arith, entry.shape.cap_most)) in
     let prop = value-decimal entry.shape.prop (omega (arith, entry.shape.prop_most)) in
@@ -85,24 +85,24 @@ numbers_again version entry rest after =
     let bounds = values-decimals entry.shape.bounds (λ i h. let from = b.each i h in omega (arith, from)) in
     rw (rate, cap, prop, buffer, after.best, after.bounds, bounds) refl
 
-has_its_bounds : (entry : LinkEntry) → has_bounds (numbers_of entry) ≡ true
+has-its-bounds : (entry : LinkEntry) → has_bounds (numbers_of entry) ≡ true
 unfolding numbers_of
-has_its_bounds entry = rw (entry.shape.bounds_rise, le-leb (ceil_quotient entry.shape.cap entry.shape.rate) (bound_at entry.shape.bounds 1) entry.shape.blocking_fits) refl
+has-its-bounds entry = rw (entry.shape.bounds_rise, le-leb (ceil_quotient entry.shape.cap entry.shape.rate) (bound_at entry.shape.bounds 1) entry.shape.blocking_fits) refl
 
-same_test : (a b : Test) → is_test a b ≡ true → b ≡ a
-same_test Whole Whole e = refl
-same_test Whole Least e = cc
-same_test Least Whole e = cc
-same_test Least Least e = refl
+same-test : (a b : Test) → is_test a b ≡ true → b ≡ a
+same-test Whole Whole e = refl
+same-test Whole Least e = cc
+same-test Least Whole e = cc
+same-test Least Least e = refl
 
-its_shape : (version : Version) (n : ℕ) (entry : LinkEntry) → n < 32 → link_number entry.shape.link ≡ n → is_test (test_of version) entry.shape.test ≡ true → shape_of (link_at n) (test_of version) (numbers_of entry) ≡ Some entry.shape
+its-shape : (version : Version) (n : ℕ) (entry : LinkEntry) → n < 32 → link_number entry.shape.link ≡ n → is_test (test_of version) entry.shape.test ≡ true → shape_of (link_at n) (test_of version) (numbers_of entry) ≡ Some entry.shape
 unfolding numbers_of
-its_shape version n entry few number test =
-    shape_is (link_at n) (test_of version) (numbers_of entry) entry.shape
+its-shape version n entry few number test =
+    shape-is (link_at n) (test_of version) (numbers_of entry) entry.shape
     (rw (le-leb 1 entry.shape.rate entry.shape.rate_least, le-leb entry.shape.rate 65536 entry.shape.rate_most, le-leb 1 entry.shape.cap entry.shape.cap_least, le-leb entry.shape.cap 65536 entry.shape.cap_most) refl)
     (rw (le-leb entry.shape.prop 1048576 entry.shape.prop_most, le-leb entry.shape.buffer 262144 entry.shape.buffer_most, le-leb entry.shape.best 1024 entry.shape.best_most) refl)
-    (has_its_bounds entry)
-    (record { link_is = link_is entry.shape.link n few number; rate_is = refl; cap_is = refl; prop_is = refl; buffer_is = refl; bounds_are = refl; test_is = same_test (test_of version) entry.shape.test test; best_is = refl })
+    (has-its-bounds entry)
+    (record { link_is = link-is entry.shape.link n few number; rate_is = refl; cap_is = refl; prop_is = refl; buffer_is = refl; bounds_are = refl; test_is = same-test (test_of version) entry.shape.test test; best_is = refl })
 
 -- ---- the line passes
 
@@ -115,28 +115,28 @@ pub record IsNextLink (version : Version) (links : List LinkEntry) (entry : Link
   pub number : link_number entry.shape.link ≡ length links
   pub unsplit : entry.quotas ≡ []
 
-line_passes : (version : Version) (said : Said) (entry : LinkEntry) (rest : List (List ℕ)) → IsBehind version entry rest → IsNextLink version said.links entry → link_rule version said (front_with entry rest) ≡ None
-line_passes version said entry rest after is =
+line-passes : (version : Version) (said : Said) (entry : LinkEntry) (rest : List (List ℕ)) → IsBehind version entry rest → IsNextLink version said.links entry → link_rule version said (front_with entry rest) ≡ None
+line-passes version said entry rest after is =
     let fields = front_with entry rest in
-    let b = entry_bounds entry in
-    let numbers = pass_all (number_rule 1 65536 (field_at fields 5) ∷ number_rule 1 65536 (field_at fields 7) ∷ number_rule 0 1048576 (field_at fields 9) ∷ number_rule 0 262144 (field_at fields 11) ∷ []) (
-      decimal_passes 1 65536 entry.shape.rate entry.shape.rate_least entry.shape.rate_most (omega arith),
+    let b = entry-bounds entry in
+    let numbers = pass-all (number_rule 1 65536 (field_at fields 5) ∷ number_rule 1 65536 (field_at fields 7) ∷ number_rule 0 1048576 (field_at fields 9) ∷ number_rule 0 262144 (field_at fields 11) ∷ []) (
+      decimal-passes 1 65536 entry.shape.rate entry.shape.rate_least entry.shape.rate_most (omega arith),
       (
-        decimal_passes 1 65536 entry.shape.cap entry.shape.cap_least entry.shape.cap_most (omega arith),
-        (decimal_passes 0 1048576 entry.shape.prop (omega arith) entry.shape.prop_most (omega arith), (decimal_passes 0 262144 entry.shape.buffer (omega arith) entry.shape.buffer_most (omega arith), tt)),
+        decimal-passes 1 65536 entry.shape.cap entry.shape.cap_least entry.shape.cap_most (omega arith),
+        (decimal-passes 0 1048576 entry.shape.prop (omega arith) entry.shape.prop_most (omega arith), (decimal-passes 0 262144 entry.shape.buffer (omega arith) entry.shape.buffer_most (omega arith), tt)),
       ),
     ) in
-    let bounds = ap bound_numbers_rule after.bounds ∙ decimals_pass 1 1048576 entry.shape.bounds b.each (omega arith) in
-    let left = pass_all (new_name_rule (link_names said.links) (field_at fields 1) ∷ name_rule (field_at fields 2) ∷ name_rule (field_at fields 3) ∷ link_numbers_rule fields ∷ best_rule fields ∷ bound_numbers_rule (bound_fields fields) ∷ [])
-    (new_name_back (link_names said.links) entry.name is.named.name is.new, (name_back entry.from is.named.from, (name_back entry.to is.named.to, (numbers, (after.best_passes, (bounds, tt)))))) in
-    let levels : has_bounds (link_numbers (front_with entry rest)) ≡ true = ap has_bounds (numbers_again version entry rest after) ∙ has_its_bounds entry in
-    pass_all (unless (is_link_line version fields) cause.Shape ∷ link_fields_rule said fields ∷ unless (nat_lt (length said.links) 32) cause.Many ∷ unless (has_bounds (link_numbers fields)) cause.Levels ∷ [])
-    (unless_holds (is_link_line version fields) cause.Shape after.form, (left, (unless_holds (nat_lt (length said.links) 32) cause.Many (lt-ltb (length said.links) 32 is.few), (unless_holds (has_bounds (link_numbers fields)) cause.Levels levels, tt))))
+    let bounds = ap bound_numbers_rule after.bounds ∙ decimals-pass 1 1048576 entry.shape.bounds b.each (omega arith) in
+    let left = pass-all (new_name_rule (link_names said.links) (field_at fields 1) ∷ name_rule (field_at fields 2) ∷ name_rule (field_at fields 3) ∷ link_numbers_rule fields ∷ best_rule fields ∷ bound_numbers_rule (bound_fields fields) ∷ [])
+    (new-name-back (link_names said.links) entry.name is.named.name is.new, (name-back entry.from is.named.from, (name-back entry.to is.named.to, (numbers, (after.best_passes, (bounds, tt)))))) in
+    let levels : has_bounds (link_numbers (front_with entry rest)) ≡ true = ap has_bounds (numbers-again version entry rest after) ∙ has-its-bounds entry in
+    pass-all (unless (is_link_line version fields) cause.Shape ∷ link_fields_rule said fields ∷ unless (nat_lt (length said.links) 32) cause.Many ∷ unless (has_bounds (link_numbers fields)) cause.Levels ∷ [])
+    (unless-holds (is_link_line version fields) cause.Shape after.form, (left, (unless-holds (nat_lt (length said.links) 32) cause.Many (lt-ltb (length said.links) 32 is.few), (unless-holds (has_bounds (link_numbers fields)) cause.Levels levels, tt))))
 
-line_says : (version : Version) (said : Said) (entry : LinkEntry) (rest : List (List ℕ)) → IsBehind version entry rest → IsNextLink version said.links entry → link_said version said (front_with entry rest) ≡ Some entry
-line_says version said entry rest after is =
+line-says : (version : Version) (said : Said) (entry : LinkEntry) (rest : List (List ℕ)) → IsBehind version entry rest → IsNextLink version said.links entry → link_said version said (front_with entry rest) ≡ Some entry
+line-says version said entry rest after is =
     let test = (and_parts (is_test (test_of version) entry.shape.test) _ is.kept).0 in
-    let shape = ap (shape_of (link_at (length said.links)) (test_of version)) (numbers_again version entry rest after) ∙ its_shape version (length said.links) entry is.few is.number test in
+    let shape = ap (shape_of (link_at (length said.links)) (test_of version)) (numbers-again version entry rest after) ∙ its-shape version (length said.links) entry is.few is.number test in
     rw shape (ap (λ (quotas : List Quota). Some (record { name = entry.name; from = entry.from; to = entry.to; shape = entry.shape; quotas = quotas })) (sym is.unsplit))
 
 -- ---- both
@@ -145,49 +145,49 @@ pub record IsRead (version : Version) (said : Said) (entry : LinkEntry) : Type 0
   pub passes : link_rule version said (link_fields entry) ≡ None
   pub says : link_said version said (link_fields entry) ≡ Some entry
 
-pub link_back : (version : Version) (said : Said) (entry : LinkEntry) → IsNextLink version said.links entry → IsRead version said entry
-link_back version said entry is = by (nat_eq entry.shape.best 0) refl where
+pub link-back : (version : Version) (said : Said) (entry : LinkEntry) → IsNextLink version said.links entry → IsRead version said entry
+link-back version said entry is = by (nat_eq entry.shape.best 0) refl where
   both : (rest : List (List ℕ)) → IsBehind version entry rest → link_fields entry ≡ front_with entry rest → IsRead version said entry
-  both rest after same = record { passes = ap (link_rule version said) same ∙ line_passes version said entry rest after is; says = ap (link_said version said) same ∙ line_says version said entry rest after is }
+  both rest after same = record { passes = ap (link_rule version said) same ∙ line-passes version said entry rest after is; says = ap (link_said version said) same ∙ line-says version said entry rest after is }
 
   effort : (b : Bool) → (if b then true else nat_eq entry.shape.best 0) ≡ true → nat_eq entry.shape.best 0 ≡ false → b ≡ true
   effort true e f = refl
   effort false e f = cc
 
   by : (none : Bool) → nat_eq entry.shape.best 0 ≡ none → IsRead version said entry
-  by true e = both (bounds_fields entry.shape.bounds) (plain_after version entry (eqb-true entry.shape.best 0 e)) (rw e refl)
+  by true e = both (bounds_fields entry.shape.bounds) (plain-after version entry (eqb-true entry.shape.best 0 e)) (rw e refl)
   by false e =
       let has = effort (has_best_effort version) (and_parts (is_test (test_of version) entry.shape.test) _ is.kept).1 e in
       let some : 1 ≤ entry.shape.best = (let other = eqb-false entry.shape.best 0 e in omega (arith, other)) in
-      both (codes "best" ∷ decimal entry.shape.best ∷ bounds_fields entry.shape.bounds) (best_after version entry has some) (rw e refl)
+      both (codes "best" ∷ decimal entry.shape.best ∷ bounds_fields entry.shape.bounds) (best-after version entry has some) (rw e refl)
 
-best_is_fields : (best : ℕ) (none : Bool) → best ≤ 1024 → are_fields (if none then [] else codes "best" ∷ decimal best ∷ []) ≡ true
-best_is_fields best true few = refl
-best_is_fields best false few = rw (number_field best (omega (arith, few))) refl
+best-is-fields : (best : ℕ) (none : Bool) → best ≤ 1024 → are_fields (if none then [] else codes "best" ∷ decimal best ∷ []) ≡ true
+best-is-fields best true few = refl
+best-is-fields best false few = rw (number-field best (omega (arith, few))) refl
 
-pub link_is_line : (entry : LinkEntry) → HasNames entry → are_fields (link_fields entry) ≡ true
-link_is_line entry named =
-    let b = bounds_parts entry.shape.bounds entry.shape.bounds_rise in
-    let bounds : are_fields (bounds_fields entry.shape.bounds) ≡ true = numbers_fields entry.shape.bounds (λ i h. let each = b.each i h in omega (arith, each)) in
-    let after = both_fields (best_fields entry.shape.best) (bounds_fields entry.shape.bounds) (best_is_fields entry.shape.best (nat_eq entry.shape.best 0) entry.shape.best_most) bounds in
-    both_fields (codes "link" ∷ entry.name ∷ entry.from ∷ entry.to ∷ codes "rate" ∷ decimal entry.shape.rate ∷ codes "cap" ∷ decimal entry.shape.cap ∷ codes "prop" ∷ decimal entry.shape.prop ∷ codes "buffer" ∷ decimal entry.shape.buffer ∷ [])
+pub link-is-line : (entry : LinkEntry) → HasNames entry → are_fields (link_fields entry) ≡ true
+link-is-line entry named =
+    let b = bounds-parts entry.shape.bounds entry.shape.bounds_rise in
+    let bounds : are_fields (bounds_fields entry.shape.bounds) ≡ true = numbers-fields entry.shape.bounds (λ i h. let each = b.each i h in omega (arith, each)) in
+    let after = both-fields (best_fields entry.shape.best) (bounds_fields entry.shape.bounds) (best-is-fields entry.shape.best (nat_eq entry.shape.best 0) entry.shape.best_most) bounds in
+    both-fields (codes "link" ∷ entry.name ∷ entry.from ∷ entry.to ∷ codes "rate" ∷ decimal entry.shape.rate ∷ codes "cap" ∷ decimal entry.shape.cap ∷ codes "prop" ∷ decimal entry.shape.prop ∷ codes "buffer" ∷ decimal entry.shape.buffer ∷ [])
     (best_fields entry.shape.best ++ bounds_fields entry.shape.bounds)
     (rw (
-      name_field entry.name named.name,
-      name_field entry.from named.from,
-      name_field entry.to named.to,
-      number_field entry.shape.rate (omega (arith, entry.shape.rate_most)),
-      number_field entry.shape.cap (omega (arith, entry.shape.cap_most)),
-      number_field entry.shape.prop (omega (arith, entry.shape.prop_most)),
-      number_field entry.shape.buffer (omega (arith, entry.shape.buffer_most)),
+      name-field entry.name named.name,
+      name-field entry.from named.from,
+      name-field entry.to named.to,
+      number-field entry.shape.rate (omega (arith, entry.shape.rate_most)),
+      number-field entry.shape.cap (omega (arith, entry.shape.cap_most)),
+      number-field entry.shape.prop (omega (arith, entry.shape.prop_most)),
+      number-field entry.shape.buffer (omega (arith, entry.shape.buffer_most)),
     ) refl)
     after
 
-pub link_read : (version : Version) (links : List LinkEntry) (entry : LinkEntry) → IsNextLink version links entry → Reads (link_fields entry ∷ []) (front version links [] [] []) (front version (links ++ entry ∷ []) [] [] [])
-link_read version links entry is =
+pub link-read : (version : Version) (links : List LinkEntry) (entry : LinkEntry) → IsNextLink version links entry → Reads (link_fields entry ∷ []) (front version links [] [] []) (front version (links ++ entry ∷ []) [] [] [])
+link-read version links entry is =
     let said = front version links [] [] [] in
-    let back = link_back version said entry is in
-    let are = link_is_line entry is.named in
-    reads_one (link_fields entry) said (item.Link entry) are (λ number.
-    judged_as version said number (link_fields entry) word.Link (item.Link entry) are refl refl refl refl
-    (stated_back (link_rule version said (link_fields entry)) (option_map item.Link (link_said version said (link_fields entry))) (item.Link entry) back.passes (ap (option_map item.Link) back.says)))
+    let back = link-back version said entry is in
+    let are = link-is-line entry is.named in
+    reads-one (link_fields entry) said (item.Link entry) are (λ number.
+    judged-as version said number (link_fields entry) word.Link (item.Link entry) are refl refl refl refl
+    (stated-back (link_rule version said (link_fields entry)) (option_map item.Link (link_said version said (link_fields entry))) (item.Link entry) back.passes (ap (option_map item.Link) back.says)))

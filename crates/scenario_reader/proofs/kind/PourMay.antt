@@ -19,31 +19,31 @@ use Rattle.scenario_reader.specs.line.Using.{packets_rule, load_rule}
 use Rattle.scenario_reader.specs.line.Pour.{pour_form, pour_rule, pour_over, pour_said}
 use Rattle.scenario_reader.specs.Kept.{IsDraft}
 use Rattle.scenario_reader.specs.line.Operation.{MayPutOp}
-use Rattle.scenario_reader.proofs.ReadBefore.{longer_than_none, linked_by}
-use Rattle.scenario_reader.proofs.kind.RequestMay.{link_found}
-use Rattle.scenario_reader.proofs.PassingLines.{all_pass, unless_passes, made_some}
-use Rattle.scenario_reader.proofs.kind.UsingMay.{packets_pass, load_passes}
+use Rattle.scenario_reader.proofs.ReadBefore.{longer-than-none, linked-by}
+use Rattle.scenario_reader.proofs.kind.RequestMay.{link-found}
+use Rattle.scenario_reader.proofs.PassingLines.{all-pass, unless-passes, made-some}
+use Rattle.scenario_reader.proofs.kind.UsingMay.{packets-pass, load-passes}
 use Rattle.scenario_reader.specs.declared.cause.Cause.TheVariants as cause
 
-pub pour_may : (version : Version) (said : Said) (fields : List (List ℕ)) (what : Op) → IsDraft said → said.version ≡ Some version
+pub pour-may : (version : Version) (said : Said) (fields : List (List ℕ)) (what : Op) → IsDraft said → said.version ≡ Some version
     → (has_best_effort version && not (nat_eq (length said.callers) 0) && is_none said.rounds) ≡ true → pour_rule said fields ≡ None → pour_said said fields ≡ Some what → MayPutOp said what
-pour_may version said fields what draft v stands rule says =
-    let p = all_pass (unless (has_form pour_form fields) cause.Shape ∷ used_name_rule (is_some (link_named said.links (field_at fields 1))) (field_at fields 1) ∷ packets_rule fields
+pour-may version said fields what draft v stands rule says =
+    let p = all-pass (unless (has_form pour_form fields) cause.Shape ∷ used_name_rule (is_some (link_named said.links (field_at fields 1))) (field_at fields 1) ∷ packets_rule fields
     ∷ load_rule said (value_of (field_at fields 2)) ∷ unless (takes_best_effort (link_named said.links (field_at fields 1))) cause.Best ∷ []) rule in
     let both = and_parts (has_best_effort version && not (nat_eq (length said.callers) 0)) (is_none said.rounds) stands in
     let first = and_parts (has_best_effort version) (not (nat_eq (length said.callers) 0)) both.0 in
-    let made = made_some (pour_over fields) (link_named said.links (field_at fields 1)) what says in
-    let at = link_found said.links (field_at fields 1) made.0 draft.keeps.planned.links made.1 in
+    let made = made-some (pour_over fields) (link_named said.links (field_at fields 1)) what says in
+    let at = link-found said.links (field_at fields 1) made.0 draft.keeps.planned.links made.1 in
     let number = link_number made.0.shape.link in
     subst (MayPutOp said) made.2 (record {
-      before = linked_by version said draft v first.1 both.1;
-      some = longer_than_none said.callers first.1;
+      before = linked-by version said draft v first.1 both.1;
+      some = longer-than-none said.callers first.1;
       op = record {
-        some = longer_than_none said.callers first.1;
+        some = longer-than-none said.callers first.1;
         version = subst (λ (w : Version). has_best_effort w ≡ true) (sym (ap (λ o. unwrap_or o One) v)) first.0;
         there = lt-ltb number (length said.links) (slice_get_within said.links number made.0 at);
-        range = packets_pass fields p.1.1.0;
-        load = load_passes said (value_of (field_at fields 2)) p.1.1.1.0;
-        taken = subst (λ (found : Option LinkEntry). takes_best_effort found ≡ true) (made.1 ∙ sym at) (unless_passes (takes_best_effort (link_named said.links (field_at fields 1))) cause.Best p.1.1.1.1.0);
+        range = packets-pass fields p.1.1.0;
+        load = load-passes said (value_of (field_at fields 2)) p.1.1.1.0;
+        taken = subst (λ (found : Option LinkEntry). takes_best_effort found ≡ true) (made.1 ∙ sym at) (unless-passes (takes_best_effort (link_named said.links (field_at fields 1))) cause.Best p.1.1.1.1.0);
       };
     })

@@ -33,14 +33,14 @@ use Rattle.scenario_reader.specs.declared.form.Part.{Part}
 use Rattle.scenario_reader.specs.BothWays.{AreNodesNamed, IsFoundRoute}
 use Rattle.scenario_reader.specs.Nodes.{AreNumbered, is_node, route_between}
 use Rattle.scenario_reader.proofs.FoundNodes.{found-nodes}
-use Rattle.scenario_reader.proofs.ShapeOfNumbers.{actor_is, channel_is}
-use Rattle.scenario_reader.proofs.NumberText.{value-decimal, decimal_passes}
-use Rattle.scenario_reader.proofs.RulesBack.{pass_all, unless_holds, new_name_back, used_name_back, name_no_word, judged_back}
-use Rattle.scenario_reader.proofs.FieldText.{name_field, number_field}
-use Rattle.scenario_reader.proofs.LineFields.{both_fields}
+use Rattle.scenario_reader.proofs.ShapeOfNumbers.{actor-is, channel-is}
+use Rattle.scenario_reader.proofs.NumberText.{value-decimal, decimal-passes}
+use Rattle.scenario_reader.proofs.RulesBack.{pass-all, unless-holds, new-name-back, used-name-back, name-no-word, judged-back}
+use Rattle.scenario_reader.proofs.FieldText.{name-field, number-field}
+use Rattle.scenario_reader.proofs.LineFields.{both-fields}
 use Rattle.call_script.specs.Growing.{add_op}
 use Rattle.call_script.specs.declared.entries.CallerEntry.{CallerEntry}
-use Rattle.scenario_reader.proofs.SaysBack.{judged_as, Reads, reads_one, front, not_none}
+use Rattle.scenario_reader.proofs.SaysBack.{judged-as, Reads, reads-one, front, not-none}
 use Rattle.scenario_reader.specs.declared.cause.Cause.TheVariants as cause
 use Rattle.scenario_reader.specs.declared.form.Keyword.TheVariants as word
 use Rattle.scenario_reader.specs.declared.form.Part.TheVariants as part
@@ -57,31 +57,31 @@ pub record IsHopHere (links : List LinkEntry) (hop : Hop) : Type 0 where
   pub named : link_named links entry.name ≡ Some entry
 
 -- the names of a route, one a hop
-names_of : (links : List LinkEntry) (hop : Hop) (hops : List Hop) (here : IsHopHere links hop) → route_names links (hop ∷ hops) ≡ here.entry.name ∷ route_names links hops
-names_of links hop hops here = ap (λ (found : Option LinkEntry). with_name found (route_names links hops)) here.found
+names-of : (links : List LinkEntry) (hop : Hop) (hops : List Hop) (here : IsHopHere links hop) → route_names links (hop ∷ hops) ≡ here.entry.name ∷ route_names links hops
+names-of links hop hops here = ap (λ (found : Option LinkEntry). with_name found (route_names links hops)) here.found
 
 NoWords : List (List ℕ) → Type 0
 NoWords names = Each (λ name. is_word word.Contract name ≡ false) names
 
-no_words : (links : List LinkEntry) (hops : List Hop) → Each (IsHopHere links) hops → NoWords (route_names links hops)
+no-words : (links : List LinkEntry) (hops : List Hop) → Each (IsHopHere links) hops → NoWords (route_names links hops)
 unfolding NoWords
-no_words links [] here = tt
-no_words links (hop ∷ hops) here = subst (λ (names : List (List ℕ)). Each (λ name. is_word word.Contract name ≡ false) names) (sym (names_of links hop hops here.0)) ((name_no_word here.0.entry.name here.0.name).0, no_words links hops here.1)
+no-words links [] here = tt
+no-words links (hop ∷ hops) here = subst (λ (names : List (List ℕ)). Each (λ name. is_word word.Contract name ≡ false) names) (sym (names-of links hop hops here.0)) ((name-no-word here.0.entry.name here.0.name).0, no-words links hops here.1)
 
-names_count : (links : List LinkEntry) (hops : List Hop) → Each (IsHopHere links) hops → length (route_names links hops) ≡ length hops
-names_count links [] here = refl
-names_count links (hop ∷ hops) here = ap length (names_of links hop hops here.0) ∙ ap suc (names_count links hops here.1)
+names-count : (links : List LinkEntry) (hops : List Hop) → Each (IsHopHere links) hops → length (route_names links hops) ≡ length hops
+names-count links [] here = refl
+names-count links (hop ∷ hops) here = ap length (names-of links hop hops here.0) ∙ ap suc (names-count links hops here.1)
 
 names_pass : (said : Said) (hops : List Hop) → Each (IsHopHere said.links) hops → route_names_rule said (route_names said.links hops) ≡ None
 names_pass said [] here = refl
 names_pass said (hop ∷ hops) here =
-    ap (route_names_rule said) (names_of said.links hop hops here.0)
-    ∙ rw (used_name_back (is_some (link_named said.links here.0.entry.name)) here.0.entry.name here.0.name (ap is_some here.0.named)) (names_pass said hops here.1)
+    ap (route_names_rule said) (names-of said.links hop hops here.0)
+    ∙ rw (used-name-back (is_some (link_named said.links here.0.entry.name)) here.0.entry.name here.0.name (ap is_some here.0.named)) (names_pass said hops here.1)
 
-route_again : (links : List LinkEntry) (hops : List Hop) → Each (IsHopHere links) hops → route_over links (route_names links hops) ≡ hops
-route_again links [] here = refl
-route_again links (hop ∷ hops) here =
-    ap (route_over links) (names_of links hop hops here.0) ∙ rw here.0.named (ap (λ (h : Hop). h ∷ route_over links (route_names links hops)) here.0.is ∙ ap (λ (hs : List Hop). hop ∷ hs) (route_again links hops here.1))
+route-again : (links : List LinkEntry) (hops : List Hop) → Each (IsHopHere links) hops → route_over links (route_names links hops) ≡ hops
+route-again links [] here = refl
+route-again links (hop ∷ hops) here =
+    ap (route_over links) (names-of links hop hops here.0) ∙ rw here.0.named (ap (λ (h : Hop). h ∷ route_over links (route_names links hops)) here.0.is ∙ ap (λ (hs : List Hop). hop ∷ hs) (route-again links hops here.1))
 
 -- ---- the fields of an open line
 
@@ -89,44 +89,44 @@ route_again links (hop ∷ hops) here =
 abbrev line_with : List ℕ → List ℕ → List (List ℕ) → List (List ℕ) → List (List ℕ)
 line_with way name names after = codes "open" ∷ name ∷ way ∷ (names ++ codes "contract" ∷ after)
 
-hops_count : (names after : List (List ℕ)) → NoWords names → route_length (names ++ codes "contract" ∷ after) ≡ length names
+hops-count : (names after : List (List ℕ)) → NoWords names → route_length (names ++ codes "contract" ∷ after) ≡ length names
 unfolding NoWords
-hops_count [] after none = refl
-hops_count (name ∷ names) after none = rw none.0 (ap suc (hops_count names after none.1))
+hops-count [] after none = refl
+hops-count (name ∷ names) after none = rw none.0 (ap suc (hops-count names after none.1))
 
-take_names : (names after : List (List ℕ)) → take (length names) (names ++ after) ≡ names
-take_names [] after = refl
-take_names (name ∷ names) after = ap (λ (rest : List (List ℕ)). name ∷ rest) (take_names names after)
+take-names : (names after : List (List ℕ)) → take (length names) (names ++ after) ≡ names
+take-names [] after = refl
+take-names (name ∷ names) after = ap (λ (rest : List (List ℕ)). name ∷ rest) (take-names names after)
 
-drop_names : (names after : List (List ℕ)) → drop (length names) (names ++ after) ≡ after
-drop_names [] after = refl
-drop_names (name ∷ names) after = drop_names names after
+drop-names : (names after : List (List ℕ)) → drop (length names) (names ++ after) ≡ after
+drop-names [] after = refl
+drop-names (name ∷ names) after = drop-names names after
 
-at_after : (names after : List (List ℕ)) (place k : ℕ) → k ≡ length names + place → field_at (names ++ after) k ≡ field_at after place
-at_after [] after place k same = ap (field_at after) (omega (arith, same))
-at_after (name ∷ names) after place zero same = absurd (omega (arith, same))
-at_after (name ∷ names) after place (suc k) same = at_after names after place k (omega (arith, same))
+at-after : (names after : List (List ℕ)) (place k : ℕ) → k ≡ length names + place → field_at (names ++ after) k ≡ field_at after place
+at-after [] after place k same = ap (field_at after) (omega (arith, same))
+at-after (name ∷ names) after place zero same = absurd (omega (arith, same))
+at-after (name ∷ names) after place (suc k) same = at-after names after place k (omega (arith, same))
 
 record IsLine (way name : List ℕ) (names after : List (List ℕ)) : Type 0 where
   hops : route_hops (line_with way name names after) ≡ length names
   route : route_fields (line_with way name names after) ≡ names
   fields : (place : ℕ) → after_route (line_with way name names after) place ≡ field_at (codes "contract" ∷ after) place
 
-line_is : (way name : List ℕ) (names after : List (List ℕ)) → NoWords names → IsLine way name names after
-line_is way name names after none =
-    let count = hops_count names after none in
+line-is : (way name : List ℕ) (names after : List (List ℕ)) → NoWords names → IsLine way name names after
+line-is way name names after none =
+    let count = hops-count names after none in
     record {
       hops = count;
-      route = ap (λ (n : ℕ). take n (names ++ codes "contract" ∷ after)) count ∙ take_names names (codes "contract" ∷ after);
+      route = ap (λ (n : ℕ). take n (names ++ codes "contract" ∷ after)) count ∙ take-names names (codes "contract" ∷ after);
       fields = λ place.
           let at : 3 + route_length (names ++ codes "contract" ∷ after) + place ≡ suc (suc (suc (length names + place))) = omega (arith, count) in
-          ap (field_at (line_with way name names after)) at ∙ at_after names (codes "contract" ∷ after) place (length names + place) refl;
+          ap (field_at (line_with way name names after)) at ∙ at-after names (codes "contract" ∷ after) place (length names + place) refl;
     }
 
 -- a form after the route
-form_after : (parts : List Part) (names after : List (List ℕ)) → NoWords names → 1 ≤ length names → length names ≤ 16 → has_form (part.Route ∷ parts) (names ++ codes "contract" ∷ after) ≡ has_form parts (codes "contract" ∷ after)
-form_after parts names after none least most =
-    rw (hops_count names after none, le-leb 1 (length names) least, le-leb (length names) 16 most) (ap (has_form parts) (drop_names names (codes "contract" ∷ after)))
+form-after : (parts : List Part) (names after : List (List ℕ)) → NoWords names → 1 ≤ length names → length names ≤ 16 → has_form (part.Route ∷ parts) (names ++ codes "contract" ∷ after) ≡ has_form parts (codes "contract" ∷ after)
+form-after parts names after none least most =
+    rw (hops-count names after none, le-leb 1 (length names) least, le-leb (length names) 16 most) (ap (has_form parts) (drop-names names (codes "contract" ∷ after)))
 
 abbrev end_fields : RequestEntry → List (List ℕ)
 end_fields entry = decimal entry.request.contract.xmin ∷ decimal entry.request.contract.xave ∷ decimal entry.request.contract.interval ∷ decimal entry.request.contract.smax ∷ delay_fields entry.request
@@ -137,37 +137,37 @@ end_parts control = part.Word word.Contract ∷ part.Field ∷ part.Field ∷ pa
 
 -- ---- what the control says
 
-control_says : (control : Control) (fields : List (List ℕ)) → ((place : ℕ) → after_route fields (7 + place) ≡ field_at (control_fields control) place) → control_in_range control ≡ true → (control_in fields ≡ control) × (jitter_rule fields ≡ None)
-control_says Rate fields at range =
+control-says : (control : Control) (fields : List (List ℕ)) → ((place : ℕ) → after_route fields (7 + place) ≡ field_at (control_fields control) place) → control_in_range control ≡ true → (control_in fields ≡ control) × (jitter_rule fields ≡ None)
+control-says Rate fields at range =
     let no : has_jitter fields ≡ false = ap (is_word word.Jitter) (at 0) in
     (rw no refl, rw no refl)
-control_says (Jitter bound) fields at range =
+control-says (Jitter bound) fields at range =
     let yes : has_jitter fields ≡ true = ap (is_word word.Jitter) (at 0) in
     let within = from-low 1 67108864 bound range in (
       rw yes (ap (λ (field : List ℕ). Jitter (value_of field)) (at 1) ∙ ap Jitter (value-decimal bound (omega (arith, within.1)))),
-      rw yes (ap (number_rule 1 67108864) (at 1) ∙ decimal_passes 1 67108864 bound within.0 within.1 (omega arith)),
+      rw yes (ap (number_rule 1 67108864) (at 1) ∙ decimal-passes 1 67108864 bound within.0 within.1 (omega arith)),
     )
 
-form_says : (version : Version) (name : List ℕ) (names : List (List ℕ)) (entry : RequestEntry) → NoWords names → 1 ≤ length names → length names ≤ 16 → is_open_line version (line_with (codes "route") name names (end_fields entry)) ≡ true
-form_says version name names entry none least most = or_left _ _ (by entry.request.control refl) where
-  with_end : (control : List Part) → has_form (part.Route ∷ end_parts control) (names ++ codes "contract" ∷ end_fields entry) ≡ has_form (end_parts control) (codes "contract" ∷ end_fields entry)
-  with_end control = form_after (end_parts control) names (end_fields entry) none least most
+form-says : (version : Version) (name : List ℕ) (names : List (List ℕ)) (entry : RequestEntry) → NoWords names → 1 ≤ length names → length names ≤ 16 → is_open_line version (line_with (codes "route") name names (end_fields entry)) ≡ true
+form-says version name names entry none least most = or_left _ _ (by entry.request.control refl) where
+  with-end : (control : List Part) → has_form (part.Route ∷ end_parts control) (names ++ codes "contract" ∷ end_fields entry) ≡ has_form (end_parts control) (codes "contract" ∷ end_fields entry)
+  with-end control = form-after (end_parts control) names (end_fields entry) none least most
 
   by : (control : Control) → entry.request.control ≡ control → (has_form rate_form (line_with (codes "route") name names (end_fields entry)) || has_form jitter_form (line_with (codes "route") name names (end_fields entry))) ≡ true
-  by Rate is = or_left _ _ (with_end (part.Word word.Rate ∷ []) ∙ ap (λ (c : Control). has_form (part.Word word.Rate ∷ []) (control_fields c)) is)
-  by (Jitter bound) is = or_right _ _ (with_end (part.Word word.Jitter ∷ part.Field ∷ []) ∙ ap (λ (c : Control). has_form (part.Word word.Jitter ∷ part.Field ∷ []) (control_fields c)) is)
+  by Rate is = or_left _ _ (with-end (part.Word word.Rate ∷ []) ∙ ap (λ (c : Control). has_form (part.Word word.Rate ∷ []) (control_fields c)) is)
+  by (Jitter bound) is = or_right _ _ (with-end (part.Word word.Jitter ∷ part.Field ∷ []) ∙ ap (λ (c : Control). has_form (part.Word word.Jitter ∷ part.Field ∷ []) (control_fields c)) is)
 
 -- the same between two nodes
-found_says : (version : Version) (name from to : List ℕ) (entry : RequestEntry) → has_found_routes version ≡ true → is_open_line version (line_with (codes "from") name (from ∷ codes "to" ∷ to ∷ []) (end_fields entry)) ≡ true
-found_says version name from to entry has = or_right (has_form rate_form (line_with (codes "from") name (from ∷ codes "to" ∷ to ∷ []) (end_fields entry)) || has_form jitter_form (line_with (codes "from") name (from ∷ codes "to" ∷ to ∷ []) (end_fields entry))) _ (and_from (has_found_routes version) (is_found_line (line_with (codes "from") name (from ∷ codes "to" ∷ to ∷ []) (end_fields entry))) has (by entry.request.control refl)) where
+found-says : (version : Version) (name from to : List ℕ) (entry : RequestEntry) → has_found_routes version ≡ true → is_open_line version (line_with (codes "from") name (from ∷ codes "to" ∷ to ∷ []) (end_fields entry)) ≡ true
+found-says version name from to entry has = or_right (has_form rate_form (line_with (codes "from") name (from ∷ codes "to" ∷ to ∷ []) (end_fields entry)) || has_form jitter_form (line_with (codes "from") name (from ∷ codes "to" ∷ to ∷ []) (end_fields entry))) _ (and_from (has_found_routes version) (is_found_line (line_with (codes "from") name (from ∷ codes "to" ∷ to ∷ []) (end_fields entry))) has (by entry.request.control refl)) where
   by : (control : Control) → entry.request.control ≡ control → is_found_line (line_with (codes "from") name (from ∷ codes "to" ∷ to ∷ []) (end_fields entry)) ≡ true
   by Rate is = or_left _ _ (ap (λ (c : Control). has_form (part.Word word.Rate ∷ []) (control_fields c)) is)
   by (Jitter bound) is = or_right _ _ (ap (λ (c : Control). has_form (part.Word word.Jitter ∷ part.Field ∷ []) (control_fields c)) is)
 
 -- ---- the contract
 
-good_terms : (terms : Traffic) → IsContract terms → first_bad terms ≡ None
-good_terms terms c =
+good-terms : (terms : Traffic) → IsContract terms → first_bad terms ≡ None
+good-terms terms c =
     rw (
       le-leb 1 terms.xmin c.xmin_least,
       le-leb terms.xmin 1048576 (omega (arith, c.xave_least, c.xave_most)),
@@ -180,8 +180,8 @@ good_terms terms c =
       le-leb terms.smax 65536 c.smax_most,
     ) refl
 
-contract_back : (terms : Traffic) → IsContract terms → is_some (contract_of terms) ≡ true
-contract_back terms c = rw (good_terms terms c) refl
+contract-back : (terms : Traffic) → IsContract terms → is_some (contract_of terms) ≡ true
+contract-back terms c = rw (good-terms terms c) refl
 
 -- ---- the line passes
 
@@ -221,60 +221,60 @@ record IsWay (version : Version) (said : Said) (entry : RequestEntry) (way : Lis
   route : route_in said (line_with way entry.name names (end_fields entry)) ≡ entry.request.route
   found : nodes_in (line_with way entry.name names (end_fields entry)) ≡ entry.found
 
-written_way : (version : Version) (said : Said) (entry : RequestEntry) → entry.found ≡ None → IsNextOpen version said entry → IsWay version said entry (codes "route") (route_names said.links entry.request.route)
-written_way version said entry written is =
+written-way : (version : Version) (said : Said) (entry : RequestEntry) → entry.found ≡ None → IsNextOpen version said entry → IsWay version said entry (codes "route") (route_names said.links entry.request.route)
+written-way version said entry written is =
     let request = entry.request in
     let names = route_names said.links request.route in
     let fields = line_with (codes "route") entry.name names (end_fields entry) in
-    let none = no_words said.links request.route is.hops in
-    let count = names_count said.links request.route is.hops in
-    let line = line_is (codes "route") entry.name names (end_fields entry) none in
-    let route : hops_in said fields ≡ request.route = ap (route_over said.links) line.route ∙ route_again said.links request.route is.hops in
+    let none = no-words said.links request.route is.hops in
+    let count = names-count said.links request.route is.hops in
+    let line = line-is (codes "route") entry.name names (end_fields entry) none in
+    let route : hops_in said fields ≡ request.route = ap (route_over said.links) line.route ∙ route-again said.links request.route is.hops in
     let way : is_way said (hops_in said fields) ≡ true = ap (is_way said) route ∙ and_from (is_none (fault_in request.route)) (is_joined said.links request.route) (ap is_none (none-from_route request.route is.route)) is.joined in
     record {
       fields = ap (λ (found : Option (List ℕ × List ℕ)). codes "open" ∷ entry.name ∷ (way_fields said.links request.route found ++ (contract_fields request.contract ++ delay_fields request))) written;
       none = none;
-      form = form_says version entry.name names entry none (omega (arith, count, is.route.least)) (omega (arith, count, is.route.most));
+      form = form-says version entry.name names entry none (omega (arith, count, is.route.least)) (omega (arith, count, is.route.most));
       names_pass = ap (route_names_rule said) line.route ∙ names_pass said request.route is.hops;
-      way_passes = unless_holds (is_way said (hops_in said fields)) cause.Route way;
+      way_passes = unless-holds (is_way said (hops_in said fields)) cause.Route way;
       route = route;
       found = sym written;
     }
 
-found_way : (version : Version) (said : Said) (entry : RequestEntry) (from to : List ℕ) → entry.found ≡ Some (from, to) → IsNextOpen version said entry → IsWay version said entry (codes "from") (from ∷ codes "to" ∷ to ∷ [])
+found-way : (version : Version) (said : Said) (entry : RequestEntry) (from to : List ℕ) → entry.found ≡ Some (from, to) → IsNextOpen version said entry → IsWay version said entry (codes "from") (from ∷ codes "to" ∷ to ∷ [])
 unfolding NoWords
-found_way version said entry from to at is =
+found-way version said entry from to at is =
     let request = entry.request in
     let nodes : AreNodesNamed (Some (from, to)) = subst AreNodesNamed at is.nodes in
     let found : route_between said.links from to ≡ Some request.route = subst (IsFoundRoute said.links request.route) at is.found in
     let ends = found-nodes said.links from to request.route is.numbered is.few_links is.route.least found in
-    let has : has_found_routes version ≡ true = has_it (has_found_routes version) entry.found (from, to) at is.kept in
+    let has : has_found_routes version ≡ true = has-it (has_found_routes version) entry.found (from, to) at is.kept in
     record {
       fields = ap (λ (found : Option (List ℕ × List ℕ)). codes "open" ∷ entry.name ∷ (way_fields said.links request.route found ++ (contract_fields request.contract ++ delay_fields request))) at;
-      none = ((name_no_word from nodes.0).0, (refl, ((name_no_word to nodes.1).0, tt)));
-      form = found_says version entry.name from to entry has;
-      names_pass = rw (used_name_back (is_node said.links from) from nodes.0 ends.first) (used_name_back (is_node said.links to) to nodes.1 ends.second);
+      none = ((name-no-word from nodes.0).0, (refl, ((name-no-word to nodes.1).0, tt)));
+      form = found-says version entry.name from to entry has;
+      names_pass = rw (used-name-back (is_node said.links from) from nodes.0 ends.first) (used-name-back (is_node said.links to) to nodes.1 ends.second);
       way_passes = rw (ends.apart, found) refl;
       route = rw found refl;
       found = sym at;
     } where
-      has_it : (has : Bool) (found : Option (List ℕ × List ℕ)) (nodes : List ℕ × List ℕ) → found ≡ Some nodes → (has || is_none found) ≡ true → has ≡ true
-      has_it has found nodes at kept = by has (ap (λ (f : Option (List ℕ × List ℕ)). has || is_none f) (sym at) ∙ kept) where
+      has-it : (has : Bool) (found : Option (List ℕ × List ℕ)) (nodes : List ℕ × List ℕ) → found ≡ Some nodes → (has || is_none found) ≡ true → has ≡ true
+      has-it has found nodes at kept = by has (ap (λ (f : Option (List ℕ × List ℕ)). has || is_none f) (sym at) ∙ kept) where
         by : (has : Bool) → (has || false) ≡ true → has ≡ true
         by true e = refl
         by false e = e
 
-read_as : (version : Version) (said : Said) (entry : RequestEntry) (way : List ℕ) (names : List (List ℕ)) → IsNextOpen version said entry → IsWay version said entry way names → IsReadAs version said entry (line_with way entry.name names (end_fields entry))
-read_as version said entry way names is w =
+read-as : (version : Version) (said : Said) (entry : RequestEntry) (way : List ℕ) (names : List (List ℕ)) → IsNextOpen version said entry → IsWay version said entry way names → IsReadAs version said entry (line_with way entry.name names (end_fields entry))
+read-as version said entry way names is w =
     let request = entry.request in
     let c = is.contract in
     let fields = line_with way entry.name names (end_fields entry) in
-    let line = line_is way entry.name names (end_fields entry) w.none in
+    let line = line-is way entry.name names (end_fields entry) w.none in
     let range = and_parts (is_within 1 67108864 request.delay) (control_in_range request.control) is.range in
     let delay = from-low 1 67108864 request.delay range.0 in
     let at_control : (place : ℕ) → after_route fields (7 + place) ≡ field_at (control_fields request.control) place = λ place.
     line.fields (7 + place) ∙ ap (field_at (codes "contract" ∷ end_fields entry)) (seven place) in
-    let control = control_says request.control fields at_control range.1 in
+    let control = control-says request.control fields at_control range.1 in
     let small : (n : ℕ) → n ≤ 16777216 → value_of (decimal n) ≡ n = λ n h. value-decimal n (omega (arith, h)) in
     let xmin : value_of (after_route fields 1) ≡ request.contract.xmin = ap value_of (line.fields 1) ∙ small request.contract.xmin (omega (arith, c.xave_least, c.xave_most)) in
     let xave : value_of (after_route fields 2) ≡ request.contract.xave = ap value_of (line.fields 2) ∙ small request.contract.xave (omega (arith, c.xave_most)) in
@@ -282,79 +282,79 @@ read_as version said entry way names is w =
     let smax : value_of (after_route fields 4) ≡ request.contract.smax = ap value_of (line.fields 4) ∙ small request.contract.smax (omega (arith, c.smax_most)) in
     let terms : contract_told fields ≡ request.contract = rw (xmin, xave, interval, smax) refl in
     let wait : value_of (after_route fields 6) ≡ request.delay = ap value_of (line.fields 6) ∙ value-decimal request.delay (omega (arith, delay.1)) in
-    let numbers = pass_all (number_rule 1 1048576 (after_route fields 1) ∷ number_rule 1 1048576 (after_route fields 2) ∷ number_rule 1 16777216 (after_route fields 3) ∷ number_rule 1 65536 (after_route fields 4) ∷ []) (
-      ap (number_rule 1 1048576) (line.fields 1) ∙ decimal_passes 1 1048576 request.contract.xmin c.xmin_least (omega (arith, c.xave_least, c.xave_most)) (omega arith),
+    let numbers = pass-all (number_rule 1 1048576 (after_route fields 1) ∷ number_rule 1 1048576 (after_route fields 2) ∷ number_rule 1 16777216 (after_route fields 3) ∷ number_rule 1 65536 (after_route fields 4) ∷ []) (
+      ap (number_rule 1 1048576) (line.fields 1) ∙ decimal-passes 1 1048576 request.contract.xmin c.xmin_least (omega (arith, c.xave_least, c.xave_most)) (omega arith),
       (
-        ap (number_rule 1 1048576) (line.fields 2) ∙ decimal_passes 1 1048576 request.contract.xave (omega (arith, c.xmin_least, c.xave_least)) c.xave_most (omega arith),
+        ap (number_rule 1 1048576) (line.fields 2) ∙ decimal-passes 1 1048576 request.contract.xave (omega (arith, c.xmin_least, c.xave_least)) c.xave_most (omega arith),
         (
-          ap (number_rule 1 16777216) (line.fields 3) ∙ decimal_passes 1 16777216 request.contract.interval (omega (arith, c.xmin_least, c.xave_least, c.interval_least)) c.interval_most (omega arith),
-          (ap (number_rule 1 65536) (line.fields 4) ∙ decimal_passes 1 65536 request.contract.smax c.smax_least c.smax_most (omega arith), tt),
+          ap (number_rule 1 16777216) (line.fields 3) ∙ decimal-passes 1 16777216 request.contract.interval (omega (arith, c.xmin_least, c.xave_least, c.interval_least)) c.interval_most (omega arith),
+          (ap (number_rule 1 65536) (line.fields 4) ∙ decimal-passes 1 65536 request.contract.smax c.smax_least c.smax_most (omega arith), tt),
         ),
       ),
     ) in
-    let left = pass_all (new_name_rule (request_names said.requests) (field_at fields 1) ∷ way_fields_rule said fields ∷ terms_rule fields ∷ number_rule 1 67108864 (after_route fields 6) ∷ jitter_rule fields ∷ []) (
-      new_name_back (request_names said.requests) entry.name is.name is.new,
+    let left = pass-all (new_name_rule (request_names said.requests) (field_at fields 1) ∷ way_fields_rule said fields ∷ terms_rule fields ∷ number_rule 1 67108864 (after_route fields 6) ∷ jitter_rule fields ∷ []) (
+      new-name-back (request_names said.requests) entry.name is.name is.new,
       (
         w.names_pass,
-        (numbers, (ap (number_rule 1 67108864) (line.fields 6) ∙ decimal_passes 1 67108864 request.delay delay.0 delay.1 (omega arith), (control.1, tt))),
+        (numbers, (ap (number_rule 1 67108864) (line.fields 6) ∙ decimal-passes 1 67108864 request.delay delay.0 delay.1 (omega arith), (control.1, tt))),
       ),
     ) in
-    let limits = pass_all (unless (nat_lt (length said.requests) 1024) cause.Many ∷ unless (is_some (contract_of (contract_told fields))) cause.Contract ∷ way_rule said fields ∷ []) (
-      unless_holds (nat_lt (length said.requests) 1024) cause.Many (lt-ltb (length said.requests) 1024 is.few),
-      (unless_holds (is_some (contract_of (contract_told fields))) cause.Contract (ap (λ (t : Traffic). is_some (contract_of t)) terms ∙ contract_back request.contract c), (w.way_passes, tt)),
+    let limits = pass-all (unless (nat_lt (length said.requests) 1024) cause.Many ∷ unless (is_some (contract_of (contract_told fields))) cause.Contract ∷ way_rule said fields ∷ []) (
+      unless-holds (nat_lt (length said.requests) 1024) cause.Many (lt-ltb (length said.requests) 1024 is.few),
+      (unless-holds (is_some (contract_of (contract_told fields))) cause.Contract (ap (λ (t : Traffic). is_some (contract_of t)) terms ∙ contract-back request.contract c), (w.way_passes, tt)),
     ) in
     record {
-      passes = pass_all (unless (is_open_line version fields) cause.Shape ∷ open_fields_rule said fields ∷ open_limits_rule said fields ∷ []) (unless_holds (is_open_line version fields) cause.Shape w.form, (left, (limits, tt)));
+      passes = pass-all (unless (is_open_line version fields) cause.Shape ∷ open_fields_rule said fields ∷ open_limits_rule said fields ∷ []) (unless-holds (is_open_line version fields) cause.Shape w.form, (left, (limits, tt)));
       says =
-          let caller : actor_at (last_caller said) ≡ entry.caller = sym (actor_is entry.caller (last_caller said) is.callers is.caller) in
-          let chan : channel_at (length said.requests) ≡ entry.request.chan = sym (channel_is entry.request.chan (length said.requests) (omega (arith, is.few)) is.number) in
-          same_entry entry (actor_at (last_caller said)) (channel_at (length said.requests)) (route_in said fields) (contract_told fields) (control_in fields) (value_of (after_route fields 6)) (nodes_in fields) caller chan w.route terms control.0 wait w.found;
+          let caller : actor_at (last_caller said) ≡ entry.caller = sym (actor-is entry.caller (last_caller said) is.callers is.caller) in
+          let chan : channel_at (length said.requests) ≡ entry.request.chan = sym (channel-is entry.request.chan (length said.requests) (omega (arith, is.few)) is.number) in
+          same-entry entry (actor_at (last_caller said)) (channel_at (length said.requests)) (route_in said fields) (contract_told fields) (control_in fields) (value_of (after_route fields 6)) (nodes_in fields) caller chan w.route terms control.0 wait w.found;
     }
   where
     seven : (place : ℕ) → 7 + place ≡ suc (suc (suc (suc (suc (suc (suc place))))))
     seven place = omega arith
 
-    same_entry : (e : RequestEntry) (caller : ActorNo) (chan : ChanNo) (route : List Hop) (contract : Traffic) (control : Control) (delay : ℕ) (found : Option (List ℕ × List ℕ)) → caller ≡ e.caller → chan ≡ e.request.chan → route ≡ e.request.route → contract ≡ e.request.contract
+    same-entry : (e : RequestEntry) (caller : ActorNo) (chan : ChanNo) (route : List Hop) (contract : Traffic) (control : Control) (delay : ℕ) (found : Option (List ℕ × List ℕ)) → caller ≡ e.caller → chan ≡ e.request.chan → route ≡ e.request.route → contract ≡ e.request.contract
         → control ≡ e.request.control → delay ≡ e.request.delay → found ≡ e.found
         → record { name = e.name; caller = caller; request = record { chan = chan; route = route; contract = contract; control = control; delay = delay }; found = found } ≡ e
-    same_entry e caller chan route contract control delay found a b c d f g h = rw (a, b, c, d, f, g, h) refl
+    same-entry e caller chan route contract control delay found a b c d f g h = rw (a, b, c, d, f, g, h) refl
 
-pub open_back : (version : Version) (said : Said) (entry : RequestEntry) → IsNextOpen version said entry → IsOpenRead version said entry
-open_back version said entry is = by entry.found refl where
+pub open-back : (version : Version) (said : Said) (entry : RequestEntry) → IsNextOpen version said entry → IsOpenRead version said entry
+open-back version said entry is = by entry.found refl where
   by : (found : Option (List ℕ × List ℕ)) → entry.found ≡ found → IsOpenRead version said entry
-  by None at = (let w = written_way version said entry at is in subst (IsReadAs version said entry) (sym w.fields) (read_as version said entry _ _ is w))
-  by (Some (from, to)) at = (let w = found_way version said entry from to at is in subst (IsReadAs version said entry) (sym w.fields) (read_as version said entry _ _ is w))
+  by None at = (let w = written-way version said entry at is in subst (IsReadAs version said entry) (sym w.fields) (read-as version said entry _ _ is w))
+  by (Some (from, to)) at = (let w = found-way version said entry from to at is in subst (IsReadAs version said entry) (sym w.fields) (read-as version said entry _ _ is w))
 
-route_is_fields : (links : List LinkEntry) (hops : List Hop) → Each (IsHopHere links) hops → are_fields (route_names links hops) ≡ true
-route_is_fields links [] here = refl
-route_is_fields links (hop ∷ hops) here =
-    ap (λ (found : Option LinkEntry). are_fields (with_name found (route_names links hops))) here.0.found ∙ rw (name_field here.0.entry.name here.0.name, route_is_fields links hops here.1) refl
+route-is-fields : (links : List LinkEntry) (hops : List Hop) → Each (IsHopHere links) hops → are_fields (route_names links hops) ≡ true
+route-is-fields links [] here = refl
+route-is-fields links (hop ∷ hops) here =
+    ap (λ (found : Option LinkEntry). are_fields (with_name found (route_names links hops))) here.0.found ∙ rw (name-field here.0.entry.name here.0.name, route-is-fields links hops here.1) refl
 
-control_is_fields : (control : Control) → control_in_range control ≡ true → are_fields (control_fields control) ≡ true
-control_is_fields Rate range = refl
-control_is_fields (Jitter bound) range = (let within = from-low 1 67108864 bound range in rw (number_field bound (omega (arith, within.1))) refl)
+control-is-fields : (control : Control) → control_in_range control ≡ true → are_fields (control_fields control) ≡ true
+control-is-fields Rate range = refl
+control-is-fields (Jitter bound) range = (let within = from-low 1 67108864 bound range in rw (number-field bound (omega (arith, within.1))) refl)
 
-way_is_fields : (links : List LinkEntry) (route : List Hop) (found : Option (List ℕ × List ℕ)) → AreNodesNamed found → Each (IsHopHere links) route → are_fields (way_fields links route found) ≡ true
-way_is_fields links route None named here = route_is_fields links route here
-way_is_fields links route (Some (from, to)) named here = rw (name_field from named.0, name_field to named.1) refl
+way-is-fields : (links : List LinkEntry) (route : List Hop) (found : Option (List ℕ × List ℕ)) → AreNodesNamed found → Each (IsHopHere links) route → are_fields (way_fields links route found) ≡ true
+way-is-fields links route None named here = route-is-fields links route here
+way-is-fields links route (Some (from, to)) named here = rw (name-field from named.0, name-field to named.1) refl
 
-pub open_is_line : (links : List LinkEntry) (entry : RequestEntry) → is_name entry.name ≡ true → AreNodesNamed entry.found → Each (IsHopHere links) entry.request.route → IsContract entry.request.contract → request_in_range entry ≡ true → are_fields (open_fields links entry) ≡ true
-open_is_line links entry is named here c range =
+pub open-is-line : (links : List LinkEntry) (entry : RequestEntry) → is_name entry.name ≡ true → AreNodesNamed entry.found → Each (IsHopHere links) entry.request.route → IsContract entry.request.contract → request_in_range entry ≡ true → are_fields (open_fields links entry) ≡ true
+open-is-line links entry is named here c range =
     let parts = and_parts (is_within 1 67108864 entry.request.delay) (control_in_range entry.request.control) range in
     let delay = from-low 1 67108864 entry.request.delay parts.0 in
     let contract : are_fields (contract_fields entry.request.contract) ≡ true =
-    rw (number_field entry.request.contract.xmin (omega (arith, c.xave_least, c.xave_most)), number_field entry.request.contract.xave (omega (arith, c.xave_most)), number_field entry.request.contract.interval (omega (arith, c.interval_most)), number_field entry.request.contract.smax (omega (arith, c.smax_most))) refl in
-    let bound : are_fields (delay_fields entry.request) ≡ true = rw (number_field entry.request.delay (omega (arith, delay.1)), control_is_fields entry.request.control parts.1) refl in
-    both_fields (codes "open" ∷ entry.name ∷ []) (way_fields links entry.request.route entry.found ++ (contract_fields entry.request.contract ++ delay_fields entry.request))
-    (rw (name_field entry.name is) refl)
-    (both_fields (way_fields links entry.request.route entry.found) (contract_fields entry.request.contract ++ delay_fields entry.request) (way_is_fields links entry.request.route entry.found named here) (both_fields (contract_fields entry.request.contract) (delay_fields entry.request) contract bound))
+    rw (number-field entry.request.contract.xmin (omega (arith, c.xave_least, c.xave_most)), number-field entry.request.contract.xave (omega (arith, c.xave_most)), number-field entry.request.contract.interval (omega (arith, c.interval_most)), number-field entry.request.contract.smax (omega (arith, c.smax_most))) refl in
+    let bound : are_fields (delay_fields entry.request) ≡ true = rw (number-field entry.request.delay (omega (arith, delay.1)), control-is-fields entry.request.control parts.1) refl in
+    both-fields (codes "open" ∷ entry.name ∷ []) (way_fields links entry.request.route entry.found ++ (contract_fields entry.request.contract ++ delay_fields entry.request))
+    (rw (name-field entry.name is) refl)
+    (both-fields (way_fields links entry.request.route entry.found) (contract_fields entry.request.contract ++ delay_fields entry.request) (way-is-fields links entry.request.route entry.found named here) (both-fields (contract_fields entry.request.contract) (delay_fields entry.request) contract bound))
 
-pub open_read : (version : Version) (links : List LinkEntry) (groups : List (List ℕ)) (requests : List RequestEntry) (callers : List CallerEntry) (entry : RequestEntry) → 1 ≤ length callers → IsNextOpen version (front version links groups requests callers) entry
+pub open-read : (version : Version) (links : List LinkEntry) (groups : List (List ℕ)) (requests : List RequestEntry) (callers : List CallerEntry) (entry : RequestEntry) → 1 ≤ length callers → IsNextOpen version (front version links groups requests callers) entry
     → Reads (open_fields links entry ∷ []) (front version links groups requests callers) (front version links groups (requests ++ entry ∷ []) (add_op (op.Open entry.request.chan) callers))
-open_read version links groups requests callers entry some is =
+open-read version links groups requests callers entry some is =
     let said = front version links groups requests callers in
-    let back = open_back version said entry is in
-    let are = open_is_line links entry is.name is.nodes is.hops is.contract is.range in
-    reads_one (open_fields links entry) said (item.Open entry) are (λ number.
-    judged_as version said number (open_fields links entry) word.Open (item.Open entry) are refl refl refl (and_from (not (nat_eq (length callers) 0)) true (not_none callers some) refl)
-    (judged_back (open_rule version said (open_fields links entry)) (item.Open (request_said said (open_fields links entry))) back.passes ∙ ap (λ (e : RequestEntry). Ok (item.Open e)) back.says))
+    let back = open-back version said entry is in
+    let are = open-is-line links entry is.name is.nodes is.hops is.contract is.range in
+    reads-one (open_fields links entry) said (item.Open entry) are (λ number.
+    judged-as version said number (open_fields links entry) word.Open (item.Open entry) are refl refl refl (and_from (not (nat_eq (length callers) 0)) true (not-none callers some) refl)
+    (judged-back (open_rule version said (open_fields links entry)) (item.Open (request_said said (open_fields links entry))) back.passes ∙ ap (λ (e : RequestEntry). Ok (item.Open e)) back.says))

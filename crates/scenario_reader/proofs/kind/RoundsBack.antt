@@ -7,51 +7,51 @@ use Rattle.scenario_reader.specs.Drafts.{Said, rounds_of, with_item}
 use Rattle.scenario_reader.specs.Fields.{field_at, are_fields}
 use Rattle.scenario_reader.specs.Forms.{has_form, number_rule}
 use Rattle.scenario_reader.specs.line.Rounds.{rounds_form, rounds_rule, are_few_ticks, tail_form, tail_rule, rounds_fields, tail_fields}
-use Rattle.scenario_reader.proofs.NumberText.{value-decimal, decimal_passes}
-use Rattle.scenario_reader.proofs.RulesBack.{pass_all, unless_holds, judged_back}
-use Rattle.scenario_reader.proofs.FieldText.{number_field}
+use Rattle.scenario_reader.proofs.NumberText.{value-decimal, decimal-passes}
+use Rattle.scenario_reader.proofs.RulesBack.{pass-all, unless-holds, judged-back}
+use Rattle.scenario_reader.proofs.FieldText.{number-field}
 use Rattle.call_script.specs.declared.entries.CallerEntry.{CallerEntry}
 use Rattle.call_script.specs.declared.entries.LinkEntry.{LinkEntry}
 use Rattle.call_script.specs.declared.entries.RequestEntry.{RequestEntry}
 use Rattle.call_script.specs.declared.version.Version.{Version}
-use Rattle.scenario_reader.proofs.SaysBack.{judged_as, Reads, reads_one, front, not_none, whole}
+use Rattle.scenario_reader.proofs.SaysBack.{judged-as, Reads, reads-one, front, not-none, whole}
 use Rattle.scenario_reader.specs.declared.cause.Cause.TheVariants as cause
 use Rattle.scenario_reader.specs.declared.form.Keyword.TheVariants as word
 use Rattle.scenario_reader.specs.declared.item.Item.TheVariants as item
 
-pub rounds_back : (count : ℕ) → count ≤ 524288 → rounds_rule (rounds_fields count) ≡ None
-rounds_back count few =
+pub rounds-back : (count : ℕ) → count ≤ 524288 → rounds_rule (rounds_fields count) ≡ None
+rounds-back count few =
     let fields = rounds_fields count in
-    pass_all (unless (has_form rounds_form fields) cause.Shape ∷ number_rule 0 524288 (field_at fields 1) ∷ [])
-    (refl, (decimal_passes 0 524288 count (omega arith) few (omega arith), tt))
+    pass-all (unless (has_form rounds_form fields) cause.Shape ∷ number_rule 0 524288 (field_at fields 1) ∷ [])
+    (refl, (decimal-passes 0 524288 count (omega arith) few (omega arith), tt))
 
-pub tail_back : (said : Said) (count : ℕ) → count ≤ 524288 → (rounds_of said + count) * length said.links ≤ 524288 → tail_rule said (tail_fields count) ≡ None
-tail_back said count few ticks =
+pub tail-back : (said : Said) (count : ℕ) → count ≤ 524288 → (rounds_of said + count) * length said.links ≤ 524288 → tail_rule said (tail_fields count) ≡ None
+tail-back said count few ticks =
     let fields = tail_fields count in
     let load : are_few_ticks said (value_of (decimal count)) ≡ true = rw (value-decimal count (omega (arith, few))) (le-leb ((rounds_of said + count) * length said.links) 524288 ticks) in
-    pass_all (unless (has_form tail_form fields) cause.Shape ∷ number_rule 0 524288 (field_at fields 1) ∷ unless (are_few_ticks said (value_of (field_at fields 1))) cause.Load ∷ [])
-    (refl, (decimal_passes 0 524288 count (omega arith) few (omega arith), (unless_holds (are_few_ticks said (value_of (decimal count))) cause.Load load, tt)))
+    pass-all (unless (has_form tail_form fields) cause.Shape ∷ number_rule 0 524288 (field_at fields 1) ∷ unless (are_few_ticks said (value_of (field_at fields 1))) cause.Load ∷ [])
+    (refl, (decimal-passes 0 524288 count (omega arith) few (omega arith), (unless-holds (are_few_ticks said (value_of (decimal count))) cause.Load load, tt)))
 
-pub rounds_is_line : (count : ℕ) → count ≤ 524288 → are_fields (rounds_fields count) ≡ true
-rounds_is_line count few = rw (number_field count (omega (arith, few))) refl
+pub rounds-is-line : (count : ℕ) → count ≤ 524288 → are_fields (rounds_fields count) ≡ true
+rounds-is-line count few = rw (number-field count (omega (arith, few))) refl
 
-pub tail_is_line : (count : ℕ) → count ≤ 524288 → are_fields (tail_fields count) ≡ true
-tail_is_line count few = rw (number_field count (omega (arith, few))) refl
+pub tail-is-line : (count : ℕ) → count ≤ 524288 → are_fields (tail_fields count) ≡ true
+tail-is-line count few = rw (number-field count (omega (arith, few))) refl
 
-pub rounds_read : (version : Version) (links : List LinkEntry) (groups : List (List ℕ)) (requests : List RequestEntry) (callers : List CallerEntry) (rounds : ℕ) → 1 ≤ length links → rounds ≤ 524288
+pub rounds-read : (version : Version) (links : List LinkEntry) (groups : List (List ℕ)) (requests : List RequestEntry) (callers : List CallerEntry) (rounds : ℕ) → 1 ≤ length links → rounds ≤ 524288
     → Reads (rounds_fields rounds ∷ []) (front version links groups requests callers) (with_item (item.Rounds rounds) (front version links groups requests callers))
-rounds_read version links groups requests callers rounds some few =
+rounds-read version links groups requests callers rounds some few =
     let said = front version links groups requests callers in
-    let line = rounds_is_line rounds few in
-    reads_one (rounds_fields rounds) said (item.Rounds rounds) line (λ number.
-    judged_as version said number (rounds_fields rounds) word.Rounds (item.Rounds rounds) line refl refl refl (and_from (not (nat_eq (length links) 0)) true (not_none links some) refl)
-    (judged_back (rounds_rule (rounds_fields rounds)) (item.Rounds _) (rounds_back rounds few) ∙ ap (λ (n : ℕ). Ok (item.Rounds n)) (value-decimal rounds (omega (arith, few)))))
+    let line = rounds-is-line rounds few in
+    reads-one (rounds_fields rounds) said (item.Rounds rounds) line (λ number.
+    judged-as version said number (rounds_fields rounds) word.Rounds (item.Rounds rounds) line refl refl refl (and_from (not (nat_eq (length links) 0)) true (not-none links some) refl)
+    (judged-back (rounds_rule (rounds_fields rounds)) (item.Rounds _) (rounds-back rounds few) ∙ ap (λ (n : ℕ). Ok (item.Rounds n)) (value-decimal rounds (omega (arith, few)))))
 
-pub tail_read : (version : Version) (links : List LinkEntry) (groups : List (List ℕ)) (requests : List RequestEntry) (callers : List CallerEntry) (rounds tail : ℕ) → tail ≤ 524288 → (rounds + tail) * length links ≤ 524288
+pub tail-read : (version : Version) (links : List LinkEntry) (groups : List (List ℕ)) (requests : List RequestEntry) (callers : List CallerEntry) (rounds tail : ℕ) → tail ≤ 524288 → (rounds + tail) * length links ≤ 524288
     → Reads (tail_fields tail ∷ []) (with_item (item.Rounds rounds) (front version links groups requests callers)) (whole version links groups requests callers rounds tail)
-tail_read version links groups requests callers rounds tail few ticks =
+tail-read version links groups requests callers rounds tail few ticks =
     let said = with_item (item.Rounds rounds) (front version links groups requests callers) in
-    let line = tail_is_line tail few in
-    reads_one (tail_fields tail) said (item.Tail tail) line (λ number.
-    judged_as version said number (tail_fields tail) word.Tail (item.Tail tail) line refl refl refl refl
-    (judged_back (tail_rule said (tail_fields tail)) (item.Tail _) (tail_back said tail few ticks) ∙ ap (λ (n : ℕ). Ok (item.Tail n)) (value-decimal tail (omega (arith, few)))))
+    let line = tail-is-line tail few in
+    reads-one (tail_fields tail) said (item.Tail tail) line (λ number.
+    judged-as version said number (tail_fields tail) word.Tail (item.Tail tail) line refl refl refl refl
+    (judged-back (tail_rule said (tail_fields tail)) (item.Tail _) (tail-back said tail few ticks) ∙ ap (λ (n : ℕ). Ok (item.Tail n)) (value-decimal tail (omega (arith, few)))))

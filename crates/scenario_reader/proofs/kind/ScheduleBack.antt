@@ -24,12 +24,12 @@ use Rattle.scenario_reader.specs.Forms.{has_form, used_name_rule, number_rule}
 use Rattle.scenario_reader.specs.Grammar.{judge}
 use Rattle.scenario_reader.specs.line.Schedule.{is_plane, actor_rule, actor_named, do_form, do_rule, do_said, do_fields, schedule_fields, schedule_lines}
 use Rattle.scenario_reader.specs.Kept.{IsDo}
-use Rattle.scenario_reader.proofs.ShapeOfNumbers.{actor_is}
-use Rattle.scenario_reader.proofs.FieldText.{name_field, number_field}
-use Rattle.scenario_reader.proofs.NamedBack.{position_back}
-use Rattle.scenario_reader.proofs.NumberText.{value-decimal, decimal_passes}
-use Rattle.scenario_reader.proofs.SaysBack.{whole, judged_as, Leads, leads_on, leads_more, leads_nothing, Reads, reads_one}
-use Rattle.scenario_reader.proofs.RulesBack.{pass_all, name_no_word, used_name_back, stated_back}
+use Rattle.scenario_reader.proofs.ShapeOfNumbers.{actor-is}
+use Rattle.scenario_reader.proofs.FieldText.{name-field, number-field}
+use Rattle.scenario_reader.proofs.NamedBack.{position-back}
+use Rattle.scenario_reader.proofs.NumberText.{value-decimal, decimal-passes}
+use Rattle.scenario_reader.proofs.SaysBack.{whole, judged-as, Leads, leads-on, leads-more, leads-nothing, Reads, reads-one}
+use Rattle.scenario_reader.proofs.RulesBack.{pass-all, name-no-word, used-name-back, stated-back}
 use Rattle.scenario_reader.specs.declared.cause.Cause.TheVariants as cause
 use Rattle.scenario_reader.specs.declared.form.Keyword.TheVariants as word
 use Rattle.scenario_reader.specs.declared.item.Item.TheVariants as item
@@ -42,16 +42,16 @@ pub record IsFound (callers : List CallerEntry) (n : ℕ) (found : Option Caller
   pub rule : (said : Said) → said.callers ≡ callers → actor_rule said (name_of_actor found) ≡ None
   pub named : (said : Said) → said.callers ≡ callers → actor_named said (name_of_actor found) ≡ Some n
 
-actor_back : (callers : List CallerEntry) (n : ℕ) → Each (λ (caller : CallerEntry). is_name caller.name ≡ true) callers → are_distinct (caller_names callers) ≡ true → n ≤ length callers → IsFound callers n (slice_get callers n)
-actor_back callers n names apart within =
+actor-back : (callers : List CallerEntry) (n : ℕ) → Each (λ (caller : CallerEntry). is_name caller.name ≡ true) callers → are_distinct (caller_names callers) ≡ true → n ≤ length callers → IsFound callers n (slice_get callers n)
+actor-back callers n names apart within =
     elim (slice_get_cases callers n).1 [
       | inl at ↦ (
           let name = Each-at (λ (caller : CallerEntry). is_name caller.name ≡ true) callers n at.0 names at.2 in
-          let place = position_back (λ (c : CallerEntry). c.name) callers n at.0 apart at.2 in
-          let no_plane : is_plane at.0.name ≡ false = (name_no_word at.0.name name).1 in
+          let place = position-back (λ (c : CallerEntry). c.name) callers n at.0 apart at.2 in
+          let no_plane : is_plane at.0.name ≡ false = (name-no-word at.0.name name).1 in
           subst (λ (found : Option CallerEntry). IsFound callers n found) (sym at.2) (record {
-            field = name_field at.0.name name;
-            rule = λ said same. cond-false (is_plane at.0.name) None (used_name_rule (is_some (caller_named said.callers at.0.name)) at.0.name) no_plane ∙ (used_name_back (is_some (caller_named said.callers at.0.name)) at.0.name name (ap (λ (cs : List CallerEntry). is_some (caller_named cs at.0.name)) same ∙ ap is_some place));
+            field = name-field at.0.name name;
+            rule = λ said same. cond-false (is_plane at.0.name) None (used_name_rule (is_some (caller_named said.callers at.0.name)) at.0.name) no_plane ∙ (used-name-back (is_some (caller_named said.callers at.0.name)) at.0.name name (ap (λ (cs : List CallerEntry). is_some (caller_named cs at.0.name)) same ∙ ap is_some place));
             named = λ said same. rw no_plane (ap (λ (cs : List CallerEntry). caller_named cs at.0.name) same ∙ place);
           }))
       | inr past ↦ (
@@ -73,24 +73,24 @@ scheduled parts items = record { version = Some parts.version; links = parts.lin
 abbrev numbered : ℕ → Do → Do
 numbered number it = record { line = number; actor = it.actor; count = it.count }
 
-item_judged : (parts : PlanParts) (done : List Do) (it : Do) (number : ℕ) → Each (λ (caller : CallerEntry). is_name caller.name ≡ true) parts.callers → are_distinct (caller_names parts.callers) ≡ true → length parts.callers ≤ 64 → IsDo parts.callers it
+item-judged : (parts : PlanParts) (done : List Do) (it : Do) (number : ℕ) → Each (λ (caller : CallerEntry). is_name caller.name ≡ true) parts.callers → are_distinct (caller_names parts.callers) ≡ true → length parts.callers ≤ 64 → IsDo parts.callers it
     → (are_fields (do_fields parts.callers it) ≡ true) × (judge (scheduled parts done) number (line_of (do_fields parts.callers it)) ≡ Ok (item.Do (numbered number it)))
-item_judged parts done it number names apart few is =
+item-judged parts done it number names apart few is =
     let said = scheduled parts done in
     let n = actor_number it.actor in
     let field = name_of_actor (slice_get parts.callers n) in
-    let actor = actor_back parts.callers n names apart is.actor in
+    let actor = actor-back parts.callers n names apart is.actor in
     let count = value-decimal it.count (let most = is.most in omega (arith, most)) in
-    let line : are_fields (do_fields parts.callers it) ≡ true = rw (actor.field, number_field it.count (let most = is.most in omega (arith, most))) refl in
-    let passes = pass_all (unless (has_form do_form (do_fields parts.callers it)) cause.Shape ∷ actor_rule said field ∷ number_rule 1 1048576 (decimal it.count) ∷ [])
-    (refl, (actor.rule said refl, (decimal_passes 1 1048576 it.count is.least is.most (omega arith), tt))) in
+    let line : are_fields (do_fields parts.callers it) ≡ true = rw (actor.field, number-field it.count (let most = is.most in omega (arith, most))) refl in
+    let passes = pass-all (unless (has_form do_form (do_fields parts.callers it)) cause.Shape ∷ actor_rule said field ∷ number_rule 1 1048576 (decimal it.count) ∷ [])
+    (refl, (actor.rule said refl, (decimal-passes 1 1048576 it.count is.least is.most (omega arith), tt))) in
     let small : n < 65 = (let below = is.actor in omega (arith, below, few)) in
-    let same : actor_at n ≡ it.actor = sym (actor_is it.actor n small refl) in
+    let same : actor_at n ≡ it.actor = sym (actor-is it.actor n small refl) in
     let says : do_said said number (do_fields parts.callers it) ≡ Some (numbered number it) =
     rw (actor.named said refl, count) (ap (λ (a : ActorNo). Some (record { line = number; actor = a; count = it.count })) same) in (
       line,
-      judged_as parts.version said number (do_fields parts.callers it) word.Do (item.Do (numbered number it)) line refl refl refl refl
-          (stated_back (do_rule said (do_fields parts.callers it)) (option_map item.Do (do_said said number (do_fields parts.callers it))) (item.Do (numbered number it)) passes (ap (option_map item.Do) says)),
+      judged-as parts.version said number (do_fields parts.callers it) word.Do (item.Do (numbered number it)) line refl refl refl refl
+          (stated-back (do_rule said (do_fields parts.callers it)) (option_map item.Do (do_said said number (do_fields parts.callers it))) (item.Do (numbered number it)) passes (ap (option_map item.Do) says)),
     )
 
 -- lines that lead to a draft of which this holds
@@ -100,11 +100,11 @@ pub record SomeLead (lines : List (List (List ℕ))) (said : Said) (P : Said →
   pub leads : Leads count lines said end after
   pub holds : P after
 
-pub then_some : (xs ys : List (List (List ℕ))) (said between : Said) (P : Said → Type 0) → Reads xs said between → ((n : ℕ) → SomeLead ys between P n) → (n : ℕ) → SomeLead (xs ++ ys) said P n
-then_some xs ys said between P first rest = λ n.
+pub then-some : (xs ys : List (List (List ℕ))) (said between : Said) (P : Said → Type 0) → Reads xs said between → ((n : ℕ) → SomeLead ys between P n) → (n : ℕ) → SomeLead (xs ++ ys) said P n
+then-some xs ys said between P first rest = λ n.
     let one = first n in
     let two = rest one.end in
-    record { end = two.end; after = two.after; leads = leads_on xs ys n one.end two.end said between two.after one.leads two.leads; holds = two.holds }
+    record { end = two.end; after = two.after; leads = leads-on xs ys n one.end two.end said between two.after one.leads two.leads; holds = two.holds }
 
 -- the items after those done
 record ItemsRead (parts : PlanParts) (done items : List Do) (after : Said) : Type 0 where
@@ -112,16 +112,16 @@ record ItemsRead (parts : PlanParts) (done items : List Do) (after : Said) : Typ
   is : after ≡ scheduled parts (done ++ again)
   same : map unnumbered again ≡ map unnumbered items
 
-items_read : (parts : PlanParts) (done items : List Do) (count : ℕ) → Each (λ (caller : CallerEntry). is_name caller.name ≡ true) parts.callers → are_distinct (caller_names parts.callers) ≡ true → length parts.callers ≤ 64 → Each (IsDo parts.callers) items
+items-read : (parts : PlanParts) (done items : List Do) (count : ℕ) → Each (λ (caller : CallerEntry). is_name caller.name ≡ true) parts.callers → are_distinct (caller_names parts.callers) ≡ true → length parts.callers ≤ 64 → Each (IsDo parts.callers) items
     → SomeLead (map (do_fields parts.callers) items) (scheduled parts done) (ItemsRead parts done items) count
-items_read parts done [] count names apart few each = record { end = count; after = scheduled parts done; leads = leads_nothing count (scheduled parts done); holds = record { again = []; is = ap (scheduled parts) (sym (append-nil done)); same = refl } }
-items_read parts done (it ∷ items) count names apart few each =
-    let one = item_judged parts done it (suc count) names apart few each.0 in
-    let rest = items_read parts (done ++ numbered (suc count) it ∷ []) items (suc count) names apart few each.1 in
+items-read parts done [] count names apart few each = record { end = count; after = scheduled parts done; leads = leads-nothing count (scheduled parts done); holds = record { again = []; is = ap (scheduled parts) (sym (append-nil done)); same = refl } }
+items-read parts done (it ∷ items) count names apart few each =
+    let one = item-judged parts done it (suc count) names apart few each.0 in
+    let rest = items-read parts (done ++ numbered (suc count) it ∷ []) items (suc count) names apart few each.1 in
     record {
       end = rest.end;
       after = rest.after;
-      leads = leads_more (do_fields parts.callers it) (map (do_fields parts.callers) items) count rest.end (scheduled parts done) rest.after (item.Do (numbered (suc count) it)) one.0 one.1 rest.leads;
+      leads = leads-more (do_fields parts.callers it) (map (do_fields parts.callers) items) count rest.end (scheduled parts done) rest.after (item.Do (numbered (suc count) it)) one.0 one.1 rest.leads;
       holds = record {
         again = numbered (suc count) it ∷ rest.holds.again;
         is = rest.holds.is ∙ ap (scheduled parts) (append_assoc done (numbered (suc count) it ∷ []) rest.holds.again);
@@ -137,23 +137,23 @@ pub record IsWhole (parts : PlanParts) (schedule : Schedule) (after : Said) : Ty
   pub parts_are : parts_said after ≡ parts
   pub same : SameSchedule (schedule_said after) schedule
 
-schedule_read : (parts : PlanParts) → Reads (schedule_fields ∷ []) (whole parts.version parts.links parts.groups parts.requests parts.callers parts.rounds parts.tail) (scheduled parts [])
-schedule_read parts = reads_one schedule_fields (whole parts.version parts.links parts.groups parts.requests parts.callers parts.rounds parts.tail) item.Schedule refl (λ number.
-    judged_as parts.version (whole parts.version parts.links parts.groups parts.requests parts.callers parts.rounds parts.tail) number schedule_fields word.Schedule item.Schedule refl refl refl refl refl refl)
+schedule-read : (parts : PlanParts) → Reads (schedule_fields ∷ []) (whole parts.version parts.links parts.groups parts.requests parts.callers parts.rounds parts.tail) (scheduled parts [])
+schedule-read parts = reads-one schedule_fields (whole parts.version parts.links parts.groups parts.requests parts.callers parts.rounds parts.tail) item.Schedule refl (λ number.
+    judged-as parts.version (whole parts.version parts.links parts.groups parts.requests parts.callers parts.rounds parts.tail) number schedule_fields word.Schedule item.Schedule refl refl refl refl refl refl)
 
-pub schedule_back : (parts : PlanParts) (schedule : Schedule) → Each (λ (caller : CallerEntry). is_name caller.name ≡ true) parts.callers → are_distinct (caller_names parts.callers) ≡ true → length parts.callers ≤ 64 → Each (IsDo parts.callers) schedule.items → (schedule.written ≡ false → schedule.items ≡ [])
+pub schedule-back : (parts : PlanParts) (schedule : Schedule) → Each (λ (caller : CallerEntry). is_name caller.name ≡ true) parts.callers → are_distinct (caller_names parts.callers) ≡ true → length parts.callers ≤ 64 → Each (IsDo parts.callers) schedule.items → (schedule.written ≡ false → schedule.items ≡ [])
     → (n : ℕ) → SomeLead (schedule_lines parts.callers schedule) (whole parts.version parts.links parts.groups parts.requests parts.callers parts.rounds parts.tail) (IsWhole parts schedule) n
-schedule_back parts schedule names apart few each unwritten = by schedule.written schedule.items each unwritten where
+schedule-back parts schedule names apart few each unwritten = by schedule.written schedule.items each unwritten where
   done : (items : List Do) (after : Said) → ItemsRead parts [] items after → IsWhole parts (record { written = true; items = items }) after
   done items after read = subst (IsWhole parts (record { written = true; items = items })) (sym read.is) (record { complete = refl; parts_are = refl; same = record { written = refl; items = read.same } })
 
   by : (written : Bool) (items : List Do) → Each (IsDo parts.callers) items → (written ≡ false → items ≡ [])
       → (n : ℕ) → SomeLead (schedule_lines parts.callers (record { written = written; items = items })) (whole parts.version parts.links parts.groups parts.requests parts.callers parts.rounds parts.tail) (IsWhole parts (record { written = written; items = items })) n
-  by true items all none = then_some (schedule_fields ∷ []) (map (do_fields parts.callers) items) (whole parts.version parts.links parts.groups parts.requests parts.callers parts.rounds parts.tail) (scheduled parts []) (IsWhole parts (record { written = true; items = items })) (schedule_read parts)
-      (λ n. let read = items_read parts [] items n names apart few all in record { end = read.end; after = read.after; leads = read.leads; holds = done items read.after read.holds })
+  by true items all none = then-some (schedule_fields ∷ []) (map (do_fields parts.callers) items) (whole parts.version parts.links parts.groups parts.requests parts.callers parts.rounds parts.tail) (scheduled parts []) (IsWhole parts (record { written = true; items = items })) (schedule-read parts)
+      (λ n. let read = items-read parts [] items n names apart few all in record { end = read.end; after = read.after; leads = read.leads; holds = done items read.after read.holds })
   by false items all none = λ n. record {
     end = n;
     after = whole parts.version parts.links parts.groups parts.requests parts.callers parts.rounds parts.tail;
-    leads = leads_nothing n (whole parts.version parts.links parts.groups parts.requests parts.callers parts.rounds parts.tail);
+    leads = leads-nothing n (whole parts.version parts.links parts.groups parts.requests parts.callers parts.rounds parts.tail);
     holds = record { complete = refl; parts_are = refl; same = record { written = refl; items = ap (map unnumbered) (sym (none refl)) } };
   }

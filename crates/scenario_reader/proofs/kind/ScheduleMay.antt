@@ -13,34 +13,34 @@ use Rattle.scenario_reader.specs.Drafts.{Said, caller_named}
 use Rattle.scenario_reader.specs.Fields.{field_at}
 use Rattle.scenario_reader.specs.Forms.{has_form, number_rule}
 use Rattle.scenario_reader.specs.line.Schedule.{do_form, is_plane, actor_rule, actor_named, actor_said, do_rule, do_by, do_said, MayPutSchedule, MayPutDo}
-use Rattle.scenario_reader.proofs.ReadBefore.{headed_is, is_some_said}
-use Rattle.scenario_reader.proofs.PassingLines.{made_some, all_pass, number_passes}
+use Rattle.scenario_reader.proofs.ReadBefore.{headed-is, is_some-said}
+use Rattle.scenario_reader.proofs.PassingLines.{made-some, all-pass, number-passes}
 use Rattle.scenario_reader.specs.declared.cause.Cause.TheVariants as cause
 
-pub schedule_may : (version : Version) (said : Said) → said.version ≡ Some version → (is_some said.tail && not said.written) ≡ true → MayPutSchedule said
-schedule_may version said v stands =
+pub schedule-may : (version : Version) (said : Said) → said.version ≡ Some version → (is_some said.tail && not said.written) ≡ true → MayPutSchedule said
+schedule-may version said v stands =
     let may = and_parts (is_some said.tail) (not said.written) stands in
-    record { headed = headed_is said version v; tailed = is_some_said said.tail may.0; unwritten = not-true said.written may.1 }
+    record { headed = headed-is said version v; tailed = is_some-said said.tail may.0; unwritten = not-true said.written may.1 }
 
 -- the actor that a field names is a caller or the plane
-named_within : (said : Said) (field : List ℕ) (number : ℕ) → actor_named said field ≡ Some number → number ≤ length said.callers
-named_within said field number e = by (is_plane field) e where
+named-within : (said : Said) (field : List ℕ) (number : ℕ) → actor_named said field ≡ Some number → number ≤ length said.callers
+named-within said field number e = by (is_plane field) e where
   by : (plane : Bool) → (if plane then Some (length said.callers) else caller_named said.callers field) ≡ Some number → number ≤ length said.callers
   by true e = (let same : length said.callers ≡ number = cc in omega (arith, same))
   by false e =
       let within = (position-Some (is_named field) (caller_names said.callers) number [] e).0 in
       omega (arith, within, length-map said.callers (λ (c : CallerEntry). c.name))
 
-pub do_may : (version : Version) (said : Said) (number : ℕ) (fields : List (List ℕ)) (what : Do) → said.version ≡ Some version → said.written ≡ true
+pub do-may : (version : Version) (said : Said) (number : ℕ) (fields : List (List ℕ)) (what : Do) → said.version ≡ Some version → said.written ≡ true
     → do_rule said fields ≡ None → do_said said number fields ≡ Some what → MayPutDo said what
-do_may version said number fields what v written rule says =
-    let p = all_pass (unless (has_form do_form fields) cause.Shape ∷ actor_rule said (field_at fields 1) ∷ number_rule 1 1048576 (field_at fields 2) ∷ []) rule in
-    let count = number_passes 1 1048576 (field_at fields 2) p.1.1.0 in
-    let made = made_some (do_by number fields) (actor_said said (field_at fields 1)) what says in
-    let named = made_some actor_at (actor_named said (field_at fields 1)) made.0 made.1 in
-    let within = named_within said (field_at fields 1) named.0 named.1 in
+do-may version said number fields what v written rule says =
+    let p = all-pass (unless (has_form do_form fields) cause.Shape ∷ actor_rule said (field_at fields 1) ∷ number_rule 1 1048576 (field_at fields 2) ∷ []) rule in
+    let count = number-passes 1 1048576 (field_at fields 2) p.1.1.0 in
+    let made = made-some (do_by number fields) (actor_said said (field_at fields 1)) what says in
+    let named = made-some actor_at (actor_named said (field_at fields 1)) made.0 made.1 in
+    let within = named-within said (field_at fields 1) named.0 named.1 in
     subst (MayPutDo said) made.2 (record {
-      headed = headed_is said version v;
+      headed = headed-is said version v;
       written = written;
       is = record { actor = omega (arith, within, ap actor_number named.2); least = count.least; most = count.most };
     })

@@ -14,29 +14,29 @@ use Rattle.scenario_reader.specs.Fields.{field_at}
 use Rattle.scenario_reader.specs.Forms.{number_rule}
 use Rattle.scenario_reader.specs.line.Using.{packets_rule, is_closed_request, is_over_request, load_rule}
 use Rattle.scenario_reader.specs.Kept.{IsDraft}
-use Rattle.scenario_reader.proofs.NamedByPlace.{own_is}
-use Rattle.scenario_reader.proofs.kind.RequestMay.{from_range}
-use Rattle.scenario_reader.proofs.OwnOpenings.{own_opened}
-use Rattle.scenario_reader.proofs.PassingLines.{all_pass, unless_passes}
+use Rattle.scenario_reader.proofs.NamedByPlace.{own-is}
+use Rattle.scenario_reader.proofs.kind.RequestMay.{from-range}
+use Rattle.scenario_reader.proofs.OwnOpenings.{own-opened}
+use Rattle.scenario_reader.proofs.PassingLines.{all-pass, unless-passes}
 use Rattle.call_script.specs.declared.roles.Role.TheVariants as role
 use Rattle.scenario_reader.specs.declared.cause.Cause.TheVariants as cause
 
 -- the packets of a line are in their ranges
-pub packets_pass : (fields : List (List ℕ)) → packets_rule fields ≡ None → packets_in_range (value_of (field_at fields 2)) (value_of (field_at fields 3)) (value_of (field_at fields 4)) ≡ true
-packets_pass fields e =
-    let p = all_pass (number_rule 1 262144 (field_at fields 2) ∷ number_rule 1 1048576 (field_at fields 3) ∷ number_rule 1 65536 (field_at fields 4) ∷ []) e in
+pub packets-pass : (fields : List (List ℕ)) → packets_rule fields ≡ None → packets_in_range (value_of (field_at fields 2)) (value_of (field_at fields 3)) (value_of (field_at fields 4)) ≡ true
+packets-pass fields e =
+    let p = all-pass (number_rule 1 262144 (field_at fields 2) ∷ number_rule 1 1048576 (field_at fields 3) ∷ number_rule 1 65536 (field_at fields 4) ∷ []) e in
     and_from (is_within 1 262144 (value_of (field_at fields 2)) && is_within 1 1048576 (value_of (field_at fields 3))) (is_within 1 65536 (value_of (field_at fields 4)))
-    (and_from (is_within 1 262144 (value_of (field_at fields 2))) (is_within 1 1048576 (value_of (field_at fields 3))) (from_range 1 262144 (field_at fields 2) p.0) (from_range 1 1048576 (field_at fields 3) p.1.0))
-    (from_range 1 65536 (field_at fields 4) p.1.1.0)
+    (and_from (is_within 1 262144 (value_of (field_at fields 2))) (is_within 1 1048576 (value_of (field_at fields 3))) (from-range 1 262144 (field_at fields 2) p.0) (from-range 1 1048576 (field_at fields 3) p.1.0))
+    (from-range 1 65536 (field_at fields 4) p.1.1.0)
 
 -- a request of the last caller that isn't closed may be used
-pub opened_channel : (said : Said) (name : List ℕ) (entry : RequestEntry) → IsDraft said → 1 ≤ length said.callers → own_request said name ≡ Some entry
+pub opened-channel : (said : Said) (name : List ℕ) (entry : RequestEntry) → IsDraft said → 1 ≤ length said.callers → own_request said name ≡ Some entry
     → unless (not (is_closed_request said (own_request said name))) cause.Closed ≡ None → IsOpenedThere (parts_said said) entry.request.chan
-opened_channel said name entry draft some own rule =
-    let is = own_is said name entry own in
-    let shut : is_closed_request said (own_request said name) ≡ false = not-true (is_closed_request said (own_request said name)) (unless_passes (not (is_closed_request said (own_request said name))) cause.Closed rule) in
+opened-channel said name entry draft some own rule =
+    let is = own-is said name entry own in
+    let shut : is_closed_request said (own_request said name) ≡ false = not-true (is_closed_request said (own_request said name)) (unless-passes (not (is_closed_request said (own_request said name))) cause.Closed rule) in
     record {
-      opened = own_opened said.requests said.callers is.place entry draft.keeps.planned.openings is.found some is.by;
+      opened = own-opened said.requests said.callers is.place entry draft.keeps.planned.openings is.found some is.by;
       unclosed = subst (λ (found : Option RequestEntry). is_closed_request said found ≡ false) own shut;
     }
 
@@ -45,22 +45,22 @@ pub record IsKeptOpen (said : Said) (entry : RequestEntry) : Type 0 where
   pub channel : IsOpenedThere (parts_said said) entry.request.chan
   pub unleft : HasNotDone role.Leaves (parts_said said) entry.request.chan
 
-pub still_open : (said : Said) (name : List ℕ) (entry : RequestEntry) → IsDraft said → 1 ≤ length said.callers → own_request said name ≡ Some entry → unless (not (is_over_request said (own_request said name))) cause.Closed ≡ None → IsKeptOpen said entry
-still_open said name entry draft some own rule =
-    let is = own_is said name entry own in
-    let over : is_over_request said (own_request said name) ≡ false = not-true (is_over_request said (own_request said name)) (unless_passes (not (is_over_request said (own_request said name))) cause.Closed rule) in
+pub still-open : (said : Said) (name : List ℕ) (entry : RequestEntry) → IsDraft said → 1 ≤ length said.callers → own_request said name ≡ Some entry → unless (not (is_over_request said (own_request said name))) cause.Closed ≡ None → IsKeptOpen said entry
+still-open said name entry draft some own rule =
+    let is = own-is said name entry own in
+    let over : is_over_request said (own_request said name) ≡ false = not-true (is_over_request said (own_request said name)) (unless-passes (not (is_over_request said (own_request said name))) cause.Closed rule) in
     let parts = or_parts (is_closed said entry.request.chan) (is_left said entry.request.chan) (subst (λ (found : Option RequestEntry). is_over_request said found ≡ false) own over) in
     record {
-      channel = record { opened = own_opened said.requests said.callers is.place entry draft.keeps.planned.openings is.found some is.by; unclosed = parts.0 };
+      channel = record { opened = own-opened said.requests said.callers is.place entry draft.keeps.planned.openings is.found some is.by; unclosed = parts.0 };
       unleft = parts.1;
     }
 
 -- it stands at its number
-pub own_at : (said : Said) (name : List ℕ) (entry : RequestEntry) → IsDraft said → own_request said name ≡ Some entry → slice_get said.requests (channel_number entry.request.chan) ≡ Some entry
-own_at said name entry draft own =
-    let is = own_is said name entry own in
+pub own-at : (said : Said) (name : List ℕ) (entry : RequestEntry) → IsDraft said → own_request said name ≡ Some entry → slice_get said.requests (channel_number entry.request.chan) ≡ Some entry
+own-at said name entry draft own =
+    let is = own-is said name entry own in
     subst (λ n. slice_get said.requests n ≡ Some entry) (sym (draft.keeps.planned.requests is.place entry is.found)) is.found
 
 -- a load that passes is within the limit
-pub load_passes : (said : Said) (packets : ℕ) → load_rule said packets ≡ None → load_in said.requests said.callers + packets ≤ 262144
-load_passes said packets e = leb-true (load_in said.requests said.callers + packets) 262144 (unless_passes (nat_le (load_in said.requests said.callers + packets) 262144) cause.Load e)
+pub load-passes : (said : Said) (packets : ℕ) → load_rule said packets ≡ None → load_in said.requests said.callers + packets ≤ 262144
+load-passes said packets e = leb-true (load_in said.requests said.callers + packets) 262144 (unless-passes (nat_le (load_in said.requests said.callers + packets) 262144) cause.Load e)

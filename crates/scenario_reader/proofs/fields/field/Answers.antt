@@ -7,10 +7,10 @@ use Rattle.scenario_reader.specs.Fields.{is_space, fields_of}
 use Rattle.scenario_reader.proofs.fields.field.Goals as goal
 
 -- where the look-up finds no field, there are no bytes
-field_missing : (fields : List (List ℕ)) (place : ℕ) → slice_get fields place ≡ None → ◌≡◌ {A = List ℕ} [] (get_or fields place [])
-field_missing [] place e = refl
-field_missing (f ∷ fields) zero e = cc
-field_missing (f ∷ fields) (suc place) e = field_missing fields place e
+field-missing : (fields : List (List ℕ)) (place : ℕ) → slice_get fields place ≡ None → ◌≡◌ {A = List ℕ} [] (get_or fields place [])
+field-missing [] place e = refl
+field-missing (f ∷ fields) zero e = cc
+field-missing (f ∷ fields) (suc place) e = field-missing fields place e
 
 pub returns-in-Some : goal.returns-in-Some
 returns-in-Some c =
@@ -22,4 +22,4 @@ pub returns-in-None : goal.returns-in-None
 returns-in-None c =
     let found = nth_from_yields_List c.nth.result c.nth.new.self c.args.place c.nth.ensures.ran
     (YieldsList-from_slice_split _ is_space c.args.line.now c.split.ensures.rest c.split.ensures.done c.split.ensures.closure (λ x b q k. search (rules, tests))) in
-    field_missing (fields_of c.args.line.now) c.args.place (sym found ∙ ap (option_map (λ x. x.now)) c.in-None.is)
+    field-missing (fields_of c.args.line.now) c.args.place (sym found ∙ ap (option_map (λ x. x.now)) c.in-None.is)

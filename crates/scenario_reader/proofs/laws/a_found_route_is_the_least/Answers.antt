@@ -1,5 +1,5 @@
-use Rattle.scenario_reader.proofs.LeastRoutes.{finds_least_routes}
+use Rattle.scenario_reader.proofs.LeastRoutes.{finds-least-routes}
 use Rattle.scenario_reader.proofs.laws.a_found_route_is_the_least.Goals as goal
 
 pub returns : goal.returns
-returns c = finds_least_routes
+returns c = finds-least-routes

@@ -1,5 +1,5 @@
-use Rattle.scenario_reader.proofs.TextBack.{text_is_read}
+use Rattle.scenario_reader.proofs.TextBack.{text-is-read}
 use Rattle.scenario_reader.proofs.laws.a_plans_text_is_read.Goals as goal
 
 pub returns : goal.returns
-returns c = text_is_read
+returns c = text-is-read

@@ -1,5 +1,5 @@
-use Rattle.scenario_reader.proofs.LeastRoutes.{tells_nodes_apart}
+use Rattle.scenario_reader.proofs.LeastRoutes.{tells-nodes-apart}
 use Rattle.scenario_reader.proofs.laws.two_nodes_have_two_numbers.Goals as goal
 
 pub returns : goal.returns
-returns c = tells_nodes_apart
+returns c = tells-nodes-apart

@@ -2,10 +2,10 @@ use Rattle.std.proofs.Common.{◌∙◌, rules, tests}
 use Rattle.std.specs.Char.{is_ascii_digit}
 use Rattle.std.proofs.lemmas.Iterator.{YieldsList-from_slice}
 use Rattle.std.proofs.lemmas.Iterator.Search.{all_from_yields_List}
-use Rattle.scenario_reader.proofs.DecimalDigits.{all_digits}
+use Rattle.scenario_reader.proofs.DecimalDigits.{all-digits}
 use Rattle.scenario_reader.proofs.values.are_digits.Goals as goal
 
 pub returns : goal.returns
 returns c =
     all_from_yields_List is_ascii_digit c.all.new.self _ _ c.all.ensures.ran (YieldsList-from_slice c.args.field.now c.iter.ensures.rest) (λ x b q k. search (rules, tests))
-    ∙ all_digits c.args.field.now
+    ∙ all-digits c.args.field.now

@@ -7,7 +7,7 @@ use Rattle.link_steps.proofs.SearchAndFilter.{Each-append}
 use Rattle.step_stamp.specs.Lists.{Has, Differ}
 use Rattle.step_stamp.specs.Seats.{pass_view, link_view, seat_link}
 use Rattle.step_stamp.specs.declared.views.View.{View}
-use Rattle.step_stamp.proofs.ListMembers.{has_left, has_right, has_split, differ_both}
+use Rattle.step_stamp.proofs.ListMembers.{has-left, has-right, has-split, differ-both}
 use Rattle.link_ledger.specs.declared.entries.Journal.{Journal}
 use Rattle.shared_network.specs.Closing.{number_of}
 use Rattle.shared_network.specs.Gathering.{IsBelow, IsSettled}
@@ -34,10 +34,10 @@ loop-link-preserved g c =
     record {
       settled = subst (Each (IsSettled g.H.Home.links (pass_view c.args.seat))) (sym pushed) (Each-append (IsSettled g.H.Home.links (pass_view c.args.seat)) journals (journal ∷ []) so.settled (next.0, tt));
       below = subst (Each (IsBelow n)) (sym pushed) (Each-append (IsBelow n) journals (journal ∷ []) so.below (subst (λ k. k < n) (sym number) (slice_get_within g.H.Home.links l told.journal.0 told.journal.1), tt));
-      apart = subst Differ (sym numbers) (differ_both (map number_of journals) (l ∷ []) so.apart ((λ none. none), tt)
+      apart = subst Differ (sym numbers) (differ-both (map number_of journals) (l ∷ []) so.apart ((λ none. none), tt)
           (λ k before last. ⊎_elim (λ (e : l ≡ k). joined.new (subst (λ j. Has j v.links) (sym e) (so.here k before))) (λ none. none) last));
       here = λ k has. subst (Has k) (sym joined.links)
-          (⊎_elim (λ before. has_left k v.links (l ∷ []) (so.here k before)) (λ last. has_right k v.links (l ∷ []) last) (has_split k (map number_of journals) (l ∷ []) (subst (Has k) numbers has)));
+          (⊎_elim (λ before. has-left k v.links (l ∷ []) (so.here k before)) (λ last. has-right k v.links (l ∷ []) last) (has-split k (map number_of journals) (l ∷ []) (subst (Has k) numbers has)));
       stays = next.1;
       table = c.settle.ensures.same.0 ∙ so.table;
       all = (let long = ap length c.in-Some.ensures.steps.0 in let all = so.all in omega (arith, long, more, all));

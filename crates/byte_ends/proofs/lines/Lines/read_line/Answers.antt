@@ -1,6 +1,6 @@
 use Rattle.std.proofs.Common.{[], refl, inl}
 use Rattle.byte_ends.proofs.Blocks.{Answers-settled, Moves-settled}
-use Rattle.byte_ends.proofs.Settling.{HasLine-given, over_settles, cut_settles, final_settles}
+use Rattle.byte_ends.proofs.Settling.{HasLine-given, over-settles, cut-settles, final-settles}
 use Rattle.byte_ends.proofs.Outlooks.{Foretells-answered}
 use Rattle.byte_ends.specs.Cutting.{let_go}
 use Rattle.byte_ends.proofs.lines.Lines.read_line.Goals as goal
@@ -13,13 +13,13 @@ returns-in-Some-clause-told g c =
     λ of. Foretells-answered c.in-Some.answer s c.settle.new.self left left 0 0 answers c.settle.ensures.stands of
 
 pub returns-in-Some-clause-over_again : goal.returns-in-Some-clause-over_again
-returns-in-Some-clause-over_again g c = over_settles c.in-Some.answer _ _ c.in-Some.ensures.settles c.settle.ensures.stands
+returns-in-Some-clause-over_again g c = over-settles c.in-Some.answer _ _ c.in-Some.ensures.settles c.settle.ensures.stands
 
 pub returns-in-Some-clause-cut_again : goal.returns-in-Some-clause-cut_again
-returns-in-Some-clause-cut_again g c = cut_settles c.in-Some.answer _ _ c.in-Some.ensures.settles c.settle.ensures.stands
+returns-in-Some-clause-cut_again g c = cut-settles c.in-Some.answer _ _ c.in-Some.ensures.settles c.settle.ensures.stands
 
 pub returns-in-Some-clause-same_again : goal.returns-in-Some-clause-same_again
-returns-in-Some-clause-same_again g c = final_settles c.in-Some.answer _ _ c.in-Some.ensures.settles
+returns-in-Some-clause-same_again g c = final-settles c.in-Some.answer _ _ c.in-Some.ensures.settles
 
 pub returns-in-None-clause-told : goal.returns-in-None-clause-told
 returns-in-None-clause-told g c =

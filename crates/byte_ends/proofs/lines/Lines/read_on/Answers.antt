@@ -1,4 +1,4 @@
-use Rattle.byte_ends.proofs.Settling.{pending_below_block}
+use Rattle.byte_ends.proofs.Settling.{pending-below-block}
 use Rattle.byte_ends.proofs.Blocks.{GivesNone-after, Answers-settled}
 use Rattle.byte_ends.proofs.lines.Lines.read_on.Goals as goal
 
@@ -10,4 +10,4 @@ returns-in-Some-clause-answers g c =
 pub returns-in-Some-clause-near : goal.returns-in-Some-clause-near
 returns-in-Some-clause-near g c =
     let more = c.in_ok-fetch.ensures.fetches in
-    λ line. pending_below_block c.loop-self.self c.fetch.new.self c.settle.new.self _ _ _ c.loop-self.invariant.undecided more.stays.moves more.one_block (rw line at c.in-Some.ensures.settles)
+    λ line. pending-below-block c.loop-self.self c.fetch.new.self c.settle.new.self _ _ _ c.loop-self.invariant.undecided more.stays.moves more.one_block (rw line at c.in-Some.ensures.settles)

@@ -9,9 +9,9 @@ use Rattle.link_ledger.specs.Own.{Acted}
 use Rattle.link_ledger.specs.Tokens.{IsLink}
 use Rattle.link_ledger.proofs.locked.LockedLink.acted.Goals as goal
 
-if_ok : {T E : Type 0} (P Q : T → Type 0) (r : Result T E) → ((x : T) → P x → Q x) → IfOk r P → IfOk r Q
-if_ok P Q (Ok x) follows holds = follows x holds
-if_ok P Q (Err e) follows holds = holds
+if-ok : {T E : Type 0} (P Q : T → Type 0) (r : Result T E) → ((x : T) → P x → Q x) → IfOk r P → IfOk r Q
+if-ok P Q (Ok x) follows holds = follows x holds
+if-ok P Q (Err e) follows holds = holds
 
 pub returns-clause-acted : goal.returns-clause-acted
 returns-clause-acted g c =
@@ -19,7 +19,7 @@ returns-clause-acted g c =
     let took = c.taken-held.ensures in
     let same : held ≡ mutex_guard_value c.taken-held.result = c.deref_mut.ensures.value in
     let number : held.number ≡ link_number c.args.self.now.link = ap (λ (h : HeldLink). h.number) same ∙ took.number in
-    if_ok _ _ c.act.result
+    if-ok _ _ c.act.result
     (λ e acted. record {
       link = held.rules;
       is_link = subst (λ (h : HeldLink). IsLink g.H.Home.links (link_number c.args.self.now.link) h.rules) (sym same) took.rules;
@@ -33,4 +33,4 @@ returns-clause-order g c =
     let held : HeldLink = c.deref_mut.result.now in
     let same : held ≡ mutex_guard_value c.taken-held.result = c.deref_mut.ensures.value in
     let number : held.number ≡ link_number c.args.self.now.link = ap (λ (h : HeldLink). h.number) same ∙ c.taken-held.ensures.number in
-    if_ok _ _ c.act.result (λ e order. subst (λ n. AreInOrder g.H.Home.owners (length g.H.Home.links) (known_of n (pass_view c.act.new.pass))) number order) c.act.ensures.order
+    if-ok _ _ c.act.result (λ e order. subst (λ n. AreInOrder g.H.Home.owners (length g.H.Home.links) (known_of n (pass_view c.act.new.pass))) number order) c.act.ensures.order

@@ -8,7 +8,7 @@ use Rattle.step_stamp.specs.Lists.{Has}
 use Rattle.step_stamp.specs.Seats.{pass_table, pass_view}
 use Rattle.step_stamp.specs.declared.seats.PassSeat.{PassSeat}
 use Rattle.step_stamp.specs.declared.views.View.{View}
-use Rattle.step_stamp.proofs.ListMembers.{has_first}
+use Rattle.step_stamp.proofs.ListMembers.{has-first}
 use Rattle.link_ledger.specs.Own.{IsExact, Owns, Acted, own_entry, own_at}
 use Rattle.link_ledger.specs.Tokens.{Token, token_of, KeepsSeat, KeepsToken, ActedAt, Steps}
 use Rattle.link_ledger.specs.declared.entries.OwnEntry.{OwnEntry}
@@ -27,7 +27,7 @@ invariant_of-pass-in-Ok g c =
     let e : OwnEntry = c.in-Ok.entry in
     let at : ActedAt g.H.Home.links (link_number c.args.self.now.link) seat.actor c.args.ask.now v v' e = c.in-Ok.ensures.acted in
     let acted : Acted at.link (link_number c.args.self.now.link) a c.args.ask.now v v' at.entries e = subst (λ (x : ActorNo). Acted at.link (link_number c.args.self.now.link) x c.args.ask.now v v' at.entries e) keeps.actor_is at.acted in
-    let acts : Has (actor_number a) v.actors = subst (λ (x : ActorNo). Has (actor_number x) v.actors) keeps.actor_is (has_first (actor_number seat.actor) v.actors seat.actors) in
+    let acts : Has (actor_number a) v.actors = subst (λ (x : ActorNo). Has (actor_number x) v.actors) keeps.actor_is (has-first (actor_number seat.actor) v.actors seat.actors) in
     let items : c.push_reserved.new.self.items ≡ own ++ e ∷ [] = c.push_reserved.ensures.items ∙ ap (λ es. es ++ e ∷ []) c.reserve.ensures.items in
     record {
       actor_is = c.in-Ok.ensures.same.1 ∙ keeps.actor_is;
@@ -48,7 +48,7 @@ returns-in-Ok-clause-made g c =
     let ask : Ask = c.args.ask.now in
     let at : ActedAt g.H.Home.links l seat.actor ask v v' e = c.in-Ok.ensures.acted in
     let acted : Acted at.link l a ask v v' at.entries e = subst (λ (x : ActorNo). Acted at.link l x ask v v' at.entries e) keeps.actor_is at.acted in
-    let acts : Has (actor_number a) v.actors = subst (λ (x : ActorNo). Has (actor_number x) v.actors) keeps.actor_is (has_first (actor_number seat.actor) v.actors seat.actors) in
+    let acts : Has (actor_number a) v.actors = subst (λ (x : ActorNo). Has (actor_number x) v.actors) keeps.actor_is (has-first (actor_number seat.actor) v.actors seat.actors) in
     let items : c.push_reserved.new.self.items ≡ own ++ e ∷ [] = c.push_reserved.ensures.items ∙ ap (λ es. es ++ e ∷ []) c.reserve.ensures.items in
     let before : Token = token_of a (Some seat) own c.pass.inside.spent in
     let before_is : before ≡ c.args.pass.now = ap (λ o. token_of a o own c.pass.inside.spent) (sym seat_is) ∙ c.pass.view_is in

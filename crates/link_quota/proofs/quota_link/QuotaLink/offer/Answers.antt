@@ -32,8 +32,8 @@ absent : (c : In_default) → find (is_of c.args.chan) (reservations_held c.args
 absent c = seen-none c.args.self.now.link.shape.bounds (reservations_held c.args.self.now.link) c.args.chan (sym c.in_default.is ∙ c.held_of.ensures.row)
 
 -- so the reply is by the room of the group
-by_room : (c : After-of_group) → reserve_reply (rules_of c.args.self.now) (reservations_held c.args.self.now.link) c.args.chan c.args.contract.now c.args.delay c.args.up_reach ≡ reserve_reply_in c.args.self.now.link.shape (reservations_held c.args.self.now.link) c.args.chan c.args.contract.now c.args.delay c.args.up_reach (room_in c.args.self.now.link.shape c.of_group.result.0 c.of_group.result.1 c.args.contract.now)
-by_room c =
+by-room : (c : After-of_group) → reserve_reply (rules_of c.args.self.now) (reservations_held c.args.self.now.link) c.args.chan c.args.contract.now c.args.delay c.args.up_reach ≡ reserve_reply_in c.args.self.now.link.shape (reservations_held c.args.self.now.link) c.args.chan c.args.contract.now c.args.delay c.args.up_reach (room_in c.args.self.now.link.shape c.of_group.result.0 c.of_group.result.1 c.args.contract.now)
+by-room c =
     quota-reply (rules_of c.args.self.now) (reservations_held c.args.self.now.link) c.args.chan c.args.contract.now c.args.delay c.args.up_reach c.of_group.result.0 c.of_group.result.1 c.requires.splits
     (subst (λ g. IsShare (rules_of c.args.self.now) g (reservations_held c.args.self.now.link) c.of_group.result.0) c.group_of-group.ensures c.of_group.ensures.share)
     (subst (λ g. IsQuotaOf (rules_of c.args.self.now) g c.of_group.result.1) c.group_of-group.ensures c.of_group.ensures.quota)
@@ -82,7 +82,7 @@ returns-in-Err c =
           ap (λ n. Refused (NoLevel n c.in-Err.over.bound)) sum
           ∙ ap (λ n. Refused (NoLevel (load_of c.args.self.now.link.shape c.of_group.result.0 c.args.contract.now (length c.args.self.now.link.shape.bounds)) n)) bound
           ∙ by-no_level c.args.self.now.link.shape (reservations_held c.args.self.now.link) c.args.chan c.args.contract.now c.args.delay c.args.up_reach (room_in c.args.self.now.link.shape c.of_group.result.0 c.of_group.result.1 c.args.contract.now) (narrow here.Else-smax-shape) (absent here.In_default) best
-          ∙ sym (by_room here.After-of_group);
+          ∙ sym (by-room here.After-of_group);
     }
 
 pub need_at-need-requires-clause-within : goal.need_at-need-requires-clause-within
@@ -109,7 +109,7 @@ returns-then-need-free c =
           ap (λ n. Refused (NoBuffer n (c.from-in-Ok.result - c.of_group.result.0.units))) needed
           ∙ ap (λ n. Refused (NoBuffer (need_of c.args.self.now.link.shape.bounds c.args.contract.now c.args.up_reach (reach_of c.args.self.now.link.shape.bounds c.args.delay (level_number c.in-Ok.level))) n)) left
           ∙ by-no_buffer c.args.self.now.link.shape (reservations_held c.args.self.now.link) c.args.chan c.args.contract.now c.args.delay c.args.up_reach (room_in c.args.self.now.link.shape c.of_group.result.0 c.of_group.result.1 c.args.contract.now) (level_number c.in-Ok.level) (narrow here.Else-smax-shape) (absent here.In_default) (found here.After-from-in-Ok) (lt-leb _ _ (omega (arith, needed, left, over)))
-          ∙ sym (by_room here.After-of_group);
+          ∙ sym (by-room here.After-of_group);
     }
 
 pub returns-else-need-free : goal.returns-else-need-free
@@ -122,5 +122,5 @@ returns-else-need-free c =
       reply =
           ap (λ l. Offer l (level_of (reach_of c.args.self.now.link.shape.bounds c.args.delay (level_number c.in-Ok.level)))) (sym (level_of-level c.in-Ok.level))
           ∙ by-offer c.args.self.now.link.shape (reservations_held c.args.self.now.link) c.args.chan c.args.contract.now c.args.delay c.args.up_reach (room_in c.args.self.now.link.shape c.of_group.result.0 c.of_group.result.1 c.args.contract.now) (level_number c.in-Ok.level) (narrow here.Else-smax-shape) (absent here.In_default) (found here.After-from-in-Ok) (le-leb _ _ (omega (arith, needed, left, within)))
-          ∙ sym (by_room here.After-of_group);
+          ∙ sym (by-room here.After-of_group);
     }

@@ -1,6 +1,6 @@
-use Rattle.net_units.proofs.NameIsText.{name_is_text}
+use Rattle.net_units.proofs.NameIsText.{name-is-text}
 use Rattle.net_units.proofs.name.Name.as_str.Goals as goal
 
 pub unreachable-requires : goal.unreachable-requires
 unreachable-requires c =
-    c.in-Err.ensures.cases.0 (rw c.as_bytes.ensures.value (name_is_text c.args.self.now c.as_bytes.ensures.valid))
+    c.in-Err.ensures.cases.0 (rw c.as_bytes.ensures.value (name-is-text c.args.self.now c.as_bytes.ensures.valid))

@@ -2,7 +2,7 @@
 use Rattle.std.proofs.Common.{◌≡◌, ◌<◌, ◌≤◌, ⊎_elim, Some, length, ap, sym, ◌∙◌, subst, arith}
 use Rattle.std.proofs.lemmas.Bool.{cases_lt}
 use Rattle.net_units.specs.Numbers.{level_number}
-use Rattle.net_units.proofs.BoundsInOrder.{bounds_parts, bound_least}
+use Rattle.net_units.proofs.BoundsInOrder.{bounds-parts, bound-least}
 use Rattle.net_units.specs.LevelBounds.{bound_at}
 use Rattle.traffic_contract.specs.Admission.{refused_sum, IsRefused}
 use Rattle.traffic_contract.proofs.AdmissionTest.{Passes-larger, best_level-none}
@@ -16,7 +16,7 @@ refused : (c : goal.After-from) → IsRefused c.args.self.now.server (admitted_r
 refused c =
     let admitted = subst AreAdmitted c.self.view_is c.self.invariant.admitted in
     let all : c.last_full-full.result ≡ length c.args.self.now.server.bounds = c.if-full-levels.true ∙ c.len-levels.ensures.value ∙ ap (λ s. length s.server.bounds) c.self.view_is in
-    IsRefused-last_full c.args.self.now.server (admitted_rows c.args.self.now.rows) c.args.contract.now (bounds_parts _ admitted.server.bounds).least (rw all at c.last_full-full.ensures)
+    IsRefused-last_full c.args.self.now.server (admitted_rows c.args.self.now.rows) c.args.contract.now (bounds-parts _ admitted.server.bounds).least (rw all at c.last_full-full.ensures)
 
 pub returns-then-full-levels-clause-level : goal.returns-then-full-levels-clause-level
 returns-then-full-levels-clause-level c = best_level-none _ _ _ (refused c)
@@ -37,15 +37,15 @@ pub returns-then-full-levels-clause-over : goal.returns-then-full-levels-clause-
 returns-then-full-levels-clause-over c =
     let admitted = subst AreAdmitted c.self.view_is c.self.invariant.admitted in
     let all : c.last_full-full.result ≡ length c.args.self.now.server.bounds = c.if-full-levels.true ∙ c.len-levels.ensures.value ∙ ap (λ s. length s.server.bounds) c.self.view_is in
-    let some = (bounds_parts _ admitted.server.bounds).least in
-    let over = refused_sum-over c.args.self.now.server (admitted_rows c.args.self.now.rows) c.args.contract.now some (bound_least c.args.self.now.server.bounds (length c.args.self.now.server.bounds) admitted.server.bounds some (omega arith)) (rw all at c.last_full-full.ensures) in
+    let some = (bounds-parts _ admitted.server.bounds).least in
+    let over = refused_sum-over c.args.self.now.server (admitted_rows c.args.self.now.rows) c.args.contract.now some (bound-least c.args.self.now.server.bounds (length c.args.self.now.server.bounds) admitted.server.bounds some (omega arith)) (rw all at c.last_full-full.ensures) in
     let last : level_number c.level_at-last.result ≡ length c.args.self.now.server.bounds = c.level_at-last.ensures ∙ c.len-levels.ensures.value ∙ ap (λ s. length s.server.bounds) c.self.view_is in
     let whole : c.from.result ≡ bound_at c.args.self.now.server.bounds (length c.args.self.now.server.bounds) = c.from.ensures ∙ c.at.ensures.value ∙ ap (λ s. bound_at s.server.bounds (level_number c.level_at-last.result)) c.self.view_is ∙ ap (bound_at c.args.self.now.server.bounds) last in
     omega (arith, over, whole, summed c)
 
 -- the last level without room isn't the last of all
-below_last : (c : goal.After-level_at) → c.last_full-full.result < length c.args.self.now.server.bounds
-below_last c =
+below-last : (c : goal.After-level_at) → c.last_full-full.result < length c.args.self.now.server.bounds
+below-last c =
     let levels : c.len-levels.result ≡ length c.args.self.now.server.bounds = c.len-levels.ensures.value ∙ ap (λ s. length s.server.bounds) c.self.view_is in
     ⊎_elim (λ (below : c.last_full-full.result < length c.args.self.now.server.bounds). below)
     (λ (all : length c.args.self.now.server.bounds ≤ c.last_full-full.result). absurd (c.if-full-levels.false (omega (arith, levels, c.last_full-full.ensures.upto))))
@@ -54,12 +54,12 @@ below_last c =
 pub returns-clause-level : goal.returns-clause-level
 returns-clause-level c =
     let admitted = subst AreAdmitted c.self.view_is c.self.invariant.admitted in
-    best_level-above_full c.args.self.now.server (admitted_rows c.args.self.now.rows) c.args.contract.now c.last_full-full.result admitted.passes c.last_full-full.ensures (below_last c) ∙ ap Some (sym c.level_at.ensures)
+    best_level-above_full c.args.self.now.server (admitted_rows c.args.self.now.rows) c.args.contract.now c.last_full-full.result admitted.passes c.last_full-full.ensures (below-last c) ∙ ap Some (sym c.level_at.ensures)
 
 pub returns-clause-least : goal.returns-clause-least
 returns-clause-least c =
     let admitted = subst AreAdmitted c.self.view_is c.self.invariant.admitted in
-    rw c.level_at.ensures (IsBest-above_full c.args.self.now.server (admitted_rows c.args.self.now.rows) c.args.contract.now c.last_full-full.result admitted.passes c.last_full-full.ensures (below_last c))
+    rw c.level_at.ensures (IsBest-above_full c.args.self.now.server (admitted_rows c.args.self.now.rows) c.args.contract.now c.last_full-full.result admitted.passes c.last_full-full.ensures (below-last c))
 
 pub returns-clause-larger : goal.returns-clause-larger
 returns-clause-larger c =

@@ -2,7 +2,7 @@ use Rattle.std.proofs.Common.{◌≡◌, ◌+◌, ◌-◌, ◌∙◌, ap, arith,
 use Rattle.std.proofs.lemmas.List.{length-take-le}
 use Rattle.net_units.specs.Allotted.{levels_of}
 use Rattle.net_units.specs.Numbers.{level_number}
-use Rattle.scenario_reader.proofs.LevelFields.{level_next}
+use Rattle.scenario_reader.proofs.LevelFields.{level-next}
 use Rattle.scenario_reader.proofs.audit.accepting.offers_of.Goals as goal
 
 pub push_offer-requires-clause-left : goal.push_offer-requires-clause-left
@@ -16,7 +16,7 @@ push_offer-requires-clause-level c =
     let at : c.loop-index.index + 1 - 1 ≡ c.loop-index.index = omega arith in
     let is : level_number c.at-level.result ≡ get_or (levels_of c.args.levels.now) c.loop-index.index 0 = c.at-level.ensures
     ∙ ap (λ i. get_or (levels_of c.args.levels.now) i 0) at in
-    let next = level_next c.args.route.now (levels_of c.args.levels.now) c.loop-index.index (level_number c.at-level.result) c.requires.are_levels
+    let next = level-next c.args.route.now (levels_of c.args.levels.now) c.loop-index.index (level_number c.at-level.result) c.requires.are_levels
     (omega (arith, c.loop-index-test.true, c.len-index-end.ensures.value)) is in
     rw (c.loop-index.invariant.route, c.loop-index.invariant.levels) next
 

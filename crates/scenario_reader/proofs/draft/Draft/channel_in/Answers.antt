@@ -4,16 +4,16 @@ use Rattle.std.proofs.lemmas.Option.{slice_get_read}
 use Rattle.call_script.specs.declared.entries.RequestEntry.{RequestEntry}
 use Rattle.scenario_reader.specs.AuditLines.{channel_in}
 use Rattle.scenario_reader.specs.Drafts.{Said}
-use Rattle.scenario_reader.proofs.AuditKeeps.{channel_none, channel_some}
-use Rattle.scenario_reader.proofs.NamedByPlace.{request_at_place, no_request_there}
+use Rattle.scenario_reader.proofs.AuditKeeps.{channel-none, channel-some}
+use Rattle.scenario_reader.proofs.NamedByPlace.{request-at-place, no-request-there}
 use Rattle.scenario_reader.proofs.draft.Draft.channel_in.Goals as goal
 
 pub returns-in_err-number : goal.returns-in_err-number
 returns-in_err-number c =
     let items = c.self.inside.requests.items in
-    let none = no_request_there c.self.inside.requests.items c.self.inside.request_names c.in_ok-name.name c.self.invariant.1.same_requests c.in_err-number.ensures.place in
+    let none = no-request-there c.self.inside.requests.items c.self.inside.request_names c.in_ok-name.name c.self.invariant.1.same_requests c.in_err-number.ensures.place in
     c.from_residual-in_err-number.ensures
-    ∙ sym (channel_none items c.args.field.now c.in_ok-name.name c.name.result c.name.ensures (sym c.ok.ensures.value ∙ c.in_ok-name.was) none)
+    ∙ sym (channel-none items c.args.field.now c.in_ok-name.name c.name.result c.name.ensures (sym c.ok.ensures.value ∙ c.in_ok-name.was) none)
     ∙ ap (λ (s : Said). channel_in s.requests c.args.field.now) c.self.view_is
 
 pub returns : goal.returns
@@ -21,7 +21,7 @@ returns c =
     let items = c.self.inside.requests.items in
     let here : c.in_ok-number.number < length c.self.inside.requests.items =
     omega (arith, c.in_ok-number.ensures.within, ap length c.self.invariant.1.same_requests, length-map c.self.inside.requests.items (λ (e : RequestEntry). e.name)) in
-    let found = sym (request_at_place items c.self.inside.request_names c.in_ok-name.name c.in_ok-number.number c.self.invariant.1.same_requests (c.in_ok-number.ensures.place))
+    let found = sym (request-at-place items c.self.inside.request_names c.in_ok-name.name c.in_ok-number.number c.self.invariant.1.same_requests (c.in_ok-number.ensures.place))
     ∙ slice_get_read items (length items) c.in_ok-number.number c.index.result.now refl here c.index.ensures in
-    sym (channel_some items c.args.field.now c.in_ok-name.name c.name.result c.index.result.now c.name.ensures (sym c.ok.ensures.value ∙ c.in_ok-name.was) found)
+    sym (channel-some items c.args.field.now c.in_ok-name.name c.name.result c.index.result.now c.name.ensures (sym c.ok.ensures.value ∙ c.in_ok-name.was) found)
     ∙ ap (λ (s : Said). channel_in s.requests c.args.field.now) c.self.view_is

@@ -2,12 +2,12 @@ use Rattle.std.proofs.Common.{sym, subst}
 use Rattle.scenario_reader.specs.Drafts.{Said}
 use Rattle.scenario_reader.specs.line.Table.{MayAdd}
 use Rattle.scenario_reader.specs.declared.item.Item.TheVariants as item
-use Rattle.scenario_reader.proofs.DraftBecomesPlan.{draft_more}
-use Rattle.scenario_reader.proofs.KeptBesideDraft.{kept_quota}
+use Rattle.scenario_reader.proofs.DraftBecomesPlan.{draft-more}
+use Rattle.scenario_reader.proofs.KeptBesideDraft.{kept-quota}
 use Rattle.scenario_reader.proofs.draft.Draft.put_quota.Goals as goal
 
 pub invariant_of-self-2 : goal.invariant_of-self-2
 invariant_of-self-2 c =
     let may = subst (λ (s : Said). MayAdd s (item.Quota c.args.link c.args.quota)) (sym c.self.view_is) c.requires in
     rw (c.in_ok-add_quota.ensures.ok, c.from.ensures, c.get.ensures.value)
-    (draft_more _ (item.Quota c.args.link c.args.quota) c.self.invariant.0 may, kept_quota _ _ _ _ _ _ c.args.link c.args.quota c.self.invariant.1)
+    (draft-more _ (item.Quota c.args.link c.args.quota) c.self.invariant.0 may, kept-quota _ _ _ _ _ _ c.args.link c.args.quota c.self.invariant.1)

@@ -2,11 +2,11 @@ use Rattle.std.proofs.Common.{sym, subst}
 use Rattle.scenario_reader.specs.Drafts.{Said}
 use Rattle.scenario_reader.specs.line.Table.{MayAdd}
 use Rattle.scenario_reader.specs.declared.item.Item.TheVariants as item
-use Rattle.scenario_reader.proofs.DraftBecomesPlan.{draft_more}
-use Rattle.scenario_reader.proofs.KeptBesideDraft.{kept_tail}
+use Rattle.scenario_reader.proofs.DraftBecomesPlan.{draft-more}
+use Rattle.scenario_reader.proofs.KeptBesideDraft.{kept-tail}
 use Rattle.scenario_reader.proofs.draft.Draft.put_tail.Goals as goal
 
 pub invariant_of-self : goal.invariant_of-self
 invariant_of-self c =
     let may = subst (λ (s : Said). MayAdd s (item.Tail c.args.count)) (sym c.self.view_is) c.requires in
-    (draft_more _ (item.Tail c.args.count) c.self.invariant.0 may, kept_tail _ _ _ _ _ _ c.args.count c.self.invariant.1)
+    (draft-more _ (item.Tail c.args.count) c.self.invariant.0 may, kept-tail _ _ _ _ _ _ c.args.count c.self.invariant.1)

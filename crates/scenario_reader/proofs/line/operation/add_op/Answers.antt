@@ -1,6 +1,6 @@
 use Rattle.std.proofs.Common.{◌≡◌, ◌+◌, ◌-◌, ◌<◌, length, refl, arith}
 use Rattle.std.proofs.lemmas.Option.{slice_get_read}
-use Rattle.scenario_reader.proofs.KeptBesideDraft.{on_ok, set_last}
+use Rattle.scenario_reader.proofs.KeptBesideDraft.{on-ok, set-last}
 use Rattle.scenario_reader.proofs.line.operation.add_op.Goals as goal
 
 pub returns-clause-ok : goal.returns-clause-ok
@@ -10,4 +10,4 @@ returns-clause-ok c =
     let last : c.len-last.result - 1 + 1 ≡ length c.args.callers.now.items = omega (arith, c.len-last.ensures, c.args.callers.now.ok.0, c.requires) in
     let within : c.len-last.result - 1 < length c.args.callers.now.items = omega (arith, c.len-last.ensures, c.args.callers.now.ok.0, c.requires) in
     let at = slice_get_read items (length items) place c.index_mut.result.now refl within c.index_mut.ensures.value in
-    on_ok c.push.result _ _ (λ pushed. set_last items c.args.op place c.index_mut.result.now _ last at (rw pushed refl)) c.push.ensures.ok
+    on-ok c.push.result _ _ (λ pushed. set-last items c.args.op place c.index_mut.result.now _ last at (rw pushed refl)) c.push.ensures.ok

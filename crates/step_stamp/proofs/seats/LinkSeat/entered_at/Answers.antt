@@ -4,7 +4,7 @@ use Rattle.step_stamp.specs.declared.views.View.{View}
 use Rattle.step_stamp.specs.Marks.{drawn_for}
 use Rattle.step_stamp.specs.Seats.{EntersMark}
 use Rattle.step_stamp.specs.Views.{entered}
-use Rattle.step_stamp.proofs.Entering.{enters, entered_facts}
+use Rattle.step_stamp.proofs.Entering.{enters, entered-facts}
 use Rattle.step_stamp.proofs.seats.LinkSeat.entered_at.Goals as goal
 
 pub join_seat-requires : goal.join_seat-requires
@@ -20,6 +20,6 @@ returns-clause-entered g c =
     let k : View = c.args.self.now.seat.me.0 in
     let t = c.args.ticket in
     let same : link_number t.link ≡ L = c.requires.link_is ∙ c.requires.chosen in
-    let facts = entered_facts L k t.seat.me.0 t.mark (t.hand ∙ ap (λ l. drawn_for l t.mark ∷ []) same) t.saw c.requires.above in
+    let facts = entered-facts L k t.seat.me.0 t.mark (t.hand ∙ ap (λ l. drawn_for l t.mark ∷ []) same) t.saw c.requires.above in
     let is : c.join_seat.new.seat.me.0 ≡ entered L k t.seat.me.0 = ap (λ m. m.0) c.join_seat.ensures.2 in
     subst (λ l. EntersMark l k c.join_seat.new.seat.me.0 t.mark) (sym c.requires.chosen) (subst (λ (x : View). EntersMark L k x t.mark) (sym is) facts)
