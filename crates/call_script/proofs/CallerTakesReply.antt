@@ -11,7 +11,7 @@ use Rattle.link_steps.specs.Lists.{Each}
 use Rattle.link_steps.specs.declared.asks.Ask.{Ask}
 use Rattle.link_steps.specs.declared.replies.Reply.{Reply}
 use Rattle.setup_protocol.specs.declared.request.Request.{Request}
-use Rattle.call_script.specs.Channels.{AreTold, IsWithin}
+use Rattle.call_script.specs.Channels.{AreTold, IsOfChannelsBelow}
 use Rattle.call_script.specs.Parts.{PlanParts, ArePlanned}
 use Rattle.call_script.specs.Scripts.{Learnt, Standing, begun, continued, resumed, standing, task_ask}
 use Rattle.call_script.specs.Standing.{requests_of, StandsAt, CallerStands}
@@ -83,7 +83,7 @@ over-one requests ops actor new w one outcomes [] replies reply was over begins 
 over-one requests ops actor new w one outcomes (task ∷ tasks) replies reply was over begins = is-over requests ops actor new (learnt_of one ∷ []) outcomes task tasks replies reply was over begins
 
 -- what it tells is of a channel of the plan
-one-within : (count : ℕ) (w : Work) (one : Known) (tasks : List Task) (replies : List Reply) → Each (TaskWithin count) tasks → TurnStands (turn.Settled one) w tasks replies → IsWithin count (learnt_of one)
+one-within : (count : ℕ) (w : Work) (one : Known) (tasks : List Task) (replies : List Reply) → Each (TaskWithin count) tasks → TurnStands (turn.Settled one) w tasks replies → IsOfChannelsBelow count (learnt_of one)
 one-within count w one [] replies each over = absurd over
 one-within count w one (task ∷ tasks) replies each over = told-within count task replies (learnt_of one) each.0 over
 
@@ -150,10 +150,10 @@ turned-settled parts actor new w took one channels ops requests replies reply st
 
 -- what it has learnt then is of a channel that is kept
 pub learnt-within : (parts : PlanParts) (actor : Actor) (w : Work) (took : Turn) (one : Known) (replies : List Reply) (reply : Reply) → ArePlanned parts → CallerStands parts actor replies → took ≡ turn.Settled one
-    → ((tasks : List Task) (rs : List Reply) → WorkStands actor.work tasks rs → TurnStands took w tasks (rs ++ reply ∷ [])) → IsWithin (length actor.channels.by_number.items) (learnt_of one)
+    → ((tasks : List Task) (rs : List Reply) → WorkStands actor.work tasks rs → TurnStands took w tasks (rs ++ reply ∷ [])) → IsOfChannelsBelow (length actor.channels.by_number.items) (learnt_of one)
 learnt-within parts actor w took one replies reply planned stands is turns =
     let at : Standing = standing (script_of (requests_of parts) stands.caller) replies in
-    subst (λ n. IsWithin n (learnt_of one)) (sym stands.at.channels)
+    subst (λ n. IsOfChannelsBelow n (learnt_of one)) (sym stands.at.channels)
     (one-within (length (requests_of parts)) w one at.tasks (at.replies ++ reply ∷ []) (script-within parts stands.caller.ops replies planned)
     (subst (λ t. TurnStands t w at.tasks (at.replies ++ reply ∷ [])) is (turns at.tasks at.replies stands.at.under_way)))
 

@@ -14,7 +14,7 @@ use Rattle.link_steps.specs.declared.replies.Reply.{Reply}
 use Rattle.link_steps.specs.declared.replies.Reply.TheVariants as Is
 use Rattle.setup_protocol.specs.Setup.{Outcome, verdict_of}
 use Rattle.setup_protocol.specs.declared.request.Request.{Request}
-use Rattle.call_script.specs.Channels.{IsWithin}
+use Rattle.call_script.specs.Channels.{IsOfChannelsBelow}
 use Rattle.call_script.specs.Parts.{PlanParts, ArePlanned}
 use Rattle.call_script.specs.Scripts.{Learnt, Standing, takes_step, ready, from_step, settled_as, planned_as, moved_as, outcome_by, continued, resumed, standing, task_ask}
 use Rattle.call_script.specs.Standing.{requests_of}
@@ -41,13 +41,13 @@ TaskWithin count (Moves old new gap size) = (channel_number old.chan < count) ×
 -- ---- the tasks of a script
 
 -- each request has the number of its place
-abbrev pub AreNumbered : List Request → Type 0
-AreNumbered requests = (n : ℕ) (request : Request) → slice_get requests n ≡ Some request → channel_number request.chan ≡ n
+abbrev pub RequestsAreNumbered : List Request → Type 0
+RequestsAreNumbered requests = (n : ℕ) (request : Request) → slice_get requests n ≡ Some request → channel_number request.chan ≡ n
 
-found-within : (requests : List Request) (n : ℕ) (request : Request) → AreNumbered requests → slice_get requests n ≡ Some request → channel_number request.chan < length requests
+found-within : (requests : List Request) (n : ℕ) (request : Request) → RequestsAreNumbered requests → slice_get requests n ≡ Some request → channel_number request.chan < length requests
 found-within requests n request numbered found = subst (λ k. k < length requests) (sym (numbered n request found)) (slice_get_within requests n request found)
 
-tasks-within : (requests : List Request) (ops : List Op) → AreNumbered requests → Each (TaskWithin (length requests)) (tasks_of requests ops)
+tasks-within : (requests : List Request) (ops : List Op) → RequestsAreNumbered requests → Each (TaskWithin (length requests)) (tasks_of requests ops)
 tasks-within requests ops numbered = tasks-hold (TaskWithin (length requests)) requests (record {
   opens = λ n request such found. found-within requests n request numbered found;
   sends = λ n request link count gap size such found. found-within requests n request numbered found;
@@ -86,7 +86,7 @@ standing-within count tasks (reply ∷ before) each =
     resumed-within count at.outcomes at.tasks (at.replies ++ reply ∷ []) (standing-within count tasks before each)
 
 -- the requests of a plan are numbered
-planned-numbers : (parts : PlanParts) → ArePlanned parts → AreNumbered (requests_of parts)
+planned-numbers : (parts : PlanParts) → ArePlanned parts → RequestsAreNumbered (requests_of parts)
 planned-numbers parts planned n request found = by (slice_get parts.requests n) refl (sym (slice_get-map request_of parts.requests n) ∙ found) where
   by : (entry : Option RequestEntry) → slice_get parts.requests n ≡ entry → option_map request_of entry ≡ Some request → channel_number request.chan ≡ n
   by None is none = cc
@@ -99,7 +99,7 @@ script-within parts ops replies planned =
 -- ---- what a task tells
 
 abbrev AllWithin : ℕ → List Learnt → Type 0
-AllWithin count outcomes = Each (IsWithin count) outcomes
+AllWithin count outcomes = Each (IsOfChannelsBelow count) outcomes
 
 settled-within : (count : ℕ) (request : Request) (outcome : Option Outcome) → channel_number request.chan < count → AllWithin count (settled_as request outcome)
 settled-within count request None within = tt
@@ -121,5 +121,5 @@ outcomes-within count (Sends link (Some chan) number gap size) replies within = 
 outcomes-within count (Closes request) replies within = tt
 outcomes-within count (Moves old new gap size) replies within = moved-within count old new gap size (first_told replies) within.0 within.1
 
-pub told-within : (count : ℕ) (task : Task) (replies : List Reply) (note : Learnt) → TaskWithin count task → IsFinished task replies (note ∷ []) → IsWithin count note
+pub told-within : (count : ℕ) (task : Task) (replies : List Reply) (note : Learnt) → TaskWithin count task → IsFinished task replies (note ∷ []) → IsOfChannelsBelow count note
 told-within count task replies note within over = (subst (AllWithin count) over.tells (outcomes-within count task replies within)).0

@@ -29,7 +29,7 @@ use Rattle.call_script.specs.declared.tasks.Task.TheVariants.{Opens, Sends, Clos
 use Rattle.link_steps.proofs.ListParts.{Each-at, comes-from}
 use Rattle.call_script.proofs.PlansFit.{request-fits}
 use Rattle.call_script.proofs.OperationTable.{ChannelIf, TaskIf, with-task, AreInOrder, OpOff, task-off, AreApart, IsApartMove, IsTo, OpIs, IsOff, Opening, Sending, Closing, Leaving, Joining, op-is}
-use Rattle.call_script.proofs.OpeningsInOrder.{AreNumbered, caller-numbered, IsOpenedBy, opened-has, owner-inside}
+use Rattle.call_script.proofs.OpeningsInOrder.{OpeningsAreNumbered, caller-numbered, IsOpenedBy, opened-has, owner-inside}
 use Rattle.call_script.proofs.RulesAreKept.{both, not-true, each-of, keeps-rules, used-in, unclosed-in, moves-in}
 use Rattle.std.proofs.Math.Bool.{or-true}
 
@@ -209,11 +209,11 @@ opens-off c op off is = by (attributes_of op).opens off is where
   by None other same = (let clash' : None ≡ Some c = same in cc)
   by (Some chan) other same = other (same_Some (channel_number chan) c same)
 
-numbered-off : (n c m : ℕ) (ops : List Op) → c < m → AreNumbered m (openings_in n ops) → Each (OpenOff c) ops
+numbered-off : (n c m : ℕ) (ops : List Op) → c < m → OpeningsAreNumbered m (openings_in n ops) → Each (OpenOff c) ops
 unfolding openings_in
 numbered-off n c m [] below are = tt
 numbered-off n c m (op ∷ ops) below are = by (attributes_of op).opens are (λ from less. numbered-off n c from ops less) where
-  by : (opens : Option ChanNo) → AreNumbered m (opening_by n opens ++ openings_in n ops) → ((from : ℕ) → c < from → AreNumbered from (openings_in n ops) → Each (OpenOff c) ops) → ChannelIf (λ n. n ≢ c) opens × Each (OpenOff c) ops
+  by : (opens : Option ChanNo) → OpeningsAreNumbered m (opening_by n opens ++ openings_in n ops) → ((from : ℕ) → c < from → OpeningsAreNumbered from (openings_in n ops) → Each (OpenOff c) ops) → ChannelIf (λ n. n ≢ c) opens × Each (OpenOff c) ops
   by None own rest = (tt, rest m below own)
   by (Some chan) own rest = (let number : channel_number chan ≡ m = own.0 in (λ same. absurd (omega (arith, number, same, below)), rest (suc m) (omega (arith, below)) own.1))
 
@@ -339,22 +339,22 @@ opens-other c op off = by (attributes_of op).opens off.opens where
   by (Some chan) other = ne_eqb (channel_number chan) c other
 
 -- the openings after an operation are numbered
-after-numbered : (n m : ℕ) (op : Op) (ops : List Op) → AreNumbered m (openings_in n (op ∷ ops)) → (from : ℕ) × AreNumbered from (openings_in n ops)
+after-numbered : (n m : ℕ) (op : Op) (ops : List Op) → OpeningsAreNumbered m (openings_in n (op ∷ ops)) → (from : ℕ) × OpeningsAreNumbered from (openings_in n ops)
 unfolding openings_in
 after-numbered n m op ops are = by (attributes_of op).opens are where
-  by : (opens : Option ChanNo) → AreNumbered m (opening_by n opens ++ openings_in n ops) → (from : ℕ) × AreNumbered from (openings_in n ops)
+  by : (opens : Option ChanNo) → OpeningsAreNumbered m (opening_by n opens ++ openings_in n ops) → (from : ℕ) × OpeningsAreNumbered from (openings_in n ops)
   by None own = (m, own)
   by (Some chan) own = (suc m, own.1)
 
-open-numbered : (n m c : ℕ) (op : Op) (ops : List Op) → IsTo role.Opens c op → AreNumbered m (openings_in n (op ∷ ops)) → (c ≡ m) × AreNumbered (suc m) (openings_in n ops)
+open-numbered : (n m c : ℕ) (op : Op) (ops : List Op) → IsTo role.Opens c op → OpeningsAreNumbered m (openings_in n (op ∷ ops)) → (c ≡ m) × OpeningsAreNumbered (suc m) (openings_in n ops)
 unfolding openings_in
 open-numbered n m c op ops is are = by (attributes_of op).opens is are where
-  by : (opens : Option ChanNo) → option_map channel_number opens ≡ Some c → AreNumbered m (opening_by n opens ++ openings_in n ops) → (c ≡ m) × AreNumbered (suc m) (openings_in n ops)
+  by : (opens : Option ChanNo) → option_map channel_number opens ≡ Some c → OpeningsAreNumbered m (opening_by n opens ++ openings_in n ops) → (c ≡ m) × OpeningsAreNumbered (suc m) (openings_in n ops)
   by None same own = absurd (let clash' : None ≡ Some c = same in cc)
   by (Some chan) same own = (sym (same_Some (channel_number chan) c same) ∙ own.0, own.1)
 
 -- before it is opened, no operation names it
-early-full : (n m : ℕ) (requests : List Request) (request : Request) (above ops : List Op) → IsAt requests request → AreNumbered m (openings_in n ops) → list_any (is_in role.Opens (number_of request)) above ≡ false → KeepsOrder above ops → FullScript request (tasks_of requests ops)
+early-full : (n m : ℕ) (requests : List Request) (request : Request) (above ops : List Op) → IsAt requests request → OpeningsAreNumbered m (openings_in n ops) → list_any (is_in role.Opens (number_of request)) above ≡ false → KeepsOrder above ops → FullScript request (tasks_of requests ops)
 unfolding tasks_of
 early-full n m requests request above [] at are none keeps = tt
 early-full n m requests request above (op ∷ ops) at are none keeps =
@@ -368,7 +368,7 @@ early-full n m requests request above (op ∷ ops) at are none keeps =
       uses-not : IsTo role.Uses (number_of request) op → ⊥
       uses-not is = unopened (after-has role.Uses role.Opens above op (number_of request) is first.opened)
 
-      by : ((from : ℕ) → AreNumbered from (openings_in n ops) → list_any (is_in role.Opens (number_of request)) (above ++ op ∷ []) ≡ false → FullScript request (tasks_of requests ops)) → OpIs (number_of request) op → FullScript request (with_task (task_of requests op) (tasks_of requests ops))
+      by : ((from : ℕ) → OpeningsAreNumbered from (openings_in n ops) → list_any (is_in role.Opens (number_of request)) (above ++ op ∷ []) ≡ false → FullScript request (tasks_of requests ops)) → OpIs (number_of request) op → FullScript request (with_task (task_of requests op) (tasks_of requests ops))
       by more (IsOff other) =
           (let rest = after-numbered n m op ops are in
           let full = more rest.0 rest.1 (same-opened (number_of request) above op (opens-other (number_of request) op other) none) in

@@ -19,40 +19,40 @@ use Rattle.link_steps.proofs.ListParts.{Among-left, Among-right}
 
 -- ---- openings with numbers one after the other
 
-abbrev pub AreNumbered : ℕ → List Opening → Type 0
-AreNumbered m [] = Unit {0}
-AreNumbered m (opening ∷ openings) = (opening.chan ≡ m) × AreNumbered (suc m) openings
+abbrev pub OpeningsAreNumbered : ℕ → List Opening → Type 0
+OpeningsAreNumbered m [] = Unit {0}
+OpeningsAreNumbered m (opening ∷ openings) = (opening.chan ≡ m) × OpeningsAreNumbered (suc m) openings
 
-numbered-map : (m : ℕ) (requests : List RequestEntry) → ((n : ℕ) (entry : RequestEntry) → slice_get requests n ≡ Some entry → channel_number entry.request.chan ≡ m + n) → AreNumbered m (map opening_of requests)
+numbered-map : (m : ℕ) (requests : List RequestEntry) → ((n : ℕ) (entry : RequestEntry) → slice_get requests n ≡ Some entry → channel_number entry.request.chan ≡ m + n) → OpeningsAreNumbered m (map opening_of requests)
 numbered-map m [] own = tt
 numbered-map m (entry ∷ requests) own =
     let here : channel_number entry.request.chan ≡ m = own 0 entry refl ∙ omega arith in
     (here, numbered-map (suc m) requests (λ n e found. own (suc n) e found ∙ omega arith))
 
-numbered-left : (m : ℕ) (xs ys : List Opening) → AreNumbered m (xs ++ ys) → AreNumbered m xs
+numbered-left : (m : ℕ) (xs ys : List Opening) → OpeningsAreNumbered m (xs ++ ys) → OpeningsAreNumbered m xs
 numbered-left m [] ys are = tt
 numbered-left m (x ∷ xs) ys are = (are.0, numbered-left (suc m) xs ys are.1)
 
 -- what stands after a list that is numbered begins with some number
-numbered-right : (m : ℕ) (xs ys : List Opening) → AreNumbered m (xs ++ ys) → (from : ℕ) × AreNumbered from ys
+numbered-right : (m : ℕ) (xs ys : List Opening) → OpeningsAreNumbered m (xs ++ ys) → (from : ℕ) × OpeningsAreNumbered from ys
 numbered-right m [] ys are = (m, are)
 numbered-right m (x ∷ xs) ys are = numbered-right (suc m) xs ys are.1
 
-callers-numbered : (m first : ℕ) (callers : List CallerEntry) (n at : ℕ) (caller : CallerEntry) → slice_get callers n ≡ Some caller → first + n ≡ at → AreNumbered m (openings_of first callers) → (from : ℕ) × AreNumbered from (openings_in at caller.ops)
+callers-numbered : (m first : ℕ) (callers : List CallerEntry) (n at : ℕ) (caller : CallerEntry) → slice_get callers n ≡ Some caller → first + n ≡ at → OpeningsAreNumbered m (openings_of first callers) → (from : ℕ) × OpeningsAreNumbered from (openings_in at caller.ops)
 unfolding openings_of
 callers-numbered m first [] n at caller found same are = cc
 callers-numbered m first (c ∷ callers) zero at caller found same are =
     let here : first ≡ at = omega (arith, same) in
-    (m, subst (λ ops. AreNumbered m (openings_in at ops)) (ap (λ (e : CallerEntry). e.ops) (same_Some c caller found)) (subst (λ k. AreNumbered m (openings_in k c.ops)) here (numbered-left m (openings_in first c.ops) (openings_of (suc first) callers) are)))
+    (m, subst (λ ops. OpeningsAreNumbered m (openings_in at ops)) (ap (λ (e : CallerEntry). e.ops) (same_Some c caller found)) (subst (λ k. OpeningsAreNumbered m (openings_in k c.ops)) here (numbered-left m (openings_in first c.ops) (openings_of (suc first) callers) are)))
 callers-numbered m first (c ∷ callers) (suc n) at caller found same are =
     let rest = numbered-right m (openings_in first c.ops) (openings_of (suc first) callers) are in
     callers-numbered rest.0 (suc first) callers n at caller found (omega (arith, same)) rest.1
 
 -- those of a caller of a plan
-pub caller-numbered : (parts : PlanParts) (n : ℕ) (caller : CallerEntry) → ArePlanned parts → slice_get parts.callers n ≡ Some caller → (from : ℕ) × AreNumbered from (openings_in n caller.ops)
+pub caller-numbered : (parts : PlanParts) (n : ℕ) (caller : CallerEntry) → ArePlanned parts → slice_get parts.callers n ≡ Some caller → (from : ℕ) × OpeningsAreNumbered from (openings_in n caller.ops)
 caller-numbered parts n caller planned found =
     callers-numbered 0 0 parts.callers n n caller found (omega arith)
-    (subst (AreNumbered 0) (sym planned.openings) (numbered-map 0 parts.requests (λ k entry at. planned.requests k entry at ∙ omega arith)))
+    (subst (OpeningsAreNumbered 0) (sym planned.openings) (numbered-map 0 parts.requests (λ k entry at. planned.requests k entry at ∙ omega arith)))
 
 -- ---- what is opened has a request
 

@@ -10,8 +10,8 @@ use Rattle.hop_reservation.specs.declared.route.Hop.{Hop}
 use Rattle.traffic_contract.specs.Admission.{total}
 use Rattle.call_script.specs.Rules.{each_after, may_stand, meets, is_joined}
 use Rattle.call_script.specs.declared.entries.LinkEntry.{LinkEntry}
-use Rattle.call_script.specs.declared.roles.Place.{Place}
-use Rattle.call_script.specs.declared.roles.Place.TheVariants as place
+use Rattle.call_script.specs.declared.roles.Order.{Order}
+use Rattle.call_script.specs.declared.roles.Order.TheVariants as place
 
 -- the elements that are left begin with the one at hand
 pub left-at : {X : Type 0} (xs : List X) (i : ℕ) (x : X) → i < length xs → x ≡ get_or xs i x → drop i xs ≡ x ∷ drop (i + 1) xs
@@ -63,7 +63,7 @@ pub any-same : {X : Type 0} (test : X → Bool) (xs : List X) (i : ℕ) (x : X) 
 any-same test xs i x was within is before fails = any-more test xs i x was was within is before (rw fails refl)
 
 -- a set that has what the test tells decides as the test does
-pub stands-same : (at : Place) (has other : ℕ → Bool) (chan : Option ℕ) → ((q : ℕ) → has q ≡ other q) → may_stand at has chan ≡ may_stand at other chan
+pub stands-same : (at : Order) (has other : ℕ → Bool) (chan : Option ℕ) → ((q : ℕ) → has q ≡ other q) → may_stand at has chan ≡ may_stand at other chan
 stands-same place.After has other None same = refl
 stands-same place.After has other (Some chan) same = ap (λ b. not (not b)) (same chan)
 stands-same place.Apart has other None same = refl

@@ -37,10 +37,10 @@ abbrev pub AreTold : List Channel → List Learnt → Type 0
 AreTold channels outcomes = (chan : ChanNo) → told_in (channel_in channels chan) ≡ told_of chan outcomes
 
 -- what was learnt is of channels below this number
-abbrev pub IsWithin : ℕ → Learnt → Type 0
-IsWithin count (Settles chan outcome) = channel_number chan < count
-IsWithin count (PlannedOn chan gap size) = channel_number chan < count
-IsWithin count (MovedTo old new told gap size) = (channel_number old < count) × (channel_number new < count)
+abbrev pub IsOfChannelsBelow : ℕ → Learnt → Type 0
+IsOfChannelsBelow count (Settles chan outcome) = channel_number chan < count
+IsOfChannelsBelow count (PlannedOn chan gap size) = channel_number chan < count
+IsOfChannelsBelow count (MovedTo old new told gap size) = (channel_number old < count) × (channel_number new < count)
 
 -- whether a reply plans the packets of its submit
 abbrev pub is_planned : Reply → Bool

@@ -40,8 +40,8 @@ use Rattle.call_script.specs.declared.entries.CallerEntry.{CallerEntry}
 use Rattle.call_script.specs.declared.operations.Op.{Op}
 use Rattle.call_script.specs.declared.roles.Role.{Role}
 use Rattle.call_script.specs.declared.roles.Role.TheVariants as role
-use Rattle.call_script.specs.declared.roles.Place.{Place}
-use Rattle.call_script.specs.declared.roles.Place.TheVariants as place
+use Rattle.call_script.specs.declared.roles.Order.{Order}
+use Rattle.call_script.specs.declared.roles.Order.TheVariants as place
 use Rattle.call_script.specs.declared.version.Version.{Version}
 
 -- ---- words on lists
@@ -135,12 +135,12 @@ abbrev pub is_in : Role → ℕ → Op → Bool
 is_in role chan op = hits (λ own. nat_eq own chan) (named role op)
 
 -- it has to be in the set, or mustn't be
-abbrev pub may_stand : Place → (ℕ → Bool) → Option ℕ → Bool
+abbrev pub may_stand : Order → (ℕ → Bool) → Option ℕ → Bool
 may_stand place.After has chan = not (misses has chan)
 may_stand place.Apart has chan = not (hits has chan)
 
 -- the channel to which it is `asks` is one to which an operation above is `adds`; or it is none
-abbrev pub stands : Place → Role → Role → List Op → Op → Bool
+abbrev pub stands : Order → Role → Role → List Op → Op → Bool
 stands at asks adds above op = may_stand at (λ chan. list_any (is_in adds chan) above) (named asks op)
 
 abbrev pub is_after : Role → Role → List Op → Op → Bool
@@ -149,7 +149,7 @@ is_after asks adds above op = stands place.After asks adds above op
 abbrev pub is_apart : Role → Role → List Op → Op → Bool
 is_apart asks adds above op = stands place.Apart asks adds above op
 
-abbrev pub all_stand : Place → Role → Role → List CallerEntry → Bool
+abbrev pub all_stand : Order → Role → Role → List CallerEntry → Bool
 all_stand at asks adds callers = list_all (λ caller. each_after (stands at asks adds) [] caller.ops) callers
 
 abbrev pub all_after : Role → Role → List CallerEntry → Bool

@@ -2,7 +2,7 @@
 ghost use Rattle.std.specs.Prelude.{◌≡◌, ◌<◌, [], ◌∷◌, ◌++◌, List, Some, IfOk, length, set};
 ghost use Rattle.net_units.specs.Numbers.{channel_number};
 ghost use Rattle.setup_protocol.specs.State.{outcome_of};
-ghost use Rattle.call_script.specs.Channels.{AreTold, IsWithin, channel_in, blank, is_planned};
+ghost use Rattle.call_script.specs.Channels.{AreTold, IsOfChannelsBelow, channel_in, blank, is_planned};
 ghost use Rattle.call_script.specs.Scripts.{Learnt, MovedTo, PlannedOn, Settles, planned_as};
 ghost use Rattle.call_script.specs.Work.{learnt_of};
 
@@ -115,7 +115,7 @@ impl Channels {
 
     // Notes one more thing, of channels that are kept.
     pub(crate) fn note(&mut self, known: &Known)
-        requires { IsWithin (length self.old.by_number.items) (learnt_of known.now) }
+        requires { IsOfChannelsBelow (length self.old.by_number.items) (learnt_of known.now) }
         ensures count { length self.new.by_number.items ≡ length self.old.by_number.items }
         ensures noted { (outcomes : List Learnt) → AreTold self.old.by_number.items outcomes → AreTold self.new.by_number.items (learnt_of known.now ∷ outcomes) }
     {

@@ -24,7 +24,7 @@ pub enum Role {
 
 // Where an operation that asks for a channel may stand.
 #[derive(Clone, Copy)]
-pub(crate) enum Place {
+pub(crate) enum Order {
     // After one that adds it.
     After,
     // After none that does.

@@ -7,7 +7,7 @@ ghost use Rattle.call_script.specs.Plans.{HasTerms};
 ghost use Rattle.call_script.specs.Rules.{have_version, have_links, have_names, are_there, are_in_range, are_few, are_joined, are_unclosed, are_within_load, pours_are_taken, moves_are_fit};
 
 use crate::parts::Parts;
-use crate::roles::{Place, Role};
+use crate::roles::{Order, Role};
 use crate::rules::scripts::all_stand;
 use net_units::OutOfMemory;
 use net_units::limits::{MOST_CALLERS, MOST_LINKS, MOST_REQUESTS, MOST_ROUNDS};
@@ -187,10 +187,10 @@ impl Parts {
         ensures { IfOk result (λ kept. kept ≡ are_unclosed (parts_in self.now)) }
     {
         Ok(
-            all_stand(alloc, Place::Apart, Role::Uses, Role::Closes, &self.callers)?
+            all_stand(alloc, Order::Apart, Role::Uses, Role::Closes, &self.callers)?
                 && all_stand(
                     alloc,
-                    Place::Apart,
+                    Order::Apart,
                     Role::Keeps,
                     Role::Leaves,
                     &self.callers,
@@ -219,8 +219,8 @@ impl Parts {
     fn moves_are_fit(&self, alloc: Global) -> Result<bool, OutOfMemory>
         ensures { IfOk result (λ kept. kept ≡ moves_are_fit (parts_in self.now)) }
     {
-        let unused = all_stand(alloc, Place::Apart, Role::Joins, Role::Uses, &self.callers)?;
-        let once = all_stand(alloc, Place::Apart, Role::Joins, Role::Joins, &self.callers)?;
+        let unused = all_stand(alloc, Order::Apart, Role::Joins, Role::Uses, &self.callers)?;
+        let once = all_stand(alloc, Order::Apart, Role::Joins, Role::Joins, &self.callers)?;
         Ok(moves::are_fit(&self.links, &self.requests, &self.callers) && unused && once)
     }
 }

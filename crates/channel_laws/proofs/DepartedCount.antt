@@ -23,7 +23,7 @@ use Rattle.link_steps.proofs.ServiceStarts.{starts-fact}
 use Rattle.link_steps.proofs.FoundElements.{Each-from_among}
 use Rattle.link_steps.proofs.WindowFits.{packets-have_work}
 use Rattle.channel_laws.specs.Channels.{HopTerms, is_of_channel, channel_packets, RowTells, AllOfferTerms, offers_to, ChannelStands}
-use Rattle.link_steps.specs.Belonging.{AreNumbered as ArePlaced}
+use Rattle.link_steps.specs.Belonging.{AreNumberedFrom as ArePlaced}
 use Rattle.link_steps.specs.Admissible.{MayAnswer}
 use Rattle.link_steps.specs.BestEffort.{is_best}
 use Rattle.link_steps.proofs.NewPackets.{AddsPackets, packets-after, packets-numbered}

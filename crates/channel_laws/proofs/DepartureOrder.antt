@@ -7,7 +7,7 @@ use Rattle.link_steps.specs.declared.shape.LinkShape.{LinkShape}
 use Rattle.link_steps.specs.Lists.{Each, Among}
 use Rattle.link_steps.specs.Scan.{scan_of}
 use Rattle.link_steps.specs.Service.{Arrival, Start, leaves_at, goes_before, first_in_line, is_start_of, has_started, is_waiting, is_busy, add_start, serve_tick, starts_below, is_departure_by, has_departed}
-use Rattle.link_steps.specs.Belonging.{AreNumbered as ArePlaced}
+use Rattle.link_steps.specs.Belonging.{AreNumberedFrom as ArePlaced}
 use Rattle.link_steps.proofs.NewPackets.{packets-numbered, same-number}
 use Rattle.link_steps.proofs.FoundElements.{Each-from_among}
 use Rattle.link_steps.proofs.ServiceStarts.{HasLeft, FollowEachOther, starts-follow, starts-fact}

@@ -11,7 +11,7 @@ use Rattle.link_steps.proofs.Departures.{IsEligibleStart, starts-eligible, depar
 use Rattle.link_steps.proofs.SearchAndFilter.{Each-among, filter-none, filter-same, Among-filter}
 use Rattle.link_steps.proofs.ServiceStarts.{IsFrom, starts_below-append, starts-fact, FollowEachOther, starts-follow, HasBegun, starts-begun}
 use Rattle.channel_laws.specs.Channels.{is_of_channel, channel_packets}
-use Rattle.link_steps.specs.Belonging.{AreNumbered as ArePlaced}
+use Rattle.link_steps.specs.Belonging.{AreNumberedFrom as ArePlaced}
 use Rattle.link_steps.proofs.NewPackets.{same-number}
 use Rattle.channel_laws.specs.Departing.{gone_count}
 use Rattle.channel_laws.proofs.SentOrder.{SentHead, departed-start, start-departed, start-before, works-start}

@@ -24,59 +24,59 @@ use Rattle.link_steps.specs.Scan.{Scan, clock_of, scan_of, is_row_of, is_row_at_
 use Rattle.link_steps.specs.Service.{Arrival}
 
 -- the reply isn't an offer
-abbrev IsOther : Reply → Type 0
-IsOther (Is.Offer level reach) = ⊥
-IsOther _ = Unit {0}
+abbrev IsNoOffer : Reply → Type 0
+IsNoOffer (Is.Offer level reach) = ⊥
+IsNoOffer _ = Unit {0}
 
-rule-other : (rule : RefusalRule) (reply : Reply) → IsOther reply → IsOther (refused_or rule reply)
+rule-other : (rule : RefusalRule) (reply : Reply) → IsNoOffer reply → IsNoOffer (refused_or rule reply)
 rule-other None reply is = is
 rule-other (Some refusal) reply is = tt
 
-rules-other : (rules : List RefusalRule) (reply : Reply) → IsOther reply → IsOther (first_refusal rules reply)
+rules-other : (rules : List RefusalRule) (reply : Reply) → IsNoOffer reply → IsNoOffer (first_refusal rules reply)
 rules-other [] reply is = is
 rules-other (rule ∷ rules) reply is = rule-other rule (first_refusal rules reply) (rules-other rules reply is)
 
-relax-other : (t up_bound : ℕ) (level : Level) (found : Option Reservation) → IsOther (relax_reply t level up_bound found)
+relax-other : (t up_bound : ℕ) (level : Level) (found : Option Reservation) → IsNoOffer (relax_reply t level up_bound found)
 unfolding relax_reply
 relax-other t up_bound level None = tt
 relax-other t up_bound level (Some terms) = rules-other (not_in_phase Tentative terms ∷ unfit terms level up_bound ∷ []) (Is.Relaxed t) tt
 
-deny-other : (found : Option Reservation) → IsOther (deny_reply found)
+deny-other : (found : Option Reservation) → IsNoOffer (deny_reply found)
 unfolding deny_reply
 deny-other None = tt
 deny-other (Some terms) = rules-other (not_in_phase Tentative terms ∷ []) Is.Denied tt
 
-submit-other : (t size : ℕ) (found : Option Row) → IsOther (submit_to t size found)
+submit-other : (t size : ℕ) (found : Option Row) → IsNoOffer (submit_to t size found)
 unfolding submit_reply
 submit-other t size None = tt
 submit-other t size (Some row) = rules-other (not_in_phase Committed row.terms ∷ busy (length (left_at t row.plan)) ∷ too_big row.terms size ∷ []) (Is.Planned t) tt
 
-release-other : (t : ℕ) (upstream : Option ℕ) (found : Option Row) → IsOther (release_to t upstream found)
+release-other : (t : ℕ) (upstream : Option ℕ) (found : Option Row) → IsNoOffer (release_to t upstream found)
 unfolding release_reply
 release-other t upstream None = tt
 release-other t upstream (Some row) = rules-other (not_in_phase Committed row.terms ∷ []) _ tt
 
-arrive-other : (shape : LinkShape) (t : ℕ) (packets : List Arrival) (packet : Packet) (found : Option Row) → IsOther (arrive_to shape t packets packet found)
+arrive-other : (shape : LinkShape) (t : ℕ) (packets : List Arrival) (packet : Packet) (found : Option Row) → IsNoOffer (arrive_to shape t packets packet found)
 unfolding arrive_reply
 arrive-other shape t packets packet None = tt
 arrive-other shape t packets packet (Some row) =
     rules-other (first_hop row.terms ∷ uncommitted row.terms ∷ wrong_number packet.number (suc (length row.ticks)) ∷ past_count row.terms (length row.ticks) ∷ big row.terms packet.size ∷ full (held_packets row.lead (here_at shape.rate packets t)) (slots_of shape.bounds row.terms) ∷ [])
     (Is.Taken t (eligible_next row.terms row.ticks t packet.due)) tt
 
-best-other : (t cap size left : ℕ) → IsOther (pour_reply t cap size left)
+best-other : (t cap size left : ℕ) → IsNoOffer (pour_reply t cap size left)
 unfolding pour_reply
 best-other t cap size left = rules-other (busy left ∷ too_big_for cap size ∷ []) (Is.Planned t) tt
 
 offer-at : (shape : LinkShape) (t : ℕ) (scan : Scan) (ask : Ask) (level reach : Level) → MayAnswer shape t scan ask (Is.Offer level reach) → OfferTells shape ask level
 unfolding MayAnswer reply_at
 offer-at shape t scan (Reserve chan contract kind delay up_reach first next) level reach may = record { reserve = tt; most = may.level_most }
-offer-at shape t scan (Relax chan given up_bound) level reach same = absurd (subst IsOther (sym same) (relax-other t up_bound given (find (is_of chan) (map row_terms scan.rows))))
-offer-at shape t scan (Deny chan) level reach same = absurd (subst IsOther (sym same) (deny-other (find (is_of chan) (map row_terms scan.rows))))
-offer-at shape t scan (Submit chan count gap size) level reach same = absurd (subst IsOther (sym same) (submit-other t size (find (is_row_at_hop chan true) scan.rows)))
-offer-at shape t scan (Release chan upstream) level reach same = absurd (subst IsOther (sym same) (release-other t upstream (find (is_row_at_hop chan (names_first_hop upstream)) scan.rows)))
-offer-at shape t scan (Arrive packet) level reach same = absurd (subst IsOther (sym same) (arrive-other shape t scan.packets packet (find (is_row_of packet.chan) scan.rows)))
-offer-at shape t scan Tick level reach same = absurd (subst IsOther (sym same) tt)
-offer-at shape t scan _ level reach same = absurd (subst IsOther (sym same) (best-other t shape.cap _ _))
+offer-at shape t scan (Relax chan given up_bound) level reach same = absurd (subst IsNoOffer (sym same) (relax-other t up_bound given (find (is_of chan) (map row_terms scan.rows))))
+offer-at shape t scan (Deny chan) level reach same = absurd (subst IsNoOffer (sym same) (deny-other (find (is_of chan) (map row_terms scan.rows))))
+offer-at shape t scan (Submit chan count gap size) level reach same = absurd (subst IsNoOffer (sym same) (submit-other t size (find (is_row_at_hop chan true) scan.rows)))
+offer-at shape t scan (Release chan upstream) level reach same = absurd (subst IsNoOffer (sym same) (release-other t upstream (find (is_row_at_hop chan (names_first_hop upstream)) scan.rows)))
+offer-at shape t scan (Arrive packet) level reach same = absurd (subst IsNoOffer (sym same) (arrive-other shape t scan.packets packet (find (is_row_of packet.chan) scan.rows)))
+offer-at shape t scan Tick level reach same = absurd (subst IsNoOffer (sym same) tt)
+offer-at shape t scan _ level reach same = absurd (subst IsNoOffer (sym same) (best-other t shape.cap _ _))
 
 pub offer-answers : (shape : LinkShape) (h : List Entry) (ask : Ask) (level reach : Level) → MayReplyTo shape h ask (Is.Offer level reach) → OfferTells shape ask level
 offer-answers shape h ask level reach may = offer-at shape (clock_of h) (scan_of shape h) ask level reach may

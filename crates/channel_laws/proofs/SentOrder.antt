@@ -21,7 +21,7 @@ use Rattle.link_steps.proofs.ListParts.{Each-at, Among-at}
 use Rattle.channel_laws.proofs.Places.{tick-at, place-of, row-keeps}
 use Rattle.link_steps.proofs.PacketRows.{Among-passes}
 use Rattle.link_steps.proofs.NewPackets.{packets-numbered}
-use Rattle.link_steps.specs.Belonging.{AreNumbered as ArePlaced}
+use Rattle.link_steps.specs.Belonging.{AreNumberedFrom as ArePlaced}
 use Rattle.channel_laws.proofs.DepartureOrder.{leaves-first}
 
 -- ---- the start after a departure

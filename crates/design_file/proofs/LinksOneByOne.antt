@@ -12,17 +12,17 @@ use Rattle.call_script.specs.declared.entries.LinkEntry.{LinkEntry}
 use Rattle.design_text.specs.declared.design.DesignLink.{DesignLink}
 use Rattle.design_file.specs.Rounded.{IsLinkOf}
 use Rattle.design_file.specs.Planned.{AddsLink, AreLinksOf, IsHopOver}
-use Rattle.scenario_reader.specs.Nodes.{AreNumbered}
+use Rattle.scenario_reader.specs.Nodes.{LinksAreNumbered}
 use Rattle.design_file.proofs.ListSteps.{zipped-more}
 
 -- one more link has the number of its place
-numbered-more : (entries : List LinkEntry) (entry : LinkEntry) → AreNumbered entries → link_number entry.shape.link ≡ length entries → AreNumbered (entries ++ entry ∷ [])
+numbered-more : (entries : List LinkEntry) (entry : LinkEntry) → LinksAreNumbered entries → link_number entry.shape.link ≡ length entries → LinksAreNumbered (entries ++ entry ∷ [])
 numbered-more entries entry numbered number = record { number = λ n e found. by n e (get-more entries entry n e found) } where
   by : (n : ℕ) (e : LinkEntry) → (slice_get entries n ≡ Some e) ⊎ ((n ≡ length entries) × (entry ≡ e)) → link_number e.shape.link ≡ n
   by n e (inl old) = numbered.number n e old
   by n e (inr new) = ap (λ (x : LinkEntry). link_number x.shape.link) (sym new.1) ∙ number ∙ sym new.0
 
-pub none-numbered : AreNumbered []
+pub none-numbered : LinksAreNumbered []
 none-numbered = record { number = λ n entry found. cc }
 
 pub links-more : (tick unit : ℕ) (links : List DesignLink) (i : ℕ) (link : DesignLink) (old new : List LinkEntry) → i < length links → link ≡ get_or links i link
@@ -47,7 +47,7 @@ pub all-links : (tick unit : ℕ) (links : List DesignLink) (i : ℕ) (entries :
 all-links tick unit links i entries past are = subst (λ l. AreLinksOf tick unit l entries) (take_all i links past) are
 
 -- a link of these has the number of its place
-pub number-at : (links : List LinkEntry) (n : ℕ) (entry : LinkEntry) → AreNumbered links → slice_get links n ≡ Some entry → slice_get links (link_number entry.shape.link) ≡ Some entry
+pub number-at : (links : List LinkEntry) (n : ℕ) (entry : LinkEntry) → LinksAreNumbered links → slice_get links n ≡ Some entry → slice_get links (link_number entry.shape.link) ≡ Some entry
 number-at links n entry numbered found = ap (slice_get links) (numbered.number n entry found) ∙ found
 
 -- a hop over a link has its bounds and its propagation

@@ -15,14 +15,14 @@ use Rattle.design_text.specs.declared.design.DesignLink.{DesignLink}
 use Rattle.design_text.specs.declared.design.DesignStream.{DesignStream}
 use Rattle.design_text.specs.declared.design.Way.{Way}
 use Rattle.design_text.specs.declared.design.Way.TheVariants.{Over, Between}
-use Rattle.scenario_reader.specs.Nodes.{AreNumbered, route_between}
+use Rattle.scenario_reader.specs.Nodes.{LinksAreNumbered, route_between}
 use Rattle.field_units.specs.Rounding.{delay_in, traffic_of}
 use Rattle.design_file.specs.Rounded.{control_in, IsLinkOf}
 
 -- the links of a plan are those of a design, rounded, have the numbers of their places, and are 32 at most
 pub record AreLinksOf (tick unit : ℕ) (links : List DesignLink) (entries : List LinkEntry) : Type 0 where
   pub each : AllZip (IsLinkOf tick unit) links entries
-  pub numbered : AreNumbered entries
+  pub numbered : LinksAreNumbered entries
   pub few : length entries ≤ 32
 
 -- a list of links with one more

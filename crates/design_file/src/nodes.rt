@@ -1,7 +1,7 @@
 //! The nodes of a network, and the least route from one to another.
 ghost use Rattle.std.specs.Prelude.{◌≡◌, ◌≤◌, true, false, length, IfOk};
 ghost use Rattle.call_script.specs.Rules.{is_named};
-ghost use Rattle.scenario_reader.specs.Nodes.{is_node, node_of, edges_of, edge_over, route_between, AreNumbered};
+ghost use Rattle.scenario_reader.specs.Nodes.{is_node, node_of, edges_of, edge_over, route_between, LinksAreNumbered};
 
 use call_script::LinkEntry;
 use hop_reservation::{Hop, Route};
@@ -25,7 +25,7 @@ pub(crate) fn route_between(
     from: &Name,
     to: &Name,
 ) -> Result<Option<Route>, OutOfMemory>
-    requires numbered { AreNumbered links.now }
+    requires numbered { LinksAreNumbered links.now }
     requires few { length links.now ≤ 32 }
     requires from { is_node links.now from.now ≡ true }
     requires to { is_node links.now to.now ≡ true }

@@ -2,7 +2,7 @@
 ghost use Rattle.std.specs.Prelude.{◌≡◌, ◌≤◌, IfOk, IfSome, OnOk, length};
 ghost use Rattle.net_units.specs.Numbers.{channel_number};
 ghost use Rattle.design_file.specs.Planned.{AddsRequest, AreRequestsOf};
-ghost use Rattle.scenario_reader.specs.Nodes.{AreNumbered};
+ghost use Rattle.scenario_reader.specs.Nodes.{LinksAreNumbered};
 
 use crate::refusal::{Refusal, Wrong};
 use crate::terms::terms_of;
@@ -21,7 +21,7 @@ pub fn request_entries(
     links: &[LinkEntry],
     streams: &[DesignStream],
 ) -> Result<Vec<RequestEntry>, Refusal>
-    requires numbered { AreNumbered links.now }
+    requires numbered { LinksAreNumbered links.now }
     requires few { length links.now ≤ 32 }
     ensures { IfOk result (λ entries. AreRequestsOf scale.now.tick scale.now.unit links.now streams.now entries.items) }
 {
@@ -40,7 +40,7 @@ fn add_request(
     stream: &DesignStream,
     entries: &mut Vec<RequestEntry>,
 ) -> Result<(), Refusal>
-    requires numbered { AreNumbered links.now }
+    requires numbered { LinksAreNumbered links.now }
     requires few { length links.now ≤ 32 }
     ensures { OnOk result (AddsRequest scale.now.tick scale.now.unit links.now stream.now entries.old.items entries.new.items) }
 {

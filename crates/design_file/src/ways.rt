@@ -5,7 +5,7 @@ ghost use Rattle.call_script.specs.Parts.{FollowsLink};
 ghost use Rattle.design_text.specs.declared.design.Way.TheVariants as Way;
 ghost use Rattle.std.specs.List.{AllZip};
 ghost use Rattle.design_file.specs.Planned.{IsHopOver, IsWay};
-ghost use Rattle.scenario_reader.specs.Nodes.{AreNumbered};
+ghost use Rattle.scenario_reader.specs.Nodes.{LinksAreNumbered};
 
 use crate::nodes::{is_node, route_between};
 use crate::refusal::{Refusal, Wrong};
@@ -17,7 +17,7 @@ use std::alloc::Global;
 
 /// The route of a stream's way.
 pub fn route_of(alloc: Global, links: &[LinkEntry], way: &Way) -> Result<Route, Refusal>
-    requires numbered { AreNumbered links.now }
+    requires numbered { LinksAreNumbered links.now }
     requires few { length links.now ≤ 32 }
     ensures { IfOk result (λ route. IsWay links.now way.now route) }
 {
@@ -35,7 +35,7 @@ pub fn route_of(alloc: Global, links: &[LinkEntry], way: &Way) -> Result<Route, 
 
 // The least route from one node to another.
 fn route_found(alloc: Global, links: &[LinkEntry], from: &Name, to: &Name) -> Result<Route, Refusal>
-    requires numbered { AreNumbered links.now }
+    requires numbered { LinksAreNumbered links.now }
     requires few { length links.now ≤ 32 }
     ensures { IfOk result (λ route. IsWay links.now (Way.Between from.now to.now) route) }
 {
@@ -50,7 +50,7 @@ fn route_found(alloc: Global, links: &[LinkEntry], from: &Name, to: &Name) -> Re
 
 // The route over the links of these names.
 fn route_over(alloc: Global, links: &[LinkEntry], names: &[Name]) -> Result<Route, Refusal>
-    requires { AreNumbered links.now }
+    requires { LinksAreNumbered links.now }
     ensures over { IfOk result (λ route. AllZip (IsHopOver links.now) names.now route) }
     ensures follows { IfOk result (λ route. Each (FollowsLink links.now) route) }
 {
@@ -67,7 +67,7 @@ fn route_over(alloc: Global, links: &[LinkEntry], names: &[Name]) -> Result<Rout
 
 // The hop over the link of this name.
 fn hop_over(links: &[LinkEntry], name: &Name) -> Option<Hop>
-    requires { AreNumbered links.now }
+    requires { LinksAreNumbered links.now }
     ensures { IfSome result (IsHopOver links.now name.now) }
 {
     for entry in links {

@@ -13,7 +13,7 @@ use Rattle.link_steps.specs.declared.replies.Reply.{Reply}
 use Rattle.link_steps.specs.declared.replies.Reply.TheVariants as Is
 use Rattle.link_steps.specs.declared.shape.LinkShape.{LinkShape}
 use Rattle.link_steps.specs.Hold.{stays}
-use Rattle.link_steps.specs.Kept.{Kept, StandsFor}
+use Rattle.link_steps.specs.Kept.{Account, StandsFor}
 use Rattle.link_steps.specs.Lists.{change_first, without_first}
 use Rattle.link_steps.specs.Reservation.{Reservation, is_of, is_phase, tentative}
 use Rattle.link_steps.specs.Rows.{Row, row_terms, new_row}
@@ -70,7 +70,7 @@ reserved-few shape t scan _ reply is = absurd is
 -- ---- the room
 
 -- where an entry adds no row
-room-few : (link : Link) (k k' : Kept) (ask : Ask) (reply : Reply) (capacity : ℕ) → GoesOn link k k' ask reply → ((t : ℕ) (scan : Scan) → length (map row_terms (after link.shape t scan ask reply).rows) ≤ length (map row_terms scan.rows)) → IsLegallyStood link k → HasRoomToClose link.split (held_in k) capacity → HasRoomToClose link.split (held_in k') capacity
+room-few : (link : Link) (k k' : Account) (ask : Ask) (reply : Reply) (capacity : ℕ) → GoesOn link k k' ask reply → ((t : ℕ) (scan : Scan) → length (map row_terms (after link.shape t scan ask reply).rows) ≤ length (map row_terms scan.rows)) → IsLegallyStood link k → HasRoomToClose link.split (held_in k) capacity → HasRoomToClose link.split (held_in k') capacity
 unfolding scan_of
 room-few link k k' ask reply capacity goes few stood has = λ splits.
     let was = has splits in
@@ -81,29 +81,29 @@ room-few link k k' ask reply capacity goes few stood has = λ splits.
     omega (arith, now, then_is, less)))) in
     omega (arith, was, most)
 
-pub room-settled : (link : Link) (k k' : Kept) (ask : Ask) (reply : Reply) (chan : ChanNo) (capacity : ℕ) → GoesOn link k k' ask reply → IsSettling chan ask → IsLegallyStood link k → HasRoomToClose link.split (held_in k) capacity → HasRoomToClose link.split (held_in k') capacity
+pub room-settled : (link : Link) (k k' : Account) (ask : Ask) (reply : Reply) (chan : ChanNo) (capacity : ℕ) → GoesOn link k k' ask reply → IsSettling chan ask → IsLegallyStood link k → HasRoomToClose link.split (held_in k) capacity → HasRoomToClose link.split (held_in k') capacity
 room-settled link k k' ask reply chan capacity goes is stood has = room-few link k k' ask reply capacity goes (λ t scan. terms-few scan.rows _ (settled-few link.shape t scan chan ask reply is)) stood has
 
 -- an account that stands for the same histories
-pub room-same : (link : Link) (k k' : Kept) (capacity : ℕ) → ((h : List Entry) → StandsFor link.shape k h → StandsFor link.shape k' h) → IsLegallyStood link k → HasRoomToClose link.split (held_in k) capacity → HasRoomToClose link.split (held_in k') capacity
+pub room-same : (link : Link) (k k' : Account) (capacity : ℕ) → ((h : List Entry) → StandsFor link.shape k h → StandsFor link.shape k' h) → IsLegallyStood link k → HasRoomToClose link.split (held_in k) capacity → HasRoomToClose link.split (held_in k') capacity
 room-same link k k' capacity same stood has = λ splits.
     let was = has splits in
     let equal = sure-equal (length (held_in k')) (length (held_in k)) (λ other. stood (λ h legal stands. other (ap length (terms-stand link.shape k' h (same h stands)) ∙ sym (ap length (terms-stand link.shape k h stands))))) in
     omega (arith, was, equal)
 
-pub room-carried : {E : Type 0} (link : Link) (k k' : Kept) (ask : Ask) (r : Result Reply E) (capacity : ℕ) → IfOk r (GoesOn link k k' ask) → OnErr r ((h : List Entry) → StandsFor link.shape k h → StandsFor link.shape k' h) → IsCarrying ask → IsLegallyStood link k → HasRoomToClose link.split (held_in k) capacity → HasRoomToClose link.split (held_in k') capacity
+pub room-carried : {E : Type 0} (link : Link) (k k' : Account) (ask : Ask) (r : Result Reply E) (capacity : ℕ) → IfOk r (GoesOn link k k' ask) → OnErr r ((h : List Entry) → StandsFor link.shape k h → StandsFor link.shape k' h) → IsCarrying ask → IsLegallyStood link k → HasRoomToClose link.split (held_in k) capacity → HasRoomToClose link.split (held_in k') capacity
 room-carried link k k' ask (Ok reply) capacity goes same carries stood has =
     room-few link k k' ask reply capacity goes (λ t scan. (let one = ap length (terms-carried link.shape t scan ask reply carries) in omega (arith, one))) stood has
 room-carried link k k' ask (Err e) capacity goes same carries stood has = room-same link k k' capacity same stood has
 
-pub room-ticked : {E : Type 0} (link : Link) (k k' : Kept) (r : Result Reply E) (capacity : ℕ) → IfOk r (GoesOn link k k' Tick) → OnErr r ((h : List Entry) → StandsFor link.shape k h → StandsFor link.shape k' h) → IsLegallyStood link k → HasRoomToClose link.split (held_in k) capacity → HasRoomToClose link.split (held_in k') capacity
+pub room-ticked : {E : Type 0} (link : Link) (k k' : Account) (r : Result Reply E) (capacity : ℕ) → IfOk r (GoesOn link k k' Tick) → OnErr r ((h : List Entry) → StandsFor link.shape k h → StandsFor link.shape k' h) → IsLegallyStood link k → HasRoomToClose link.split (held_in k) capacity → HasRoomToClose link.split (held_in k') capacity
 unfolding after
 room-ticked link k k' (Ok reply) capacity goes same stood has =
     room-few link k k' Tick reply capacity goes (λ t scan. (let one = ap length (left-terms link.shape t scan) in let two = terms-few scan.rows _ (filter-less (stays link.shape.bounds t) scan.rows) in omega (arith, one, two))) stood has
 room-ticked link k k' (Err e) capacity goes same stood has = room-same link k k' capacity same stood has
 
 -- a reserve has made room for one more
-pub room-reserved : (link : Link) (k k' : Kept) (ask : Ask) (reply : Reply) (capacity : ℕ) → GoesOn link k k' ask reply → IsReserve ask → IsLegallyStood link k → suc (length (held_in k)) ≤ capacity → HasRoomToClose link.split (held_in k') capacity
+pub room-reserved : (link : Link) (k k' : Account) (ask : Ask) (reply : Reply) (capacity : ℕ) → GoesOn link k k' ask reply → IsReserve ask → IsLegallyStood link k → suc (length (held_in k)) ≤ capacity → HasRoomToClose link.split (held_in k') capacity
 unfolding scan_of
 room-reserved link k k' ask reply capacity goes is stood room = λ splits.
     let most = sure-most (length (held_in k')) (suc (length (held_in k))) (λ over. stood (λ h legal stands. over
@@ -138,7 +138,7 @@ value-closing None closes = cc
 value-closing (Some row) closes = rw closes refl
 
 -- the row that it closes finds a place
-pub place-to-close : (link : Link) (k k' : Kept) (ask : Ask) (reply : Reply) (chan : ChanNo) (rows : List HeldRow) (capacity : ℕ) → SplitFits link → is_split link.split ≡ true → GoesOn link k k' ask reply → IsSettling chan ask → IsLegallyStood link k → AreClosing link (held_in k) rows → HasRoomToClose link.split (held_in k) capacity
+pub place-to-close : (link : Link) (k k' : Account) (ask : Ask) (reply : Reply) (chan : ChanNo) (rows : List HeldRow) (capacity : ℕ) → SplitFits link → is_split link.split ≡ true → GoesOn link k k' ask reply → IsSettling chan ask → IsLegallyStood link k → AreClosing link (held_in k) rows → HasRoomToClose link.split (held_in k) capacity
     → is_closing (seen_of link.shape.bounds (held_in k) chan) ≡ false → is_closing (seen_of link.shape.bounds (held_in k') chan) ≡ true → length rows < capacity
 place-to-close link k k' ask reply chan rows capacity fits splits goes is stood listed has apart closes =
     let sum = setup-total link k k' ask reply chan (closing_part link.shape.bounds (λ _. 1)) fits goes (settling-setup chan ask is) (λ h stands. settling-new chan ask reply _ is) stood in

@@ -18,7 +18,7 @@ use Rattle.link_steps.specs.declared.replies.Reply.{Reply}
 use Rattle.link_steps.specs.declared.replies.Reply.TheVariants as Is
 use Rattle.link_steps.specs.declared.shape.LinkShape.{LinkShape}
 use Rattle.link_steps.specs.Hold.{stays}
-use Rattle.link_steps.specs.Kept.{Kept, StandsFor}
+use Rattle.link_steps.specs.Kept.{Account, StandsFor}
 use Rattle.link_steps.specs.Replies.{reply_to, reply_at, relax_reply, deny_reply, release_reply, release_to}
 use Rattle.link_steps.specs.Reservation.{Reservation, is_of, is_phase, tentative}
 use Rattle.link_steps.specs.Room.{group_work, group_units}
@@ -50,12 +50,12 @@ use Rattle.link_quota.proofs.RowChanges.{IsSetupOf, OffersNew, none-of, find-non
 pub closing-same : (link : Link) (held held' : List Reservation) (rows : List HeldRow) → ((f : Reservation → ℕ) → total f held' ≡ total f held) → AreClosing link held rows → AreClosing link held' rows
 closing-same link held held' rows same before = λ splits f. before splits f ∙ sym (same (closing_part link.shape.bounds f))
 
-pub closing-kept : (link : Link) (k k' : Kept) (rows : List HeldRow) → ((h : List Entry) → StandsFor link.shape k h → StandsFor link.shape k' h) → IsLegallyStood link k → AreClosing link (held_in k) rows → AreClosing link (held_in k') rows
+pub closing-kept : (link : Link) (k k' : Account) (rows : List HeldRow) → ((h : List Entry) → StandsFor link.shape k h → StandsFor link.shape k' h) → IsLegallyStood link k → AreClosing link (held_in k) rows → AreClosing link (held_in k') rows
 closing-kept link k k' rows same stood before =
     closing-same link (held_in k) (held_in k') rows (λ f. same-total link k k' f stood (λ h legal stands.
     terms-stand link.shape k' h (same h stands) ∙ sym (terms-stand link.shape k h stands))) before
 
-pub closing-carried : {E : Type 0} (link : Link) (k k' : Kept) (ask : Ask) (r : Result Reply E) (rows : List HeldRow) → IfOk r (GoesOn link k k' ask) → OnErr r ((h : List Entry) → StandsFor link.shape k h → StandsFor link.shape k' h) → IsCarrying ask → IsLegallyStood link k → AreClosing link (held_in k) rows → AreClosing link (held_in k') rows
+pub closing-carried : {E : Type 0} (link : Link) (k k' : Account) (ask : Ask) (r : Result Reply E) (rows : List HeldRow) → IfOk r (GoesOn link k k' ask) → OnErr r ((h : List Entry) → StandsFor link.shape k h → StandsFor link.shape k' h) → IsCarrying ask → IsLegallyStood link k → AreClosing link (held_in k) rows → AreClosing link (held_in k') rows
 unfolding scan_of
 closing-carried link k k' ask (Ok reply) rows goes same carries stood before =
     closing-same link (held_in k) (held_in k') rows (λ f. same-total link k k' f stood (λ h legal stands.
@@ -64,7 +64,7 @@ closing-carried link k k' ask (Ok reply) rows goes same carries stood before =
     ∙ sym (terms-stand link.shape k h stands))) before
 closing-carried link k k' ask (Err e) rows goes same carries stood before = closing-kept link k k' rows same stood before
 
-pub closing-ticked : {E : Type 0} (link : Link) (k k' : Kept) (r : Result Reply E) (rows : List HeldRow) → IfOk r (GoesOn link k k' Tick) → OnErr r ((h : List Entry) → StandsFor link.shape k h → StandsFor link.shape k' h) → length (held_in k) ≤ length (held_in k') → IsLegallyStood link k → AreClosing link (held_in k) rows → AreClosing link (held_in k') rows
+pub closing-ticked : {E : Type 0} (link : Link) (k k' : Account) (r : Result Reply E) (rows : List HeldRow) → IfOk r (GoesOn link k k' Tick) → OnErr r ((h : List Entry) → StandsFor link.shape k h → StandsFor link.shape k' h) → length (held_in k) ≤ length (held_in k') → IsLegallyStood link k → AreClosing link (held_in k) rows → AreClosing link (held_in k') rows
 unfolding scan_of after
 closing-ticked link k k' (Ok reply) rows goes same most stood before =
     closing-same link (held_in k) (held_in k') rows (λ f. same-total link k k' f stood (λ h legal stands.
@@ -87,7 +87,7 @@ reserved-same bounds f shape t scan (Reserve chan contract kind delay up_reach f
 reserved-same bounds f shape t scan (Reserve chan contract kind delay up_reach first next) _ is = refl
 reserved-same bounds f shape t scan _ reply is = absurd is
 
-pub closing-reserved : (link : Link) (k k' : Kept) (ask : Ask) (reply : Reply) (rows : List HeldRow) → GoesOn link k k' ask reply → IsReserve ask → IsLegallyStood link k → AreClosing link (held_in k) rows → AreClosing link (held_in k') rows
+pub closing-reserved : (link : Link) (k k' : Account) (ask : Ask) (reply : Reply) (rows : List HeldRow) → GoesOn link k k' ask reply → IsReserve ask → IsLegallyStood link k → AreClosing link (held_in k) rows → AreClosing link (held_in k') rows
 unfolding scan_of
 closing-reserved link k k' ask reply rows goes is stood before = λ splits f. before splits f ∙ sym (sure-equal _ _ (λ other. stood (λ h legal stands. other
     (ap (total (closing_part link.shape.bounds f)) (terms-stand link.shape k' (record { ask = ask; reply = reply } ∷ h) (goes.entered h stands))
@@ -179,7 +179,7 @@ pub value-open : (f : HeldRow → ℕ) (row : Option HeldRow) → is_closing row
 value-open f None open_is = refl
 value-open f (Some row) open_is = rw open_is refl
 
-pub closing-settled : (link : Link) (k k' : Kept) (ask : Ask) (reply : Reply) (chan : ChanNo) (rows rows' : List HeldRow) → SplitFits link → GoesOn link k k' ask reply → IsSettling chan ask → IsLegallyStood link k
+pub closing-settled : (link : Link) (k k' : Account) (ask : Ask) (reply : Reply) (chan : ChanNo) (rows rows' : List HeldRow) → SplitFits link → GoesOn link k k' ask reply → IsSettling chan ask → IsLegallyStood link k
     → (is_closing (seen_of link.shape.bounds (held_in k) chan) ≡ false → (f : HeldRow → ℕ) → total f rows' ≡ total f rows + value_of (if_closing f) (seen_of link.shape.bounds (held_in k') chan))
     → (is_closing (seen_of link.shape.bounds (held_in k) chan) ≡ true → rows' ≡ rows)
     → AreClosing link (held_in k) rows → AreClosing link (held_in k') rows'
@@ -211,7 +211,7 @@ pub left-terms : (shape : LinkShape) (t : ℕ) (scan : Scan) → map row_terms (
 unfolding after_tick with_best with_sources without_expired
 left-terms shape t scan = rows_after-terms shape.bounds (here_at shape.rate scan.packets t) t (length scan.packets) (filter (stays shape.bounds t) scan.rows)
 
-pub lost-total : (link : Link) (k k' : Kept) (reply : Reply) (f : HeldRow → ℕ) → SplitFits link → GoesOn link k k' Tick reply → IsLegallyStood link k
+pub lost-total : (link : Link) (k k' : Account) (reply : Reply) (f : HeldRow → ℕ) → SplitFits link → GoesOn link k k' Tick reply → IsLegallyStood link k
     → total (closing_part link.shape.bounds (if_gone link.shape.bounds (held_in k') f)) (held_in k) + total (λ terms. f (seen link.shape.bounds terms)) (held_in k') ≡ total (λ terms. f (seen link.shape.bounds terms)) (held_in k)
 unfolding scan_of after
 lost-total link k k' reply f fits goes stood = sure-equal _ _ (λ other. stood (λ h legal stands. other
@@ -223,7 +223,7 @@ lost-total link k k' reply f fits goes stood = sure-equal _ _ (λ other. stood (
     (subst (λ held. total (closing_part link.shape.bounds (if_gone link.shape.bounds (map row_terms (filter (stays link.shape.bounds (clock_of h)) (scan_of link.shape h).rows)) f)) held + total (λ terms. f (seen link.shape.bounds terms)) (map row_terms (filter (stays link.shape.bounds (clock_of h)) (scan_of link.shape h).rows)) ≡ total (λ terms. f (seen link.shape.bounds terms)) held) (sym was)
     (gone-total link.shape.bounds f (stays link.shape.bounds (clock_of h)) (scan_of link.shape h).rows differ (expires-closing link.shape.bounds (clock_of h)))))))
 
-pub stayed-total : (link : Link) (k k' : Kept) (reply : Reply) (f : HeldRow → ℕ) → SplitFits link → GoesOn link k k' Tick reply → IsLegallyStood link k
+pub stayed-total : (link : Link) (k k' : Account) (reply : Reply) (f : HeldRow → ℕ) → SplitFits link → GoesOn link k k' Tick reply → IsLegallyStood link k
     → total (closing_part link.shape.bounds (if_held link.shape.bounds (held_in k') f)) (held_in k) ≡ total (closing_part link.shape.bounds f) (held_in k')
 unfolding scan_of after
 stayed-total link k k' reply f fits goes stood = sure-equal _ _ (λ other. stood (λ h legal stands. other
@@ -235,7 +235,7 @@ stayed-total link k k' reply f fits goes stood = sure-equal _ _ (λ other. stood
     (left-total link.shape.bounds f (stays link.shape.bounds (clock_of h)) (scan_of link.shape h).rows differ)))))
 
 -- the same of the parts of a group, as a share has them
-lost-work : (link : Link) (k k' : Kept) (reply : Reply) (rows : List HeldRow) (group m : ℕ) → SplitFits link → GoesOn link k k' Tick reply → IsLegallyStood link k → is_split link.split ≡ true → AreClosing link (held_in k) rows
+lost-work : (link : Link) (k k' : Account) (reply : Reply) (rows : List HeldRow) (group m : ℕ) → SplitFits link → GoesOn link k k' Tick reply → IsLegallyStood link k → is_split link.split ≡ true → AreClosing link (held_in k) rows
     → total (if_gone link.shape.bounds (held_in k') (work_for link group m)) rows + total (group_work link group m) (held_in k') ≡ total (group_work link group m) (held_in k)
 unfolding group_work
 lost-work link k k' reply rows group m fits goes stood splits listed =
@@ -243,7 +243,7 @@ lost-work link k k' reply rows group m fits goes stood splits listed =
     let two = lost-total link k k' reply (work_for link group m) fits goes stood in
     ap (λ n. n + total (group_work link group m) (held_in k')) one ∙ two
 
-lost-units : (link : Link) (k k' : Kept) (reply : Reply) (rows : List HeldRow) (group : ℕ) → SplitFits link → GoesOn link k k' Tick reply → IsLegallyStood link k → is_split link.split ≡ true → AreClosing link (held_in k) rows
+lost-units : (link : Link) (k k' : Account) (reply : Reply) (rows : List HeldRow) (group : ℕ) → SplitFits link → GoesOn link k k' Tick reply → IsLegallyStood link k → is_split link.split ≡ true → AreClosing link (held_in k) rows
     → total (if_gone link.shape.bounds (held_in k') (units_for_row link group)) rows + total (group_units link group) (held_in k') ≡ total (group_units link group) (held_in k)
 unfolding group_units
 lost-units link k k' reply rows group fits goes stood splits listed =
@@ -251,7 +251,7 @@ lost-units link k k' reply rows group fits goes stood splits listed =
     let two = lost-total link k k' reply (units_for_row link group) fits goes stood in
     ap (λ n. n + total (group_units link group) (held_in k')) one ∙ two
 
-pub have-gone : {E : Type 0} (link : Link) (k k' : Kept) (r : Result Reply E) (rows : List HeldRow) (shares : List Share) → SplitFits link → IsOk r → IfOk r (GoesOn link k k' Tick) → IsLegallyStood link k → is_split link.split ≡ true → AreClosing link (held_in k) rows → AreShares link (held_in k) shares → HaveGone link (held_in k') rows shares
+pub have-gone : {E : Type 0} (link : Link) (k k' : Account) (r : Result Reply E) (rows : List HeldRow) (shares : List Share) → SplitFits link → IsOk r → IfOk r (GoesOn link k k' Tick) → IsLegallyStood link k → is_split link.split ≡ true → AreClosing link (held_in k) rows → AreShares link (held_in k) shares → HaveGone link (held_in k') rows shares
 have-gone link k k' (Ok reply) rows shares fits ok goes stood splits listed are = λ n quota share at is.
     let share_is = are.each n quota share at is in
     record {
@@ -260,7 +260,7 @@ have-gone link k k' (Ok reply) rows shares fits ok goes stood splits listed are 
     }
 have-gone link k k' (Err e) rows shares fits ok goes stood splits listed are = absurd (let clash : false ≡ true = ok in cc)
 
-pub shares-lowered : {E : Type 0} (link : Link) (k k' : Kept) (r : Result Reply E) (rows : List HeldRow) (shares shares' : List Share) → SplitFits link → IsOk r → IfOk r (GoesOn link k k' Tick) → IsLegallyStood link k → is_split link.split ≡ true → AreClosing link (held_in k) rows → AreShares link (held_in k) shares → AreLowered link (held_in k') rows shares shares' → AreShares link (held_in k') shares'
+pub shares-lowered : {E : Type 0} (link : Link) (k k' : Account) (r : Result Reply E) (rows : List HeldRow) (shares shares' : List Share) → SplitFits link → IsOk r → IfOk r (GoesOn link k k' Tick) → IsLegallyStood link k → is_split link.split ≡ true → AreClosing link (held_in k) rows → AreShares link (held_in k) shares → AreLowered link (held_in k') rows shares shares' → AreShares link (held_in k') shares'
 shares-lowered link k k' (Ok reply) rows shares shares' fits ok goes stood splits listed are lowered = record {
   long = lowered.long ∙ are.long;
   each = λ n quota share' at is.
@@ -276,7 +276,7 @@ shares-lowered link k k' (Ok reply) rows shares shares' fits ok goes stood split
 }
 shares-lowered link k k' (Err e) rows shares shares' fits ok goes stood splits listed are lowered = absurd (let clash : false ≡ true = ok in cc)
 
-pub closing-left : {E : Type 0} (link : Link) (k k' : Kept) (r : Result Reply E) (rows : List HeldRow) → SplitFits link → IsOk r → IfOk r (GoesOn link k k' Tick) → IsLegallyStood link k → AreClosing link (held_in k) rows → AreClosing link (held_in k') (filter (is_held link.shape.bounds (held_in k')) rows)
+pub closing-left : {E : Type 0} (link : Link) (k k' : Account) (r : Result Reply E) (rows : List HeldRow) → SplitFits link → IsOk r → IfOk r (GoesOn link k k' Tick) → IsLegallyStood link k → AreClosing link (held_in k) rows → AreClosing link (held_in k') (filter (is_held link.shape.bounds (held_in k')) rows)
 closing-left link k k' (Ok reply) rows fits ok goes stood listed = λ splits f.
     total-filtered f (is_held link.shape.bounds (held_in k')) rows ∙ listed splits (if_held link.shape.bounds (held_in k') f) ∙ stayed-total link k k' reply f fits goes stood
 closing-left link k k' (Err e) rows fits ok goes stood listed = absurd (let clash : false ≡ true = ok in cc)

@@ -26,7 +26,7 @@ use Rattle.link_steps.specs.Levels.{level_of}
 use Rattle.link_steps.proofs.Account.{stands-entry}
 use Rattle.link_steps.proofs.ReservationFound.{offer-best}
 use Rattle.link_server.proofs.EveryHistoryAgrees.{rows-have}
-use Rattle.link_steps.specs.Kept.{Kept, StandsFor, kept_terms, kept_after}
+use Rattle.link_steps.specs.Kept.{Account, StandsFor, kept_terms, kept_after}
 use Rattle.link_steps.specs.Legal.{AskFits, IsLegal}
 use Rattle.link_steps.specs.Replies.{reserve_reply, reply_at, reply_to}
 use Rattle.link_steps.specs.Reservation.{Reservation, is_of}
@@ -61,12 +61,12 @@ pub sure-most : (a b : ℕ) → ((a ≤ b → ⊥) → ⊥) → a ≤ b
 sure-most a b sure = ⊎_elim (λ (over : b < a). absurd (sure (λ most. omega (arith, over, most)))) (λ (most : a ≤ b). most) (cases_lt b a)
 
 -- the reservations that an account holds
-abbrev pub held_in : Kept → List Reservation
+abbrev pub held_in : Account → List Reservation
 held_in k = map kept_terms k.rows
 
 -- ---- within the quotas
 
-pub stood-within : (link : Link) (k : Kept) → SplitFits link → is_split link.split ≡ true → IsLegallyStood link k → AreWithin link (held_in k)
+pub stood-within : (link : Link) (k : Account) → SplitFits link → is_split link.split ≡ true → IsLegallyStood link k → AreWithin link (held_in k)
 stood-within link k fits splits stood = record {
   levels = λ group m from upto. sure-most _ _ (λ over. stood (λ h legal stands. over
       (subst (λ held. total (group_work link group m) held ≤ level_quota link group m) (sym (terms-stand link.shape k h stands)) (((legal-has link h fits legal).within splits).levels group m from upto))));
@@ -76,18 +76,18 @@ stood-within link k fits splits stood = record {
 
 -- ---- a step
 
-pub stood-goes : (link : Link) (k k' : Kept) (ask : Ask) (reply : Reply) → GoesOn link k k' ask reply → IsLegallyStood link k → IsLegallyStood link k'
+pub stood-goes : (link : Link) (k k' : Account) (ask : Ask) (reply : Reply) → GoesOn link k k' ask reply → IsLegallyStood link k → IsLegallyStood link k'
 unfolding IsLegal
 stood-goes link k k' ask reply goes stood = λ none. stood (λ h legal stands. none (record { ask = ask; reply = reply } ∷ h) (legal, record { fits = goes.fits; answered = goes.legal h stands }) (goes.entered h stands))
 
 -- an account that stands for the same histories
-pub stood-same : (link : Link) (k k' : Kept) → ((h : List Entry) → StandsFor link.shape k h → StandsFor link.shape k' h) → IsLegallyStood link k → IsLegallyStood link k'
+pub stood-same : (link : Link) (k k' : Account) → ((h : List Entry) → StandsFor link.shape k h → StandsFor link.shape k' h) → IsLegallyStood link k → IsLegallyStood link k'
 stood-same link k k' same stood = λ none. stood (λ h legal stands. none h legal (same h stands))
 
 -- ---- the shares
 
 -- a sum over what is held is the same, where it is in every history
-pub same-total : (link : Link) (k k' : Kept) (f : Reservation → ℕ) → IsLegallyStood link k → ((h : List Entry) → IsLegal link h → StandsFor link.shape k h → held_in k' ≡ held_in k) → total f (held_in k') ≡ total f (held_in k)
+pub same-total : (link : Link) (k k' : Account) (f : Reservation → ℕ) → IsLegallyStood link k → ((h : List Entry) → IsLegal link h → StandsFor link.shape k h → held_in k' ≡ held_in k) → total f (held_in k') ≡ total f (held_in k)
 same-total link k k' f stood same = sure-equal _ _ (λ other. stood (λ h legal stands. other (ap (total f) (same h legal stands))))
 
 -- shares of sums that are the same
@@ -103,7 +103,7 @@ shares-same link held held' shares same before = record {
 }
 
 -- where an ask carries packets
-pub shares-carried : (link : Link) (k k' : Kept) (ask : Ask) (reply : Reply) (shares : List Share) → GoesOn link k k' ask reply → IsCarrying ask → IsLegallyStood link k → AreShares link (held_in k) shares → AreShares link (held_in k') shares
+pub shares-carried : (link : Link) (k k' : Account) (ask : Ask) (reply : Reply) (shares : List Share) → GoesOn link k k' ask reply → IsCarrying ask → IsLegallyStood link k → AreShares link (held_in k) shares → AreShares link (held_in k') shares
 unfolding scan_of
 shares-carried link k k' ask reply shares goes carries stood before =
     shares-same link (held_in k) (held_in k') shares (λ f. same-total link k k' f stood (λ h legal stands.
@@ -112,7 +112,7 @@ shares-carried link k k' ask reply shares goes carries stood before =
     ∙ sym (terms-stand link.shape k h stands))) before
 
 -- where a tick leaves as many rows as there were
-pub shares-ticked : (link : Link) (k k' : Kept) (reply : Reply) (shares : List Share) → GoesOn link k k' Tick reply → length (held_in k) ≤ length (held_in k') → IsLegallyStood link k → AreShares link (held_in k) shares → AreShares link (held_in k') shares
+pub shares-ticked : (link : Link) (k k' : Account) (reply : Reply) (shares : List Share) → GoesOn link k k' Tick reply → length (held_in k) ≤ length (held_in k') → IsLegallyStood link k → AreShares link (held_in k) shares → AreShares link (held_in k') shares
 unfolding scan_of after
 shares-ticked link k k' reply shares goes most stood before =
     shares-same link (held_in k) (held_in k') shares (λ f. same-total link k k' f stood (λ h legal stands.
@@ -141,7 +141,7 @@ value-terms f None = refl
 value-terms f (Some row) = refl
 
 -- the sum over the reservations changes as the channel's does
-pub setup-total : (link : Link) (k k' : Kept) (ask : Ask) (reply : Reply) (chan : ChanNo) (f : Reservation → ℕ) → SplitFits link → GoesOn link k k' ask reply → IsSetupOf chan ask → ((h : List Entry) → StandsFor link.shape k h → OffersNew ask reply (scan_of link.shape h).rows) → IsLegallyStood link k → total f (held_in k') + value_of f (find (is_of chan) (held_in k)) ≡ total f (held_in k) + value_of f (find (is_of chan) (held_in k'))
+pub setup-total : (link : Link) (k k' : Account) (ask : Ask) (reply : Reply) (chan : ChanNo) (f : Reservation → ℕ) → SplitFits link → GoesOn link k k' ask reply → IsSetupOf chan ask → ((h : List Entry) → StandsFor link.shape k h → OffersNew ask reply (scan_of link.shape h).rows) → IsLegallyStood link k → total f (held_in k') + value_of f (find (is_of chan) (held_in k)) ≡ total f (held_in k) + value_of f (find (is_of chan) (held_in k'))
 unfolding scan_of
 setup-total link k k' ask reply chan f fits goes is new stood = sure-equal _ _ (λ other. stood (λ h legal stands. other
     (let now = terms-stand link.shape k' (record { ask = ask; reply = reply } ∷ h) (goes.entered h stands) in
@@ -157,7 +157,7 @@ setup-total link k k' ask reply chan f fits goes is new stood = sure-equal _ _ (
     omega (arith, sum, a, b, c, d))))
 
 -- so the shares follow
-pub shares-setup : (link : Link) (k k' : Kept) (ask : Ask) (reply : Reply) (chan : ChanNo) (shares shares' : List Share) → SplitFits link → GoesOn link k k' ask reply → IsSetupOf chan ask → ((h : List Entry) → StandsFor link.shape k h → OffersNew ask reply (scan_of link.shape h).rows) → IsLegallyStood link k → AreShares link (held_in k) shares → AreChangedBy link (seen_of link.shape.bounds (held_in k) chan) (seen_of link.shape.bounds (held_in k') chan) shares shares' → AreShares link (held_in k') shares'
+pub shares-setup : (link : Link) (k k' : Account) (ask : Ask) (reply : Reply) (chan : ChanNo) (shares shares' : List Share) → SplitFits link → GoesOn link k k' ask reply → IsSetupOf chan ask → ((h : List Entry) → StandsFor link.shape k h → OffersNew ask reply (scan_of link.shape h).rows) → IsLegallyStood link k → AreShares link (held_in k) shares → AreChangedBy link (seen_of link.shape.bounds (held_in k) chan) (seen_of link.shape.bounds (held_in k') chan) shares shares' → AreShares link (held_in k') shares'
 shares-setup link k k' ask reply chan shares shares' fits goes is new stood before changed = record {
   long = changed.long ∙ before.long;
   each = λ n quota share' at after.
@@ -186,7 +186,7 @@ shares-setup link k k' ask reply chan shares shares' fits goes is new stood befo
 
 -- ---- a new link
 
-pub stood-new : (link : Link) (k : Kept) → StandsFor link.shape k [] → IsLegallyStood link k
+pub stood-new : (link : Link) (k : Account) → StandsFor link.shape k [] → IsLegallyStood link k
 unfolding IsLegal
 stood-new link k stands = λ none. none [] tt stands
 
@@ -273,7 +273,7 @@ kept-held link held chan row fits within seen =
     omega (arith, p, same, most, small)
 
 -- the shares where nothing was entered
-pub shares-kept : (link : Link) (k k' : Kept) (shares : List Share) → ((h : List Entry) → StandsFor link.shape k h → StandsFor link.shape k' h) → IsLegallyStood link k → AreShares link (held_in k) shares → AreShares link (held_in k') shares
+pub shares-kept : (link : Link) (k k' : Account) (shares : List Share) → ((h : List Entry) → StandsFor link.shape k h → StandsFor link.shape k' h) → IsLegallyStood link k → AreShares link (held_in k) shares → AreShares link (held_in k') shares
 shares-kept link k k' shares same stood before =
     shares-same link (held_in k) (held_in k') shares (λ f. same-total link k k' f stood (λ h legal stands. terms-stand link.shape k' h (same h stands) ∙ sym (terms-stand link.shape k h stands))) before
 
@@ -295,7 +295,7 @@ shares-unsplit link held held' shares unsplit before = record {
 -- ---- a reserve
 
 -- an account and its history hold the same, so a reserve is answered over what the account holds
-pub reserve-legal : (link : Link) (k : Kept) (chan : ChanNo) (contract : Traffic) (kind : Kind) (delay up_reach : ℕ) (first : Bool) (next : Option LinkNo) (ask : Ask) (reply : Reply) → ask ≡ Reserve chan contract kind delay up_reach first next → reply ≡ reserve_reply link (held_in k) chan contract delay up_reach → (h : List Entry) → StandsFor link.shape k h → reply ≡ reply_to link h ask
+pub reserve-legal : (link : Link) (k : Account) (chan : ChanNo) (contract : Traffic) (kind : Kind) (delay up_reach : ℕ) (first : Bool) (next : Option LinkNo) (ask : Ask) (reply : Reply) → ask ≡ Reserve chan contract kind delay up_reach first next → reply ≡ reserve_reply link (held_in k) chan contract delay up_reach → (h : List Entry) → StandsFor link.shape k h → reply ≡ reply_to link h ask
 unfolding reply_to reply_at
 reserve-legal link k chan contract kind delay up_reach first next ask reply is same h stands =
     same ∙ ap (λ held. reserve_reply link held chan contract delay up_reach) (terms-stand link.shape k h stands) ∙ sym (ap (λ a. reply_to link h a) is)
@@ -308,14 +308,14 @@ refused-enters link chan contract kind delay up_reach first next ask refusal is 
     (stands-entry link.shape (kept_in link) h (Reserve chan contract kind delay up_reach first next) (Is.Refused refusal) (rows-have link) stands)
 
 -- an offer of the group's room is one that the link may make
-pub offer-may-be : (link : Link) (k : Kept) (chan : ChanNo) (contract : Traffic) (kind : Kind) (delay up_reach : ℕ) (first : Bool) (next : Option LinkNo) (ask : Ask) (level : Level) → SplitFits link → is_split link.split ≡ true → IsLegallyStood link k → ask ≡ Reserve chan contract kind delay up_reach first next → Is.Offer level (level_of (reach_of link.shape.bounds delay (level_number level))) ≡ reserve_reply link (held_in k) chan contract delay up_reach → MayReserve link.shape (held_in k) ask level
+pub offer-may-be : (link : Link) (k : Account) (chan : ChanNo) (contract : Traffic) (kind : Kind) (delay up_reach : ℕ) (first : Bool) (next : Option LinkNo) (ask : Ask) (level : Level) → SplitFits link → is_split link.split ≡ true → IsLegallyStood link k → ask ≡ Reserve chan contract kind delay up_reach first next → Is.Offer level (level_of (reach_of link.shape.bounds delay (level_number level))) ≡ reserve_reply link (held_in k) chan contract delay up_reach → MayReserve link.shape (held_in k) ask level
 unfolding reserve_reply room_of
 offer-may-be link k chan contract kind delay up_reach first next ask level fits splits stood is same =
     subst (λ a. MayReserve link.shape (held_in k) a level) (sym is)
     (group-offer-may link (held_in k) chan contract delay up_reach level (level_of (reach_of link.shape.bounds delay (level_number level))) fits (stood-within link k fits splits stood) (rw splits at same))
 
 -- the channel had no row where it is offered
-pub offers-new : (link : Link) (k : Kept) (chan : ChanNo) (contract : Traffic) (kind : Kind) (delay up_reach : ℕ) (first : Bool) (next : Option LinkNo) (ask : Ask) (level reach : Level) → ask ≡ Reserve chan contract kind delay up_reach first next → find (is_of chan) (held_in k) ≡ None → (h : List Entry) → StandsFor link.shape k h → OffersNew ask (Is.Offer level reach) (scan_of link.shape h).rows
+pub offers-new : (link : Link) (k : Account) (chan : ChanNo) (contract : Traffic) (kind : Kind) (delay up_reach : ℕ) (first : Bool) (next : Option LinkNo) (ask : Ask) (level reach : Level) → ask ≡ Reserve chan contract kind delay up_reach first next → find (is_of chan) (held_in k) ≡ None → (h : List Entry) → StandsFor link.shape k h → OffersNew ask (Is.Offer level reach) (scan_of link.shape h).rows
 offers-new link k chan contract kind delay up_reach first next ask level reach is none h stands =
     subst (λ a. OffersNew a (Is.Offer level reach) (scan_of link.shape h).rows) (sym is)
     (mapped-none (find (is_row_of chan) (scan_of link.shape h).rows) (sym (find-terms chan (scan_of link.shape h).rows) ∙ sym (ap (find (is_of chan)) (terms-stand link.shape k h stands)) ∙ none)) where

@@ -11,7 +11,7 @@ use Rattle.net_units.specs.declared.numbers.Level.{Level}
 use Rattle.net_units.specs.declared.numbers.LinkNo.{LinkNo}
 use Rattle.traffic_contract.specs.Contract.{Traffic}
 use Rattle.link_steps.specs.declared.replies.Reply.TheVariants.{Offer}
-use Rattle.link_steps.specs.Kept.{Kept, StandsFor}
+use Rattle.link_steps.specs.Kept.{Account, StandsFor}
 use Rattle.link_steps.specs.declared.shape.LinkShape.{LinkShape}
 use Rattle.link_steps.specs.HopGuarantee.{HopGuarantee}
 use Rattle.link_steps.specs.Legal.{AskFits, IsLegal}
@@ -68,7 +68,7 @@ instead-unsplit split old ask (Ok reply) unsplit instead = tt
 instead-unsplit split old ask (Err e) unsplit instead = λ h stands. subst IsOffer (same-unsplit (record { shape = old.shape; split = split }) h ask unsplit) (instead h stands)
 
 -- and in place of an offer
-pub instead-offered : (link : Link) (k : Kept) (chan : ChanNo) (contract : Traffic) (kind : Kind) (delay up_reach : ℕ) (first : Bool) (next : Option LinkNo) (ask : Ask) (level reach : Level) → ask ≡ Reserve chan contract kind delay up_reach first next → Offer level reach ≡ reserve_reply link (held_in k) chan contract delay up_reach → (h : List Entry) → StandsFor link.shape k h → IsOffer (reply_to link h ask)
+pub instead-offered : (link : Link) (k : Account) (chan : ChanNo) (contract : Traffic) (kind : Kind) (delay up_reach : ℕ) (first : Bool) (next : Option LinkNo) (ask : Ask) (level reach : Level) → ask ≡ Reserve chan contract kind delay up_reach first next → Offer level reach ≡ reserve_reply link (held_in k) chan contract delay up_reach → (h : List Entry) → StandsFor link.shape k h → IsOffer (reply_to link h ask)
 instead-offered link k chan contract kind delay up_reach first next ask level reach is offered h stands =
     subst IsOffer (reserve-legal link k chan contract kind delay up_reach first next ask (Offer level reach) is offered h stands) tt
 
@@ -83,15 +83,15 @@ pub same-shape : {E X : Type 0} (old new : LinkState) (r : Result X E) → new.s
 same-shape old new (Ok x) shape same = tt
 same-shape old new (Err e) shape same = λ h stands. subst (λ s. StandsFor s (kept_in new) h) shape (same h stands)
 
-pub stood-all : {E : Type 0} (link : Link) (k k' : Kept) (ask : Ask) (r : Result Reply E) → IfOk r (GoesOn link k k' ask) → OnErr r ((h : List Entry) → StandsFor link.shape k h → StandsFor link.shape k' h) → IsLegallyStood link k → IsLegallyStood link k'
+pub stood-all : {E : Type 0} (link : Link) (k k' : Account) (ask : Ask) (r : Result Reply E) → IfOk r (GoesOn link k k' ask) → OnErr r ((h : List Entry) → StandsFor link.shape k h → StandsFor link.shape k' h) → IsLegallyStood link k → IsLegallyStood link k'
 stood-all link k k' ask (Ok reply) goes same stood = stood-goes link k k' ask reply goes stood
 stood-all link k k' ask (Err e) goes same stood = stood-same link k k' same stood
 
-pub carried-all : {E : Type 0} (link : Link) (k k' : Kept) (ask : Ask) (r : Result Reply E) (shares : List Share) → IfOk r (GoesOn link k k' ask) → OnErr r ((h : List Entry) → StandsFor link.shape k h → StandsFor link.shape k' h) → IsCarrying ask → IsLegallyStood link k → AreShares link (held_in k) shares → AreShares link (held_in k') shares
+pub carried-all : {E : Type 0} (link : Link) (k k' : Account) (ask : Ask) (r : Result Reply E) (shares : List Share) → IfOk r (GoesOn link k k' ask) → OnErr r ((h : List Entry) → StandsFor link.shape k h → StandsFor link.shape k' h) → IsCarrying ask → IsLegallyStood link k → AreShares link (held_in k) shares → AreShares link (held_in k') shares
 carried-all link k k' ask (Ok reply) shares goes same carries stood before = shares-carried link k k' ask reply shares goes carries stood before
 carried-all link k k' ask (Err e) shares goes same carries stood before = shares-kept link k k' shares same stood before
 
-pub ticked-all : {E : Type 0} (link : Link) (k k' : Kept) (r : Result Reply E) (shares : List Share) → IfOk r (GoesOn link k k' Tick) → OnErr r ((h : List Entry) → StandsFor link.shape k h → StandsFor link.shape k' h) → length (held_in k) ≤ length (held_in k') → IsLegallyStood link k → AreShares link (held_in k) shares → AreShares link (held_in k') shares
+pub ticked-all : {E : Type 0} (link : Link) (k k' : Account) (r : Result Reply E) (shares : List Share) → IfOk r (GoesOn link k k' Tick) → OnErr r ((h : List Entry) → StandsFor link.shape k h → StandsFor link.shape k' h) → length (held_in k) ≤ length (held_in k') → IsLegallyStood link k → AreShares link (held_in k) shares → AreShares link (held_in k') shares
 ticked-all link k k' (Ok reply) shares goes same most stood before = shares-ticked link k k' reply shares goes most stood before
 ticked-all link k k' (Err e) shares goes same most stood before = shares-kept link k k' shares same stood before
 
@@ -123,12 +123,12 @@ part-before link held chan None shares seen are = tt
 part-before link held chan (Some row) shares seen are = part-held link held chan row shares seen are
 
 -- what the row after keeps is small
-pub small-after : (link : Link) (k : Kept) (chan : ChanNo) (row : Option HeldRow) → SplitFits link → is_split link.split ≡ true → IsLegallyStood link k → row ≡ seen_of link.shape.bounds (held_in k) chan → IfSome row (λ (r : HeldRow). r.kept < 2 ^ 61)
+pub small-after : (link : Link) (k : Account) (chan : ChanNo) (row : Option HeldRow) → SplitFits link → is_split link.split ≡ true → IsLegallyStood link k → row ≡ seen_of link.shape.bounds (held_in k) chan → IfSome row (λ (r : HeldRow). r.kept < 2 ^ 61)
 small-after link k chan None fits splits stood seen = tt
 small-after link k chan (Some row) fits splits stood seen = (let small = kept-held link (held_in k) chan row fits (stood-within link k fits splits stood) seen in omega (arith, small))
 
 -- and so are the shares
-pub small-shares : (link : Link) (k : Kept) (shares : List Share) → SplitFits link → is_split link.split ≡ true → IsLegallyStood link k → AreShares link (held_in k) shares → AreSmall link shares
+pub small-shares : (link : Link) (k : Account) (shares : List Share) → SplitFits link → is_split link.split ≡ true → IsLegallyStood link k → AreShares link (held_in k) shares → AreSmall link shares
 small-shares link k shares fits splits stood are = shares-small link (held_in k) (held_in k) shares fits (few-held link (held_in k) (stood-within link k fits splits stood)) (λ f. omega arith) are
 
 pub tick-other : (ask : Ask) → ask ≡ Tick → IsNoReserve ask
@@ -140,11 +140,11 @@ on-err P (Err e) p = p
 
 -- ---- the clauses of a step
 
-pub entered-all : {E : Type 0} (link : Link) (k k' : Kept) (ask : Ask) (shape : LinkShape) (r : Result Reply E) → shape ≡ link.shape → IfOk r (GoesOn link k k' ask) → IfOk r (λ reply. (h : List Entry) → StandsFor link.shape k h → StandsFor shape k' (record { ask = ask; reply = reply } ∷ h))
+pub entered-all : {E : Type 0} (link : Link) (k k' : Account) (ask : Ask) (shape : LinkShape) (r : Result Reply E) → shape ≡ link.shape → IfOk r (GoesOn link k k' ask) → IfOk r (λ reply. (h : List Entry) → StandsFor link.shape k h → StandsFor shape k' (record { ask = ask; reply = reply } ∷ h))
 entered-all link k k' ask shape (Ok reply) same goes = λ h stands. subst (λ s. StandsFor s k' (record { ask = ask; reply = reply } ∷ h)) (sym same) (goes.entered h stands)
 entered-all link k k' ask shape (Err e) same goes = tt
 
-pub guaranteed-all : {E : Type 0} (link : Link) (k k' : Kept) (ask : Ask) (r : Result Reply E) → SplitFits link → IfOk r (GoesOn link k k' ask) → IfOk r (λ reply. (h : List Entry) → StandsFor link.shape k h → IsLegal link h → HopGuarantee link.shape (record { ask = ask; reply = reply } ∷ h))
+pub guaranteed-all : {E : Type 0} (link : Link) (k k' : Account) (ask : Ask) (r : Result Reply E) → SplitFits link → IfOk r (GoesOn link k k' ask) → IfOk r (λ reply. (h : List Entry) → StandsFor link.shape k h → IsLegal link h → HopGuarantee link.shape (record { ask = ask; reply = reply } ∷ h))
 unfolding IsLegal
 guaranteed-all link k k' ask (Ok reply) fits goes = λ h stands legal. hop-guarantee link.shape (record { ask = ask; reply = reply } ∷ h) (legal-admissible link (record { ask = ask; reply = reply } ∷ h) fits (legal, record { fits = goes.fits; answered = goes.legal h stands }))
 guaranteed-all link k k' ask (Err e) fits goes = tt

@@ -3,7 +3,7 @@ use Rattle.std.proofs.Common.{◌≡◌, ℕ, zero, suc, ◌+◌, ◌<◌, ◌�
 use Rattle.std.proofs.lemmas.Bool.{cases_Bool, lt-leb}
 use Rattle.std.proofs.lemmas.List.Folds.{list_any_none}
 use Rattle.link_server.proofs.Words.{Tick, LinkShape, Each, SourcePacket, Arrival, Start, channel_number, Entry, Schedule, ServedRow, row_in}
-use Rattle.link_steps.specs.Kept.{HasContracts, Kept, KeptRow, kept_stays, kept_after, kept_reply}
+use Rattle.link_steps.specs.Kept.{HasContracts, Account, AccountRow, kept_stays, kept_after, kept_reply}
 use Rattle.link_steps.proofs.SearchAndFilter.{Each-if}
 use Rattle.link_server.specs.Holds.{AreListed, IsListed, tells_end}
 use Rattle.link_server.specs.Plans.{IsTold}
@@ -29,13 +29,13 @@ told-rests zero entries row later told = all-from-zero (left_in row.planned)
 told-rests (suc until) entries row later told = told-quiet until entries row (λ k d inside. later k d inside) told
 
 -- nor does its hold end before
-not-told : (bounds : List ℕ) (t until : ℕ) (row : KeptRow) (entry : Entry) → until ≤ entry.0 → t < until → tells_end bounds t row entry ≡ false
+not-told : (bounds : List ℕ) (t until : ℕ) (row : AccountRow) (entry : Entry) → until ≤ entry.0 → t < until → tells_end bounds t row entry ≡ false
 not-told bounds t until row entry from before = rw (lt-leb entry.0 t (omega (arith, from, before))) (and-false (nat_eq entry.1 (channel_number row.terms.chan))) where
   and-false : (b : Bool) → b && false ≡ false
   and-false true = refl
   and-false false = refl
 
-listed-stays : (bounds : List ℕ) (clock until : ℕ) (entries : List Entry) (row : KeptRow) → All (λ entry. until ≤ entry.0) entries → IsListed bounds clock entries row → (t : ℕ) → clock ≤ t → t < until → kept_stays bounds t row ≡ true
+listed-stays : (bounds : List ℕ) (clock until : ℕ) (entries : List Entry) (row : AccountRow) → All (λ entry. until ≤ entry.0) entries → IsListed bounds clock entries row → (t : ℕ) → clock ≤ t → t < until → kept_stays bounds t row ≡ true
 listed-stays bounds clock until entries row later listed t from before =
     ⊎_elim (λ (stays : kept_stays bounds t row ≡ true). stays)
     (λ (ends : kept_stays bounds t row ≡ false).
@@ -52,7 +52,7 @@ rows-rest bounds clock until holds plans (row ∷ rows) held planned listed told
 )
 
 -- nothing is said of a tick that the clock has reached
-pub due-now : (shape : LinkShape) (k : Kept) → RestsFromClock shape 0 k
+pub due-now : (shape : LinkShape) (k : Account) → RestsFromClock shape 0 k
 due-now shape k = λ before. absurd (omega (arith, before))
 
 -- what is later than one tick is later than an earlier one
@@ -61,7 +61,7 @@ all-from until least entries less later = λ k d inside. (let from = later k d i
 
 -- ---- while it rests, the account stays sound, and some history stands for it
 
-pub later-sound : (shape : LinkShape) (room until n : ℕ) (k : Kept) → RestsUntil shape until k → k.clock + n ≤ until → IsSound shape room k → IsSound shape room (later_by n k)
+pub later-sound : (shape : LinkShape) (room until n : ℕ) (k : Account) → RestsUntil shape until k → k.clock + n ≤ until → IsSound shape room k → IsSound shape room (later_by n k)
 unfolding kept_after
 later-sound shape room until zero k rests within sound = subst (IsSound shape room) (none-later k) sound
 later-sound shape room until (suc n) k rests within sound =
@@ -69,7 +69,7 @@ later-sound shape room until (suc n) k rests within sound =
     subst (IsSound shape room) (quiet-after shape until (later_by n k) (later-rests shape until n k rests) (omega (arith, within)) ∙ one-more n k)
     (sound-tick shape room (later_by n k) (quiet_reply (k.clock + n)) before)
 
-pub later-stood : (shape : LinkShape) (until n : ℕ) (k : Kept) → HasContracts k → RestsUntil shape until k → k.clock + n ≤ until → IsStood shape k → IsStood shape (later_by n k)
+pub later-stood : (shape : LinkShape) (until n : ℕ) (k : Account) → HasContracts k → RestsUntil shape until k → k.clock + n ≤ until → IsStood shape k → IsStood shape (later_by n k)
 unfolding kept_after kept_reply
 later-stood shape until zero k each rests within stood = subst (IsStood shape) (none-later k) stood
 later-stood shape until (suc n) k each rests within stood =
@@ -89,7 +89,7 @@ service-from rate until least here None less rests = Each-if (IsEligibleFrom lea
 service-from rate until least here (Some start) less rests = omega (arith, rests, less)
 
 -- what the calendar tells from the clock on it tells from a later one on
-pub listed-later : (bounds : List ℕ) (clock later : ℕ) (holds : Schedule) (rows : List KeptRow) → clock ≤ later → AreListed bounds clock holds rows → AreListed bounds later holds rows
+pub listed-later : (bounds : List ℕ) (clock later : ℕ) (holds : Schedule) (rows : List AccountRow) → clock ≤ later → AreListed bounds clock holds rows → AreListed bounds later holds rows
 listed-later bounds clock later holds rows less listed = record {
   begun = let begun = listed.begun in omega (arith, begun, less);
   listed = Each-if (IsListed bounds clock holds.entries) (IsListed bounds later holds.entries) rows (λ row is. record { plans_none = is.plans_none; told = λ t from ends. is.told t (omega (arith, from, less)) ends }) listed.listed;

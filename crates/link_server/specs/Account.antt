@@ -1,9 +1,9 @@
 -- What a link keeps is an account: its clock, its rows, and the packets that it has taken, that are here, and that
 -- occupy it.
 use Rattle.std.specs.Prelude.{ℕ, List}
-use Rattle.link_steps.specs.Kept.{Kept, KeptRow}
+use Rattle.link_steps.specs.Kept.{Account, AccountRow}
 use Rattle.link_server.specs.KeptQueue.{KeptQueue}
 
 -- the account of a clock, a queue of packets and rows
-abbrev pub account : ℕ → KeptQueue → List KeptRow → Kept
+abbrev pub account : ℕ → KeptQueue → List AccountRow → Account
 account clock queue rows = record { clock = clock; taken = queue.taken; rows = rows; here = queue.here; on = queue.on; best_left = queue.best }

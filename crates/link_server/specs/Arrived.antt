@@ -25,5 +25,5 @@ pub record IsNumbered (newest : ℕ) (p : Arrival) : Type 0 where
   pub least : 1 ≤ p.place
   pub most : p.place ≤ newest
 
-abbrev pub AreNumbered : ℕ → List Arrival → Type 0
-AreNumbered newest ps = Each (IsNumbered newest) ps
+abbrev pub AreNumberedUpTo : ℕ → List Arrival → Type 0
+AreNumberedUpTo newest ps = Each (IsNumbered newest) ps

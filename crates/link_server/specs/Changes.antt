@@ -7,7 +7,7 @@ use Rattle.traffic_contract.specs.Admission.{total, admits}
 use Rattle.traffic_contract.specs.Eligible.{newest}
 use Rattle.link_steps.specs.declared.replies.Phase.TheVariants.{Tentative, Committed}
 use Rattle.link_steps.specs.Buffer.{slots_of, kept_units}
-use Rattle.link_steps.specs.Kept.{KeptRow, is_kept_of, is_kept_at_hop, kept_terms, kept_arrived_row}
+use Rattle.link_steps.specs.Kept.{AccountRow, is_kept_of, is_kept_at_hop, kept_terms, kept_arrived_row}
 use Rattle.link_steps.specs.declared.asks.Packet.{Packet}
 use Rattle.link_steps.specs.Refusals.{not_in_phase}
 use Rattle.link_steps.specs.Reservation.{admitted, committed}
@@ -15,35 +15,35 @@ use Rattle.link_server.specs.KeptTable.{KeptTable}
 use Rattle.link_server.specs.Strays.{stray}
 
 -- the channel has a row, and P holds of it
-pub record HasRow (P : KeptRow → Type 0) (chan : ChanNo) (rows : List KeptRow) : Type 0 where
-  pub row : KeptRow
+pub record HasRow (P : AccountRow → Type 0) (chan : ChanNo) (rows : List AccountRow) : Type 0 where
+  pub row : AccountRow
   pub found : find (is_kept_of chan) rows ≡ Some row
   pub holds : P row
 
 -- it is this row, and it is at its first hop, or at a later one
-pub record IsRowAtHop (chan : ChanNo) (first : Bool) (rows : List KeptRow) (row : KeptRow) : Type 0 where
+pub record IsRowAtHop (chan : ChanNo) (first : Bool) (rows : List AccountRow) (row : AccountRow) : Type 0 where
   pub found : find (is_kept_of chan) rows ≡ Some row
   pub at_hop : is_kept_at_hop chan first row ≡ true
 
 -- the row is tentative, and may be committed at the level with that bound before: it has no more slots then
-pub record MayCommit (bounds : List ℕ) (level : Level) (up_bound : ℕ) (row : KeptRow) : Type 0 where
+pub record MayCommit (bounds : List ℕ) (level : Level) (up_bound : ℕ) (row : AccountRow) : Type 0 where
   pub tentative : None ≡ not_in_phase Tentative row.terms
   pub upto : level_number row.terms.level ≤ level_number level
   pub fewer : slots_of bounds (committed level up_bound row.terms) ≤ slots_of bounds row.terms
 
 -- the row is committed, and no packet of it is planned and left
-pub record MayPlan (row : KeptRow) : Type 0 where
+pub record MayPlan (row : AccountRow) : Type 0 where
   pub phase : None ≡ not_in_phase Committed row.terms
   pub none_left : length row.left ≡ 0
 
 -- the row is committed, and its newest eligible tick is soon
-pub record MayClose (row : KeptRow) : Type 0 where
+pub record MayClose (row : AccountRow) : Type 0 where
   pub phase : None ≡ not_in_phase Committed row.terms
   pub soon : newest row.recent < 2 ^ 63
 
 -- the row takes the packet, which isn't stray and has this arrival number, in the tick of the clock, and its newest eligible ticks
 -- are soon, before and after
-pub record MayTake (clock number : ℕ) (packet : Packet) (row : KeptRow) : Type 0 where
+pub record MayTake (clock number : ℕ) (packet : Packet) (row : AccountRow) : Type 0 where
   pub placed : None ≡ stray packet row.terms row.taken
   pub last : newest row.recent < 2 ^ 63
   pub soon : newest (kept_arrived_row clock number packet row).recent < 2 ^ 63
@@ -51,7 +51,7 @@ pub record MayTake (clock number : ℕ) (packet : Packet) (row : KeptRow) : Type
 
 -- the row may be added to the table: it is tentative and plans nothing, its channel has no row, its levels are the link's, the
 -- rows pass with it, and its units are free
-pub record MayAdd (table : KeptTable) (row : KeptRow) : Type 0 where
+pub record MayAdd (table : KeptTable) (row : AccountRow) : Type 0 where
   pub phase : row.terms.phase ≡ Tentative
   pub none_left : row.left ≡ []
   pub new : find (is_kept_of row.terms.chan) table.rows ≡ None

@@ -5,7 +5,7 @@ use Rattle.std.specs.Coded.{×_prop, Unit-prop}
 use native.Mathlib.Nat.{ℕ_set}
 use Rattle.net_units.specs.Numbers.{channel_number}
 use Rattle.link_steps.specs.Buffer.{held_packets}
-use Rattle.link_steps.specs.Kept.{KeptRow, is_kept_of, leaves_by}
+use Rattle.link_steps.specs.Kept.{AccountRow, is_kept_of, leaves_by}
 use Rattle.link_steps.specs.Lists.{Each}
 use Rattle.link_steps.specs.Service.{Arrival, Start}
 use Rattle.link_server.specs.SoundProp.{Each-prop}
@@ -16,16 +16,16 @@ abbrev pub departed_in : ServedRow → ℕ
 departed_in row = row.departed
 
 -- a packet with the row's lead is of the row's channel
-abbrev pub IsOwn : KeptRow → Arrival → Type 0
+abbrev pub IsOwn : AccountRow → Arrival → Type 0
 IsOwn row p = p.lead ≡ row.lead → channel_number p.chan ≡ channel_number row.terms.chan
 
 -- of the packets that the row has taken, all but those that have departed are among these, and they are of its channel
-pub record IsCounted (here : List Arrival) (row : KeptRow) (departed : ℕ) : Type 0 where
+pub record IsCounted (here : List Arrival) (row : AccountRow) (departed : ℕ) : Type 0 where
   pub taken : departed + held_packets row.lead here ≡ row.taken
   pub own : Each (IsOwn row) here
 
 -- and so for each row and the number of its packets that have departed
-abbrev pub AreCounted : List Arrival → List KeptRow → List ℕ → Type 0
+abbrev pub AreCounted : List Arrival → List AccountRow → List ℕ → Type 0
 AreCounted here [] [] = Unit {0}
 AreCounted here (row ∷ rows) (n ∷ departed) = IsCounted here row n × AreCounted here rows departed
 AreCounted here [] (n ∷ departed) = ⊥
@@ -38,7 +38,7 @@ leaver rate t (Some start) = if leaves_by rate t start then Some start.packet el
 
 -- how many packets of each row have departed, once this one has: one more of its channel's row, if that has its lead
 -- and a packet here
-abbrev pub departed_after : Option Arrival → List KeptRow → List ℕ → List ℕ
+abbrev pub departed_after : Option Arrival → List AccountRow → List ℕ → List ℕ
 departed_after None rows departed = departed
 departed_after (Some p) [] departed = departed
 departed_after (Some p) (row ∷ rows) [] = []
@@ -46,7 +46,7 @@ departed_after (Some p) (row ∷ rows) (n ∷ departed) = (if is_kept_of p.chan 
 
 -- ---- there is at most one proof that the rows are counted
 
-pub AreCounted-prop : (here : List Arrival) (rows : List KeptRow) (departed : List ℕ) → IsProp (AreCounted here rows departed)
+pub AreCounted-prop : (here : List Arrival) (rows : List AccountRow) (departed : List ℕ) → IsProp (AreCounted here rows departed)
 AreCounted-prop here [] [] = Unit-prop
 AreCounted-prop here (row ∷ rows) (n ∷ departed) = ×_prop (Prim.hlevel (ℕ_set, Each-prop)) (AreCounted-prop here rows departed)
 AreCounted-prop here [] (n ∷ departed) = λ x y. absurd x

@@ -6,7 +6,7 @@ use Rattle.std.specs.List.{list_any}
 use Rattle.net_units.specs.Numbers.{channel_number}
 use Rattle.traffic_contract.specs.Admission.{total}
 use Rattle.link_steps.specs.declared.replies.Phase.TheVariants.{Closing}
-use Rattle.link_steps.specs.Kept.{KeptRow, kept_stays}
+use Rattle.link_steps.specs.Kept.{AccountRow, kept_stays}
 use Rattle.link_steps.specs.Lists.{Each}
 use Rattle.link_steps.specs.Reservation.{is_phase}
 use Rattle.tick_calendar.specs.Calendar.{Entry, Schedule}
@@ -15,37 +15,37 @@ use Rattle.link_server.specs.Index.{channel_in}
 use Rattle.link_server.specs.Rows.{row_in}
 
 -- whether the row waits for a packet yet, or isn't released
-abbrev pub is_open : KeptRow → Bool
+abbrev pub is_open : AccountRow → Bool
 is_open row = not (is_phase row.terms.phase Closing && (nat_eq row.terms.count 0 || nat_eq row.taken row.terms.count))
 
 -- whether the entry tells that the row's hold has ended by tick t
-abbrev pub tells_end : List ℕ → ℕ → KeptRow → Entry → Bool
+abbrev pub tells_end : List ℕ → ℕ → AccountRow → Entry → Bool
 tells_end bounds t row entry = nat_eq entry.1 (channel_number row.terms.chan) && (nat_le entry.0 t && not (kept_stays bounds entry.0 row))
 
 -- a row that is closing plans nothing
-abbrev pub PlansNone : KeptRow → Type 0
+abbrev pub PlansNone : AccountRow → Type 0
 PlansNone row = is_phase row.terms.phase Closing ≡ true → length row.left ≡ 0
 
 -- so it is, and from the clock on an entry tells when its hold has ended
-pub record IsListed (bounds : List ℕ) (clock : ℕ) (entries : List Entry) (row : KeptRow) : Type 0 where
+pub record IsListed (bounds : List ℕ) (clock : ℕ) (entries : List Entry) (row : AccountRow) : Type 0 where
   pub plans_none : PlansNone row
   pub told : (t : ℕ) → clock ≤ t → kept_stays bounds t row ≡ false → list_any (tells_end bounds t row) entries ≡ true
 
 -- how many entries a row has yet to get, and how many these rows have
-abbrev pub open_count : KeptRow → ℕ
+abbrev pub open_count : AccountRow → ℕ
 open_count row = if is_open row then 1 else 0
 
-abbrev pub open_in : List KeptRow → ℕ
+abbrev pub open_in : List AccountRow → ℕ
 open_in rows = total open_count rows
 
 -- and so for each row, with room for one entry more for each that has none yet
-pub record AreListed (bounds : List ℕ) (clock : ℕ) (holds : Schedule) (rows : List KeptRow) : Type 0 where
+pub record AreListed (bounds : List ℕ) (clock : ℕ) (holds : Schedule) (rows : List AccountRow) : Type 0 where
   pub begun : holds.clock ≤ clock
   pub listed : Each (IsListed bounds clock holds.entries) rows
   pub room : open_in rows ≤ holds.spare
 
 -- from the clock on the hold of the row ends by this tick, and not before it
-pub record EndsBy (bounds : List ℕ) (clock : ℕ) (row : KeptRow) (tick : ℕ) : Type 0 where
+pub record EndsBy (bounds : List ℕ) (clock : ℕ) (row : AccountRow) (tick : ℕ) : Type 0 where
   pub taken : is_open row ≡ false
   pub from : clock ≤ tick
   pub ended : kept_stays bounds tick row ≡ false
@@ -58,5 +58,5 @@ pub record HasEnded (bounds : List ℕ) (clock key : ℕ) (rows : List ServedRow
   pub ended : (d : ServedRow) → kept_stays bounds clock (row_in (slice_index_or rows i d)) ≡ false
 
 -- the hold of the row hasn't, if it is of that channel
-abbrev pub StaysIfOf : List ℕ → ℕ → ℕ → KeptRow → Type 0
+abbrev pub StaysIfOf : List ℕ → ℕ → ℕ → AccountRow → Type 0
 StaysIfOf bounds clock key row = channel_number row.terms.chan ≡ key → kept_stays bounds clock row ≡ true

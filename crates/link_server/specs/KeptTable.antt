@@ -3,11 +3,11 @@
 -- looked which of them fall due.
 use Rattle.std.specs.Prelude.{ℕ, List}
 use Rattle.traffic_contract.specs.Admission.{Server}
-use Rattle.link_steps.specs.Kept.{KeptRow}
+use Rattle.link_steps.specs.Kept.{AccountRow}
 
 -- what a contract sees of a table
 pub record KeptTable : Type 0 where
-  pub rows : List KeptRow
+  pub rows : List AccountRow
   pub departed : List ℕ
   pub server : Server
   pub buffer : ℕ

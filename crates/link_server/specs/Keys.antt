@@ -8,7 +8,7 @@ use Rattle.link_steps.specs.Lists.{Each}
 use Rattle.tick_calendar.specs.Calendar.{Entry}
 use Rattle.link_server.specs.declared.queue.held_packet.HeldPacket.{HeldPacket}
 use Rattle.link_server.specs.Queues.{joined}
-use Rattle.link_server.specs.Order.{IsBy, IsAheadOf, AreByArrival, AreByLevel}
+use Rattle.link_server.specs.Order.{IsBy, IsSoonerThanEach, AreByArrival, AreByLevel}
 
 -- ---- packets under keys
 
@@ -62,8 +62,8 @@ times key [] = 0
 times key (k ∷ keys) = (if nat_eq k key then 1 else 0) + times key keys
 
 -- whether a key has a packet, as a number
-abbrev pub held_at : List (Option HeldPacket) → ℕ → ℕ
-held_at slots key = if is_some (slice_index_or slots key None) then 1 else 0
+abbrev pub count_at_key : List (Option HeldPacket) → ℕ → ℕ
+count_at_key slots key = if is_some (slice_index_or slots key None) then 1 else 0
 
 -- an entry is under the tick from which its packet is eligible
 abbrev pub IsUnderTick : List (Option HeldPacket) → Entry → Type 0
@@ -71,7 +71,7 @@ IsUnderTick slots entry = entry.0 ≡ (packet_at slots entry.1).eligible
 
 -- each key that has a packet is among these once
 pub record AreKeyed (slots : List (Option HeldPacket)) (later : List Entry) (queues : List (List ℕ)) : Type 0 where
-  pub once : (key : ℕ) → times key (keys_in later queues) ≡ held_at slots key
+  pub once : (key : ℕ) → times key (keys_in later queues) ≡ count_at_key slots key
   pub counted : count_by is_some slots ≡ length (keys_in later queues)
   pub under : Each (IsUnderTick slots) later
 
@@ -81,5 +81,5 @@ pub record AreKeyed (slots : List (Option HeldPacket)) (later : List Entry) (que
 pub record AreInOrder (later : List HeldPacket) (queues : List (List HeldPacket)) (until : ℕ) : Type 0 where
   pub arrived : AreByArrival later
   pub levels : AreByLevel 1 queues
-  pub ahead : Each (IsAheadOf later) (joined queues)
+  pub ahead : Each (IsSoonerThanEach later) (joined queues)
   pub by : Each (IsBy until) (joined queues)

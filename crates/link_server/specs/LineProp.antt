@@ -6,13 +6,13 @@ use native.Mathlib.Nat.{ℕ_set}
 use Rattle.tick_calendar.specs.Calendar.{Entry}
 use Rattle.link_server.specs.declared.queue.held_packet.HeldPacket.{HeldPacket}
 use Rattle.link_server.specs.Keys.{AreKeyed, AreInOrder}
-use Rattle.link_server.specs.Order.{IsAtLevel, IsAhead, IsAheadOf, ArrivedBefore, AreByArrival, AreByTick, AreByLevel}
+use Rattle.link_server.specs.Order.{IsAtLevel, IsSooner, IsSoonerThanEach, ArrivedBefore, AreByArrival, AreByTick, AreByLevel}
 use Rattle.link_server.specs.SoundProp.{Each-prop}
 
 -- ---- order
 
-IsAheadOf-prop : (packets : List HeldPacket) (r : HeldPacket) → IsProp (IsAheadOf packets r)
-IsAheadOf-prop packets r = Each-prop (IsAhead r) (λ s. Prim.hlevel le_prop) packets
+IsSoonerThanEach-prop : (packets : List HeldPacket) (r : HeldPacket) → IsProp (IsSoonerThanEach packets r)
+IsSoonerThanEach-prop packets r = Each-prop (IsSooner r) (λ s. Prim.hlevel le_prop) packets
 
 AreByArrival-prop : (packets : List HeldPacket) → IsProp (AreByArrival packets)
 AreByArrival-prop [] = Unit-prop
@@ -20,14 +20,14 @@ AreByArrival-prop (r ∷ packets) = ×_prop (Each-prop (ArrivedBefore r) (λ s. 
 
 AreByTick-prop : (packets : List HeldPacket) → IsProp (AreByTick packets)
 AreByTick-prop [] = Unit-prop
-AreByTick-prop (r ∷ packets) = ×_prop (IsAheadOf-prop packets r) (AreByTick-prop packets)
+AreByTick-prop (r ∷ packets) = ×_prop (IsSoonerThanEach-prop packets r) (AreByTick-prop packets)
 
 AreByLevel-prop : (level : ℕ) (queues : List (List HeldPacket)) → IsProp (AreByLevel level queues)
 AreByLevel-prop level [] = Unit-prop
 AreByLevel-prop level (queue ∷ queues) = ×₃_prop (Each-prop (IsAtLevel level) (λ r. Prim.hlevel ℕ_set) queue) (AreByTick-prop queue) (AreByLevel-prop (suc level) queues)
 
 pub AreInOrder-prop : (later : List HeldPacket) (queues : List (List HeldPacket)) (until : ℕ) → IsProp (AreInOrder later queues until)
-AreInOrder-prop later queues until = Prim.hlevel (le_prop, Each-prop, AreByArrival-prop, AreByLevel-prop, IsAheadOf-prop)
+AreInOrder-prop later queues until = Prim.hlevel (le_prop, Each-prop, AreByArrival-prop, AreByLevel-prop, IsSoonerThanEach-prop)
 
 -- ---- keys
 

@@ -19,11 +19,11 @@ abbrev pub IsBy : ℕ → HeldPacket → Type 0
 IsBy tick packet = packet.eligible ≤ tick
 
 -- the first is eligible before the second, or in the same tick and arrived before it
-abbrev pub IsAhead : HeldPacket → HeldPacket → Type 0
-IsAhead r s = (r.eligible ≤ s.eligible) × (s.eligible ≤ r.eligible → r.place < s.place)
+abbrev pub IsSooner : HeldPacket → HeldPacket → Type 0
+IsSooner r s = (r.eligible ≤ s.eligible) × (s.eligible ≤ r.eligible → r.place < s.place)
 
-abbrev pub IsAheadOf : List HeldPacket → HeldPacket → Type 0
-IsAheadOf packets r = Each (IsAhead r) packets
+abbrev pub IsSoonerThanEach : List HeldPacket → HeldPacket → Type 0
+IsSoonerThanEach packets r = Each (IsSooner r) packets
 
 -- each arrived after the one before it
 abbrev pub ArrivedBefore : HeldPacket → HeldPacket → Type 0
@@ -40,7 +40,7 @@ AreByArrival (r ∷ packets) = Each (ArrivedBefore r) packets × AreByArrival pa
 -- each is ahead of those after it
 abbrev pub AreByTick : List HeldPacket → Type 0
 AreByTick [] = Unit {0}
-AreByTick (r ∷ packets) = IsAheadOf packets r × AreByTick packets
+AreByTick (r ∷ packets) = IsSoonerThanEach packets r × AreByTick packets
 
 -- each queue has the packets of one level, in order, where the first of the queues is this level's
 abbrev pub AreByLevel : ℕ → List (List HeldPacket) → Type 0

@@ -7,7 +7,7 @@ use Rattle.std.specs.List.{list_any}
 use Rattle.net_units.specs.Numbers.{channel_number}
 use Rattle.traffic_contract.specs.Admission.{total}
 use Rattle.link_steps.specs.declared.replies.Phase.TheVariants.{Closing}
-use Rattle.link_steps.specs.Kept.{KeptRow}
+use Rattle.link_steps.specs.Kept.{AccountRow}
 use Rattle.link_steps.specs.Lists.{Each}
 use Rattle.link_steps.specs.Reservation.{is_phase}
 use Rattle.link_steps.specs.Rows.{is_for}
@@ -23,21 +23,21 @@ abbrev pub is_entry_of : ℕ → ℕ → Entry → Bool
 is_entry_of tick channel entry = nat_eq entry.0 tick && nat_eq entry.1 channel
 
 -- where the row has a packet left, its next one has an entry
-abbrev pub IsTold : List Entry → KeptRow → Type 0
+abbrev pub IsTold : List Entry → AccountRow → Type 0
 IsTold entries row = (tick : ℕ) → first_tick row.left ≡ Some tick → list_any (is_entry_of tick (channel_number row.terms.chan)) entries ≡ true
 
 -- whether the row has no packet left, and its source may yet plan some; and how many of these rows are so
-abbrev pub is_idle : KeptRow → Bool
+abbrev pub is_idle : AccountRow → Bool
 is_idle row = is_none (first_tick row.left) && not (is_phase row.terms.phase Closing)
 
-abbrev pub idle_count : KeptRow → ℕ
+abbrev pub idle_count : AccountRow → ℕ
 idle_count row = if is_idle row then 1 else 0
 
-abbrev pub idle_in : List KeptRow → ℕ
+abbrev pub idle_in : List AccountRow → ℕ
 idle_in rows = total idle_count rows
 
 -- the next packets of the rows are on the calendar, with room for one entry more for each that is idle
-pub record ArePlanned (clock : ℕ) (plans : Schedule) (rows : List KeptRow) : Type 0 where
+pub record ArePlanned (clock : ℕ) (plans : Schedule) (rows : List AccountRow) : Type 0 where
   pub begun : plans.clock ≤ clock
   pub told : Each (IsTold plans.entries) rows
   pub room : idle_in rows ≤ plans.spare
@@ -60,9 +60,9 @@ pub record IsPlaceOfKey (key : ℕ) (rows : List ServedRow) (i : ℕ) : Type 0 w
   pub key_is : (d : ServedRow) → channel_in (slice_index_or rows i d) ≡ key
 
 -- the row has no packet for the tick, if it is of that channel
-abbrev pub RestsIfOf : ℕ → ℕ → KeptRow → Type 0
+abbrev pub RestsIfOf : ℕ → ℕ → AccountRow → Type 0
 RestsIfOf clock key row = channel_number row.terms.chan ≡ key → find (is_for clock) row.left ≡ None
 
 -- the row plans no packet for a tick before this one
-abbrev pub IsQuiet : ℕ → KeptRow → Type 0
+abbrev pub IsQuiet : ℕ → AccountRow → Type 0
 IsQuiet until row = Each (IsPlannedFrom until) row.left

@@ -3,7 +3,7 @@
 use Rattle.std.specs.Prelude.{◌≡◌, ◌≤◌, List, filter, length}
 use Rattle.link_steps.specs.BestEffort.{is_best}
 use Rattle.link_steps.specs.Service.{Arrival}
-use Rattle.link_server.specs.Arrived.{all_here, arrived, HaveOwnNumbers, AreNumbered}
+use Rattle.link_server.specs.Arrived.{all_here, arrived, HaveOwnNumbers, AreNumberedUpTo}
 use Rattle.link_server.specs.KeptQueue.{KeptQueue}
 use Rattle.link_server.specs.Line.{waiting_in, room_in}
 use Rattle.link_server.specs.Packets.{here_in, on_in}
@@ -21,7 +21,7 @@ queue_seen q = record { taken = q.taken; here = arrived (packets_of q) q.taken; 
 -- the packets here have numbers of their own; there is room for them; and those of best effort that wait are counted
 pub record IsQueue (q : Inside) : Type 0 where
   pub own : HaveOwnNumbers (packets_of q)
-  pub numbered : AreNumbered q.taken (packets_of q)
+  pub numbered : AreNumberedUpTo q.taken (packets_of q)
   pub fits : length (packets_of q) ≤ q.room
   pub lines_up : q.room ≤ room_in q.line
   pub best_counted : q.best_waiting ≡ length (filter (is_best q.bounds) (here_in (waiting_in q.line)))

@@ -6,8 +6,8 @@ use Rattle.std.specs.Prelude.{◌≡◌, ℕ, ◌<◌, ◌≤◌, Bool, true, fa
 use Rattle.std.specs.List.{All}
 use Rattle.net_units.specs.Numbers.{channel_number, level_number}
 use Rattle.net_units.specs.declared.numbers.ChanNo.{ChanNo}
-use Rattle.rcsp_admission.specs.Sums.{Held, held_at}
-use Rattle.link_steps.specs.Kept.{KeptRow}
+use Rattle.rcsp_admission.specs.Sums.{Held, row_held}
+use Rattle.link_steps.specs.Kept.{AccountRow}
 use Rattle.link_steps.specs.Reservation.{Reservation, is_of, is_at_hop}
 use Rattle.link_server.specs.declared.table.served_row.ServedRow.{ServedRow}
 use Rattle.link_server.specs.KeyedList.{Listed, position}
@@ -30,7 +30,7 @@ reservation_in row = record {
 }
 
 -- what the account of the link has of it
-abbrev pub row_in : ServedRow → KeptRow
+abbrev pub row_in : ServedRow → AccountRow
 row_in row = record { terms = reservation_in row; lead = row.lead; taken = row.taken; recent = row.regulator.recent; left = left_in row.planned }
 
 -- whether it is this channel's; and whether it is so at its first hop, or at a later one
@@ -42,7 +42,7 @@ is_served_at_hop chan first row = is_at_hop chan first (reservation_in row)
 
 -- the row as the admission sums have it
 abbrev pub summed : ServedRow → Held
-summed row = held_at (channel_number row.chan) row.contract (level_number row.level)
+summed row = row_held (channel_number row.chan) row.contract (level_number row.level)
 
 -- none of these passes the test
 abbrev pub NoRowPasses : {X : Type 0} → (X → Bool) → List X → Type 0

@@ -13,7 +13,7 @@ use Rattle.traffic_contract.specs.Contract.{IsContract}
 use Rattle.link_steps.specs.declared.shape.LinkShape.{LinkShape}
 use Rattle.link_steps.specs.BestEffort.{is_best}
 use Rattle.link_steps.specs.Buffer.{slots_of, held_packets}
-use Rattle.link_steps.specs.Kept.{Kept, KeptRow, kept_rows_after, held_rows, brought, present}
+use Rattle.link_steps.specs.Kept.{Account, AccountRow, kept_rows_after, held_rows, brought, present}
 use Rattle.link_steps.specs.Lists.{Each}
 use Rattle.link_steps.specs.Rows.{SourcePacket, left_at}
 use Rattle.link_steps.specs.Service.{Arrival, Start, leaves_at}
@@ -21,23 +21,23 @@ use Rattle.link_steps.specs.Service.{Arrival, Start, leaves_at}
 -- ---- room
 
 -- the slots of a row that no packet here holds
-abbrev pub free_slots : List ℕ → List Arrival → KeptRow → ℕ
+abbrev pub free_slots : List ℕ → List Arrival → AccountRow → ℕ
 free_slots bounds here row = slots_of bounds row.terms - held_packets row.lead here
 
 -- the places that a row may still want: one for each free slot, and one more
-abbrev pub places_of : List ℕ → List Arrival → KeptRow → ℕ
+abbrev pub places_of : List ℕ → List Arrival → AccountRow → ℕ
 places_of bounds here row = suc (free_slots bounds here row)
 
 -- those that it may want in all
-abbrev pub all_places_of : List ℕ → KeptRow → ℕ
+abbrev pub all_places_of : List ℕ → AccountRow → ℕ
 all_places_of bounds row = suc (slots_of bounds row.terms)
 
 -- the places that the packets here have and the rows may still want
-unfoldable pub places : List ℕ → List Arrival → List KeptRow → ℕ
+unfoldable pub places : List ℕ → List Arrival → List AccountRow → ℕ
 places bounds here rows = length here + total (places_of bounds here) rows
 
 -- the same where no slot holds a packet: it is never less
-unfoldable pub most_places : List ℕ → List Arrival → List KeptRow → ℕ
+unfoldable pub most_places : List ℕ → List Arrival → List AccountRow → ℕ
 most_places bounds here rows = length here + total (all_places_of bounds) rows
 
 -- ---- best-effort packets
@@ -89,16 +89,16 @@ AreAhead t [] = Unit {0}
 AreAhead t (p ∷ ps) = (t ≤ p.tick) × HasSize p × AreAhead (suc p.tick) ps
 
 -- the row has another lead than this, if it is one
-abbrev pub IsApartFrom : ℕ → KeptRow → Type 0
+abbrev pub IsApartFrom : ℕ → AccountRow → Type 0
 IsApartFrom lead row = row.lead ≡ lead → lead ≡ 0
 
 -- no two rows have the same lead, but for those that have taken no packet yet, whose lead is 0
-abbrev pub HaveOwnLeads : List KeptRow → Type 0
+abbrev pub HaveOwnLeads : List AccountRow → Type 0
 HaveOwnLeads [] = Unit {0}
 HaveOwnLeads (row ∷ rows) = Each (IsApartFrom row.lead) rows × HaveOwnLeads rows
 
 -- the numbers of a row are in their bounds, at a link with this number of levels that has taken `taken` packets, at this clock
-pub record IsSoundRow (levels clock taken : ℕ) (row : KeptRow) : Type 0 where
+pub record IsSoundRow (levels clock taken : ℕ) (row : AccountRow) : Type 0 where
   pub contract : IsContract row.terms.contract
   pub level_most : level_number row.terms.level ≤ levels
   pub reach_most : level_number row.terms.reach ≤ levels
@@ -111,7 +111,7 @@ pub record IsSoundRow (levels clock taken : ℕ) (row : KeptRow) : Type 0 where
 -- ---- the account
 
 -- the account is sound, with room for `room` packets
-pub record IsSound (shape : LinkShape) (room : ℕ) (k : Kept) : Type 0 where
+pub record IsSound (shape : LinkShape) (room : ℕ) (k : Account) : Type 0 where
   pub taken_most : k.taken ≤ k.clock + length k.here
   pub numbered : AreNumberedWithin 0 k.here k.taken
   pub packets : Each (IsSoundPacket (length shape.bounds) k.taken) k.here
@@ -123,7 +123,7 @@ pub record IsSound (shape : LinkShape) (room : ℕ) (k : Kept) : Type 0 where
   pub running : ForSome k.on (IsRunning shape.rate k.clock k.here)
 
 -- the account in the tick of its clock, once rows have expired and the sources have brought their packets: it is served so
-unfoldable pub with_brought : LinkShape → Kept → Kept
+unfoldable pub with_brought : LinkShape → Account → Account
 with_brought shape k = record k {
   taken = k.taken + length (brought shape k);
   rows = kept_rows_after shape.bounds k.here k.clock k.taken (held_rows shape k);

@@ -5,7 +5,7 @@ use mathlib.Core.HLevel.{×₃_prop}
 use mathlib.Core.Sum.{⊎_set}
 use native.Mathlib.Nat.{ℕ_set}
 use Rattle.link_steps.specs.declared.shape.LinkShape.{LinkShape}
-use Rattle.link_steps.specs.Kept.{Kept, KeptRow}
+use Rattle.link_steps.specs.Kept.{Account, AccountRow}
 use Rattle.link_steps.specs.Lists.{Each}
 use Rattle.link_steps.specs.Rows.{SourcePacket}
 use Rattle.link_steps.specs.Service.{Arrival, Start}
@@ -18,9 +18,9 @@ Each-prop P once (x ∷ xs) = ×_prop (once x) (Each-prop P once xs)
 
 -- ---- packets
 
-pub AreNumbered-prop : (low : ℕ) (ps : List Arrival) (high : ℕ) → IsProp (AreNumberedWithin low ps high)
-AreNumbered-prop low [] high = le_prop
-AreNumbered-prop low (p ∷ ps) high = ×_prop le_prop (AreNumbered-prop p.place ps high)
+pub AreNumberedWithin-prop : (low : ℕ) (ps : List Arrival) (high : ℕ) → IsProp (AreNumberedWithin low ps high)
+AreNumberedWithin-prop low [] high = le_prop
+AreNumberedWithin-prop low (p ∷ ps) high = ×_prop le_prop (AreNumberedWithin-prop p.place ps high)
 
 IsSoundPacket-prop : (levels taken : ℕ) (p : Arrival) → IsProp (IsSoundPacket levels taken p)
 IsSoundPacket-prop levels taken p = Prim.hlevel le_prop
@@ -41,14 +41,14 @@ AreAhead-prop : (t : ℕ) (plan : List SourcePacket) → IsProp (AreAhead t plan
 AreAhead-prop t [] = Unit-prop
 AreAhead-prop t (p ∷ plan) = ×₃_prop le_prop (HasSize-prop p) (AreAhead-prop _ plan)
 
-AreApart-prop : (rows : List KeptRow) → IsProp (HaveOwnLeads rows)
+AreApart-prop : (rows : List AccountRow) → IsProp (HaveOwnLeads rows)
 AreApart-prop [] = Unit-prop
 AreApart-prop (row ∷ rows) = ×_prop (Each-prop (IsApartFrom row.lead) (λ other. Prim.hlevel ℕ_set) rows) (AreApart-prop rows)
 
-IsSoundRow-prop : (levels clock taken : ℕ) (row : KeptRow) → IsProp (IsSoundRow levels clock taken row)
+IsSoundRow-prop : (levels clock taken : ℕ) (row : AccountRow) → IsProp (IsSoundRow levels clock taken row)
 IsSoundRow-prop levels clock taken row = Prim.hlevel (le_prop, AreAhead-prop)
 
 -- ---- the account
 
-pub IsSound-prop : (shape : LinkShape) (room : ℕ) (k : Kept) → IsProp (IsSound shape room k)
-IsSound-prop shape room k = Prim.hlevel (le_prop, AreAhead-prop, AreNumbered-prop, Each-prop, AreApart-prop, IsSoundPacket-prop, IsSoundRow-prop, IsRunning-prop)
+pub IsSound-prop : (shape : LinkShape) (room : ℕ) (k : Account) → IsProp (IsSound shape room k)
+IsSound-prop shape room k = Prim.hlevel (le_prop, AreAhead-prop, AreNumberedWithin-prop, Each-prop, AreApart-prop, IsSoundPacket-prop, IsSoundRow-prop, IsRunning-prop)

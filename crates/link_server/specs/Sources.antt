@@ -3,7 +3,7 @@
 -- account says what each row and the packets become; here it is said of the rows and packets that the link keeps.
 use Rattle.std.specs.Prelude.{ℕ, ◌+◌, ◌-◌, ◌<◌, ◌≤◌, ◌^◌, ◌++◌, nat_lt, find, List, length, map}
 use Rattle.traffic_contract.specs.Eligible.{newest}
-use Rattle.link_steps.specs.Kept.{KeptRow, kept_step, kept_packets, kept_rows_after, kept_lost}
+use Rattle.link_steps.specs.Kept.{AccountRow, kept_step, kept_packets, kept_rows_after, kept_lost}
 use Rattle.link_steps.specs.Lists.{Each}
 use Rattle.link_steps.specs.Service.{Arrival}
 use Rattle.link_steps.specs.Buffer.{slots_of}
@@ -27,7 +27,7 @@ abbrev pub brought_by : List ℕ → List Arrival → ℕ → ℕ → List Serve
 brought_by bounds here t taken rows = kept_packets bounds here t taken (map row_in rows)
 
 -- the rows afterwards
-abbrev pub served_rows_after : List ℕ → List Arrival → ℕ → ℕ → List ServedRow → List KeptRow
+abbrev pub served_rows_after : List ℕ → List Arrival → ℕ → ℕ → List ServedRow → List AccountRow
 served_rows_after bounds here t taken rows = kept_rows_after bounds here t taken (map row_in rows)
 
 -- how many packets they drop
@@ -36,7 +36,7 @@ lost_by_rows bounds here t rows = kept_lost bounds here t (map row_in rows)
 
 -- a row that can make the step of the tick of the clock: nothing is planned for an earlier tick, and its numbers have
 -- room to grow
-pub record IsReady (clock : ℕ) (row : KeptRow) : Type 0 where
+pub record IsReady (clock : ℕ) (row : AccountRow) : Type 0 where
   pub ahead : Each (IsPlannedFrom clock) row.left
   pub last : newest row.recent < 2 ^ 63
   pub few : row.taken + 1 < 2 ^ 64
@@ -46,7 +46,7 @@ abbrev pub AreReady : ℕ → List ServedRow → Type 0
 AreReady clock rows = Each (IsReady clock) (map row_in rows)
 
 -- these rows can make the step of the tick of the clock, and what they bring has room in the queue
-pub record MayBring (bounds : List ℕ) (clock : ℕ) (queue : KeptQueue) (rows : List KeptRow) : Type 0 where
+pub record MayBring (bounds : List ℕ) (clock : ℕ) (queue : KeptQueue) (rows : List AccountRow) : Type 0 where
   pub early : clock < 2 ^ 61
   pub few : length rows < 2 ^ 32
   pub ready : Each (IsReady clock) rows
@@ -55,7 +55,7 @@ pub record MayBring (bounds : List ℕ) (clock : ℕ) (queue : KeptQueue) (rows 
   pub numbers : queue.taken + length (kept_packets bounds queue.here clock queue.taken rows) < 2 ^ 64
 
 -- the queue with the packets that they bring, where the link last looked which packets are eligible in this tick
-abbrev pub queue_after : List ℕ → ℕ → List KeptRow → ℕ → KeptQueue → KeptQueue
+abbrev pub queue_after : List ℕ → ℕ → List AccountRow → ℕ → KeptQueue → KeptQueue
 queue_after bounds clock rows looked queue = record queue {
   taken = queue.taken + length (kept_packets bounds queue.here clock queue.taken rows);
   here = queue.here ++ kept_packets bounds queue.here clock queue.taken rows;

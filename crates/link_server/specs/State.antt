@@ -2,7 +2,7 @@
 use Rattle.std.specs.Prelude.{◌≡◌, List}
 use Rattle.std.proofs.Common.{ap}
 use Rattle.link_steps.specs.declared.replies.Entry.{Entry}
-use Rattle.link_steps.specs.Kept.{Kept, StandsFor, kept_at}
+use Rattle.link_steps.specs.Kept.{Account, StandsFor, kept_at}
 use Rattle.link_steps.specs.Scan.{clock_of}
 use Rattle.link_steps.specs.Split.{SplitFits, whole}
 use Rattle.link_steps.proofs.LegalAdmissible.{whole-fits}
@@ -10,7 +10,7 @@ use Rattle.link_server.specs.Account.{account}
 use Rattle.link_server.specs.declared.link_state.LinkState.{LinkState}
 
 -- the account that it keeps
-abbrev pub kept_in : LinkState → Kept
+abbrev pub kept_in : LinkState → Account
 kept_in link = account link.clock link.queue link.table.rows
 
 -- it stands for this history, newest first

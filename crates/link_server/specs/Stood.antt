@@ -6,16 +6,16 @@ use Rattle.std.specs.Prelude.{List}
 use Rattle.link_steps.specs.declared.replies.Entry.{Entry}
 use Rattle.link_steps.specs.declared.shape.LinkShape.{LinkShape}
 use Rattle.link_steps.specs.Admissible.{IsAdmissible}
-use Rattle.link_steps.specs.Kept.{Kept, StandsFor}
+use Rattle.link_steps.specs.Kept.{Account, StandsFor}
 
 -- no admissible history stands for the account
-abbrev pub StandsForNone : LinkShape → Kept → Type 0
+abbrev pub StandsForNone : LinkShape → Account → Type 0
 StandsForNone shape k = (h : List Entry) → IsAdmissible shape h → StandsFor shape k h → ⊥
 
 -- it can't be that none does
-abbrev pub IsStood : LinkShape → Kept → Type 0
+abbrev pub IsStood : LinkShape → Account → Type 0
 IsStood shape k = StandsForNone shape k → ⊥
 
 -- there is at most one proof of it
-pub IsStood-prop : (shape : LinkShape) (k : Kept) → IsProp (IsStood shape k)
+pub IsStood-prop : (shape : LinkShape) (k : Account) → IsProp (IsStood shape k)
 IsStood-prop shape k = Prim.hlevel

@@ -17,7 +17,7 @@ use Rattle.link_steps.specs.declared.shape.LinkShape.{LinkShape}
 use Rattle.link_steps.specs.Split.{Link}
 use Rattle.link_steps.specs.Buffer.{held_packets}
 use Rattle.link_steps.specs.Hold.{stays}
-use Rattle.link_steps.specs.Kept.{HasContract, HasContracts, StandsFor, nothing_kept, Kept, KeptRow, kept_row, start_on, new_kept, with_kept_rows, kept_at, kept_of, kept_terms, held_rows, brought, present, occupies, kept_lost, kept_rows_after, kept_after_tick, kept_tick_reply, is_kept_of, is_kept_at_hop, kept_submit, kept_release, kept_arrive, kept_reply, kept_relaxed, kept_planned, kept_closed, kept_arrived_row, kept_arrived, kept_with_arrival, kept_after, from_sources, kept_best, kept_waiting, waits_here}
+use Rattle.link_steps.specs.Kept.{HasContract, HasContracts, StandsFor, nothing_kept, Account, AccountRow, kept_row, start_on, new_kept, with_kept_rows, kept_at, kept_of, kept_terms, held_rows, brought, present, occupies, kept_lost, kept_rows_after, kept_after_tick, kept_tick_reply, is_kept_of, is_kept_at_hop, kept_submit, kept_release, kept_arrive, kept_reply, kept_relaxed, kept_planned, kept_closed, kept_arrived_row, kept_arrived, kept_with_arrival, kept_after, from_sources, kept_best, kept_waiting, waits_here}
 use Rattle.link_steps.specs.Lists.{Each}
 use Rattle.link_steps.specs.Replies.{submit_to, release_to, arrive_to, arrive_reply, tick_reply, reply_at, reply_to}
 use Rattle.link_steps.specs.Reservation.{Reservation, tentative}
@@ -146,7 +146,7 @@ reply-tick shape t scan each numbered =
       same-ticked t full other sent left best gone lost missing a b c d = λ i. Is.Ticked t (a i) (b i) (c i) (d i)
 
 -- accounts with the same parts
-pub same-kept : (k other : Kept) → k.clock ≡ other.clock → k.taken ≡ other.taken → k.rows ≡ other.rows → k.here ≡ other.here → k.on ≡ other.on → k.best_left ≡ other.best_left → k ≡ other
+pub same-kept : (k other : Account) → k.clock ≡ other.clock → k.taken ≡ other.taken → k.rows ≡ other.rows → k.here ≡ other.here → k.on ≡ other.on → k.best_left ≡ other.best_left → k ≡ other
 same-kept k other clock taken rows here on left = λ i. record { clock = clock i; taken = taken i; rows = rows i; here = here i; on = on i; best_left = left i }
 
 -- so the account of the scan after the tick is the one that the account goes on to
@@ -225,7 +225,7 @@ arrival-kept shape t packet scan (Some row) one each numbered =
     refl
 
 -- a change of the rows alone
-rows-kept-at : (shape : LinkShape) (t : ℕ) (scan : Scan) (rows : List Row) (kept : List KeptRow) → map (kept_row t) rows ≡ kept → kept_at shape t (with_rows scan rows) ≡ with_kept_rows (kept_at shape t scan) kept
+rows-kept-at : (shape : LinkShape) (t : ℕ) (scan : Scan) (rows : List Row) (kept : List AccountRow) → map (kept_row t) rows ≡ kept → kept_at shape t (with_rows scan rows) ≡ with_kept_rows (kept_at shape t scan) kept
 unfolding kept_at
 rows-kept-at shape t scan rows kept same = ap (λ all. with_kept_rows (kept_at shape t scan) all) same
 
@@ -287,11 +287,11 @@ unfolding kept_at clock_of scan_of here_at starts_below
 nothing-stands shape = refl
 
 -- a link that stands for a history gives the legal reply from what it keeps
-pub stands-reply : (link : Link) (k : Kept) (h : List Entry) (ask : Ask) → HasContracts k → StandsFor link.shape k h → kept_reply link k ask ≡ reply_to link h ask
+pub stands-reply : (link : Link) (k : Account) (h : List Entry) (ask : Ask) → HasContracts k → StandsFor link.shape k h → kept_reply link k ask ≡ reply_to link h ask
 stands-reply link k h ask each stands =
     ap (λ kept. kept_reply link kept ask) stands ∙ sym (reply_to-account link h ask (subst HasContracts stands each))
 
 -- and stands for it with the entry added, once it keeps what follows
-pub stands-entry : (shape : LinkShape) (k : Kept) (h : List Entry) (ask : Ask) (reply : Reply) → HasContracts k → StandsFor shape k h → StandsFor shape (kept_after shape k ask reply) (record { ask = ask; reply = reply } ∷ h)
+pub stands-entry : (shape : LinkShape) (k : Account) (h : List Entry) (ask : Ask) (reply : Reply) → HasContracts k → StandsFor shape k h → StandsFor shape (kept_after shape k ask reply) (record { ask = ask; reply = reply } ∷ h)
 stands-entry shape k h ask reply each stands =
     ap (λ kept. kept_after shape kept ask reply) stands ∙ sym (kept_of-entry shape h (record { ask = ask; reply = reply }) (subst HasContracts stands each))

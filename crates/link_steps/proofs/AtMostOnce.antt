@@ -11,7 +11,7 @@ use Rattle.link_steps.specs.declared.replies.Reply.{Reply}
 use Rattle.link_steps.specs.declared.replies.Reply.TheVariants as Is
 use Rattle.link_steps.specs.declared.shape.LinkShape.{LinkShape}
 use Rattle.link_steps.specs.Admissible.{MayReply, MayAnswer, IsAdmissible}
-use Rattle.link_steps.specs.Kept.{Kept, StandsFor}
+use Rattle.link_steps.specs.Kept.{Account, StandsFor}
 use Rattle.link_steps.specs.Legal.{AskFits, IsLegal}
 use Rattle.link_steps.specs.Reservation.{Reservation}
 use Rattle.net_units.specs.declared.numbers.ChanNo.{ChanNo}
@@ -48,8 +48,8 @@ IsAdmissible-prop shape [] = Unit-prop
 IsAdmissible-prop shape (e ∷ past) = ×_prop (IsAdmissible-prop shape past) (Prim.hlevel (AskFits-prop, MayAnswer-prop))
 
 -- so are accounts
-Kept-set : IsSet Kept
-Kept-set = Prim.hlevel (ℕ_set, le_prop, ⊎_set, list_set)
+Account-set : IsSet Account
+Account-set = Prim.hlevel (ℕ_set, le_prop, ⊎_set, list_set)
 
-pub StandsFor-prop : (shape : LinkShape) (k : Kept) (h : List Entry) → IsProp (StandsFor shape k h)
-StandsFor-prop shape k h = Kept-set _ _
+pub StandsFor-prop : (shape : LinkShape) (k : Account) (h : List Entry) → IsProp (StandsFor shape k h)
+StandsFor-prop shape k h = Account-set _ _

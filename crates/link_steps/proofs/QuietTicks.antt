@@ -7,7 +7,7 @@ use Rattle.link_steps.specs.declared.replies.Entry.{Entry}
 use Rattle.link_steps.specs.declared.replies.Reply.TheVariants.{Ticked}
 use Rattle.link_steps.specs.declared.replies.Sent.{Sent}
 use Rattle.link_steps.specs.declared.shape.LinkShape.{LinkShape}
-use Rattle.link_steps.specs.Kept.{Kept, KeptRow, HasContracts, StandsFor, kept_stays, kept_step, past_tick, kept_packets, kept_rows_after, kept_lost, kept_best, kept_reply, kept_after, held_rows, brought, present, served, still_on, still_here, departs, best_departs, is_eligible_by, kept_after_tick, kept_tick_reply}
+use Rattle.link_steps.specs.Kept.{Account, AccountRow, HasContracts, StandsFor, kept_stays, kept_step, past_tick, kept_packets, kept_rows_after, kept_lost, kept_best, kept_reply, kept_after, held_rows, brought, present, served, still_on, still_here, departs, best_departs, is_eligible_by, kept_after_tick, kept_tick_reply}
 use Rattle.link_steps.specs.BestEffort.{best_step}
 use Rattle.link_steps.specs.Legal.{IsLegal}
 use Rattle.link_steps.specs.Lists.{Each}
@@ -36,33 +36,33 @@ all-left until t (p ∷ left) plans before =
 
 -- ---- rows
 
-row-rests : (bounds : List ℕ) (here : List Arrival) (until t : ℕ) (row : KeptRow) → Each (IsPlannedFrom until) row.left → t < until → kept_step bounds here t row ≡ Rests
+row-rests : (bounds : List ℕ) (here : List Arrival) (until t : ℕ) (row : AccountRow) → Each (IsPlannedFrom until) row.left → t < until → kept_step bounds here t row ≡ Rests
 unfolding kept_step
 row-rests bounds here until t row plans before = rw (none-planned until t row.left plans before) refl
 
-row-past : (until t : ℕ) (row : KeptRow) → Each (IsPlannedFrom until) row.left → t < until → past_tick t row ≡ row
+row-past : (until t : ℕ) (row : AccountRow) → Each (IsPlannedFrom until) row.left → t < until → past_tick t row ≡ row
 row-past until t row plans before = ap (λ left. record row { left = left }) (all-left until t row.left plans before)
 
 -- all rows stay
-rows-stay : (bounds : List ℕ) (until t : ℕ) (rows : List KeptRow) → Each (RowRests bounds t until) rows → t < until → filter (kept_stays bounds t) rows ≡ rows
+rows-stay : (bounds : List ℕ) (until t : ℕ) (rows : List AccountRow) → Each (RowRests bounds t until) rows → t < until → filter (kept_stays bounds t) rows ≡ rows
 rows-stay bounds until t [] each before = refl
 rows-stay bounds until t (row ∷ rows) each before =
     rw (each.0.stays t (omega arith) before) (ap (λ rest. row ∷ rest) (rows-stay bounds until t rows each.1 before))
 
 -- they bring no packet, drop none, and stay as they are
-rows-bring : (bounds : List ℕ) (here : List Arrival) (until t taken : ℕ) (rows : List KeptRow) → Each (RowRests bounds t until) rows → t < until → kept_packets bounds here t taken rows ≡ []
+rows-bring : (bounds : List ℕ) (here : List Arrival) (until t taken : ℕ) (rows : List AccountRow) → Each (RowRests bounds t until) rows → t < until → kept_packets bounds here t taken rows ≡ []
 unfolding kept_packets
 rows-bring bounds here until t taken [] each before = refl
 rows-bring bounds here until t taken (row ∷ rows) each before =
     rw (row-rests bounds here until t row each.0.plans before) (rows-bring bounds here until t (taken + 0) rows each.1 before)
 
-rows-lose : (bounds : List ℕ) (here : List Arrival) (until t : ℕ) (rows : List KeptRow) → Each (RowRests bounds t until) rows → t < until → kept_lost bounds here t rows ≡ 0
+rows-lose : (bounds : List ℕ) (here : List Arrival) (until t : ℕ) (rows : List AccountRow) → Each (RowRests bounds t until) rows → t < until → kept_lost bounds here t rows ≡ 0
 unfolding kept_lost
 rows-lose bounds here until t [] each before = refl
 rows-lose bounds here until t (row ∷ rows) each before =
     rw (row-rests bounds here until t row each.0.plans before) (omega (arith, rows-lose bounds here until t rows each.1 before))
 
-rows-same : (bounds : List ℕ) (here : List Arrival) (until t taken : ℕ) (rows : List KeptRow) → Each (RowRests bounds t until) rows → t < until → kept_rows_after bounds here t taken rows ≡ rows
+rows-same : (bounds : List ℕ) (here : List Arrival) (until t taken : ℕ) (rows : List AccountRow) → Each (RowRests bounds t until) rows → t < until → kept_rows_after bounds here t taken rows ≡ rows
 unfolding kept_rows_after
 rows-same bounds here until t taken [] each before = refl
 rows-same bounds here until t taken (row ∷ rows) each before =
@@ -105,23 +105,23 @@ no-best-departs shape until t here (Some start) rests before =
 
 -- ---- one tick
 
-rows-held : (shape : LinkShape) (until : ℕ) (k : Kept) → RestsUntil shape until k → k.clock < until → held_rows shape k ≡ k.rows
+rows-held : (shape : LinkShape) (until : ℕ) (k : Account) → RestsUntil shape until k → k.clock < until → held_rows shape k ≡ k.rows
 rows-held shape until k rests before = rows-stay shape.bounds until k.clock k.rows rests.rows before
 
-best-rests : (shape : LinkShape) (until : ℕ) (k : Kept) → RestsUntil shape until k → k.clock < until → kept_best shape k ≡ Rests
+best-rests : (shape : LinkShape) (until : ℕ) (k : Account) → RestsUntil shape until k → k.clock < until → kept_best shape k ≡ Rests
 unfolding kept_best best_step
 best-rests shape until k rests before = rw (none-planned until k.clock k.best_left rests.best before) refl
 
-none-brought : (shape : LinkShape) (until : ℕ) (k : Kept) → RestsUntil shape until k → k.clock < until → brought shape k ≡ []
+none-brought : (shape : LinkShape) (until : ℕ) (k : Account) → RestsUntil shape until k → k.clock < until → brought shape k ≡ []
 none-brought shape until k rests before =
     rw (rows-held shape until k rests before)
     (rw (rows-bring shape.bounds k.here until k.clock k.taken k.rows rests.rows before)
     (rw (best-rests shape until k rests before) refl))
 
-same-present : (shape : LinkShape) (until : ℕ) (k : Kept) → RestsUntil shape until k → k.clock < until → present shape k ≡ k.here
+same-present : (shape : LinkShape) (until : ℕ) (k : Account) → RestsUntil shape until k → k.clock < until → present shape k ≡ k.here
 same-present shape until k rests before = ap (λ new. k.here ++ new) (none-brought shape until k rests before) ∙ append-nil k.here
 
-pub quiet-after : (shape : LinkShape) (until : ℕ) (k : Kept) → RestsUntil shape until k → k.clock < until → kept_after_tick shape k ≡ record k { clock = suc k.clock }
+pub quiet-after : (shape : LinkShape) (until : ℕ) (k : Account) → RestsUntil shape until k → k.clock < until → kept_after_tick shape k ≡ record k { clock = suc k.clock }
 unfolding kept_after_tick
 quiet-after shape until k rests before =
     let same = same-present shape until k rests before in
@@ -135,7 +135,7 @@ quiet-after shape until k rests before =
 same-tick : (t lost : ℕ) (sent : Option Sent) (best_sent best_lost : Bool) → lost ≡ 0 → sent ≡ None → best_sent ≡ false → best_lost ≡ false → Ticked t lost sent best_sent best_lost ≡ quiet_reply t
 same-tick t lost sent best_sent best_lost none left kept held = rw (none, left, kept, held) refl
 
-pub quiet-tick : (shape : LinkShape) (until : ℕ) (k : Kept) → RestsUntil shape until k → k.clock < until → kept_tick_reply shape k ≡ quiet_reply k.clock
+pub quiet-tick : (shape : LinkShape) (until : ℕ) (k : Account) → RestsUntil shape until k → k.clock < until → kept_tick_reply shape k ≡ quiet_reply k.clock
 unfolding kept_tick_reply
 quiet-tick shape until k rests before =
     let same = same-present shape until k rests before in
@@ -147,21 +147,21 @@ quiet-tick shape until k rests before =
 
 -- ---- n of them
 
-pub later-rests : (shape : LinkShape) (until n : ℕ) (k : Kept) → RestsUntil shape until k → RestsUntil shape until (later_by n k)
+pub later-rests : (shape : LinkShape) (until n : ℕ) (k : Account) → RestsUntil shape until k → RestsUntil shape until (later_by n k)
 later-rests shape until n k rests = record {
   rows = Each-if (RowRests shape.bounds k.clock until) (RowRests shape.bounds (k.clock + n) until) k.rows (λ row row_rests. record { plans = row_rests.plans; stays = λ t from before. row_rests.stays t (omega (arith, from)) before }) rests.rows;
   best = rests.best;
   service = rests.service;
 }
 
-pub one-more : (n : ℕ) (k : Kept) → record (later_by n k) { clock = suc (k.clock + n) } ≡ later_by (suc n) k
+pub one-more : (n : ℕ) (k : Account) → record (later_by n k) { clock = suc (k.clock + n) } ≡ later_by (suc n) k
 one-more n k = ap (λ clock. record k { clock = clock }) (omega arith)
 
-pub none-later : (k : Kept) → k ≡ later_by 0 k
+pub none-later : (k : Account) → k ≡ later_by 0 k
 none-later k = ap (λ clock. record k { clock = clock }) (omega arith)
 
 -- the account stands for the history with them
-quiet-stands : (link : Link) (until n : ℕ) (k : Kept) (h : List Entry) → HasContracts k → StandsFor link.shape k h → RestsUntil link.shape until k → k.clock + n ≤ until → StandsFor link.shape (later_by n k) (quiet_ticks n k.clock h)
+quiet-stands : (link : Link) (until n : ℕ) (k : Account) (h : List Entry) → HasContracts k → StandsFor link.shape k h → RestsUntil link.shape until k → k.clock + n ≤ until → StandsFor link.shape (later_by n k) (quiet_ticks n k.clock h)
 unfolding quiet_ticks kept_after
 quiet-stands link until zero k h each stands rests within = sym (none-later k) ∙ stands
 quiet-stands link until (suc n) k h each stands rests within =
@@ -169,19 +169,19 @@ quiet-stands link until (suc n) k h each stands rests within =
     ∙ stands-entry link.shape (later_by n k) (quiet_ticks n k.clock h) Tick (quiet_reply (k.clock + n)) each (quiet-stands link until n k h each stands rests (omega (arith, within)))
 
 -- each has its legal reply
-quiet-replied : (link : Link) (until m : ℕ) (k : Kept) (h : List Entry) → HasContracts k → StandsFor link.shape k h → RestsUntil link.shape until k → k.clock + m < until → quiet_reply (k.clock + m) ≡ reply_to link (quiet_ticks m k.clock h) Tick
+quiet-replied : (link : Link) (until m : ℕ) (k : Account) (h : List Entry) → HasContracts k → StandsFor link.shape k h → RestsUntil link.shape until k → k.clock + m < until → quiet_reply (k.clock + m) ≡ reply_to link (quiet_ticks m k.clock h) Tick
 unfolding kept_reply
 quiet-replied link until m k h each stands rests early =
     sym (quiet-tick link.shape until (later_by m k) (later-rests link.shape until m k rests) early)
     ∙ stands-reply link (later_by m k) (quiet_ticks m k.clock h) Tick each (quiet-stands link until m k h each stands rests (omega (arith, early)))
 
-quiet-legal : (link : Link) (until n : ℕ) (k : Kept) (h : List Entry) → HasContracts k → StandsFor link.shape k h → RestsUntil link.shape until k → k.clock + n ≤ until → IsLegal link h → IsLegal link (quiet_ticks n k.clock h)
+quiet-legal : (link : Link) (until n : ℕ) (k : Account) (h : List Entry) → HasContracts k → StandsFor link.shape k h → RestsUntil link.shape until k → k.clock + n ≤ until → IsLegal link h → IsLegal link (quiet_ticks n k.clock h)
 unfolding quiet_ticks IsLegal
 quiet-legal link until zero k h each stands rests within legal = legal
 quiet-legal link until (suc n) k h each stands rests within legal =
     (quiet-legal link until n k h each stands rests (omega (arith, within)) legal, record { fits = tt; answered = quiet-replied link until n k h each stands rests (omega (arith, within)) })
 
-pub quiet-ticks : (link : Link) (until n : ℕ) (k : Kept) (h : List Entry) → HasContracts k → StandsFor link.shape k h → RestsUntil link.shape until k → k.clock + n ≤ until → GoesOnQuietly link n k h
+pub quiet-ticks : (link : Link) (until n : ℕ) (k : Account) (h : List Entry) → HasContracts k → StandsFor link.shape k h → RestsUntil link.shape until k → k.clock + n ≤ until → GoesOnQuietly link n k h
 quiet-ticks link until n k h each stands rests within = record {
   stands = quiet-stands link until n k h each stands rests within;
   replied = λ m few. quiet-replied link until m k h each stands rests (omega (arith, within, few));

@@ -24,9 +24,9 @@ abbrev pub HasLevelOf : Row → Arrival → Type 0
 HasLevelOf row p = p.level ≡ level_number row.terms.level
 
 -- the packets have the arrival numbers after n, in their order
-abbrev pub AreNumbered : ℕ → List Arrival → Type 0
-AreNumbered n [] = Unit {0}
-AreNumbered n (p ∷ packets) = (p.place ≡ suc n) × AreNumbered (suc n) packets
+abbrev pub AreNumberedFrom : ℕ → List Arrival → Type 0
+AreNumberedFrom n [] = Unit {0}
+AreNumberedFrom n (p ∷ packets) = (p.place ≡ suc n) × AreNumberedFrom (suc n) packets
 
 -- the row has the eligible ticks of its packets, and they have its level, which is one of the link's
 pub record TellsPackets (levels : ℕ) (packets : List Arrival) (row : Row) : Type 0 where

@@ -32,7 +32,7 @@ use Rattle.link_steps.specs.Split.{Link}
 use Rattle.link_steps.specs.Sources.{SourceStep, Brings, lead_with, arrival_at, source_step, taken_by, dropped_by}
 
 -- `taken` counts the row's packets, and `recent` are the newest of their eligible ticks, newest first
-pub record KeptRow : Type 0 where
+pub record AccountRow : Type 0 where
   pub terms : Reservation
   pub lead : ℕ
   pub taken : ℕ
@@ -41,10 +41,10 @@ pub record KeptRow : Type 0 where
 
 -- `taken` counts the link's packets, `on` is the start of the one that occupies it, and `best_left` are the planned
 -- best-effort packets that are left
-pub record Kept : Type 0 where
+pub record Account : Type 0 where
   pub clock : ℕ
   pub taken : ℕ
-  pub rows : List KeptRow
+  pub rows : List AccountRow
   pub here : List Arrival
   pub on : Option Start
   pub best_left : List SourcePacket
@@ -52,7 +52,7 @@ pub record Kept : Type 0 where
 -- ---- what is kept of a history
 
 -- a row as it is kept at clock t
-abbrev pub kept_row : ℕ → Row → KeptRow
+abbrev pub kept_row : ℕ → Row → AccountRow
 kept_row t row = record {
   terms = row.terms;
   lead = row.lead;
@@ -67,7 +67,7 @@ start_on rate [] t = None
 start_on rate (start ∷ earlier) t = if nat_lt t (leaves_at rate start) then Some start else None
 
 -- what is kept at clock t, from the scan of the history
-unfoldable pub kept_at : LinkShape → ℕ → Scan → Kept
+unfoldable pub kept_at : LinkShape → ℕ → Scan → Account
 kept_at shape t scan = record {
   clock = t;
   taken = length scan.packets;
@@ -78,49 +78,49 @@ kept_at shape t scan = record {
 }
 
 -- what is kept of a history, at its clock
-abbrev pub kept_of : LinkShape → List Entry → Kept
+abbrev pub kept_of : LinkShape → List Entry → Account
 kept_of shape h = kept_at shape (clock_of h) (scan_of shape h)
 
 -- what is kept of no history
-abbrev pub nothing_kept : Kept
+abbrev pub nothing_kept : Account
 nothing_kept = record { clock = 0; taken = 0; rows = []; here = []; on = None; best_left = [] }
 
 -- a link that keeps this stands for the history
-abbrev pub StandsFor : LinkShape → Kept → List Entry → Type 0
+abbrev pub StandsFor : LinkShape → Account → List Entry → Type 0
 StandsFor shape k h = k ≡ kept_of shape h
 
 -- the rows have contracts, as those of every admissible history do
-abbrev pub HasContract : KeptRow → Type 0
+abbrev pub HasContract : AccountRow → Type 0
 HasContract row = IsContract row.terms.contract
 
-abbrev pub HasContracts : Kept → Type 0
+abbrev pub HasContracts : Account → Type 0
 HasContracts k = Each HasContract k.rows
 
 -- ---- the rows through a tick
 
 -- its reservation
-abbrev pub kept_terms : KeptRow → Reservation
+abbrev pub kept_terms : AccountRow → Reservation
 kept_terms row = row.terms
 
 -- whether a row stays held in tick t
-abbrev pub kept_stays : List ℕ → ℕ → KeptRow → Bool
+abbrev pub kept_stays : List ℕ → ℕ → AccountRow → Bool
 kept_stays bounds t row = not (hold_ended bounds row.terms row.taken (newest row.recent) t)
 
 -- what a row's source does in tick t
-unfoldable pub kept_step : List ℕ → List Arrival → ℕ → KeptRow → SourceStep
+unfoldable pub kept_step : List ℕ → List Arrival → ℕ → AccountRow → SourceStep
 kept_step bounds here t row = source_step (has_slot bounds row.terms row.lead here) (find (is_for t) row.left)
 
 -- the eligible tick of a source packet that the row takes in tick t
-abbrev pub kept_tick : KeptRow → ℕ → ℕ
+abbrev pub kept_tick : AccountRow → ℕ → ℕ
 kept_tick row t = eligible_next row.terms row.recent t 0
 
 -- the packet taken from a source, if there is one
-abbrev pub kept_packet : SourceStep → ℕ → ℕ → KeptRow → List Arrival
+abbrev pub kept_packet : SourceStep → ℕ → ℕ → AccountRow → List Arrival
 kept_packet (Brings size) t place row = arrival_at row.terms row.lead place (suc row.taken) size t (kept_tick row t) ∷ []
 kept_packet _ t place row = []
 
 -- the row with one more packet, of this arrival number and eligible at e
-abbrev pub kept_with : ℕ → ℕ → KeptRow → KeptRow
+abbrev pub kept_with : ℕ → ℕ → AccountRow → AccountRow
 kept_with place e row = record row {
   lead = lead_with row.lead place;
   taken = suc row.taken;
@@ -128,30 +128,30 @@ kept_with place e row = record row {
 }
 
 -- the row after its source's step in tick t: what was planned for t is no longer left
-abbrev pub past_tick : ℕ → KeptRow → KeptRow
+abbrev pub past_tick : ℕ → AccountRow → AccountRow
 past_tick t row = record row { left = left_at (suc t) row.left }
 
 -- the row after its source's step, where a packet that is taken has this arrival number
-abbrev pub kept_after_step : SourceStep → ℕ → ℕ → KeptRow → KeptRow
+abbrev pub kept_after_step : SourceStep → ℕ → ℕ → AccountRow → AccountRow
 kept_after_step (Brings size) t place row = kept_with place (kept_tick row t) (past_tick t row)
 kept_after_step _ t place row = past_tick t row
 
 -- the packets that all sources bring in tick t, after `taken` packets in all
-unfoldable pub kept_packets : List ℕ → List Arrival → ℕ → ℕ → List KeptRow → List Arrival
+unfoldable pub kept_packets : List ℕ → List Arrival → ℕ → ℕ → List AccountRow → List Arrival
 kept_packets bounds here t taken [] = []
 kept_packets bounds here t taken (row ∷ rows) =
     kept_packet (kept_step bounds here t row) t (suc taken) row
     ++ kept_packets bounds here t (taken + taken_by (kept_step bounds here t row)) rows
 
 -- the rows afterwards
-unfoldable pub kept_rows_after : List ℕ → List Arrival → ℕ → ℕ → List KeptRow → List KeptRow
+unfoldable pub kept_rows_after : List ℕ → List Arrival → ℕ → ℕ → List AccountRow → List AccountRow
 kept_rows_after bounds here t taken [] = []
 kept_rows_after bounds here t taken (row ∷ rows) =
     kept_after_step (kept_step bounds here t row) t (suc taken) row
     ∷ kept_rows_after bounds here t (taken + taken_by (kept_step bounds here t row)) rows
 
 -- how many packets are dropped
-unfoldable pub kept_lost : List ℕ → List Arrival → ℕ → List KeptRow → ℕ
+unfoldable pub kept_lost : List ℕ → List Arrival → ℕ → List AccountRow → ℕ
 kept_lost bounds here t [] = 0
 kept_lost bounds here t (row ∷ rows) = dropped_by (kept_step bounds here t row) + kept_lost bounds here t rows
 
@@ -202,11 +202,11 @@ still_here rate t (Some start) here = if leaves_by rate t start then filter (is_
 -- ---- the account through a tick
 
 -- the rows that stay held in the tick at hand
-abbrev pub held_rows : LinkShape → Kept → List KeptRow
+abbrev pub held_rows : LinkShape → Account → List AccountRow
 held_rows shape k = filter (kept_stays shape.bounds k.clock) k.rows
 
 -- the packets that their sources bring
-abbrev pub from_sources : LinkShape → Kept → List Arrival
+abbrev pub from_sources : LinkShape → Account → List Arrival
 from_sources shape k = kept_packets shape.bounds k.here k.clock k.taken (held_rows shape k)
 
 -- whether a best-effort packet that is here waits, where this one is on the link, and how many do
@@ -214,27 +214,27 @@ abbrev pub waits_here : List ℕ → Option Start → Arrival → Bool
 waits_here bounds None p = is_best bounds p
 waits_here bounds (Some start) p = is_best bounds p && is_other start p
 
-unfoldable pub kept_waiting : LinkShape → Kept → ℕ
+unfoldable pub kept_waiting : LinkShape → Account → ℕ
 kept_waiting shape k = length (filter (waits_here shape.bounds k.on) k.here)
 
 -- the step of the best-effort packet planned for the tick at hand
-unfoldable pub kept_best : LinkShape → Kept → SourceStep
+unfoldable pub kept_best : LinkShape → Account → SourceStep
 kept_best shape k = best_step (kept_waiting shape k) shape.best k.clock k.best_left
 
 -- all packets of the tick
-abbrev pub brought : LinkShape → Kept → List Arrival
+abbrev pub brought : LinkShape → Account → List Arrival
 brought shape k = from_sources shape k ++ best_packet (kept_best shape k) shape.bounds (suc (k.taken + length (from_sources shape k))) k.clock
 
 -- those here then
-abbrev pub present : LinkShape → Kept → List Arrival
+abbrev pub present : LinkShape → Account → List Arrival
 present shape k = k.here ++ brought shape k
 
 -- the packet that occupies the link
-abbrev pub occupies : LinkShape → Kept → Option Start
+abbrev pub occupies : LinkShape → Account → Option Start
 occupies shape k = served k.clock (present shape k) k.on
 
 -- the account after the tick
-unfoldable pub kept_after_tick : LinkShape → Kept → Kept
+unfoldable pub kept_after_tick : LinkShape → Account → Account
 kept_after_tick shape k = record {
   clock = suc k.clock;
   taken = k.taken + length (brought shape k);
@@ -245,7 +245,7 @@ kept_after_tick shape k = record {
 }
 
 -- and the reply to it
-unfoldable pub kept_tick_reply : LinkShape → Kept → Reply
+unfoldable pub kept_tick_reply : LinkShape → Account → Reply
 kept_tick_reply shape k =
     Is.Ticked k.clock
     (kept_lost shape.bounds k.here k.clock (held_rows shape k))
@@ -256,28 +256,28 @@ kept_tick_reply shape k =
 -- ---- the reply to an ask
 
 -- whether a row is this channel's; and whether it is so at its first hop, or at a later one
-abbrev pub is_kept_of : ChanNo → KeptRow → Bool
+abbrev pub is_kept_of : ChanNo → AccountRow → Bool
 is_kept_of chan row = is_of chan row.terms
 
-abbrev pub is_kept_at_hop : ChanNo → Bool → KeptRow → Bool
+abbrev pub is_kept_at_hop : ChanNo → Bool → AccountRow → Bool
 is_kept_at_hop chan first row = is_at_hop chan first row.terms
 
 -- what a row, if there is one, replies to a submit, a release and a packet that arrives
-abbrev pub kept_submit : ℕ → ℕ → Option KeptRow → Reply
+abbrev pub kept_submit : ℕ → ℕ → Option AccountRow → Reply
 kept_submit t size None = Is.Refused NoSuch
 kept_submit t size (Some row) = submit_reply t size row.terms (length row.left)
 
-abbrev pub kept_release : Option ℕ → Option KeptRow → Reply
+abbrev pub kept_release : Option ℕ → Option AccountRow → Reply
 kept_release upstream None = Is.Refused NoSuch
 kept_release upstream (Some row) = release_reply upstream row.terms row.taken (length row.left)
 
-abbrev pub kept_arrive : LinkShape → ℕ → List Arrival → Packet → Option KeptRow → Reply
+abbrev pub kept_arrive : LinkShape → ℕ → List Arrival → Packet → Option AccountRow → Reply
 kept_arrive shape t here packet None = Is.Refused (Stray NoRow)
 kept_arrive shape t here packet (Some row) =
     arrive_reply shape.bounds t packet row.terms row.taken (held_packets row.lead here) (eligible_next row.terms row.recent t packet.due)
 
 -- the reply of the account to an ask
-unfoldable pub kept_reply : Link → Kept → Ask → Reply
+unfoldable pub kept_reply : Link → Account → Ask → Reply
 kept_reply link k (Reserve chan contract kind delay up_reach first next) = reserve_reply link (map kept_terms k.rows) chan contract delay up_reach
 kept_reply link k (Relax chan level up_bound) = relax_reply k.clock level up_bound (find (is_of chan) (map kept_terms k.rows))
 kept_reply link k (Deny chan) = deny_reply (find (is_of chan) (map kept_terms k.rows))
@@ -290,35 +290,35 @@ kept_reply link k (Pour count gap size) = pour_reply k.clock link.shape.cap size
 -- ---- the account after an ask and its reply
 
 -- a row without packets yet
-abbrev pub new_kept : Reservation → KeptRow
+abbrev pub new_kept : Reservation → AccountRow
 new_kept terms = record { terms = terms; lead = 0; taken = 0; recent = []; left = [] }
 
 -- the changes of a row by a relax, by a submit at clock t, and by a release
-abbrev pub kept_relaxed : Level → ℕ → KeptRow → KeptRow
+abbrev pub kept_relaxed : Level → ℕ → AccountRow → AccountRow
 kept_relaxed level up_bound row = record row { terms = committed level up_bound row.terms }
 
-abbrev pub kept_planned : ℕ → ℕ → ℕ → ℕ → KeptRow → KeptRow
+abbrev pub kept_planned : ℕ → ℕ → ℕ → ℕ → AccountRow → AccountRow
 kept_planned t count gap size row = record row { left = row.left ++ planned_from t gap size count }
 
-abbrev pub kept_closed : ℕ → KeptRow → KeptRow
+abbrev pub kept_closed : ℕ → AccountRow → AccountRow
 kept_closed count row = record row { terms = closing count row.terms; left = [] }
 
 -- a packet from the link before that a row takes at clock t: its eligible tick, the row with it, and the packet
-abbrev pub kept_arrived_tick : ℕ → Packet → KeptRow → ℕ
+abbrev pub kept_arrived_tick : ℕ → Packet → AccountRow → ℕ
 kept_arrived_tick t packet row = eligible_next row.terms row.recent t packet.due
 
-abbrev pub kept_arrived_row : ℕ → ℕ → Packet → KeptRow → KeptRow
+abbrev pub kept_arrived_row : ℕ → ℕ → Packet → AccountRow → AccountRow
 kept_arrived_row t place packet row = kept_with place (kept_arrived_tick t packet row) row
 
-abbrev pub kept_arrived : ℕ → ℕ → Packet → KeptRow → Arrival
+abbrev pub kept_arrived : ℕ → ℕ → Packet → AccountRow → Arrival
 kept_arrived t place packet row = arrival_at row.terms row.lead place packet.number packet.size t (kept_arrived_tick t packet row)
 
 -- the account with other rows
-abbrev pub with_kept_rows : Kept → List KeptRow → Kept
+abbrev pub with_kept_rows : Account → List AccountRow → Account
 with_kept_rows k rows = record k { rows = rows }
 
 -- the account with the packet taken, where there is a row for it
-unfoldable pub kept_with_arrival : Packet → Kept → Option KeptRow → Kept
+unfoldable pub kept_with_arrival : Packet → Account → Option AccountRow → Account
 kept_with_arrival packet k None = k
 kept_with_arrival packet k (Some row) = record k {
   taken = suc k.taken;
@@ -327,7 +327,7 @@ kept_with_arrival packet k (Some row) = record k {
 }
 
 -- the account after an ask and its reply; a refusal changes nothing
-unfoldable pub kept_after : LinkShape → Kept → Ask → Reply → Kept
+unfoldable pub kept_after : LinkShape → Account → Ask → Reply → Account
 kept_after shape k (Reserve chan contract kind delay up_reach first next) (Is.Offer level reach) =
     with_kept_rows k (k.rows ++ new_kept (tentative chan contract kind first next up_reach level reach) ∷ [])
 kept_after shape k (Relax chan level up_bound) (Is.Relaxed clock) =

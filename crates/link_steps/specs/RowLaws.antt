@@ -3,7 +3,7 @@ use Rattle.std.specs.Prelude.{ℕ, ◌^◌, ◌≤◌, ◌↔◌, List, length}
 use Rattle.link_steps.specs.declared.replies.Entry.{Entry}
 use Rattle.link_steps.specs.declared.shape.LinkShape.{LinkShape}
 use Rattle.link_steps.specs.Admissible.{IsAdmissible}
-use Rattle.link_steps.specs.Belonging.{AreNumbered, PacketsHaveRows}
+use Rattle.link_steps.specs.Belonging.{AreNumberedFrom, PacketsHaveRows}
 use Rattle.link_steps.specs.Journals.{history_of, IsLegalJournal}
 use Rattle.link_steps.specs.Legal.{IsLegal}
 use Rattle.link_steps.specs.Lists.{Each}
@@ -14,7 +14,7 @@ use Rattle.link_steps.specs.WindowRows.{StandTogether}
 
 -- the packets of every history have the arrival numbers from 1 on, in their order
 abbrev pub PacketsAreNumbered : Type 0
-PacketsAreNumbered = (shape : LinkShape) (h : List Entry) → AreNumbered 0 (scan_of shape h).packets
+PacketsAreNumbered = (shape : LinkShape) (h : List Entry) → AreNumberedFrom 0 (scan_of shape h).packets
 
 -- each packet of a channel has one row, held or gone, and no other, and the row has its level and its eligible tick
 abbrev pub EachPacketHasARow : Type 0

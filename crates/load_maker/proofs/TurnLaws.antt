@@ -63,12 +63,12 @@ goes-on-within network (done ∷ past) run =
     omega (arith, within)
 
 -- each number of the circle is so many places further
-record Place (from n count : ℕ) : Type 0 where
+record PlacesFurther (from n count : ℕ) : Type 0 where
   places : ℕ
   few : places < count
   is : (from + places) % count ≡ n
 
-place : (from n count : ℕ) → from ≤ count → n < count → Place from n count
+place : (from n count : ℕ) → from ≤ count → n < count → PlacesFurther from n count
 place from n count start within =
     elim (cases_lt n from) [
       | inl before ↦

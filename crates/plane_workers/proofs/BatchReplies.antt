@@ -18,7 +18,7 @@ use Rattle.link_steps.specs.Scan.{clock_with}
 use Rattle.link_steps.specs.declared.asks.Ask.TheVariants.{Reserve}
 use Rattle.plane_workers.specs.Answered.{IsAnswered, ticks_in, entry_after, answered}
 use Rattle.plane_workers.specs.Batches.{with_entry, IsMade, MadeInTurn, AreAhead, own_asks}
-use Rattle.plane_workers.specs.Windows.{IsAhead}
+use Rattle.plane_workers.specs.Windows.{LinkIsAhead}
 use Rattle.plane_workers.proofs.RepliesAhead.{ahead-head, ahead-tail}
 
 own-more : (n : ℕ) (to : LinkNo × Ask) (asks : List (LinkNo × Ask)) → link_number to.0 ≡ n → own_asks n (to ∷ asks) ≡ to.1 ∷ own_asks n asks
@@ -61,7 +61,7 @@ module _ {X : Type 0} (rules : X → Link) (stands : X → List Entry → Type 0
   after-ask link hs to n = with_entry hs (link_number to.0) (entry_after link (hs (link_number to.0)) to.1) n
 
   module _ (links : List Link) (hs : ℕ → List Entry) (to : LinkNo × Ask) (asks : List (LinkNo × Ask)) (old new : List X) (x y : X) (reply : Reply) (are : AreAhead rules stands left links hs (to ∷ asks) old) (found : slice_get old (link_number to.0) ≡ Some x) (told : left x ≡ reply ∷ left y) where
-    is : IsAhead (rules x) (stands x) (left x) (hs (link_number to.0)) (own_asks (link_number to.0) (to ∷ asks))
+    is : LinkIsAhead (rules x) (stands x) (left x) (hs (link_number to.0)) (own_asks (link_number to.0) (to ∷ asks))
     is = are.ahead (link_number to.0) x found
 
     replies-so : reply ≡ reply_to (rules x) (hs (link_number to.0)) to.1
@@ -85,19 +85,19 @@ module _ {X : Type 0} (rules : X → Link) (stands : X → List Entry → Type 0
             | inl on ↦
                 (let here = eqb-true n (link_number to.0) on in
                 let is-y : z ≡ y = same_Some z y (sym at ∙ ap (slice_get new) here ∙ own) in
-                subst (λ (w : ℕ × X). IsAhead (rules w.1) (stands w.1) (left w.1) (after-ask (rules x) hs to w.0) (own_asks w.0 asks)) (λ i. (sym here i, sym is-y i)) (own-ahead same stay))
+                subst (λ (w : ℕ × X). LinkIsAhead (rules w.1) (stands w.1) (left w.1) (after-ask (rules x) hs to w.0) (own_asks w.0 asks)) (λ i. (sym here i, sym is-y i)) (own-ahead same stay))
             | inr off ↦
                 (let other = eqb-false n (link_number to.0) off in
-                subst (λ h. IsAhead (rules z) (stands z) (left z) h (own_asks n asks)) (sym (with-other hs (link_number to.0) n (entry_after (rules x) (hs (link_number to.0)) to.1) other))
-                (subst (λ own. IsAhead (rules z) (stands z) (left z) (hs n) own) (own-other n to asks (λ same. other (sym same))) (are.ahead n z (sym (others n other) ∙ at))))
+                subst (λ h. LinkIsAhead (rules z) (stands z) (left z) h (own_asks n asks)) (sym (with-other hs (link_number to.0) n (entry_after (rules x) (hs (link_number to.0)) to.1) other))
+                (subst (λ own. LinkIsAhead (rules z) (stands z) (left z) (hs n) own) (own-other n to asks (λ same. other (sym same))) (are.ahead n z (sym (others n other) ∙ at))))
           ];
     } where
-      own-ahead : rules y ≡ rules x → ((h : List Entry) → stands x h → stands y h) → IsAhead (rules y) (stands y) (left y) (after-ask (rules x) hs to (link_number to.0)) (own_asks (link_number to.0) asks)
+      own-ahead : rules y ≡ rules x → ((h : List Entry) → stands x h → stands y h) → LinkIsAhead (rules y) (stands y) (left y) (after-ask (rules x) hs to (link_number to.0)) (own_asks (link_number to.0) asks)
       own-ahead same stay =
           let tail = ahead-tail (rules x) (stands x) (left x) (left y) (hs (link_number to.0)) to.1 _ _ reply is (own-more (link_number to.0) to asks refl) told in
           let entry : record { ask = to.1; reply = reply } ∷ hs (link_number to.0) ≡ after-ask (rules x) hs to (link_number to.0) = ap (λ r. record { ask = to.1; reply = r } ∷ hs (link_number to.0)) replies-so ∙ sym (with-own hs (link_number to.0) (link_number to.0) (entry_after (rules x) (hs (link_number to.0)) to.1) refl) in
-          subst (λ h. IsAhead (rules y) (stands y) (left y) h (own_asks (link_number to.0) asks)) entry
-          (subst (λ r. IsAhead r (stands y) (left y) (record { ask = to.1; reply = reply } ∷ hs (link_number to.0)) (own_asks (link_number to.0) asks)) (sym same)
+          subst (λ h. LinkIsAhead (rules y) (stands y) (left y) h (own_asks (link_number to.0) asks)) entry
+          (subst (λ r. LinkIsAhead r (stands y) (left y) (record { ask = to.1; reply = reply } ∷ hs (link_number to.0)) (own_asks (link_number to.0) asks)) (sym same)
           (record { stands_on = stay _ tail.stands_on; replied = tail.replied }))
 
   -- at the end each stands for its history
@@ -199,7 +199,7 @@ module _ {D X : Type 0} (link : D → X) (rules : X → Link) (stands : X → Li
           (let x = old-desk old new n y long found in
           let is = answers n x.desk y x.found found in
           let stood = at n (link x.desk) (desk-link n x.desk x.found) in
-          subst (λ r. IsAhead r (stands (link y)) (left y) (hs n) (own_asks n asks)) (sym is.same) (record { stands_on = is.stands_on (hs n) stood; replied = is.replied (hs n) stood }));
+          subst (λ r. LinkIsAhead r (stands (link y)) (left y) (hs n) (own_asks n asks)) (sym is.same) (record { stands_on = is.stands_on (hs n) stood; replied = is.replied (hs n) stood }));
     }
 
 -- the link of a desk is one of the links

@@ -19,7 +19,7 @@ use Rattle.interleave_core.specs.schedules.Watching.{IsNextSeen}
 use Rattle.interleave_core.proofs.Keeping.Lookups.{held}
 use Rattle.interleave_core.proofs.Keeping.CoreStep.{run-more}
 use Rattle.plane_workers.specs.Desks.{rules_at, stands_at, left_at}
-use Rattle.plane_workers.specs.Windows.{GoesOnBy, IsWithin}
+use Rattle.plane_workers.specs.Windows.{GoesOnBy, IsInWindow}
 use Rattle.plane_workers.specs.declared.desk.Desk.{Desk}
 use Rattle.plane_workers.proofs.NextWindowStep.{one-next, one-expected, one-goes, one-fewer, one-within, one-later}
 
@@ -59,7 +59,7 @@ handed {L} link_of stands_for plane old new link ask reply number asked is withi
       others = λ n off. others n (λ at. off (at ∙ is));
     }
 
-module _ {X : Type 0} (rules : X → Link) (stands : X → List Entry → Type 0) (left : X → List Reply) (parts : PlanParts) (from until : ℕ) (old new : List X) (plane : KeptPlane) (run : List Done) (is : IsWithin rules stands left parts from until old plane run) (early : plane.at.round < until)
+module _ {X : Type 0} (rules : X → Link) (stands : X → List Entry → Type 0) (left : X → List Reply) (parts : PlanParts) (from until : ℕ) (old new : List X) (plane : KeptPlane) (run : List Done) (is : IsInWindow rules stands left parts from until old plane run) (early : plane.at.round < until)
     (actor : ActorNo) (by : actor_number actor ≡ length parts.callers) (link : LinkNo) (ask : Ask) (reply : Reply) (hands : HandsOut rules stands left plane old new link ask reply) where
   abbrev done : Done
   done = record { actor = actor; link = link; ask = ask; reply = reply }
@@ -80,7 +80,7 @@ module _ {X : Type 0} (rules : X → Link) (stands : X → List Entry → Type 0
     hand-fewer = one-fewer rules stands left parts from until old plane run is early link ask hands.asked actor by reply new hands.before hands.after hands.found hands.told plane' after same-links same-rounds
 
     -- and links and plane stand for it with that
-    pub hand-within : IsWithin rules stands left parts from until new plane' (done ∷ run)
+    pub hand-within : IsInWindow rules stands left parts from until new plane' (done ∷ run)
     hand-within = one-within rules stands left parts from until old plane run is early link ask hands.asked actor by reply new hands.before hands.after hands.found hands.told plane' after same-links same-rounds (run-more parts run done is.run_is hand-next) hands.long hands.others hands.there hands.same hands.stay
 
   pub hand-goes : GoesOnBy (network_of parts) actor run (done ∷ run)

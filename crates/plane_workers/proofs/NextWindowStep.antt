@@ -39,7 +39,7 @@ use Rattle.interleave_core.proofs.Schedules.ScheduleOutcome.{follows-none, follo
 use Rattle.interleave_core.proofs.Tasks.StepsRunOut.{with-fewer}
 use Rattle.plane_workers.specs.Answered.{replies_along}
 use Rattle.plane_workers.specs.Seen.{GoesTo}
-use Rattle.plane_workers.specs.Windows.{IsWithin, GoesOnBy}
+use Rattle.plane_workers.specs.Windows.{IsInWindow, GoesOnBy}
 use Rattle.plane_workers.proofs.RepliesAhead.{first-reply, step-ahead, step-next}
 
 -- what is left after so many isn't empty, so it has more
@@ -98,7 +98,7 @@ comes-both network actor past held holds one on =
 
 -- ---- one step
 
-module _ {X : Type 0} (rules : X → Link) (stands : X → List Entry → Type 0) (left : X → List Reply) (parts : PlanParts) (from until : ℕ) (links : List X) (plane : KeptPlane) (run : List Done) (is : IsWithin rules stands left parts from until links plane run) (early : plane.at.round < until) where
+module _ {X : Type 0} (rules : X → Link) (stands : X → List Entry → Type 0) (left : X → List Reply) (parts : PlanParts) (from until : ℕ) (links : List X) (plane : KeptPlane) (run : List Done) (is : IsInWindow rules stands left parts from until links plane run) (early : plane.at.round < until) where
   abbrev network : Network
   network = network_of parts
 
@@ -165,7 +165,7 @@ module _ {X : Type 0} (rules : X → Link) (stands : X → List Entry → Type 0
             subst (λ (p : KeptPlane). plane_most p.links p.rounds p.at < plane_most plane.links plane.rounds plane.at) (λ i. record { links = sym same-links i; rounds = sym same-rounds i; at = sym after i; spare = plane'.spare })
             (with-fewer plane.links plane.rounds plane.at (next_due plane.at) reply refl some step-left)
 
-        pub one-within : IsRun network (done ∷ run) → length new ≡ length links → ((n : ℕ) → n ≢ link_number link → slice_get new n ≡ slice_get links n) → slice_get new (link_number link) ≡ Some y → rules y ≡ rules x → ((h : List Entry) → stands x h → stands y h) → IsWithin rules stands left parts from until new plane' (done ∷ run)
+        pub one-within : IsRun network (done ∷ run) → length new ≡ length links → ((n : ℕ) → n ≢ link_number link → slice_get new n ≡ slice_get links n) → slice_get new (link_number link) ≡ Some y → rules y ≡ rules x → ((h : List Entry) → stands x h → stands y h) → IsInWindow rules stands left parts from until new plane' (done ∷ run)
         one-within run' long others own same stay =
             let grows = grows-with plane.links plane.at (next_due plane.at) reply in
             let holds = window-holds plane.links until plane.at reply early in

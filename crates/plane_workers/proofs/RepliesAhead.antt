@@ -23,7 +23,7 @@ use Rattle.run_record.specs.declared.done.Done.{Done}
 use Rattle.interleave_core.specs.runs.Runs.{plane_no, plane_at, IsNext, IsRun}
 use Rattle.interleave_core.proofs.Runs.RunLegal.{asked-plane, part-on, part-off, plane-by, run-stands}
 use Rattle.plane_workers.specs.Answered.{answered, replies_along, IsAnswered}
-use Rattle.plane_workers.specs.Windows.{LinksKept, IsAhead, LinksAhead, KeepsGap}
+use Rattle.plane_workers.specs.Windows.{LinksKept, LinkIsAhead, LinksAhead, KeepsGap}
 
 each-late : (until from : ℕ) (flights : List Flight) → until ≤ from + 1 → Each (λ f. from < f.round) flights → Each (λ f. until ≤ f.round) flights
 each-late until from [] within each = tt
@@ -45,13 +45,13 @@ unfolding answered
 first-answered link h ask asks = refl
 
 -- the first ask is answered
-pub ahead-head : (link : Link) (stands : List Entry → Type 0) (left rest : List Reply) (h : List Entry) (ask : Ask) (asks asks' : List Ask) (reply : Reply) → IsAhead link stands left h asks → asks ≡ ask ∷ asks' → left ≡ reply ∷ rest → reply ≡ reply_to link h ask
+pub ahead-head : (link : Link) (stands : List Entry → Type 0) (left rest : List Reply) (h : List Entry) (ask : Ask) (asks asks' : List Ask) (reply : Reply) → LinkIsAhead link stands left h asks → asks ≡ ask ∷ asks' → left ≡ reply ∷ rest → reply ≡ reply_to link h ask
 ahead-head link stands left rest h ask asks asks' reply is first told = heads reply (reply_to link h ask) rest _ (sym told ∙ is.replied ∙ ap (replies_along link h) first ∙ first-reply link h ask asks')
 
-pub ahead-tail : (link : Link) (stands : List Entry → Type 0) (left rest : List Reply) (h : List Entry) (ask : Ask) (asks asks' : List Ask) (reply : Reply) → IsAhead link stands left h asks → asks ≡ ask ∷ asks' → left ≡ reply ∷ rest → IsAhead link stands rest (record { ask = ask; reply = reply } ∷ h) asks'
+pub ahead-tail : (link : Link) (stands : List Entry → Type 0) (left rest : List Reply) (h : List Entry) (ask : Ask) (asks asks' : List Ask) (reply : Reply) → LinkIsAhead link stands left h asks → asks ≡ ask ∷ asks' → left ≡ reply ∷ rest → LinkIsAhead link stands rest (record { ask = ask; reply = reply } ∷ h) asks'
 ahead-tail link stands left rest h ask asks asks' reply is first told =
     let same = ahead-head link stands left rest h ask asks asks' reply is first told in
-    subst (λ r. IsAhead link stands rest (record { ask = ask; reply = r } ∷ h) asks') (sym same)
+    subst (λ r. LinkIsAhead link stands rest (record { ask = ask; reply = r } ∷ h) asks') (sym same)
     (record {
       stands_on = subst stands (ap (answered link h) first ∙ first-answered link h ask asks') is.stands_on;
       replied = tails reply (reply_to link h ask) rest _ (sym told ∙ is.replied ∙ ap (replies_along link h) first ∙ first-reply link h ask asks');
@@ -80,7 +80,7 @@ module _ {X : Type 0} (rules : X → Link) (stands : X → List Entry → Type 0
     goes : (n : ℕ) → n < length network.links → (reply : Reply) → IsLate until reply → WindowGoes n until plane (plane_after (length network.links) reply plane) done.link done.ask
     goes n within reply late = window-goes n (length network.links) network.rounds until plane done.link done.ask reply few some within early asked late
 
-    is : IsAhead (rules x) (stands x) (left x) (part_of (link_number done.link) past) (window_at (link_number done.link) until plane)
+    is : LinkIsAhead (rules x) (stands x) (left x) (part_of (link_number done.link) past) (window_at (link_number done.link) until plane)
     is = ahead.ahead (link_number done.link) x found
 
     answers : done.reply ≡ reply_to (rules x) (part_of (link_number done.link) past) done.ask
@@ -95,20 +95,20 @@ module _ {X : Type 0} (rules : X → Link) (stands : X → List Entry → Type 0
     after : plane_at network (done ∷ past) ≡ plane_after (length network.links) done.reply plane
     after = plane-by network done past by
 
-    own-ahead : rules y ≡ rules x → ((h : List Entry) → stands x h → stands y h) → IsAhead (rules y) (stands y) (left y) (part_of (link_number done.link) (done ∷ past)) (window_at (link_number done.link) until (plane_at network (done ∷ past)))
+    own-ahead : rules y ≡ rules x → ((h : List Entry) → stands x h → stands y h) → LinkIsAhead (rules y) (stands y) (left y) (part_of (link_number done.link) (done ∷ past)) (window_at (link_number done.link) until (plane_at network (done ∷ past)))
     own-ahead same stay =
         let tail = ahead-tail (rules x) (stands x) (left x) (left y) (part_of (link_number done.link) past) done.ask _ _ done.reply is ((goes (link_number done.link) inside done.reply late).own refl) told in
-        subst (λ p. IsAhead (rules y) (stands y) (left y) (part_of (link_number done.link) (done ∷ past)) (window_at (link_number done.link) until p)) (sym after)
-        (subst (λ h. IsAhead (rules y) (stands y) (left y) h (window_at (link_number done.link) until (plane_after (length network.links) done.reply plane))) (sym (part-on (link_number done.link) done past refl))
-        (subst (λ r. IsAhead r (stands y) (left y) (record { ask = done.ask; reply = done.reply } ∷ part_of (link_number done.link) past) (window_at (link_number done.link) until (plane_after (length network.links) done.reply plane))) (sym same)
+        subst (λ p. LinkIsAhead (rules y) (stands y) (left y) (part_of (link_number done.link) (done ∷ past)) (window_at (link_number done.link) until p)) (sym after)
+        (subst (λ h. LinkIsAhead (rules y) (stands y) (left y) h (window_at (link_number done.link) until (plane_after (length network.links) done.reply plane))) (sym (part-on (link_number done.link) done past refl))
+        (subst (λ r. LinkIsAhead r (stands y) (left y) (record { ask = done.ask; reply = done.reply } ∷ part_of (link_number done.link) past) (window_at (link_number done.link) until (plane_after (length network.links) done.reply plane))) (sym same)
         (record { stands_on = stay _ tail.stands_on; replied = tail.replied })))
 
-    other-ahead : (n : ℕ) (z : X) → n ≢ link_number done.link → slice_get old n ≡ Some z → IsAhead (rules z) (stands z) (left z) (part_of n (done ∷ past)) (window_at n until (plane_at network (done ∷ past)))
+    other-ahead : (n : ℕ) (z : X) → n ≢ link_number done.link → slice_get old n ≡ Some z → LinkIsAhead (rules z) (stands z) (left z) (part_of n (done ∷ past)) (window_at n until (plane_at network (done ∷ past)))
     other-ahead n z off at =
         let within = slice_get_within network.links n (rules z) (ahead.linked n z at) in
         let same : window_at n until plane ≡ window_at n until (plane_at network (done ∷ past)) = (goes n within done.reply late).other (λ is. off (sym is)) ∙ ap (window_at n until) (sym after) in
-        subst (λ asks. IsAhead (rules z) (stands z) (left z) (part_of n (done ∷ past)) asks) same
-        (subst (λ h. IsAhead (rules z) (stands z) (left z) h (window_at n until plane)) (sym (part-off n done past (λ is. off (sym is)))) (ahead.ahead n z at))
+        subst (λ asks. LinkIsAhead (rules z) (stands z) (left z) (part_of n (done ∷ past)) asks) same
+        (subst (λ h. LinkIsAhead (rules z) (stands z) (left z) h (window_at n until plane)) (sym (part-off n done past (λ is. off (sym is)))) (ahead.ahead n z at))
 
     pub step-ahead : length new ≡ length old → ((n : ℕ) → n ≢ link_number done.link → slice_get new n ≡ slice_get old n) → slice_get new (link_number done.link) ≡ Some y → rules y ≡ rules x → ((h : List Entry) → stands x h → stands y h) → LinksAhead rules stands left network until new (done ∷ past)
     step-ahead long others own same stay = record {
@@ -126,7 +126,7 @@ module _ {X : Type 0} (rules : X → Link) (stands : X → List Entry → Type 0
             | inl on ↦
                 (let here = eqb-true n (link_number done.link) on in
                 let is-y : z ≡ y = same_Some z y (sym at ∙ ap (slice_get new) here ∙ own) in
-                subst (λ (w : ℕ × X). IsAhead (rules w.1) (stands w.1) (left w.1) (part_of w.0 (done ∷ past)) (window_at w.0 until (plane_at network (done ∷ past)))) (λ i. (sym here i, sym is-y i)) (own-ahead same stay))
+                subst (λ (w : ℕ × X). LinkIsAhead (rules w.1) (stands w.1) (left w.1) (part_of w.0 (done ∷ past)) (window_at w.0 until (plane_at network (done ∷ past)))) (λ i. (sym here i, sym is-y i)) (own-ahead same stay))
             | inr off ↦ other-ahead n z (eqb-false n (link_number done.link) off) (sym (others n (eqb-false n (link_number done.link) off)) ∙ at)
           ];
     }
@@ -141,7 +141,7 @@ module _ {X : Type 0} (rules : X → Link) (stands : X → List Entry → Type 0
     ahead = λ n y at.
         (let x = was n y at in
         let is = made n x.0 y x.1 at in
-        subst (λ r. IsAhead r (stands y) (left y) (part_of n run) (window_at n until (plane_at network run))) (sym is.same)
+        subst (λ r. LinkIsAhead r (stands y) (left y) (part_of n run) (window_at n until (plane_at network run))) (sym is.same)
         (record { stands_on = is.stands_on (part_of n run) (kept.parts n x.0 x.1); replied = is.replied (part_of n run) (kept.parts n x.0 x.1) }));
   }
 

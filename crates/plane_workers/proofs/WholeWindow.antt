@@ -27,7 +27,7 @@ use Rattle.interleave_core.proofs.Keeping.Lookups.{held}
 use Rattle.interleave_core.proofs.Runs.RunLegal.{run-stands}
 use Rattle.plane_workers.specs.Answered.{IsAnswered, ticks_in}
 use Rattle.plane_workers.specs.Seen.{GoesTo, SeenBetween, SeenWithin}
-use Rattle.plane_workers.specs.Windows.{KeepsGap, IsWithin, IsBetween}
+use Rattle.plane_workers.specs.Windows.{KeepsGap, IsInWindow, IsBetween}
 use Rattle.plane_workers.proofs.RepliesAhead.{ahead-begins, ahead-over}
 use Rattle.plane_workers.proofs.WindowAsks.{window-fits, window-ticks}
 
@@ -78,7 +78,7 @@ module _ {X : Type 0} (rules : X → Link) (stands : X → List Entry → Type 0
 
   module _ (left : X → List Reply) (new : List X) (near : until ≤ plane.at.round + gap + 1) (early : plane.at.round < until) (all : until ≤ plane.rounds) where
     -- each link has answered
-    pub within-begins : length new ≡ length links → ((n : ℕ) (x y : X) → slice_get links n ≡ Some x → slice_get new n ≡ Some y → IsAnswered rules stands x y (window_at n until plane.at) (left y)) → IsWithin rules stands left parts plane.at.round until new plane run
+    pub within-begins : length new ≡ length links → ((n : ℕ) (x y : X) → slice_get links n ≡ Some x → slice_get new n ≡ Some y → IsAnswered rules stands x y (window_at n until plane.at) (left y)) → IsInWindow rules stands left parts plane.at.round until new plane run
     within-begins long answered = record {
       plan = is.plan;
       run_is = is.run_is;
@@ -93,7 +93,7 @@ module _ {X : Type 0} (rules : X → Link) (stands : X → List Entry → Type 0
     }
 
 -- the window is over
-pub between-again : {X : Type 0} (rules : X → Link) (stands : X → List Entry → Type 0) (left : X → List Reply) (parts : PlanParts) (gap from until : ℕ) (links : List X) (plane : KeptPlane) (run : List Done) → KeepsGap (network_of parts) gap → IsWithin rules stands left parts from until links plane run → until ≤ plane.at.round → IsBetween rules stands parts gap links plane run
+pub between-again : {X : Type 0} (rules : X → Link) (stands : X → List Entry → Type 0) (left : X → List Reply) (parts : PlanParts) (gap from until : ℕ) (links : List X) (plane : KeptPlane) (run : List Done) → KeepsGap (network_of parts) gap → IsInWindow rules stands left parts from until links plane run → until ≤ plane.at.round → IsBetween rules stands parts gap links plane run
 between-again rules stands left parts gap from until links plane run keeps is over = record {
   plan = is.plan;
   run_is = is.run_is;
@@ -108,7 +108,7 @@ module _ {X W : Type 0} (rules : X → Link) (stands : X → List Entry → Type
   pub seen-begins : (links new : List X) (plane : KeptPlane) (watch : W) (run : List Done) → SeenBetween rules stands saw parts gap links plane watch run → from ≡ plane.at.round → until ≤ plane.at.round + gap + 1 → plane.at.round < until → until ≤ plane.rounds → length new ≡ length links
       → ((n : ℕ) (x y : X) → slice_get links n ≡ Some x → slice_get new n ≡ Some y → IsAnswered rules stands x y (window_at n until plane.at) (left y)) → SeenWithin rules stands left saw parts from until new plane watch run
   seen-begins links new plane watch run is at near early all long answered = record {
-    within = subst (λ start. IsWithin rules stands left parts start until new plane run) (sym at) (within-begins rules stands parts gap until links plane run is.between left new near early all long answered);
+    within = subst (λ start. IsInWindow rules stands left parts start until new plane run) (sym at) (within-begins rules stands parts gap until links plane run is.between left new near early all long answered);
     seen = is.seen;
   }
 

@@ -12,7 +12,7 @@ use Rattle.run_record.specs.declared.done.Done.{Done}
 use Rattle.interleave_core.specs.schedules.Schedules.{repeated}
 use Rattle.interleave_core.specs.schedules.Watching.{PlaysOn}
 use Rattle.interleave_core.specs.declared.engine.Engine.{Engine}
-use Rattle.plane_workers.specs.Windows.{GoesOnBy, IsBetween, IsWithin}
+use Rattle.plane_workers.specs.Windows.{GoesOnBy, IsBetween, IsInWindow}
 
 -- the run goes on by steps of one actor to one of which this holds
 pub record GoesTo (network : Network) (actor : ActorNo) (past : List Done) (holds : List Done → Type 0) : Type 0 where
@@ -22,7 +22,7 @@ pub record GoesTo (network : Network) (actor : ActorNo) (past : List Done) (hold
 
 -- within a window, and the run was seen
 pub record SeenWithin {X W : Type 0} (rules : X → Link) (stands : X → List Entry → Type 0) (left : X → List Reply) (saw : W → PlanParts → List Done → Type 0) (parts : PlanParts) (from until : ℕ) (links : List X) (plane : KeptPlane) (watch : W) (run : List Done) : Type 0 where
-  pub within : IsWithin rules stands left parts from until links plane run
+  pub within : IsInWindow rules stands left parts from until links plane run
   pub seen : saw watch parts run
 
 -- between two windows, and the run was seen

@@ -10,7 +10,7 @@ use std::alloc::Global;
 
 /// Where an entry stands. The kit's merge gets no proof for entries themselves, whose asks hold contracts.
 #[derive(Clone, Copy, Debug)]
-pub struct Place {
+pub struct EntryPlace {
     /// The entry's stamp.
     pub stamp: u64,
     /// The number of its journal.
@@ -20,7 +20,7 @@ pub struct Place {
 }
 
 /// The places of all entries of all journals, in order of stamp. In each journal the stamps rise.
-pub(crate) fn merged(alloc: Global, journals: &[Journal]) -> Result<Vec<Place>, OutOfMemory>
+pub(crate) fn merged(alloc: Global, journals: &[Journal]) -> Result<Vec<EntryPlace>, OutOfMemory>
     requires { All (λ source. IsSortedBy is_before source) (sources_from 0 journals.now) }
     ensures all { IfOk result (λ all. IsPermutation (places_of journals.now) all.items) }
     ensures order { IfOk result (λ all. IsSortedBy is_before all.items) }
@@ -30,7 +30,7 @@ pub(crate) fn merged(alloc: Global, journals: &[Journal]) -> Result<Vec<Place>, 
 }
 
 // The places of each journal.
-fn sources(alloc: Global, journals: &[Journal]) -> Result<Vec<Vec<Place>>, OutOfMemory>
+fn sources(alloc: Global, journals: &[Journal]) -> Result<Vec<Vec<EntryPlace>>, OutOfMemory>
     ensures { IfOk result (λ sources. map (λ s. s.items) sources.items ≡ sources_from 0 journals.now) }
 {
     let mut sources = Vec::with_capacity(alloc, journals.len())?;
@@ -41,13 +41,13 @@ fn sources(alloc: Global, journals: &[Journal]) -> Result<Vec<Vec<Place>>, OutOf
 }
 
 // The places of the journal of this number.
-fn source(alloc: Global, number: usize, journal: &Journal) -> Result<Vec<Place>, OutOfMemory>
+fn source(alloc: Global, number: usize, journal: &Journal) -> Result<Vec<EntryPlace>, OutOfMemory>
     ensures { IfOk result (λ places. places.items ≡ places_from number 0 journal.now.entries) }
 {
     let entries = journal.entries.as_slice();
     let mut places = Vec::with_capacity(alloc, entries.len())?;
     for at in 0..entries.len() {
-        places.push(Place {
+        places.push(EntryPlace {
             stamp: entries[at].stamp,
             journal: number,
             at,
@@ -57,7 +57,7 @@ fn source(alloc: Global, number: usize, journal: &Journal) -> Result<Vec<Place>,
 }
 
 // The places of these sources, in order of stamp.
-fn merge(alloc: Global, sources: Vec<Vec<Place>>) -> Result<Vec<Place>, OutOfMemory>
+fn merge(alloc: Global, sources: Vec<Vec<EntryPlace>>) -> Result<Vec<EntryPlace>, OutOfMemory>
     requires { All (λ s. IsSortedBy is_before s.items) sources.items }
     ensures all { IfOk result (λ all. IsPermutation (flat_map (λ s. s.items) sources.items) all.items) }
     ensures order { IfOk result (λ all. IsSortedBy is_before all.items) }
@@ -65,7 +65,7 @@ fn merge(alloc: Global, sources: Vec<Vec<Place>>) -> Result<Vec<Place>, OutOfMem
     let mut all = Vec::new(alloc);
     let merge = sources
         .into_iter()
-        .kmerge_by(alloc, |x: &Place, y: &Place| x.stamp < y.stamp)?;
+        .kmerge_by(alloc, |x: &EntryPlace, y: &EntryPlace| x.stamp < y.stamp)?;
     for place in merge {
         all.push(place)?;
     }
@@ -76,7 +76,7 @@ fn merge(alloc: Global, sources: Vec<Vec<Place>>) -> Result<Vec<Place>, OutOfMem
 pub(crate) fn recorded(
     alloc: Global,
     journals: &[Journal],
-    places: &[Place],
+    places: &[EntryPlace],
 ) -> Result<Record, OutOfMemory>
     requires { All (λ place. IsInside journals.now place) places.now }
     ensures { IfOk result (λ run. AreThere journals.now places.now run.entries) }
@@ -91,7 +91,7 @@ pub(crate) fn recorded(
 }
 
 // The entry at a place.
-fn done_at(journals: &[Journal], place: &Place) -> Done
+fn done_at(journals: &[Journal], place: &EntryPlace) -> Done
     requires { IsInside journals.now place.now }
     ensures { IsThere journals.now place.now result }
 {

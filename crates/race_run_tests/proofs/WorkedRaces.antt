@@ -26,22 +26,22 @@ use Rattle.call_script.specs.declared.version.Version.{Version}
 use Rattle.call_script.proofs.GroupRulesStay.{none-unused}
 use Rattle.race_run.specs.Whole.{IsWhole}
 use Rattle.race_run.proofs.WeaveIsRun.{whole-length}
-use Rattle.race_run_tests.specs.Worked.{AreMovers, AreNumbered, IsMovedRequest, IsWorkedCaller, IsWorkedHop, IsWorkedLink, IsWorkedRequest}
+use Rattle.race_run_tests.specs.Worked.{AreMovers, EachWithNumber, IsMovedRequest, IsWorkedCaller, IsWorkedHop, IsWorkedLink, IsWorkedRequest}
 
-pub numbered-more : {X : Type 0} (P : ℕ → X → Type 0) (n : ℕ) (xs : List X) (x : X) → AreNumbered P n xs → P (n + length xs) x → AreNumbered P n (xs ++ x ∷ [])
+pub numbered-more : {X : Type 0} (P : ℕ → X → Type 0) (n : ℕ) (xs : List X) (x : X) → EachWithNumber P n xs → P (n + length xs) x → EachWithNumber P n (xs ++ x ∷ [])
 numbered-more P n [] x all last = (subst (λ k. P k x) (omega arith) last, tt)
 numbered-more P n (y ∷ ys) x all last = (all.0, numbered-more P (suc n) ys x all.1 (subst (λ k. P k x) (omega arith) last))
 
-numbered-get : {X : Type 0} (P : ℕ → X → Type 0) (n : ℕ) (xs : List X) (k : ℕ) (x : X) → AreNumbered P n xs → slice_get xs k ≡ Some x → P (n + k) x
+numbered-get : {X : Type 0} (P : ℕ → X → Type 0) (n : ℕ) (xs : List X) (k : ℕ) (x : X) → EachWithNumber P n xs → slice_get xs k ≡ Some x → P (n + k) x
 numbered-get P n [] k x all found = absurd (let clash : None ≡ Some x = found in cc)
 numbered-get P n (y ∷ ys) zero x all found = subst (λ m. P m x) (omega arith) (subst (P n) (same_Some y x found) all.0)
 numbered-get P n (y ∷ ys) (suc k) x all found = subst (λ m. P m x) (omega arith) (numbered-get P (suc n) ys k x all.1 found)
 
 -- from 0 on
-first-get : {X : Type 0} (P : ℕ → X → Type 0) (xs : List X) (k : ℕ) (x : X) → AreNumbered P 0 xs → slice_get xs k ≡ Some x → P k x
+first-get : {X : Type 0} (P : ℕ → X → Type 0) (xs : List X) (k : ℕ) (x : X) → EachWithNumber P 0 xs → slice_get xs k ≡ Some x → P k x
 first-get P xs k x all found = subst (λ m. P m x) (omega arith) (numbered-get P 0 xs k x all found)
 
-openings-told : (n : ℕ) (callers : List CallerEntry) (requests : List RequestEntry) → length callers ≡ length requests → AreNumbered IsWorkedCaller n callers → AreNumbered IsWorkedRequest n requests → openings_of n callers ≡ map opening_of requests
+openings-told : (n : ℕ) (callers : List CallerEntry) (requests : List RequestEntry) → length callers ≡ length requests → EachWithNumber IsWorkedCaller n callers → EachWithNumber IsWorkedRequest n requests → openings_of n callers ≡ map opening_of requests
 unfolding openings_of
 openings-told n [] [] long callers requests = refl
 openings-told n [] (r ∷ rs) long callers requests = absurd (omega (arith, long))
@@ -50,7 +50,7 @@ openings-told n (c ∷ cs) (r ∷ rs) long callers requests =
     let rest = openings-told (suc n) cs rs (omega (arith, long)) callers.1 requests.1 in
     ap (λ os. os ++ openings_of (suc n) cs) callers.0.opens ∙ (λ i. record { caller = sym requests.0.caller i; chan = sym requests.0.chan i } ∷ rest i)
 
-follows : (links : List LinkEntry) (hop : Hop) → AreNumbered IsWorkedLink 0 links → IsWorkedHop hop → FollowsLink links hop
+follows : (links : List LinkEntry) (hop : Hop) → EachWithNumber IsWorkedLink 0 links → IsWorkedHop hop → FollowsLink links hop
 follows links hop all over = record {
   bounds = λ entry found. over.bounds ∙ sym (first-get IsWorkedLink links (link_number hop.link) entry all found).bounds;
   prop = λ entry found. over.prop ∙ sym (first-get IsWorkedLink links (link_number hop.link) entry all found).prop;
@@ -61,7 +61,7 @@ record IsOver (n : ℕ) (entry : RequestEntry) : Type 0 where
   chan : channel_number entry.request.chan ≡ n
   hops : Each IsWorkedHop entry.request.route
 
-planned-over : (version : Version) (links : List LinkEntry) (requests : List RequestEntry) (callers : List CallerEntry) (rounds tail : ℕ) → AreNumbered IsWorkedLink 0 links → AreNumbered IsOver 0 requests → openings_of 0 callers ≡ map opening_of requests → ArePlanned (parts_of version links requests callers rounds tail)
+planned-over : (version : Version) (links : List LinkEntry) (requests : List RequestEntry) (callers : List CallerEntry) (rounds tail : ℕ) → EachWithNumber IsWorkedLink 0 links → EachWithNumber IsOver 0 requests → openings_of 0 callers ≡ map opening_of requests → ArePlanned (parts_of version links requests callers rounds tail)
 planned-over version links requests callers rounds tail are over opened = record {
   links = λ n entry found. (first-get IsWorkedLink links n entry are found).number;
   unused = λ n entry found. none-unused entry (first-get IsWorkedLink links n entry are found).unsplit;
@@ -70,18 +70,18 @@ planned-over version links requests callers rounds tail are over opened = record
   hops = λ n entry found. Each-if IsWorkedHop (FollowsLink links) entry.request.route (λ hop on. follows links hop are on) (first-get IsOver requests n entry over found).hops;
 }
 
-over-all : (n : ℕ) (requests : List RequestEntry) → AreNumbered IsWorkedRequest n requests → AreNumbered IsOver n requests
+over-all : (n : ℕ) (requests : List RequestEntry) → EachWithNumber IsWorkedRequest n requests → EachWithNumber IsOver n requests
 over-all n [] all = tt
 over-all n (r ∷ requests) all = (record { chan = all.0.chan; hops = all.0.hops }, over-all (suc n) requests all.1)
 
-pub worked-planned : (version : Version) (links : List LinkEntry) (requests : List RequestEntry) (callers : List CallerEntry) (rounds tail : ℕ) → AreNumbered IsWorkedLink 0 links → AreNumbered IsWorkedRequest 0 requests → AreNumbered IsWorkedCaller 0 callers → length callers ≡ length requests → ArePlanned (parts_of version links requests callers rounds tail)
+pub worked-planned : (version : Version) (links : List LinkEntry) (requests : List RequestEntry) (callers : List CallerEntry) (rounds tail : ℕ) → EachWithNumber IsWorkedLink 0 links → EachWithNumber IsWorkedRequest 0 requests → EachWithNumber IsWorkedCaller 0 callers → length callers ≡ length requests → ArePlanned (parts_of version links requests callers rounds tail)
 worked-planned version links requests callers rounds tail are asks open_all long = planned-over version links requests callers rounds tail are (over-all 0 requests asks) (openings-told 0 callers requests long open_all asks)
 
-moved-over : (n : ℕ) (requests : List RequestEntry) → AreNumbered IsMovedRequest n requests → AreNumbered IsOver n requests
+moved-over : (n : ℕ) (requests : List RequestEntry) → EachWithNumber IsMovedRequest n requests → EachWithNumber IsOver n requests
 moved-over n [] all = tt
 moved-over n (r ∷ requests) all = (record { chan = all.0.chan; hops = all.0.hops }, moved-over (suc n) requests all.1)
 
-moved-openings : (callers : List CallerEntry) (requests : List RequestEntry) → AreMovers callers → AreNumbered IsMovedRequest 0 requests → length requests ≡ 2 → openings_of 0 callers ≡ map opening_of requests
+moved-openings : (callers : List CallerEntry) (requests : List RequestEntry) → AreMovers callers → EachWithNumber IsMovedRequest 0 requests → length requests ≡ 2 → openings_of 0 callers ≡ map opening_of requests
 unfolding openings_of
 moved-openings (c ∷ []) (old ∷ new ∷ []) opens asks long =
     ap (λ os. os ++ []) opens.opens ∙ (λ i. record { caller = sym asks.0.caller i; chan = sym asks.0.chan i } ∷ record { caller = sym asks.1.0.caller i; chan = sym asks.1.0.chan i } ∷ [])
@@ -92,7 +92,7 @@ moved-openings (c ∷ []) (old ∷ []) opens asks long = absurd (omega (arith, l
 moved-openings (c ∷ []) (old ∷ new ∷ r ∷ requests) opens asks long = absurd (omega (arith, long))
 
 -- a caller that opens two channels
-pub moving-planned : (version : Version) (links : List LinkEntry) (requests : List RequestEntry) (callers : List CallerEntry) (rounds tail : ℕ) → AreNumbered IsWorkedLink 0 links → AreNumbered IsMovedRequest 0 requests → length requests ≡ 2 → AreMovers callers → ArePlanned (parts_of version links requests callers rounds tail)
+pub moving-planned : (version : Version) (links : List LinkEntry) (requests : List RequestEntry) (callers : List CallerEntry) (rounds tail : ℕ) → EachWithNumber IsWorkedLink 0 links → EachWithNumber IsMovedRequest 0 requests → length requests ≡ 2 → AreMovers callers → ArePlanned (parts_of version links requests callers rounds tail)
 moving-planned version links requests callers rounds tail are asks long opens = planned-over version links requests callers rounds tail are (moved-over 0 requests asks) (moved-openings callers requests opens asks long)
 
 -- ---- the asks of a journal

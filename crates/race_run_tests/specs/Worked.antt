@@ -10,9 +10,9 @@ use Rattle.call_script.specs.declared.entries.RequestEntry.{RequestEntry}
 use Rattle.call_script.specs.declared.entries.CallerEntry.{CallerEntry}
 
 -- P holds of each element and its number, the first of which has the number n
-abbrev pub AreNumbered : {X : Type 0} → (ℕ → X → Type 0) → ℕ → List X → Type 0
-AreNumbered P n [] = Unit {0}
-AreNumbered P n (x ∷ xs) = P n x × AreNumbered P (suc n) xs
+abbrev pub EachWithNumber : {X : Type 0} → (ℕ → X → Type 0) → ℕ → List X → Type 0
+EachWithNumber P n [] = Unit {0}
+EachWithNumber P n (x ∷ xs) = P n x × EachWithNumber P (suc n) xs
 
 pub record IsWorkedHop (hop : Hop) : Type 0 where
   pub bounds : hop.bounds ≡ 10 ∷ 20 ∷ 40 ∷ []

@@ -5,7 +5,7 @@ ghost use Rattle.link_steps.specs.Legal.{AskFits};
 ghost use Rattle.link_steps.specs.Lists.{Each};
 ghost use Rattle.call_script.specs.Tasks.{network_of};
 ghost use Rattle.race_run.specs.Whole.{IsWhole};
-ghost use Rattle.race_run_tests.specs.Worked.{AreNumbered, IsWorkedCaller, IsWorkedHop, IsWorkedLink, IsWorkedRequest};
+ghost use Rattle.race_run_tests.specs.Worked.{EachWithNumber, IsWorkedCaller, IsWorkedHop, IsWorkedLink, IsWorkedRequest};
 
 mod moves;
 mod orders;
@@ -63,7 +63,7 @@ fn link(alloc: Global, number: u8, node: u8, test: Test) -> Result<LinkEntry, Fa
 }
 
 fn links(alloc: Global, count: u8) -> Result<Vec<LinkEntry>, Fail>
-    ensures { IfOk result (λ made. AreNumbered IsWorkedLink 0 made.items) }
+    ensures { IfOk result (λ made. EachWithNumber IsWorkedLink 0 made.items) }
 {
     let mut links = Vec::new(alloc);
     for number in 0..count {
@@ -112,7 +112,7 @@ fn request(number: u8, whole: bool, found: Option<(Name, Name)>) -> Result<Reque
 }
 
 fn requests(alloc: Global, count: u8, whole: bool) -> Result<Vec<RequestEntry>, Fail>
-    ensures all { IfOk result (λ made. AreNumbered IsWorkedRequest 0 made.items) }
+    ensures all { IfOk result (λ made. EachWithNumber IsWorkedRequest 0 made.items) }
     ensures count { IfOk result (λ made. length made.items ≡ count) }
 {
     let mut requests = Vec::new(alloc);
@@ -147,7 +147,7 @@ fn caller(alloc: Global, number: u8, closes: bool) -> Result<CallerEntry, Fail>
 }
 
 fn callers(alloc: Global, count: u8, closes: bool) -> Result<Vec<CallerEntry>, Fail>
-    ensures all { IfOk result (λ made. AreNumbered IsWorkedCaller 0 made.items) }
+    ensures all { IfOk result (λ made. EachWithNumber IsWorkedCaller 0 made.items) }
     ensures count { IfOk result (λ made. length made.items ≡ count) }
 {
     let mut callers = Vec::new(alloc);

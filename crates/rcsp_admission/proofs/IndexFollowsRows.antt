@@ -8,7 +8,7 @@ use Rattle.net_units.specs.Numbers.{level_number}
 use Rattle.traffic_contract.specs.Contract.{Traffic}
 use Rattle.rcsp_admission.specs.Index.{place_in, place_among, place_after, AreByKey, IsIndex}
 use Rattle.rcsp_admission.specs.Kept.{held_of}
-use Rattle.rcsp_admission.specs.Sums.{Held, held_at, key_of, has_key, Holds, HoldsUpTo, added, put_at, moved, without_key, IsDistinct}
+use Rattle.rcsp_admission.specs.Sums.{Held, row_held, key_of, has_key, Holds, HoldsUpTo, added, put_at, moved, without_key, IsDistinct}
 use Rattle.rcsp_admission.specs.declared.key_index.KeyPlace.{KeyPlace}
 use Rattle.rcsp_admission.specs.declared.rows.KeptRow.{KeptRow}
 use Rattle.rcsp_admission.proofs.OneRowPerKey.{distinct-later, others-differ, without-others, moved-others}
@@ -172,7 +172,7 @@ index-added rows before after key contract level index new sorted put = record {
   each = λ other.
       put other ∙ ap (λ place. if nat_eq key other then Some (length rows) else place) (index.each other)
       ∙ ap (λ n. if nat_eq key other then Some n else place_among other rows) (omega arith)
-      ∙ sym (counted-pushed other 0 rows (held_at key contract level) (new-placed key rows new));
+      ∙ sym (counted-pushed other 0 rows (row_held key contract level) (new-placed key rows new));
 }
 
 pub index-moved : (rows : List Held) (places : List KeyPlace) (key level : ℕ) → IsIndex rows places → IsIndex (moved rows key level) places

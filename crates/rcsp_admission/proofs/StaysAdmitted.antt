@@ -13,7 +13,7 @@ use Rattle.traffic_contract.specs.Contract.{Traffic, IsContract}
 use Rattle.traffic_contract.specs.Admission.{total, work_up_to, load, Passes, with_row}
 use Rattle.traffic_contract.proofs.AdmissionTest.{window-of, counts-within, Passes-nil, Passes-kept, Passes-changed}
 use Rattle.traffic_contract.proofs.LoadLimits.{HasContract, total-most}
-use Rattle.rcsp_admission.specs.Sums.{Held, Sums, admitted_row, key_of, admitted_rows, held_at, has_key, Holds, HoldsUpTo, added, put_at, move_row, moved, has_other_key, without_key, IsDistinct, IsServer, HoldsContract, AreAdmitted}
+use Rattle.rcsp_admission.specs.Sums.{Held, Sums, admitted_row, key_of, admitted_rows, row_held, has_key, Holds, HoldsUpTo, added, put_at, move_row, moved, has_other_key, without_key, IsDistinct, IsServer, HoldsContract, AreAdmitted}
 
 -- ---- a link without rows
 
@@ -36,9 +36,9 @@ keys-differ rows key new k d inside same =
 pub AreAdmitted-added : (before after : Sums) (key : ℕ) (contract : Traffic) (level : ℕ) → AreAdmitted before → (Holds before.rows key → ⊥) → IsContract contract → Passes before.server (with_row (admitted_rows before.rows) contract level) → after.server ≡ before.server → after.rows ≡ added before.rows key contract level → AreAdmitted after
 AreAdmitted-added before after key contract level held new valid passed same rows = record {
   server = rw same held.server;
-  contracts = rw rows (All-push HoldsContract before.rows (held_at key contract level) held.contracts valid);
-  passes = rw (same, rows, map_push admitted_row before.rows (held_at key contract level)) passed;
-  distinct = rw rows (record { apart = all_pairs_push (λ one other. one.key ≢ other.key) before.rows (held_at key contract level) held.distinct.apart (keys-differ before.rows key new) });
+  contracts = rw rows (All-push HoldsContract before.rows (row_held key contract level) held.contracts valid);
+  passes = rw (same, rows, map_push admitted_row before.rows (row_held key contract level)) passed;
+  distinct = rw rows (record { apart = all_pairs_push (λ one other. one.key ≢ other.key) before.rows (row_held key contract level) held.distinct.apart (keys-differ before.rows key new) });
 }
 
 -- ---- a row at another level
@@ -102,7 +102,7 @@ not_held-none rows key none (k, inside, at) = omega (arith, length-map rows key_
 
 pub not_held-added : (before after : List Held) (key other level : ℕ) (contract : Traffic) → after ≡ added before other contract level → key ≢ other → (Holds before key → ⊥) → Holds after key → ⊥
 not_held-added before after key other level contract e apart new held =
-    ⊎_elim new (λ same. apart (sym same)) (Contains-push_cases (map key_of before) other key (subst (λ keys. Contains keys key) (ap (map key_of) e ∙ map_push key_of before (held_at other contract level)) held))
+    ⊎_elim new (λ same. apart (sym same)) (Contains-push_cases (map key_of before) other key (subst (λ keys. Contains keys key) (ap (map key_of) e ∙ map_push key_of before (row_held other contract level)) held))
 
 pub ruleset not_held = (not_held-none, not_held-added)
 

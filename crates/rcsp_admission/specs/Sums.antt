@@ -36,8 +36,8 @@ level_held held = held.row.level
 abbrev pub admitted_rows : List Held → List Admitted
 admitted_rows rows = map admitted_row rows
 
-abbrev pub held_at : ℕ → Traffic → ℕ → Held
-held_at key contract level = record { key = key; row = record { contract = contract; level = level } }
+abbrev pub row_held : ℕ → Traffic → ℕ → Held
+row_held key contract level = record { key = key; row = record { contract = contract; level = level } }
 
 abbrev pub has_key : ℕ → Held → Bool
 has_key key held = held.key == key
@@ -52,11 +52,11 @@ HoldsUpTo rows key level = Any (λ held. (held.key ≡ key) × (held.row.level �
 
 -- the rows with a new one at the end
 abbrev pub added : List Held → ℕ → Traffic → ℕ → List Held
-added rows key contract level = rows ++ held_at key contract level ∷ []
+added rows key contract level = rows ++ row_held key contract level ∷ []
 
 -- a row with another level
 abbrev pub put_at : ℕ → Held → Held
-put_at level held = held_at held.key held.row.contract level
+put_at level held = row_held held.key held.row.contract level
 
 -- this row, moved to the level where it has the key
 abbrev pub move_row : ℕ → ℕ → Held → Held

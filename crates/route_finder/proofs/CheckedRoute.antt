@@ -16,7 +16,7 @@ use Rattle.route_finder.specs.Rows.{in_row, entry}
 use Rattle.route_finder.specs.Table.{by_none, by_one_more, least_prop}
 use Rattle.route_finder.specs.Trace.{are_same}
 use Rattle.route_finder.specs.Walks.{hop_of, link_of, prop_over, IsAmong, AreAmong, IsNetwork, IsEdge, Leads, IsWay, IsWalk}
-use Rattle.route_finder.proofs.LeastPropagations.{IsWithin, least_prop-within}
+use Rattle.route_finder.proofs.LeastPropagations.{IsFoundWithin, least_prop-within}
 use Rattle.route_finder.proofs.FirstStep.{are_same-true, are_same-equal, same-edge}
 use Rattle.route_finder.proofs.RowEntries.{edge-at}
 

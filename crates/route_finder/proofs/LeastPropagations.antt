@@ -7,19 +7,19 @@ use Rattle.route_finder.specs.Table.{lesser, beyond, by_edge, by_one_more, by_no
 use Rattle.route_finder.specs.Walks.{prop_over, IsAmong, AreAmong, Leads, IsWay}
 
 -- there is a number, and it is at most this one
-pub record IsWithin (found : Option ℕ) (most : ℕ) : Type 0 where
+pub record IsFoundWithin (found : Option ℕ) (most : ℕ) : Type 0 where
   pub value : ℕ
   pub is : found ≡ Some value
   pub less : value ≤ most
 
 -- ---- the smaller of two
 
-pub lesser-left : (one other : Option ℕ) (most : ℕ) → IsWithin one most → IsWithin (lesser one other) most
+pub lesser-left : (one other : Option ℕ) (most : ℕ) → IsFoundWithin one most → IsFoundWithin (lesser one other) most
 lesser-left None other most within = absurd (let clash : None ≡ Some within.value = within.is in cc)
 lesser-left (Some n) None most within = within
 lesser-left (Some n) (Some m) most within = (let same : n ≡ within.value = same_Some n within.value within.is in record { value = min n m; is = refl; less = omega (arith, same, within.less) })
 
-pub lesser-right : (one other : Option ℕ) (most : ℕ) → IsWithin other most → IsWithin (lesser one other) most
+pub lesser-right : (one other : Option ℕ) (most : ℕ) → IsFoundWithin other most → IsFoundWithin (lesser one other) most
 lesser-right None other most within = within
 lesser-right (Some n) None most within = absurd (let clash : None ≡ Some within.value = within.is in cc)
 lesser-right (Some n) (Some m) most within = (let same : m ≡ within.value = same_Some m within.value within.is in record { value = min n m; is = refl; less = omega (arith, same, within.less) })
@@ -58,24 +58,24 @@ by_edge-is before edge node prop is =
       | inr other ↦ absurd (let clash : None ≡ Some prop = rw other at is in cc)
     ]
 
-pub by_edge-within : (before : ℕ → Option ℕ) (edge : Edge) (node most : ℕ) → edge.from ≡ node → IsWithin (before edge.to) most
-    → IsWithin (by_edge before edge node) (edge.hop.prop + most)
+pub by_edge-within : (before : ℕ → Option ℕ) (edge : Edge) (node most : ℕ) → edge.from ≡ node → IsFoundWithin (before edge.to) most
+    → IsFoundWithin (by_edge before edge node) (edge.hop.prop + most)
 by_edge-within before edge node most from within =
     rw (eq-eqb edge.from node from) (rw within.is (record { value = edge.hop.prop + within.value; is = refl; less = omega (arith, within.less) }))
 
-pub one_more-before : (before : ℕ → Option ℕ) (edges : List Edge) (node most : ℕ) → IsWithin (before node) most → IsWithin (by_one_more before edges node) most
+pub one_more-before : (before : ℕ → Option ℕ) (edges : List Edge) (node most : ℕ) → IsFoundWithin (before node) most → IsFoundWithin (by_one_more before edges node) most
 unfolding by_one_more
 one_more-before before [] node most within = within
 one_more-before before (edge ∷ edges) node most within = lesser-right (by_edge before edge node) (by_one_more before edges node) most (one_more-before before edges node most within)
 
-pub one_more-edge : (before : ℕ → Option ℕ) (edges : List Edge) (edge : Edge) (most : ℕ) → IsAmong edges edge → IsWithin (before edge.to) most
-    → IsWithin (by_one_more before edges edge.from) (edge.hop.prop + most)
+pub one_more-edge : (before : ℕ → Option ℕ) (edges : List Edge) (edge : Edge) (most : ℕ) → IsAmong edges edge → IsFoundWithin (before edge.to) most
+    → IsFoundWithin (by_one_more before edges edge.from) (edge.hop.prop + most)
 unfolding by_one_more IsAmong
 one_more-edge before [] edge most among within = absurd among
 one_more-edge before (first ∷ edges) edge most (inl same) within =
-    subst (λ e. IsWithin (by_one_more before (first ∷ edges) e.from) (e.hop.prop + most)) same
+    subst (λ e. IsFoundWithin (by_one_more before (first ∷ edges) e.from) (e.hop.prop + most)) same
     (lesser-left (by_edge before first first.from) (by_one_more before edges first.from) (first.hop.prop + most)
-    (by_edge-within before first first.from most refl (subst (λ e. IsWithin (before e.to) most) (sym same) within)))
+    (by_edge-within before first first.from most refl (subst (λ e. IsFoundWithin (before e.to) most) (sym same) within)))
 one_more-edge before (first ∷ edges) edge most (inr later) within =
     lesser-right (by_edge before first edge.from) (by_one_more before edges edge.from) (edge.hop.prop + most) (one_more-edge before edges edge most later within)
 
@@ -136,7 +136,7 @@ none-is to node prop is =
 
 -- each way has at least the propagation of the table
 pub least_prop-within : (edges : List Edge) (to links node : ℕ) (walk : List Edge) → IsWay edges to links node walk
-    → IsWithin (least_prop edges to links node) (prop_over walk)
+    → IsFoundWithin (least_prop edges to links node) (prop_over walk)
 unfolding least_prop prop_over Leads
 least_prop-within edges to zero node [] way = record { value = 0; is = none-at to node way.leads; less = omega arith }
 least_prop-within edges to zero node (step ∷ walk) way = absurd (omega (arith, way.few))
@@ -144,7 +144,7 @@ least_prop-within edges to (suc links) node [] way =
     one_more-before (least_prop edges to links) edges node 0 (least_prop-within edges to links node [] (record { among = way.among; leads = way.leads; few = omega arith }))
 least_prop-within edges to (suc links) node (step ∷ walk) way =
     let after = after-way edges to links node step walk way in
-    subst (λ n. IsWithin (by_one_more (least_prop edges to links) edges n) (step.hop.prop + prop_over walk)) after.from
+    subst (λ n. IsFoundWithin (by_one_more (least_prop edges to links) edges n) (step.hop.prop + prop_over walk)) after.from
     (one_more-edge (least_prop edges to links) edges step (prop_over walk) after.among (least_prop-within edges to links step.to walk after.way))
 
 -- and some way has that

@@ -6,7 +6,7 @@ use Rattle.route_finder.specs.declared.edge.Edge.{Edge}
 use Rattle.route_finder.specs.Table.{by_edge, by_one_more, by_none, least_prop, IsReached}
 use Rattle.route_finder.specs.Trace.{are_same, goes_on, fewest, first_step, traced, with_step}
 use Rattle.route_finder.specs.Walks.{link_of, links_of, prop_over, IsAmong, AreAmong, IsNetwork, Leads, IsWay, IsNotAbove}
-use Rattle.route_finder.proofs.LeastPropagations.{IsWithin, IsByEdge, IsAfter, none-is, after-way, way-after, one_more-edge, least_prop-within, least_prop-reached}
+use Rattle.route_finder.proofs.LeastPropagations.{IsFoundWithin, IsByEdge, IsAfter, none-is, after-way, way-after, one_more-edge, least_prop-within, least_prop-reached}
 use Rattle.route_finder.proofs.FirstStep.{are_same-true, are_same-refl, goes_on-is, is-goes_on, IsFirst, first_step-is, first_step-some}
 
 -- each way of this propagation by at most so many links has that many
@@ -28,7 +28,7 @@ unfolding least_prop prop_over
 way-goes_on edges to links node prop step walk is way sum =
     let after = after-way edges to links node step walk way in
     let rest = least_prop-within edges to links step.to walk after.way in
-    let whole = subst (λ n. IsWithin (by_one_more (least_prop edges to links) edges n) (step.hop.prop + rest.value)) after.from
+    let whole = subst (λ n. IsFoundWithin (by_one_more (least_prop edges to links) edges n) (step.hop.prop + rest.value)) after.from
     (one_more-edge (least_prop edges to links) edges step rest.value after.among (record { value = rest.value; is = rest.is; less = omega arith })) in
     let same : whole.value ≡ prop = same_Some whole.value prop (sym whole.is ∙ is) in
     record { from = after.from; rest = rest.value; found = rest.is; sum = omega (arith, same, whole.less, rest.less, sum) }

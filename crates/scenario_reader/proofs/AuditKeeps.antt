@@ -33,8 +33,8 @@ use Rattle.scenario_reader.specs.Causes.{Judges}
 use Rattle.scenario_reader.specs.Fields.{fields_of}
 use Rattle.scenario_reader.specs.Forms.{name_rule, number_rule}
 use Rattle.scenario_reader.specs.declared.cause.Cause.{Cause}
-use Rattle.scenario_reader.specs.declared.audit.place.Place.{Place}
-use Rattle.scenario_reader.specs.declared.audit.place.Place.TheVariants as place
+use Rattle.scenario_reader.specs.declared.audit.place.Section.{Section}
+use Rattle.scenario_reader.specs.declared.audit.place.Section.TheVariants as place
 
 -- ---- the levels of a line
 
@@ -146,7 +146,7 @@ set-told (item ∷ items) (suc n) (suc c) new levels told = on (set-told items n
   on (inr other) = inr other
 
 -- what a line tells of a request is kept with what was told of the others
-pub told-kept : (said : Said) (now : Place) (levels : List (Option (List ℕ))) (rows : List HopRow) (told : Acceptance)
+pub told-kept : (said : Said) (now : Section) (levels : List (Option (List ℕ))) (rows : List HopRow) (told : Acceptance)
     → now ≡ place.Report → IsAuditDraft (audit_said said now levels rows) → KeepsTold said.requests told
     → IsAuditDraft (audit_said said now (set levels told.request (Some told.levels)) rows)
 told-kept said now levels rows told at kept keeps = record {
@@ -155,7 +155,7 @@ told-kept said now levels rows told at kept keeps = record {
   small = kept.small;
 }
   where
-    by : (now : Place) → now ≡ place.Report → IsPlaced now (audit_said said now levels rows)
+    by : (now : Section) → now ≡ place.Report → IsPlaced now (audit_said said now levels rows)
         → IsPlaced now (audit_said said now (set levels told.request (Some told.levels)) rows)
     by place.Scenario at placed = cc
     by place.Report at placed = (placed.0, length-set levels told.request (Some told.levels) ∙ placed.1)
@@ -183,7 +183,7 @@ table-kept said levels rows kept = record { placed = kept.placed; keep = kept.ke
 -- from `report` on there is one entry a request
 pub report-count : (read : AuditSaid) → IsAuditDraft read → read.place ≡ place.Report → length read.levels ≡ length read.said.requests
 report-count read kept at = by read.place kept.placed at where
-  by : (now : Place) → IsPlaced now read → now ≡ place.Report → length read.levels ≡ length read.said.requests
+  by : (now : Section) → IsPlaced now read → now ≡ place.Report → length read.levels ≡ length read.said.requests
   by place.Scenario placed at = cc
   by place.Report placed at = placed.1
   by place.Table placed at = cc
@@ -206,7 +206,7 @@ accepted-from plan levels read kept at is given =
       keep = λ c entry one there told. kept.keep c entry (levels_of one) (ap (λ (rs : List RequestEntry). slice_get rs c) (sym requests) ∙ there) (ap (λ (ls : List (Option (List ℕ))). slice_get ls c) (sym given) ∙ given-at levels c one told);
     }
   where
-    by : (now : Place) → IsPlaced now read → now ≡ place.Table → length read.levels ≡ length read.said.requests
+    by : (now : Section) → IsPlaced now read → now ≡ place.Table → length read.levels ≡ length read.said.requests
     by place.Scenario placed at = cc
     by place.Report placed at = cc
     by place.Table placed at = placed.1

@@ -13,7 +13,7 @@ use Rattle.route_finder.specs.declared.edge.Edge.{Edge}
 use Rattle.route_finder.proofs.LeastPropagations.{least_prop-within}
 use Rattle.route_finder.proofs.TracedWalk.{IsFewest, fewest-is}
 use Rattle.route_finder.proofs.LeastWalk.{finds-least-walk}
-use Rattle.scenario_reader.specs.Nodes.{AreNumbered, touches, is_node, node_from, node_of, edges_of, route_between}
+use Rattle.scenario_reader.specs.Nodes.{LinksAreNumbered, touches, is_node, node_from, node_of, edges_of, route_between}
 use Rattle.scenario_reader.proofs.NodesByNumber.{named-same, are-network, node-known, ends-known, step-is}
 
 -- a number of a node that is there
@@ -81,7 +81,7 @@ pub record AreFoundNodes (links : List LinkEntry) (from to : List ℕ) : Type 0 
   pub second : is_node links to ≡ true
   pub apart : is_named to from ≡ false
 
-pub found-nodes : (links : List LinkEntry) (from to : List ℕ) (hops : List Hop) → AreNumbered links → length links ≤ 32 → 1 ≤ length hops
+pub found-nodes : (links : List LinkEntry) (from to : List ℕ) (hops : List Hop) → LinksAreNumbered links → length links ≤ 32 → 1 ≤ length hops
     → route_between links from to ≡ Some hops → AreFoundNodes links from to
 unfolding route_between
 found-nodes links from to hops numbered few some found =

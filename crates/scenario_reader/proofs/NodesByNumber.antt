@@ -19,7 +19,7 @@ use Rattle.route_finder.specs.declared.edge.Edge.{Edge}
 use Rattle.route_finder.proofs.WalkReadOff.{least-route}
 use Rattle.route_finder.proofs.LeastWalk.{finds-least-walk}
 use Rattle.scenario_reader.specs.Entries.{hop_of}
-use Rattle.scenario_reader.specs.Nodes.{AreNumbered, touches, is_node, node_from, node_of, edge_over, edges_of, route_between}
+use Rattle.scenario_reader.specs.Nodes.{LinksAreNumbered, touches, is_node, node_from, node_of, edge_over, edges_of, route_between}
 
 -- ---- names and numbers
 
@@ -134,7 +134,7 @@ edges-network all (entry ∷ links) k few are =
       above = λ low less. (omega (arith, less, number), rest.above low (omega (arith, less)));
     }
 
-pub are-network : (links : List LinkEntry) → AreNumbered links → length links ≤ 32 → IsNetwork (edges_of links)
+pub are-network : (links : List LinkEntry) → LinksAreNumbered links → length links ≤ 32 → IsNetwork (edges_of links)
 unfolding edges_of
 are-network links numbered few = (edges-network links links 0 few (record { number = λ n entry found. omega (arith, numbered.number n entry found); ends = ends-known links })).network
 
@@ -163,15 +163,15 @@ pub record IsFoundWay (links : List LinkEntry) (route : List Hop) : Type 0 where
   pub follows : Each (FollowsLink links) route
 
 -- the link of a step has its number
-at-number : (links : List LinkEntry) (step : Edge) → AreNumbered links → (is : IsStep links step) → slice_get links (link_of step) ≡ Some is.entry
+at-number : (links : List LinkEntry) (step : Edge) → LinksAreNumbered links → (is : IsStep links step) → slice_get links (link_of step) ≡ Some is.entry
 at-number links step numbered is =
     let number : link_of step ≡ is.place = ap link_of (sym is.is) ∙ numbered.number is.place is.entry is.found in
     subst (λ n. slice_get links n ≡ Some is.entry) (sym number) is.found
 
-step-there : (links : List LinkEntry) (step : Edge) → AreNumbered links → IsStep links step → has_link links step.hop.link ≡ true
+step-there : (links : List LinkEntry) (step : Edge) → LinksAreNumbered links → IsStep links step → has_link links step.hop.link ≡ true
 step-there links step numbered is = lt-ltb (link_of step) (length links) (slice_get_within links (link_of step) is.entry (at-number links step numbered is))
 
-step-follows : (links : List LinkEntry) (step : Edge) → AreNumbered links → IsStep links step → FollowsLink links step.hop
+step-follows : (links : List LinkEntry) (step : Edge) → LinksAreNumbered links → IsStep links step → FollowsLink links step.hop
 step-follows links step numbered is =
     let at = at-number links step numbered is in
     let hop : hop_of is.entry ≡ step.hop = ap (λ (e : Edge). e.hop) is.is in
@@ -180,7 +180,7 @@ step-follows links step numbered is =
       prop = λ other found. sym (ap (λ (h : Hop). h.prop) hop) ∙ ap (λ (l : LinkEntry). l.shape.prop) (same_Some is.entry other (sym at ∙ found));
     }
 
-steps-meet : (links : List LinkEntry) (step next : Edge) → AreNumbered links → IsStep links step → IsStep links next → next.from ≡ step.to
+steps-meet : (links : List LinkEntry) (step next : Edge) → LinksAreNumbered links → IsStep links step → IsStep links next → next.from ≡ step.to
     → meets links step.hop.link next.hop.link ≡ true
 steps-meet links step next numbered is is' same =
     let ends = ends-known links is.place is.entry is.found in
@@ -189,19 +189,19 @@ steps-meet links step next numbered is is' same =
     let name : is'.entry.from ≡ is.entry.to = node-same 0 links is'.entry.from is.entry.to ends'.0 ends.1 number in
     rw (at-number links step numbered is, at-number links next numbered is') (same-named is'.entry.from is.entry.to (sym name))
 
-walk-there : (links : List LinkEntry) (walk : List Edge) → AreNumbered links → AreAmong (edges_of links) walk
+walk-there : (links : List LinkEntry) (walk : List Edge) → LinksAreNumbered links → AreAmong (edges_of links) walk
     → list_all (λ (hop : Hop). has_link links hop.link) (map hop_by walk) ≡ true
 unfolding AreAmong
 walk-there links [] numbered among = refl
 walk-there links (step ∷ walk) numbered among =
     and_from (has_link links step.hop.link) (list_all (λ (hop : Hop). has_link links hop.link) (map hop_by walk)) (step-there links step numbered (step-is links step among.0)) (walk-there links walk numbered among.1)
 
-walk-follows : (links : List LinkEntry) (walk : List Edge) → AreNumbered links → AreAmong (edges_of links) walk → Each (FollowsLink links) (map hop_by walk)
+walk-follows : (links : List LinkEntry) (walk : List Edge) → LinksAreNumbered links → AreAmong (edges_of links) walk → Each (FollowsLink links) (map hop_by walk)
 unfolding AreAmong
 walk-follows links [] numbered among = tt
 walk-follows links (step ∷ walk) numbered among = (step-follows links step numbered (step-is links step among.0), walk-follows links walk numbered among.1)
 
-walk-goes_on : (links : List LinkEntry) (step : Edge) (walk : List Edge) (to : ℕ) → AreNumbered links → IsStep links step → AreAmong (edges_of links) walk
+walk-goes_on : (links : List LinkEntry) (step : Edge) (walk : List Edge) (to : ℕ) → LinksAreNumbered links → IsStep links step → AreAmong (edges_of links) walk
     → Leads step.to to walk → goes_on links step.hop (map hop_by walk) ≡ true
 unfolding AreAmong Leads
 walk-goes_on links step [] to numbered is among leads = refl
@@ -209,13 +209,13 @@ walk-goes_on links step (next ∷ walk) to numbered is among leads =
     let is' = step-is links next among.0 in
     and_from (meets links step.hop.link next.hop.link) (goes_on links next.hop (map hop_by walk)) (steps-meet links step next numbered is is' leads.0) (walk-goes_on links next walk to numbered is' among.1 leads.1)
 
-walk-joined : (links : List LinkEntry) (walk : List Edge) (from to : ℕ) → AreNumbered links → AreAmong (edges_of links) walk → Leads from to walk
+walk-joined : (links : List LinkEntry) (walk : List Edge) (from to : ℕ) → LinksAreNumbered links → AreAmong (edges_of links) walk → Leads from to walk
     → is_joined links (map hop_by walk) ≡ true
 unfolding AreAmong Leads
 walk-joined links [] from to numbered among leads = refl
 walk-joined links (step ∷ walk) from to numbered among leads = walk-goes_on links step walk to numbered (step-is links step among.0) among.1 leads.1
 
-pub walk-way : (links : List LinkEntry) (walk : List Edge) (from to : ℕ) → AreNumbered links → IsLeastWalk (edges_of links) from to walk
+pub walk-way : (links : List LinkEntry) (walk : List Edge) (from to : ℕ) → LinksAreNumbered links → IsLeastWalk (edges_of links) from to walk
     → IsFoundWay links (map hop_by walk)
 walk-way links walk from to numbered least = record {
   there = walk-there links walk numbered least.is_walk.way.among;
@@ -228,7 +228,7 @@ pub record IsGoodRoute (links : List LinkEntry) (hops : List Hop) : Type 0 where
   pub way : IsFoundWay links hops
   pub route : IsRoute hops
 
-pub found-route : (links : List LinkEntry) (from to : List ℕ) (hops : List Hop) → AreNumbered links → length links ≤ 32 → is_node links from ≡ true
+pub found-route : (links : List LinkEntry) (from to : List ℕ) (hops : List Hop) → LinksAreNumbered links → length links ≤ 32 → is_node links from ≡ true
     → is_node links to ≡ true → (from ≡ to → ⊥)
     → route_between links from to ≡ Some hops → IsGoodRoute links hops
 unfolding route_between

@@ -13,7 +13,7 @@ use Rattle.call_script.specs.declared.entries.RequestEntry.{RequestEntry}
 use Rattle.call_script.proofs.PlansFit.{plan-fits}
 use Rattle.scenario_reader.specs.BothWays.{IsFoundRoute}
 use Rattle.scenario_reader.specs.FoundRoutes.{IsLeastRoute}
-use Rattle.scenario_reader.specs.Nodes.{AreNumbered}
+use Rattle.scenario_reader.specs.Nodes.{LinksAreNumbered}
 use Rattle.scenario_reader.specs.ReadPlans.{GoesByLeastWalk, RequestsGetTheLeastRoutes}
 use Rattle.scenario_reader.proofs.FoundNodes.{found-nodes}
 use Rattle.scenario_reader.proofs.LeastRoutes.{finds-least-routes}
@@ -24,7 +24,7 @@ few-links : (parts : PlanParts) → IsPlan parts → length parts.links ≤ 32
 unfolding network_of
 few-links parts plan = (let few = (plan-fits parts plan).few in omega (arith, few, length-map parts.links (entry_link (groups_in parts))))
 
-least-route : (links : List LinkEntry) (route : List Hop) (found : Option (List ℕ × List ℕ)) → AreNumbered links → length links ≤ 32 → 1 ≤ length route → IsFoundRoute links route found → GoesByLeastWalk links route found
+least-route : (links : List LinkEntry) (route : List Hop) (found : Option (List ℕ × List ℕ)) → LinksAreNumbered links → length links ≤ 32 → 1 ≤ length route → IsFoundRoute links route found → GoesByLeastWalk links route found
 least-route links route None numbered few some is = tt
 least-route links route (Some (from, to)) numbered few some is =
     let ends = found-nodes links from to route numbered few some is in
@@ -34,7 +34,7 @@ least-route links route (Some (from, to)) numbered few some is =
       apart = λ same. true≢false (sym (named-equal to from same) ∙ ends.apart);
     }))
 
-least-routes : (links : List LinkEntry) (requests : List RequestEntry) → AreNumbered links → length links ≤ 32 → Each HasTerms requests → Each (λ (entry : RequestEntry). IsFoundRoute links entry.request.route entry.found) requests
+least-routes : (links : List LinkEntry) (requests : List RequestEntry) → LinksAreNumbered links → length links ≤ 32 → Each HasTerms requests → Each (λ (entry : RequestEntry). IsFoundRoute links entry.request.route entry.found) requests
     → Each (λ (entry : RequestEntry). GoesByLeastWalk links entry.request.route entry.found) requests
 least-routes links [] numbered few terms found = tt
 least-routes links (entry ∷ requests) numbered few terms found =

@@ -12,8 +12,8 @@ use Rattle.scenario_reader.specs.AuditLines.{Acceptance}
 use Rattle.scenario_reader.specs.AuditReading.{AuditSaid}
 use Rattle.scenario_reader.specs.Drafts.{is_complete}
 use Rattle.scenario_reader.specs.declared.audit.accepting.Acceptance.{Acceptance as Told}
-use Rattle.scenario_reader.specs.declared.audit.place.Place.{Place}
-use Rattle.scenario_reader.specs.declared.audit.place.Place.TheVariants as place
+use Rattle.scenario_reader.specs.declared.audit.place.Section.{Section}
+use Rattle.scenario_reader.specs.declared.audit.place.Section.TheVariants as place
 
 -- the levels that were told, as lists of their numbers
 abbrev pub levels_given : List (Option Levels) → List (Option (List ℕ))
@@ -28,7 +28,7 @@ abbrev pub KeepsTold : List RequestEntry → Acceptance → Type 0
 KeepsTold requests told = (entry : RequestEntry) → slice_get requests told.request ≡ Some entry → KeepsRequest entry.request told.levels (delay_over entry.request.route told.levels)
 
 -- which requests' levels there are, and how much of the scenario, by which lines are read
-abbrev pub IsPlaced : Place → AuditSaid → Type 0
+abbrev pub IsPlaced : Section → AuditSaid → Type 0
 IsPlaced place.Scenario read = read.levels ≡ []
 IsPlaced place.Report read = (is_complete read.said ≡ true) × (length read.levels ≡ length read.said.requests)
 IsPlaced place.Table read = (is_complete read.said ≡ true) × (length read.levels ≡ length read.said.requests)

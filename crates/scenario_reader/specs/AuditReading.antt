@@ -15,8 +15,8 @@ use Rattle.scenario_reader.specs.Drafts.{Said, nothing_said, with_item, is_compl
 use Rattle.scenario_reader.specs.Fields.{fields_of, are_fields, field_at}
 use Rattle.scenario_reader.specs.Grammar.{judge}
 use Rattle.scenario_reader.specs.Reading.{PassesFrom}
-use Rattle.scenario_reader.specs.declared.audit.place.Place.{Place}
-use Rattle.scenario_reader.specs.declared.audit.place.Place.TheVariants as place
+use Rattle.scenario_reader.specs.declared.audit.place.Section.{Section}
+use Rattle.scenario_reader.specs.declared.audit.place.Section.TheVariants as place
 use Rattle.scenario_reader.specs.declared.cause.Cause.{Cause}
 use Rattle.scenario_reader.specs.declared.cause.Cause.TheVariants as cause
 use Rattle.scenario_reader.specs.declared.item.Item.{Item}
@@ -25,11 +25,11 @@ use Rattle.scenario_reader.specs.declared.item.Item.{Item}
 -- and the rows
 pub record AuditSaid : Type 0 where
   pub said : Said
-  pub place : Place
+  pub place : Section
   pub levels : List (Option (List ℕ))
   pub rows : List HopRow
 
-abbrev pub audit_said : Said → Place → List (Option (List ℕ)) → List HopRow → AuditSaid
+abbrev pub audit_said : Said → Section → List (Option (List ℕ)) → List HopRow → AuditSaid
 audit_said said place levels rows = record { said = said; place = place; levels = levels; rows = rows }
 
 -- nothing has been read yet
@@ -78,7 +78,7 @@ with_row read (Some row) = Ok (record read { rows = read.rows ++ row ∷ [] })
 
 -- ---- each line
 
-abbrev pub line_at : Place → AuditSaid → ℕ → List ℕ → Result AuditSaid Cause
+abbrev pub line_at : Section → AuditSaid → ℕ → List ℕ → Result AuditSaid Cause
 line_at place.Scenario read number line = scenario_line read number line
 line_at place.Report read number line = report_line read line
 line_at place.Table read number line = with_row read (row_told read.said line)
@@ -96,7 +96,7 @@ pub data AuditReading : Type 0 where
   TooManyAuditBytes : AuditReading
 
 -- what the end comes to, by where it came, after `count` lines
-abbrev pub end_at : Place → ℕ → AuditSaid → AuditReading
+abbrev pub end_at : Section → ℕ → AuditSaid → AuditReading
 end_at place.Scenario count read = BadAuditLine (suc count) cause.End
 end_at place.Report count read = BadAuditLine (suc count) cause.Table
 end_at place.Table count read = AuditRead (parts_said read.said) read.levels read.rows

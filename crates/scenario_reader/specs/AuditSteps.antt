@@ -3,14 +3,14 @@ use Rattle.std.specs.Prelude.{List, Option, Some, None, IfSome, ℕ}
 use Rattle.scenario_reader.specs.AuditReading.{AuditSaid, AuditReading, BadAuditLine, TooManyAuditBytes, audit_line, audit_on, audit_reading, nothing_read}
 use Rattle.scenario_reader.specs.Causes.{Rule}
 use Rattle.scenario_reader.specs.ReadSteps.{Language, Refuses}
-use Rattle.scenario_reader.specs.declared.audit.place.Place.{Place}
-use Rattle.scenario_reader.specs.declared.audit.place.Place.TheVariants as place
+use Rattle.scenario_reader.specs.declared.audit.place.Section.{Section}
+use Rattle.scenario_reader.specs.declared.audit.place.Section.TheVariants as place
 use Rattle.scenario_reader.specs.declared.cause.Cause.TheVariants as cause
 use Rattle.scenario_reader.specs.declared.reader.ReadRefusal.{ReadRefusal}
 use Rattle.scenario_reader.specs.declared.reader.TheConstants.{MOST_BYTES}
 
 -- an audit's input ends in its table
-abbrev pub place_rule : Place → Rule
+abbrev pub place_rule : Section → Rule
 place_rule place.Scenario = Some cause.End
 place_rule place.Report = Some cause.Table
 place_rule place.Table = None

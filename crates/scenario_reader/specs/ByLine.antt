@@ -11,8 +11,8 @@ use Rattle.scenario_reader.specs.Drafts.{Said, is_complete, parts_said, schedule
 use Rattle.scenario_reader.specs.Grammar.{judge}
 use Rattle.scenario_reader.specs.Reading.{BadLine, PlanRead, Reading, on_judged, reading_of, with_judged}
 use Rattle.scenario_reader.specs.ReadSteps.{IsByLine, judged_on, scenarios}
-use Rattle.scenario_reader.specs.declared.audit.place.Place.{Place}
-use Rattle.scenario_reader.specs.declared.audit.place.Place.TheVariants as place
+use Rattle.scenario_reader.specs.declared.audit.place.Section.{Section}
+use Rattle.scenario_reader.specs.declared.audit.place.Section.TheVariants as place
 use Rattle.scenario_reader.specs.declared.cause.Cause.{Cause}
 use Rattle.scenario_reader.specs.declared.cause.Cause.TheVariants as cause
 use Rattle.scenario_reader.specs.declared.item.Item.{Item}
@@ -44,7 +44,7 @@ audit_next : (judged : Result AuditSaid Cause) (count : ℕ) (rest : Outlook)
 audit_next (Ok after) count rest = refl
 audit_next (Err cause) count rest = refl
 
-audit_end : (at : Place) (count : ℕ) (read : AuditSaid) (why : Cause) → place_rule at ≡ Some why → end_at at count read ≡ BadAuditLine (suc count) why
+audit_end : (at : Section) (count : ℕ) (read : AuditSaid) (why : Cause) → place_rule at ≡ Some why → end_at at count read ≡ BadAuditLine (suc count) why
 audit_end place.Scenario count read why is = ap (BadAuditLine (suc count)) (same_Some cause.End why is)
 audit_end place.Report count read why is = ap (BadAuditLine (suc count)) (same_Some cause.Table why is)
 audit_end place.Table count read why is = subst (λ rule. Refused rule (end_at place.Table count read ≡ BadAuditLine (suc count) why)) is tt

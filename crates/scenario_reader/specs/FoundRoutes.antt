@@ -6,7 +6,7 @@ use Rattle.hop_reservation.specs.declared.route.Hop.{Hop}
 use Rattle.call_script.specs.declared.entries.LinkEntry.{LinkEntry}
 use Rattle.route_finder.specs.Walks.{hop_of as hop_by, IsWalk, IsLeastWalk}
 use Rattle.route_finder.specs.declared.edge.Edge.{Edge}
-use Rattle.scenario_reader.specs.Nodes.{AreNumbered, is_node, node_of, edges_of, route_between}
+use Rattle.scenario_reader.specs.Nodes.{LinksAreNumbered, is_node, node_of, edges_of, route_between}
 
 -- two different nodes of the network
 pub record AreApart (links : List LinkEntry) (from to : List ℕ) : Type 0 where
@@ -26,7 +26,7 @@ IsLeastRoute links from to None = (walk : List Edge) → IsWalk (edges_of links)
 IsLeastRoute links from to (Some route) = IsByLeastWalk links from to route
 
 abbrev pub FindsLeastRoutes : Type 0
-FindsLeastRoutes = (links : List LinkEntry) (from to : List ℕ) → AreNumbered links → length links ≤ 32 → AreApart links from to → IsLeastRoute links from to (route_between links from to)
+FindsLeastRoutes = (links : List LinkEntry) (from to : List ℕ) → LinksAreNumbered links → length links ≤ 32 → AreApart links from to → IsLeastRoute links from to (route_between links from to)
 
 -- two nodes of one number are one node
 abbrev pub TellsNodesApart : Type 0

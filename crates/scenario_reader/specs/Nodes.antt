@@ -13,7 +13,7 @@ use Rattle.route_finder.specs.declared.edge.Edge.{Edge}
 use Rattle.scenario_reader.specs.Entries.{hop_of}
 
 -- each link has the number of its place
-pub record AreNumbered (links : List LinkEntry) : Type 0 where
+pub record LinksAreNumbered (links : List LinkEntry) : Type 0 where
   pub number : (n : ℕ) (entry : LinkEntry) → slice_get links n ≡ Some entry → link_number entry.shape.link ≡ n
 
 -- whether a link begins or ends at this node

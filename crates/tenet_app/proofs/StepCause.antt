@@ -48,55 +48,55 @@ by_step None = false
 by_step (Some why) = is_step why
 
 -- the rule doesn't refuse for a missing step
-record IsOther (rule : Rule) : Type 0 where
+record IsNotByStep (rule : Rule) : Type 0 where
   pub other : by_step rule ≡ false
 
-other-unless : (holds : Bool) (why : Cause) → is_step why ≡ false → IsOther (unless holds why)
+other-unless : (holds : Bool) (why : Cause) → is_step why ≡ false → IsNotByStep (unless holds why)
 other-unless true why is = record { other = refl }
 other-unless false why is = record { other = is }
 
-other-else : (first second : Rule) → IsOther first → IsOther second → IsOther (or_else first second)
+other-else : (first second : Rule) → IsNotByStep first → IsNotByStep second → IsNotByStep (or_else first second)
 other-else None second one two = two
 other-else (Some why) second one two = one
 
-other-if : (test : Bool) (first second : Rule) → IsOther first → IsOther second → IsOther (cond test first second)
+other-if : (test : Bool) (first second : Rule) → IsNotByStep first → IsNotByStep second → IsNotByStep (cond test first second)
 other-if true first second one two = one
 other-if false first second one two = two
 
-other-none : IsOther None
+other-none : IsNotByStep None
 other-none = record { other = refl }
 
-other-all : {X : Type 0} (rule_of : X → Rule) (xs : List X) → ((x : X) → IsOther (rule_of x)) → IsOther (first_cause (map rule_of xs))
+other-all : {X : Type 0} (rule_of : X → Rule) (xs : List X) → ((x : X) → IsNotByStep (rule_of x)) → IsNotByStep (first_cause (map rule_of xs))
 other-all rule_of [] each = other-none
 other-all rule_of (x ∷ xs) each = other-else (rule_of x) (first_cause (map rule_of xs)) (each x) (other-all rule_of xs each)
 
 -- ---- the rules of fields
 
-other-name : (field : List ℕ) → IsOther (name_rule field)
+other-name : (field : List ℕ) → IsNotByStep (name_rule field)
 other-name field = other-unless (is_name field) cause.Name refl
 
-other-new : (known : List (List ℕ)) (field : List ℕ) → IsOther (new_name_rule known field)
+other-new : (known : List (List ℕ)) (field : List ℕ) → IsNotByStep (new_name_rule known field)
 other-new known field = other-else _ _ (other-name field) (other-unless (not (is_among known field)) cause.Known refl)
 
-other-used : (known : Bool) (field : List ℕ) → IsOther (used_name_rule known field)
+other-used : (known : Bool) (field : List ℕ) → IsNotByStep (used_name_rule known field)
 other-used known field = other-else _ _ (other-name field) (other-unless known cause.Unknown refl)
 
-other-number : (low high : ℕ) (field : List ℕ) → IsOther (number_rule low high field)
+other-number : (low high : ℕ) (field : List ℕ) → IsNotByStep (number_rule low high field)
 other-number low high field = other-else _ _ (other-unless (is_number field) cause.Number refl) (other-unless (nat_le low (value_of field) && nat_le (value_of field) high) cause.Range refl)
 
 -- ---- the rules of lines
 
-other-link-numbers : (fields : List (List ℕ)) → IsOther (link_numbers_rule fields)
+other-link-numbers : (fields : List (List ℕ)) → IsNotByStep (link_numbers_rule fields)
 other-link-numbers fields =
     other-else _ _ (other-number 1 most_rate (field_at fields 5))
     (other-else _ _ (other-number 1 most_size (field_at fields 7))
     (other-else _ _ (other-number 0 most_propagation (field_at fields 9))
     (other-else _ _ (other-number 0 most_buffer (field_at fields 11)) other-none)))
 
-other-best : (fields : List (List ℕ)) → IsOther (best_rule fields)
+other-best : (fields : List (List ℕ)) → IsNotByStep (best_rule fields)
 other-best fields = other-if (has_best fields) (number_rule 1 most_best (field_at fields 13)) None (other-number 1 most_best (field_at fields 13)) other-none
 
-other-link-fields : (said : Said) (fields : List (List ℕ)) → IsOther (link_fields_rule said fields)
+other-link-fields : (said : Said) (fields : List (List ℕ)) → IsNotByStep (link_fields_rule said fields)
 other-link-fields said fields =
     other-else _ _ (other-new (link_names said.links) (field_at fields 1))
     (other-else _ _ (other-name (field_at fields 2))
@@ -105,25 +105,25 @@ other-link-fields said fields =
     (other-else _ _ (other-best fields)
     (other-else _ _ (other-all (number_rule 1 most_bound) (bound_fields fields) (other-number 1 most_bound)) other-none)))))
 
-other-link : (version : Version) (said : Said) (fields : List (List ℕ)) → IsOther (link_rule version said fields)
+other-link : (version : Version) (said : Said) (fields : List (List ℕ)) → IsNotByStep (link_rule version said fields)
 other-link version said fields =
     other-else _ _ (other-unless (is_link_line version fields) cause.Shape refl)
     (other-else _ _ (other-link-fields said fields)
     (other-else _ _ (other-unless (nat_lt (length said.links) most_links) cause.Many refl)
     (other-else _ _ (other-unless (has_bounds (link_numbers fields)) cause.Levels refl) other-none)))
 
-other-group : (said : Said) (fields : List (List ℕ)) → IsOther (group_rule said fields)
+other-group : (said : Said) (fields : List (List ℕ)) → IsNotByStep (group_rule said fields)
 other-group said fields =
     other-else _ _ (other-unless (has_form group_form fields) cause.Shape refl)
     (other-else _ _ (other-new said.groups (field_at fields 1))
     (other-else _ _ (other-unless (nat_lt (length said.groups) most_groups) cause.Many refl) other-none))
 
-other-quota-numbers : (fields : List (List ℕ)) → IsOther (quota_numbers_rule fields)
+other-quota-numbers : (fields : List (List ℕ)) → IsNotByStep (quota_numbers_rule fields)
 other-quota-numbers fields =
     other-else _ _ (other-number 0 most_buffer (field_at fields 4))
     (other-else _ _ (other-all (number_rule 0 most_bound) (load_fields fields) (other-number 0 most_bound)) other-none)
 
-other-quota : (said : Said) (fields : List (List ℕ)) → IsOther (quota_rule said fields)
+other-quota : (said : Said) (fields : List (List ℕ)) → IsNotByStep (quota_rule said fields)
 other-quota said fields =
     other-else _ _ (other-unless (has_form quota_form fields) cause.Shape refl)
     (other-else _ _ (other-used (is_some (link_named said.links (field_at fields 1))) (field_at fields 1))
@@ -132,41 +132,41 @@ other-quota said fields =
     (other-else _ _ (other-quota-numbers fields)
     (other-else _ _ (other-unless (is_fit_quota (length (load_fields fields)) (link_named said.links (field_at fields 1)) (quota_in said fields)) cause.Quota refl) other-none)))))
 
-other-member : (said : Said) (fields : List (List ℕ)) → IsOther (member_rule said fields)
+other-member : (said : Said) (fields : List (List ℕ)) → IsNotByStep (member_rule said fields)
 other-member said fields =
     other-if (names_group fields) (used_name_rule (is_some (group_named said.groups (field_at fields 3))) (field_at fields 3)) None
     (other-used (is_some (group_named said.groups (field_at fields 3))) (field_at fields 3)) other-none
 
-other-caller : (version : Version) (said : Said) (fields : List (List ℕ)) → IsOther (caller_rule version said fields)
+other-caller : (version : Version) (said : Said) (fields : List (List ℕ)) → IsNotByStep (caller_rule version said fields)
 other-caller version said fields =
     other-else _ _ (other-unless (is_caller_line version fields) cause.Shape refl)
     (other-else _ _ (other-new (caller_names said.callers) (field_at fields 1))
     (other-else _ _ (other-member said fields)
     (other-else _ _ (other-unless (nat_lt (length said.callers) most_callers) cause.Many refl) other-none)))
 
-other-terms : (fields : List (List ℕ)) → IsOther (terms_rule fields)
+other-terms : (fields : List (List ℕ)) → IsNotByStep (terms_rule fields)
 other-terms fields =
     other-else _ _ (other-number 1 most_gap (after_route fields 1))
     (other-else _ _ (other-number 1 most_gap (after_route fields 2))
     (other-else _ _ (other-number 1 most_interval (after_route fields 3))
     (other-else _ _ (other-number 1 most_size (after_route fields 4)) other-none)))
 
-other-jitter : (fields : List (List ℕ)) → IsOther (jitter_rule fields)
+other-jitter : (fields : List (List ℕ)) → IsNotByStep (jitter_rule fields)
 other-jitter fields = other-if (has_jitter fields) (number_rule 1 most_delay (after_route fields 8)) None (other-number 1 most_delay (after_route fields 8)) other-none
 
-other-route-link : (said : Said) (field : List ℕ) → IsOther (route_link_rule said field)
+other-route-link : (said : Said) (field : List ℕ) → IsNotByStep (route_link_rule said field)
 other-route-link said field = other-used (is_some (link_named said.links field)) field
 
-other-nodes : (said : Said) (fields : List (List ℕ)) → IsOther (nodes_rule said fields)
+other-nodes : (said : Said) (fields : List (List ℕ)) → IsNotByStep (nodes_rule said fields)
 other-nodes said fields = other-else _ _ (other-used (is_node said.links (field_at fields 3)) (field_at fields 3)) (other-used (is_node said.links (field_at fields 5)) (field_at fields 5))
 
-other-route-names : (said : Said) (route : List (List ℕ)) → IsOther (route_names_rule said route)
+other-route-names : (said : Said) (route : List (List ℕ)) → IsNotByStep (route_names_rule said route)
 other-route-names said route = other-all (route_link_rule said) route (other-route-link said)
 
-other-way-fields : (said : Said) (fields : List (List ℕ)) → IsOther (way_fields_rule said fields)
+other-way-fields : (said : Said) (fields : List (List ℕ)) → IsNotByStep (way_fields_rule said fields)
 other-way-fields said fields = other-if (is_found fields) (nodes_rule said fields) (route_names_rule said (route_fields fields)) (other-nodes said fields) (other-route-names said (route_fields fields))
 
-other-open-fields : (said : Said) (fields : List (List ℕ)) → IsOther (open_fields_rule said fields)
+other-open-fields : (said : Said) (fields : List (List ℕ)) → IsNotByStep (open_fields_rule said fields)
 other-open-fields said fields =
     other-else _ _ (other-new (request_names said.requests) (field_at fields 1))
     (other-else _ _ (other-way-fields said fields)
@@ -174,37 +174,37 @@ other-open-fields said fields =
     (other-else _ _ (other-number 1 most_delay (after_route fields 6))
     (other-else _ _ (other-jitter fields) other-none))))
 
-other-between : (said : Said) (from to : List ℕ) → IsOther (between_rule said from to)
+other-between : (said : Said) (from to : List ℕ) → IsNotByStep (between_rule said from to)
 other-between said from to = other-else _ _ (other-unless (not (is_named to from)) cause.Route refl) (other-unless (is_some (route_between said.links from to)) cause.Reach refl)
 
-other-way : (said : Said) (fields : List (List ℕ)) → IsOther (way_rule said fields)
+other-way : (said : Said) (fields : List (List ℕ)) → IsNotByStep (way_rule said fields)
 other-way said fields =
     other-if (is_found fields) (between_rule said (field_at fields 3) (field_at fields 5)) (unless (is_way said (hops_in said fields)) cause.Route)
     (other-between said (field_at fields 3) (field_at fields 5))
     (other-unless (is_way said (hops_in said fields)) cause.Route refl)
 
-other-open-limits : (said : Said) (fields : List (List ℕ)) → IsOther (open_limits_rule said fields)
+other-open-limits : (said : Said) (fields : List (List ℕ)) → IsNotByStep (open_limits_rule said fields)
 other-open-limits said fields =
     other-else _ _ (other-unless (nat_lt (length said.requests) most_requests) cause.Many refl)
     (other-else _ _ (other-unless (is_some (contract_of (contract_told fields))) cause.Contract refl)
     (other-else _ _ (other-way said fields) other-none))
 
-other-open : (version : Version) (said : Said) (fields : List (List ℕ)) → IsOther (open_rule version said fields)
+other-open : (version : Version) (said : Said) (fields : List (List ℕ)) → IsNotByStep (open_rule version said fields)
 other-open version said fields =
     other-else _ _ (other-unless (is_open_line version fields) cause.Shape refl)
     (other-else _ _ (other-open-fields said fields)
     (other-else _ _ (other-open-limits said fields) other-none))
 
-other-packets : (fields : List (List ℕ)) → IsOther (packets_rule fields)
+other-packets : (fields : List (List ℕ)) → IsNotByStep (packets_rule fields)
 other-packets fields =
     other-else _ _ (other-number 1 most_packets (field_at fields 2))
     (other-else _ _ (other-number 1 most_gap (field_at fields 3))
     (other-else _ _ (other-number 1 most_size (field_at fields 4)) other-none))
 
-other-load : (said : Said) (packets : ℕ) → IsOther (load_rule said packets)
+other-load : (said : Said) (packets : ℕ) → IsNotByStep (load_rule said packets)
 other-load said packets = other-unless (nat_le (load_in said.requests said.callers + packets) most_packets) cause.Load refl
 
-other-send : (said : Said) (fields : List (List ℕ)) → IsOther (send_rule said fields)
+other-send : (said : Said) (fields : List (List ℕ)) → IsNotByStep (send_rule said fields)
 other-send said fields =
     other-else _ _ (other-unless (has_form send_form fields) cause.Shape refl)
     (other-else _ _ (other-used (is_some (own_request said (field_at fields 1))) (field_at fields 1))
@@ -212,13 +212,13 @@ other-send said fields =
     (other-else _ _ (other-unless (not (is_over_request said (own_request said (field_at fields 1)))) cause.Closed refl)
     (other-else _ _ (other-load said (value_of (field_at fields 2) * hops_of (own_request said (field_at fields 1)))) other-none))))
 
-other-close : (said : Said) (fields : List (List ℕ)) → IsOther (close_rule said fields)
+other-close : (said : Said) (fields : List (List ℕ)) → IsNotByStep (close_rule said fields)
 other-close said fields =
     other-else _ _ (other-unless (has_form close_form fields) cause.Shape refl)
     (other-else _ _ (other-used (is_some (own_request said (field_at fields 1))) (field_at fields 1))
     (other-else _ _ (other-unless (not (is_closed_request said (own_request said (field_at fields 1)))) cause.Closed refl) other-none))
 
-other-move : (said : Said) (fields : List (List ℕ)) → IsOther (move_rule said fields)
+other-move : (said : Said) (fields : List (List ℕ)) → IsNotByStep (move_rule said fields)
 other-move said fields =
     other-else _ _ (other-unless (has_form move_form fields) cause.Shape refl)
     (other-else _ _ (other-used (is_some (own_request said (field_at fields 1))) (field_at fields 1))
@@ -227,7 +227,7 @@ other-move said fields =
     (other-else _ _ (other-unless (may_join said (own_request said (field_at fields 1)) (own_request said (field_at fields 2))) cause.Move refl)
     (other-else _ _ (other-load said (carried said (own_request said (field_at fields 1)) * hops_of (own_request said (field_at fields 2)))) other-none)))))
 
-other-pour : (said : Said) (fields : List (List ℕ)) → IsOther (pour_rule said fields)
+other-pour : (said : Said) (fields : List (List ℕ)) → IsNotByStep (pour_rule said fields)
 other-pour said fields =
     other-else _ _ (other-unless (has_form pour_form fields) cause.Shape refl)
     (other-else _ _ (other-used (is_some (link_named said.links (field_at fields 1))) (field_at fields 1))
@@ -235,24 +235,24 @@ other-pour said fields =
     (other-else _ _ (other-load said (value_of (field_at fields 2)))
     (other-else _ _ (other-unless (takes_best_effort (link_named said.links (field_at fields 1))) cause.Best refl) other-none))))
 
-other-rounds : (fields : List (List ℕ)) → IsOther (rounds_rule fields)
+other-rounds : (fields : List (List ℕ)) → IsNotByStep (rounds_rule fields)
 other-rounds fields =
     other-else _ _ (other-unless (has_form rounds_form fields) cause.Shape refl)
     (other-else _ _ (other-number 0 most_rounds (field_at fields 1)) other-none)
 
-other-tail : (said : Said) (fields : List (List ℕ)) → IsOther (tail_rule said fields)
+other-tail : (said : Said) (fields : List (List ℕ)) → IsNotByStep (tail_rule said fields)
 other-tail said fields =
     other-else _ _ (other-unless (has_form tail_form fields) cause.Shape refl)
     (other-else _ _ (other-number 0 most_rounds (field_at fields 1))
     (other-else _ _ (other-unless (are_few_ticks said (value_of (field_at fields 1))) cause.Load refl) other-none))
 
-other-schedule : (fields : List (List ℕ)) → IsOther (schedule_rule fields)
+other-schedule : (fields : List (List ℕ)) → IsNotByStep (schedule_rule fields)
 other-schedule fields = other-unless (has_form schedule_form fields) cause.Shape refl
 
-other-actor : (said : Said) (field : List ℕ) → IsOther (actor_rule said field)
+other-actor : (said : Said) (field : List ℕ) → IsNotByStep (actor_rule said field)
 other-actor said field = other-if (is_plane field) None (used_name_rule (is_some (caller_named said.callers field)) field) other-none (other-used (is_some (caller_named said.callers field)) field)
 
-other-do : (said : Said) (fields : List (List ℕ)) → IsOther (do_rule said fields)
+other-do : (said : Said) (fields : List (List ℕ)) → IsNotByStep (do_rule said fields)
 other-do said fields =
     other-else _ _ (other-unless (has_form do_form fields) cause.Shape refl)
     (other-else _ _ (other-actor said (field_at fields 1))
@@ -264,11 +264,11 @@ abbrev stops : {X : Type 0} → Result X Cause → Bool
 stops (Ok said) = false
 stops (Err why) = is_step why
 
-judged-goes : {X : Type 0} (rule : Rule) (x : X) → IsOther rule → stops (judged rule x) ≡ false
+judged-goes : {X : Type 0} (rule : Rule) (x : X) → IsNotByStep rule → stops (judged rule x) ≡ false
 judged-goes None x is = refl
 judged-goes (Some why) x is = is.other
 
-stated-goes : {X : Type 0} (rule : Rule) (said : Option X) → IsOther rule → stops (stated rule said) ≡ false
+stated-goes : {X : Type 0} (rule : Rule) (said : Option X) → IsNotByStep rule → stops (stated rule said) ≡ false
 stated-goes None None is = refl
 stated-goes None (Some x) is = refl
 stated-goes (Some why) said is = is.other

@@ -7,7 +7,7 @@ use Rattle.slab.specs.Slab.{Slab, Updates, get}
 use Rattle.link_steps.specs.Lists.{Each}
 use Rattle.tick_calendar.specs.Calendar.{Entry}
 use Rattle.tick_plane.specs.declared.flight.Flight.{Flight}
-use Rattle.tick_plane.specs.Carried.{flight_told, in_round, flight_at, flights_at, times, held_at, IsCarried, AreKeyed}
+use Rattle.tick_plane.specs.Carried.{flight_told, in_round, flight_at, flights_at, times, count_at_key, IsCarried, AreKeyed}
 
 -- ---- how many entries have a key
 
@@ -38,14 +38,14 @@ module _ (old new : Slab Flight) (key : ℕ) (slot : Option Flight) (updates : U
             ap (λ (f : Flight). f ∷ flights_at new.slots entries) here ∙ ap (λ (fs : List Flight). flight_at old.slots entry ∷ fs) rest)
       ]
 
-  held-other : (k : ℕ) → nat_eq k key ≡ false → held_at new.slots k ≡ held_at old.slots k
+  held-other : (k : ℕ) → nat_eq k key ≡ false → count_at_key new.slots k ≡ count_at_key old.slots k
   held-other k other = ap as-number (updates.others k (eqb-false k key other))
 
-  held-own : (k : ℕ) → nat_eq k key ≡ true → held_at new.slots k ≡ as-number slot
-  held-own k at = ap (held_at new.slots) (eqb-true k key at) ∙ ap as-number updates.changed
+  held-own : (k : ℕ) → nat_eq k key ≡ true → count_at_key new.slots k ≡ as-number slot
+  held-own k at = ap (count_at_key new.slots) (eqb-true k key at) ∙ ap as-number updates.changed
 
-held-none : (old : Slab Flight) (key k : ℕ) → get old key ≡ None → nat_eq k key ≡ true → held_at old.slots k ≡ 0
-held-none old key k none at = ap (held_at old.slots) (eqb-true k key at) ∙ ap as-number none
+held-none : (old : Slab Flight) (key k : ℕ) → get old key ≡ None → nat_eq k key ≡ true → count_at_key old.slots k ≡ 0
+held-none old key k none at = ap (count_at_key old.slots) (eqb-true k key at) ∙ ap as-number none
 
 -- ---- a flight is put
 
@@ -85,7 +85,7 @@ module _ (slots : List (Option Flight)) (before after : List Entry) (round key :
   held-most true = omega arith
   held-most false = omega arith
 
-  counts : (times key (before ++ after) ≡ 0) × (held_at slots key ≡ 1)
+  counts : (times key (before ++ after) ≡ 0) × (count_at_key slots key ≡ 1)
   counts =
       let whole = times-append key before ((round, key) ∷ after) in
       let left = times-append key before after in

@@ -38,8 +38,8 @@ times key [] = 0
 times key (entry ∷ entries) = (if nat_eq entry.1 key then 1 else 0) + times key entries
 
 -- whether a key has a flight, as a number
-abbrev pub held_at : List (Option Flight) → ℕ → ℕ
-held_at slots key = if is_some (slice_index_or slots key None) then 1 else 0
+abbrev pub count_at_key : List (Option Flight) → ℕ → ℕ
+count_at_key slots key = if is_some (slice_index_or slots key None) then 1 else 0
 
 -- the key of an entry has a flight
 abbrev pub IsCarried : List (Option Flight) → Entry → Type 0
@@ -47,7 +47,7 @@ IsCarried slots entry = IsSome (slice_index_or slots entry.1 None)
 
 -- each key that has a flight is among these once
 pub record AreKeyed (slots : List (Option Flight)) (entries : List Entry) : Type 0 where
-  pub once : (key : ℕ) → times key entries ≡ held_at slots key
+  pub once : (key : ℕ) → times key entries ≡ count_at_key slots key
   pub counted : count_by is_some slots ≡ length entries
 
 -- ---- rounds

@@ -25,7 +25,7 @@ use Rattle.trace_audit.specs.declared.terms.Terms.{Terms}
 use Rattle.trace_audit.specs.Terms.{terms_at}
 use Rattle.trace_audit.proofs.RowTerms.{row-known}
 use Rattle.trace_audit.proofs.PassingRow.{passes-told}
-use Rattle.trace_audit.proofs.TableInOrder.{at-parts, near-row, numbered, IsNear, AreNumbered}
+use Rattle.trace_audit.proofs.TableInOrder.{at-parts, near-row, numbered, IsNear, RowsAreNumbered}
 
 -- ---- a row at a hop
 
@@ -176,7 +176,7 @@ row-timed plan levels c i near_terms terms above row all has_near has next at ti
           let keeps = ticks-keep plan levels c i near_terms above all.0 has_near (subst IsContract (sym next.contract) next.valid) in
           let keeps_far = ticks-keep plan levels c (suc i) terms above all.0 has next.valid in
           -- as many have passed the hop before as this one has with the row
-          let near_count : near.number ≡ suc (length (rows_at c (suc i) is.rest)) = first-number near is.rest near_at (subst AreNumbered (ap (rows_at c (suc i)) is.is) (numbered plan levels above all.0 c (suc i))) in
+          let near_count : near.number ≡ suc (length (rows_at c (suc i) is.rest)) = first-number near is.rest near_at (subst RowsAreNumbered (ap (rows_at c (suc i)) is.is) (numbered plan levels above all.0 c (suc i))) in
           let far_count : row.number ≡ suc (length (rows_at c (suc (suc i)) above)) = row-number (numbered plan levels (row ∷ above) all c (suc (suc i))) in
           let counted : length (rows_at c (suc i) is.rest) ≡ length (ticks_in c (suc (suc i)) above) = (let n = is.number in let t = ticks-count c (suc (suc i)) above in omega (arith, near_count, far_count, n, t)) in
           let tick : get_or (ticks_in c (suc i) above) (length (ticks_in c (suc (suc i)) above)) 0 ≡ near.eligible =
@@ -192,10 +192,10 @@ row-timed plan levels c i near_terms terms above row all has_near has next at ti
             and-at : (near : HopRow) → channel_number near.chan ≡ c → near.hop ≡ suc i → is_at c (suc i) near ≡ true
             and-at near chan hop = (let a = eq-eqb (channel_number near.chan) c chan in let b = eq-eqb near.hop (suc i) hop in rw (a, b) refl)
 
-            first-number : (near : HopRow) (rest : List HopRow) → is_at c (suc i) near ≡ true → AreNumbered (rows_at c (suc i) (near ∷ rest)) → near.number ≡ suc (length (rows_at c (suc i) rest))
+            first-number : (near : HopRow) (rest : List HopRow) → is_at c (suc i) near ≡ true → RowsAreNumbered (rows_at c (suc i) (near ∷ rest)) → near.number ≡ suc (length (rows_at c (suc i) rest))
             first-number near rest at are = (rw at at are).0
 
-            row-number : AreNumbered (rows_at c (suc (suc i)) (row ∷ above)) → row.number ≡ suc (length (rows_at c (suc (suc i)) above))
+            row-number : RowsAreNumbered (rows_at c (suc (suc i)) (row ∷ above)) → row.number ≡ suc (length (rows_at c (suc (suc i)) above))
             row-number are = (rw at at are).0
 
             more : (near : HopRow) (rest : List HopRow) → is_at c (suc i) near ≡ true → length (rows_at c (suc i) (near ∷ rest)) ≡ suc (length (rows_at c (suc i) rest))

@@ -40,12 +40,12 @@ use Rattle.trace_audit.specs.Standing.{head_of, newest_arrival, IsKept, HopsStan
 use Rattle.trace_audit.specs.Terms.{terms_at, terms_of_row}
 use Rattle.trace_audit.proofs.RowTerms.{hop-told, row-known, IsKnown}
 use Rattle.trace_audit.proofs.HopToHop.{row-at, ticks-keep}
-use Rattle.trace_audit.proofs.TableInOrder.{AreNumbered, Follows, GoesOn, IsNext, IsLater, follows-told, CountsFromOne, IsBelow, number-le, found-among, at-parts, numbered, order-parts, below-order, each-counts, near-order, next-order}
+use Rattle.trace_audit.proofs.TableInOrder.{RowsAreNumbered, Follows, GoesOn, IsNext, IsLater, follows-told, CountsFromOne, IsBelow, number-le, found-among, at-parts, numbered, order-parts, below-order, each-counts, near-order, next-order}
 
 -- ---- the packet before
 
 -- a packet of these has a row exactly where it is numbered within them
-there-told : (c n hop : ℕ) (rows : List HopRow) → AreNumbered (rows_at c hop rows) → is_there (row_at c n hop rows) ≡ true → n ≤ length (rows_at c hop rows)
+there-told : (c n hop : ℕ) (rows : List HopRow) → RowsAreNumbered (rows_at c hop rows) → is_there (row_at c n hop rows) ≡ true → n ≤ length (rows_at c hop rows)
 there-told c n hop rows are there = by-found (row_at c n hop rows) refl there where
   by-found : (found : Option HopRow) → row_at c n hop rows ≡ found → is_there found ≡ true → n ≤ length (rows_at c hop rows)
   by-found None found there = absurd (false≢true there)
@@ -55,14 +55,14 @@ there-told c n hop rows are there = by-found (row_at c n hop rows) refl there wh
       let e = is.1 in
       omega (arith, most, e)
 
-pub there-found : (c n hop : ℕ) (rows : List HopRow) → AreNumbered (rows_at c hop rows) → 1 ≤ n → n ≤ length (rows_at c hop rows) → is_there (row_at c n hop rows) ≡ true
+pub there-found : (c n hop : ℕ) (rows : List HopRow) → RowsAreNumbered (rows_at c hop rows) → 1 ≤ n → n ≤ length (rows_at c hop rows) → is_there (row_at c n hop rows) ≡ true
 there-found c n hop [] are some within = absurd (omega (arith, some, within))
 there-found c n hop (row ∷ rows) are some within =
     elim (cases_Bool (is_at c hop row)) [
       | inl at ↦ elim (cases_Bool (nat_eq row.number n)) [
         | inl same ↦ rw (at, same) refl
         | inr other ↦
-            (let numbers : AreNumbered (row ∷ rows_at c hop rows) = rw at at are in
+            (let numbers : RowsAreNumbered (row ∷ rows_at c hop rows) = rw at at are in
             let long : n ≤ suc (length (rows_at c hop rows)) = rw at at within in
             let number = numbers.0 in
             let rest = there-found c n hop rows numbers.1 some (elim (cases_eq row.number n) [ inl e ↦ absurd (let t = eq-eqb row.number n e in let clash : true ≡ false = sym t ∙ other in cc) | inr d ↦ omega (arith, number, long, d) ]) in
@@ -72,12 +72,12 @@ there-found c n hop (row ∷ rows) are some within =
     ]
 
 -- the newest of them is the packet with the number of how many there are
-newest-row : (c hop : ℕ) (rows : List HopRow) → AreNumbered (rows_at c hop rows) → row_at c (length (rows_at c hop rows)) hop rows ≡ head_of (rows_at c hop rows)
+newest-row : (c hop : ℕ) (rows : List HopRow) → RowsAreNumbered (rows_at c hop rows) → row_at c (length (rows_at c hop rows)) hop rows ≡ head_of (rows_at c hop rows)
 newest-row c hop [] are = refl
 newest-row c hop (row ∷ rows) are =
     elim (cases_Bool (is_at c hop row)) [
       | inl at ↦
-          (let numbers : AreNumbered (row ∷ rows_at c hop rows) = rw at at are in
+          (let numbers : RowsAreNumbered (row ∷ rows_at c hop rows) = rw at at are in
           let same = eq-eqb row.number (suc (length (rows_at c hop rows))) numbers.0 in
           rw at (rw same refl))
       | inr off ↦

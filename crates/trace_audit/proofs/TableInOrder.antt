@@ -121,16 +121,16 @@ each-counts plan levels (row ∷ above) all = (counts plan levels row above all,
 -- ---- numbers
 
 -- newest first, each is the next after those before it
-abbrev pub AreNumbered : List HopRow → Type 0
-AreNumbered [] = Unit {0}
-AreNumbered (row ∷ rows) = (row.number ≡ suc (length rows)) × AreNumbered rows
+abbrev pub RowsAreNumbered : List HopRow → Type 0
+RowsAreNumbered [] = Unit {0}
+RowsAreNumbered (row ∷ rows) = (row.number ≡ suc (length rows)) × RowsAreNumbered rows
 
 pub at-parts : (c hop : ℕ) (row : HopRow) → is_at c hop row ≡ true → (channel_number row.chan ≡ c) × (row.hop ≡ hop)
 at-parts c hop row is =
     let both = and_parts (nat_eq (channel_number row.chan) c) (nat_eq row.hop hop) is in
     (eqb-true (channel_number row.chan) c both.0, eqb-true row.hop hop both.1)
 
-pub number-le : (rows : List HopRow) (x : HopRow) → AreNumbered rows → Among x rows → x.number ≤ length rows
+pub number-le : (rows : List HopRow) (x : HopRow) → RowsAreNumbered rows → Among x rows → x.number ≤ length rows
 number-le [] x are among = absurd among
 number-le (row ∷ rows) x are (inl same) = (let e : x.number ≡ row.number = ap (λ r. r.number) same in let f = are.0 in omega (arith, e, f))
 number-le (row ∷ rows) x are (inr among) = (let h = number-le rows x are.1 among in omega (arith, h))
@@ -148,9 +148,9 @@ found-among c number hop (row ∷ rows) x found =
     ]
 
 -- rows at a hop are below a row of that hop with the number of more than there are
-head-below : (c hop : ℕ) (row : HopRow) (above : List HopRow) → is_at c hop row ≡ true → Each (IsBelow row) (rows_at c hop above) → Each (λ x. is_at c hop x ≡ true) (rows_at c hop above) → AreNumbered (rows_at c hop above) → 1 ≤ row.number → length (rows_at c hop above) < row.number
+head-below : (c hop : ℕ) (row : HopRow) (above : List HopRow) → is_at c hop row ≡ true → Each (IsBelow row) (rows_at c hop above) → Each (λ x. is_at c hop x ≡ true) (rows_at c hop above) → RowsAreNumbered (rows_at c hop above) → 1 ≤ row.number → length (rows_at c hop above) < row.number
 head-below c hop row above at below are numbered some = by-rows (rows_at c hop above) below are numbered where
-  by-rows : (rows : List HopRow) → Each (IsBelow row) rows → Each (λ x. is_at c hop x ≡ true) rows → AreNumbered rows → length rows < row.number
+  by-rows : (rows : List HopRow) → Each (IsBelow row) rows → Each (λ x. is_at c hop x ≡ true) rows → RowsAreNumbered rows → length rows < row.number
   by-rows [] below are numbered = omega (arith, some)
   by-rows (x ∷ rows) below are numbered =
       let one = at-parts c hop row at in
@@ -164,7 +164,7 @@ head-below c hop row above at below are numbered some = by-rows (rows_at c hop a
       ]
 
 -- a row's number is the next of those at its hop above it
-number-next : (above : List HopRow) (row : HopRow) → is_in_order above row ≡ true → length (rows_at (channel_number row.chan) row.hop above) < row.number → AreNumbered (rows_at (channel_number row.chan) row.hop above) → row.number ≡ suc (length (rows_at (channel_number row.chan) row.hop above))
+number-next : (above : List HopRow) (row : HopRow) → is_in_order above row ≡ true → length (rows_at (channel_number row.chan) row.hop above) < row.number → RowsAreNumbered (rows_at (channel_number row.chan) row.hop above) → row.number ≡ suc (length (rows_at (channel_number row.chan) row.hop above))
 number-next above row order less are =
     elim (order-parts above row order).1 [
       | inl first ↦ (let n = leb-true row.number 1 first in omega (arith, n, less))
@@ -178,20 +178,20 @@ number-next above row order less are =
           let number = is.1 in
           omega (arith, most, number, less)
 
-pub next-order : (plan : PlanParts) (levels : List (Option Levels)) (above : List HopRow) (row : HopRow) → AllPass plan levels above → is_in_order above row ≡ true → (c hop : ℕ) → is_at c hop row ≡ true → AreNumbered (rows_at c hop above) → row.number ≡ suc (length (rows_at c hop above))
+pub next-order : (plan : PlanParts) (levels : List (Option Levels)) (above : List HopRow) (row : HopRow) → AllPass plan levels above → is_in_order above row ≡ true → (c hop : ℕ) → is_at c hop row ≡ true → RowsAreNumbered (rows_at c hop above) → row.number ≡ suc (length (rows_at c hop above))
 next-order plan levels above row all order c hop at rest =
     let parts = at-parts c hop row at in
     let same : rows_at (channel_number row.chan) row.hop above ≡ rows_at c hop above = ap (λ n. rows_at n row.hop above) parts.0 ∙ ap (λ h. rows_at c h above) parts.1 in
     let some = (counts-order plan levels row above all order).number in
     let below = Each-filter (IsBelow row) (is_at c hop) above (below-order plan levels row above all order) in
     let less : length (rows_at c hop above) < row.number = head-below c hop row above at below (Each-passes (is_at c hop) above) rest some in
-    number-next above row order (subst (λ rows. length rows < row.number) (sym same) less) (subst AreNumbered (sym same) rest) ∙ ap (λ rows. suc (length rows)) same
+    number-next above row order (subst (λ rows. length rows < row.number) (sym same) less) (subst RowsAreNumbered (sym same) rest) ∙ ap (λ rows. suc (length rows)) same
 
-pub numbered : (plan : PlanParts) (levels : List (Option Levels)) (rows : List HopRow) → AllPass plan levels rows → (c hop : ℕ) → AreNumbered (rows_at c hop rows)
+pub numbered : (plan : PlanParts) (levels : List (Option Levels)) (rows : List HopRow) → AllPass plan levels rows → (c hop : ℕ) → RowsAreNumbered (rows_at c hop rows)
 unfolding AllPass
 numbered plan levels [] all c hop = tt
 numbered plan levels (row ∷ above) all c hop =
-    let rest : AreNumbered (rows_at c hop above) = numbered plan levels above all.0 c hop in
+    let rest : RowsAreNumbered (rows_at c hop above) = numbered plan levels above all.0 c hop in
     elim (cases_Bool (is_at c hop row)) [
       | inl at ↦ rw at (next-order plan levels above row all.0 (passes-told plan levels above row all.1).order c hop at rest, rest)
       | inr off ↦ rw off rest

@@ -17,7 +17,7 @@ use Rattle.run_record.specs.declared.rows.HopRow.{HopRow}
 use Rattle.trace_audit.specs.Above.{is_at, rows_at, row_at, ticks_above, tick_of, hop_before, packet_before}
 use Rattle.trace_audit.specs.Checks.{is_there, goes_on, is_next_packet, follows_row, follows, is_in_order, has_size_of, fits_size, is_not_sooner, arrives_from, arrives, may_go_from, is_eligible, fault_with, fault_under, fault_of, AllPass}
 use Rattle.trace_audit.specs.Departures.{AreCounted, HasNear, IsDeparture, AreDepartures}
-use Rattle.trace_audit.proofs.TableInOrder.{IsBelow, AreNumbered, at-parts, near-found, none-before, found-among}
+use Rattle.trace_audit.proofs.TableInOrder.{IsBelow, RowsAreNumbered, at-parts, near-found, none-before, found-among}
 use Rattle.trace_audit.proofs.WholeRoute.{filter-append, filter-reverse, map-reverse}
 use Rattle.trace_audit.proofs.SortedRows.{Climbs, AllRise, counted-above, counted-rise, rise-apart, order-climbs, order-among, among-order, rows-stay, not-both, one-place}
 use Rattle.trace_audit.proofs.KeptMatchesRows.{there-found}
@@ -73,9 +73,9 @@ counted-parts n (x ∷ xs) ys are =
     let e : length xs + suc n ≡ length (x ∷ xs) + n = omega arith in
     ((are.0, rest.0), subst (λ k. AreCounted k ys) e rest.1)
 
-counted-numbered : (rows : List HopRow) → AreCounted 0 rows → AreNumbered (reverse rows)
+counted-numbered : (rows : List HopRow) → AreCounted 0 rows → RowsAreNumbered (reverse rows)
 counted-numbered rows are = turned rows (reverse rows) (sym (reverse-reverse rows)) are where
-  turned : (rows back : List HopRow) → rows ≡ reverse back → AreCounted 0 rows → AreNumbered back
+  turned : (rows back : List HopRow) → rows ≡ reverse back → AreCounted 0 rows → RowsAreNumbered back
   turned rows [] is are = tt
   turned rows (row ∷ back) is are =
       let cut : rows ≡ reverse back ++ row ∷ [] = is ∙ reverse-append (row ∷ []) back in
@@ -86,7 +86,7 @@ counted-numbered rows are = turned rows (reverse rows) (sym (reverse-reverse row
 
 -- where the rows at the hop in the whole table are counted
 record AtSplit (c hop : ℕ) (above : List HopRow) (row : HopRow) (whole : List HopRow) : Type 0 where
-  pub numbered : AreNumbered (rows_at c hop above)
+  pub numbered : RowsAreNumbered (rows_at c hop above)
   pub number : row.number ≡ suc (length (rows_at c hop above))
   pub before : reverse (take (row.number - 1) (map tick_of whole)) ≡ ticks_above c hop above
 
@@ -103,7 +103,7 @@ at-split c hop above post row whole at are cut =
     let number : row.number ≡ suc (length (rows_at c hop above)) = omega (arith, first, count) in
     let places : row.number - 1 ≡ length (reverse (rows_at c hop above)) = omega (arith, number, count) in
     record {
-      numbered = subst AreNumbered (reverse-reverse (rows_at c hop above)) (counted-numbered (reverse (rows_at c hop above)) parts.0);
+      numbered = subst RowsAreNumbered (reverse-reverse (rows_at c hop above)) (counted-numbered (reverse (rows_at c hop above)) parts.0);
       number = number;
       before =
           ap (λ n. reverse (take n (map tick_of whole))) places ∙ ap (λ rs. reverse (take (length (reverse (rows_at c hop above))) (map tick_of rs))) cut

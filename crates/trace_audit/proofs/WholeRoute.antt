@@ -32,7 +32,7 @@ use Rattle.trace_audit.specs.Checks.{AllPass, may_go_from}
 use Rattle.trace_audit.specs.declared.terms.Terms.{Terms}
 use Rattle.trace_audit.specs.Terms.{hop_terms, terms_of_hop, terms_of_request, levels_given, bound_of, prop_of, terms_at}
 use Rattle.trace_audit.proofs.HopToHop.{ticks_in, ticks-keep, hops-timed, row-at}
-use Rattle.trace_audit.proofs.TableInOrder.{AreNumbered, none-before, at-parts}
+use Rattle.trace_audit.proofs.TableInOrder.{RowsAreNumbered, none-before, at-parts}
 use Rattle.trace_audit.proofs.RowTerms.{IsGiven}
 
 -- ---- lists
@@ -70,7 +70,7 @@ turned f row rows = reverse-append (f row ∷ []) (map f rows)
 long : (f : HopRow → ℕ) (rows : List HopRow) → length (reverse (map f rows)) ≡ length rows
 long f rows = length-reverse (map f rows) ∙ length-map rows f
 
-pub place-of : (f : HopRow → ℕ) (rows : List HopRow) (row : HopRow) → AreNumbered rows → Among row rows → (k : ℕ) × HasPlace f rows row k
+pub place-of : (f : HopRow → ℕ) (rows : List HopRow) (row : HopRow) → RowsAreNumbered rows → Among row rows → (k : ℕ) × HasPlace f rows row k
 place-of f [] row are among = absurd among
 place-of f (first ∷ rows) row are (inl same) = (
   length rows,
@@ -93,7 +93,7 @@ place-of f (first ∷ rows) row are (inr among) =
     )
 
 -- each place has a row
-pub row-of-place : (rows : List HopRow) (k : ℕ) → AreNumbered rows → k < length rows → (row : HopRow) × (Among row rows × (row.number ≡ suc k))
+pub row-of-place : (rows : List HopRow) (k : ℕ) → RowsAreNumbered rows → k < length rows → (row : HopRow) × (Among row rows × (row.number ≡ suc k))
 row-of-place [] k are inside = absurd (omega (arith, inside))
 row-of-place (first ∷ rows) k are inside =
     elim (cases_eq k (length rows)) [

@@ -5,7 +5,7 @@ ghost use Rattle.call_script.specs.Rules.{each_after, hits, misses, may_stand, s
 
 use crate::entries::CallerEntry;
 use crate::operations::Op;
-use crate::roles::{Place, Role, named};
+use crate::roles::{Order, Role, named};
 use net_units::OutOfMemory;
 use std::alloc::Global;
 use std::collections::HashSet;
@@ -15,15 +15,15 @@ pub(crate) fn are_opened(alloc: Global, callers: &[CallerEntry]) -> Result<bool,
     ensures { IfOk result (λ kept. kept ≡ are_opened callers.now) }
 {
     Ok(
-        all_stand(alloc, Place::After, Role::Uses, Role::Opens, callers)?
-            && all_stand(alloc, Place::After, Role::Joins, Role::Opens, callers)?,
+        all_stand(alloc, Order::After, Role::Uses, Role::Opens, callers)?
+            && all_stand(alloc, Order::After, Role::Joins, Role::Opens, callers)?,
     )
 }
 
 // Whether each operation that is `asks` to a channel stands after one that is `adds` to it, or none does.
 pub(crate) fn all_stand(
     alloc: Global,
-    place: Place,
+    place: Order,
     asks: Role,
     adds: Role,
     callers: &[CallerEntry],
@@ -40,7 +40,7 @@ pub(crate) fn all_stand(
 
 fn ops_stand(
     alloc: Global,
-    place: Place,
+    place: Order,
     asks: Role,
     adds: Role,
     ops: &[Op],
@@ -60,12 +60,12 @@ fn ops_stand(
 }
 
 // Whether a channel, if there is one, is in the set, or isn't.
-fn may_stand(place: Place, channels: &HashSet<u32>, chan: Option<u32>) -> bool
+fn may_stand(place: Order, channels: &HashSet<u32>, chan: Option<u32>) -> bool
     ensures { result ≡ may_stand place (contains nat_eq channels.now) chan }
 {
     match place {
-        Place::After => !misses(channels, chan),
-        Place::Apart => !hits(channels, chan),
+        Order::After => !misses(channels, chan),
+        Order::Apart => !hits(channels, chan),
     }
 }
 

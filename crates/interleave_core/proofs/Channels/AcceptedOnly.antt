@@ -26,38 +26,38 @@ use Rattle.interleave_core.specs.channels.Paths.{HopAt, count_at}
 use Rattle.interleave_core.specs.runs.Runs.{IsNext, IsRun}
 use Rattle.interleave_core.proofs.Channels.ChainLaw.{open-or-not}
 use Rattle.interleave_core.proofs.Channels.FarHolds.{first-same}
-use Rattle.interleave_core.proofs.Channels.RowsFollow.{held_at}
+use Rattle.interleave_core.proofs.Channels.RowsFollow.{held_at_hop}
 use Rattle.interleave_core.proofs.Replies.RunCloses.{owned-once}
 use Rattle.interleave_core.proofs.Replies.RunGoes.{GoesAt, IsAfter, run-goes, owned-asked}
 use Rattle.interleave_core.proofs.Runs.EachRun.{each-resumed, entry-kept}
 use Rattle.interleave_core.proofs.Tasks.EachSetup.{Before, Under, After, other-outcome}
-use Rattle.interleave_core.proofs.Tasks.TaskAsks.{IsOther, other-alike}
+use Rattle.interleave_core.proofs.Tasks.TaskAsks.{IsNoOpeningOf, other-alike}
 
 -- ---- once accepted it stays so
 
-continued-kept : (request : Request) (outcomes : List Learnt) (task : Task) (tasks : List Task) (replies : List Reply) (next : Option (LinkNo × Ask)) → IsOther (channel_number request.chan) task → outcome_in request.chan (continued outcomes task tasks replies next).outcomes ≡ outcome_in request.chan outcomes
+continued-kept : (request : Request) (outcomes : List Learnt) (task : Task) (tasks : List Task) (replies : List Reply) (next : Option (LinkNo × Ask)) → IsNoOpeningOf (channel_number request.chan) task → outcome_in request.chan (continued outcomes task tasks replies next).outcomes ≡ outcome_in request.chan outcomes
 continued-kept request outcomes task tasks replies (Some to) other = refl
 continued-kept request outcomes task tasks replies None other = other-outcome request task replies outcomes other
 
-resumed-kept : (request : Request) (outcomes : List Learnt) (task : Task) (tasks : List Task) (replies : List Reply) → IsOther (channel_number request.chan) task → outcome_in request.chan (resumed outcomes (task ∷ tasks) replies).outcomes ≡ outcome_in request.chan outcomes
+resumed-kept : (request : Request) (outcomes : List Learnt) (task : Task) (tasks : List Task) (replies : List Reply) → IsNoOpeningOf (channel_number request.chan) task → outcome_in request.chan (resumed outcomes (task ∷ tasks) replies).outcomes ≡ outcome_in request.chan outcomes
 unfolding resumed
 resumed-kept request outcomes task tasks replies other = continued-kept request outcomes task tasks replies (task_ask task replies) other
 
-goes-others : (network : Network) (request : Request) (run : List Done) (tasks : List Task) (replies : List Reply) (outcomes : List Learnt) (outcome : Outcome) → GoesAt network request run tasks replies outcomes → outcome_in request.chan outcomes ≡ Some outcome → Each (IsOther (channel_number request.chan)) tasks
+goes-others : (network : Network) (request : Request) (run : List Done) (tasks : List Task) (replies : List Reply) (outcomes : List Learnt) (outcome : Outcome) → GoesAt network request run tasks replies outcomes → outcome_in request.chan outcomes ≡ Some outcome → Each (IsNoOpeningOf (channel_number request.chan)) tasks
 goes-others network request run tasks replies outcomes outcome (Before opened begun quiet none) accepted = absurd (let clash : None ≡ Some outcome = sym quiet ∙ accepted in cc)
 goes-others network request run tasks replies outcomes outcome (Under rest is others quiet to more rows) accepted = absurd (let clash : None ≡ Some outcome = sym quiet ∙ accepted in cc)
 goes-others network request run tasks replies outcomes outcome (After others after) accepted = others
 
 -- the outcome, with no task left that opens the request
 abbrev IsOver : Request → Option Outcome → List Done → Standing → Type 0
-IsOver request outcome run at = (outcome_in request.chan at.outcomes ≡ outcome) × Each (IsOther (channel_number request.chan)) at.tasks
+IsOver request outcome run at = (outcome_in request.chan at.outcomes ≡ outcome) × Each (IsNoOpeningOf (channel_number request.chan)) at.tasks
 
 accepted-later : (network : Network) (request : Request) (owner : ℕ) (done : Done) (past : List Done) → NetworkFits network → RequestFits network.links request → OwnedFully network request owner → IsRun network past → IsNext network past done → AcceptedIn network request owner past → AcceptedIn network request owner (done ∷ past)
 accepted-later network request owner done past fits sound full run next was tasks found =
     let before = was tasks found in
     let others = goes-others network request past _ _ _ (Accepts before.levels before.delay) ((run-goes network request owner past fits sound (owned-once network request owner full) run).at tasks found) before.is in
     let now : IsOver request (Some (Accepts before.levels before.delay)) (done ∷ past) (standing tasks (replies_to owner (done ∷ past))) = entry-kept network owner tasks found (IsOver request (Some (Accepts before.levels before.delay))) (λ past' done' at run' next' other over. over)
-    (λ past' done' task rest replies outcomes step over. (resumed-kept request outcomes task rest (replies ++ done'.reply ∷ []) over.1.0 ∙ over.0, each-resumed (IsOther (channel_number request.chan)) (other-alike (channel_number request.chan)) outcomes (task ∷ rest) (replies ++ done'.reply ∷ []) over.1))
+    (λ past' done' task rest replies outcomes step over. (resumed-kept request outcomes task rest (replies ++ done'.reply ∷ []) over.1.0 ∙ over.0, each-resumed (IsNoOpeningOf (channel_number request.chan)) (other-alike (channel_number request.chan)) outcomes (task ∷ rest) (replies ++ done'.reply ∷ []) over.1))
     past done run next (before.is, others) in
     record { levels = before.levels; delay = before.delay; is = now.0 }
 
@@ -101,12 +101,12 @@ settles-done request replies (Back left deny upto is) done = absurd (undone left
 settles-done request replies (Forth left upto whole none is) done = relaxed-settles request replies _ left is (subst IsDone is done)
 
 -- so a request whose first hop is committed is accepted
-pub committed-accepted : (network : Network) (request : Request) (owner : ℕ) (first : HopAt network request 0) (run : List Done) → NetworkFits network → RequestFits network.links request → OwnedFully network request owner → IsRun network run → (terms : Reservation) → held_at network request 0 first run ≡ Some terms → terms.phase ≡ Ph.Committed → AcceptedIn network request owner run
+pub committed-accepted : (network : Network) (request : Request) (owner : ℕ) (first : HopAt network request 0) (run : List Done) → NetworkFits network → RequestFits network.links request → OwnedFully network request owner → IsRun network run → (terms : Reservation) → held_at_hop network request 0 first run ≡ Some terms → terms.phase ≡ Ph.Committed → AcceptedIn network request owner run
 committed-accepted network request owner first run fits sound full is terms held phase tasks found = by ((run-goes network request owner run fits sound (owned-once network request owner full) is).at tasks found) where
   at : Standing
   at = standing tasks (replies_to owner run)
 
-  none-held : held_at network request 0 first run ≡ None → ⊥
+  none-held : held_at_hop network request 0 first run ≡ None → ⊥
   none-held none = (let clash : None ≡ Some terms = sym none ∙ held in cc)
 
   by-after : (after : IsAfter network request run (outcome_in request.chan at.outcomes)) → (accepted : Bool) → after.accepted ≡ accepted → IsAccepted request at
@@ -116,14 +116,14 @@ committed-accepted network request owner first run fits sound full is terms held
   by : GoesAt network request run at.tasks at.replies at.outcomes → IsAccepted request at
   by (Before opened begun quiet none) = absurd (none-held (none 0 first))
   by (Under rest same others quiet to more rows) =
-      (let settles = settles-done request at.replies (view request at.replies) (stands-done request _ _ (held_at network request 0 first run) terms (rows.hops 0 first) held phase) in
+      (let settles = settles-done request at.replies (view request at.replies) (stands-done request _ _ (held_at_hop network request 0 first run) terms (rows.hops 0 first) held phase) in
       absurd (let clash : None ≡ Some to = sym (ap (asked request) settles.is) ∙ more in cc))
   by (After others after) = by-after after after.accepted refl
 
 taken-next : (network : Network) (request : Request) (owner : ℕ) (first : HopAt network request 0) (done : Done) (past : List Done) → NetworkFits network → RequestFits network.links request → OwnedFully network request owner → IsRun network past → (next : IsNext network past done) → (1 ≤ count_at network request 0 first past → AcceptedIn network request owner past) → 1 ≤ count_at network request 0 first (done ∷ past) → AcceptedIn network request owner (done ∷ past)
 taken-next network request owner first done past fits sound full run next was some =
     let asked' = owned-asked network request owner fits sound (owned-once network request owner full) in
-    elim (open-or-not (held_at network request 0 first past)) [
+    elim (open-or-not (held_at_hop network request 0 first past)) [
       | inl opened ↦ accepted-later network request owner done past fits sound full run next (committed-accepted network request owner first past fits sound full run opened.0 opened.1 opened.2)
       | inr quiet ↦ (let same = first-same network request first done past fits (asked' past run) run next (λ tick. quiet) in accepted-later network request owner done past fits sound full run next (was (omega (arith, same, some))))
     ]

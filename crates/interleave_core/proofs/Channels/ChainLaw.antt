@@ -33,7 +33,7 @@ use Rattle.channel_laws.proofs.ChannelRows.{own-count, find-passes}
 use Rattle.channel_laws.proofs.HoldFates.{Fate, FateOpen, TellsAll, NotCommitted, held-released, released-count}
 use Rattle.hop_reservation.proofs.DistinctLinks.{index-apart}
 use Rattle.setup_protocol.proofs.HopHolds.{IsComm, IsTail, HopStands, reserved_of}
-use Rattle.interleave_core.proofs.Channels.RowsFollow.{held_at, held-here, hop-reply, same-held}
+use Rattle.interleave_core.proofs.Channels.RowsFollow.{held_at_hop, held-here, hop-reply, same-held}
 use Rattle.call_script.specs.Owners.{OwnedFully}
 use Rattle.interleave_core.proofs.Replies.ClosingStands.{AllComm, comm-later, send-later}
 use Rattle.interleave_core.proofs.Replies.RunCloses.{owned-once, others-off, step-kind}
@@ -49,8 +49,8 @@ use Rattle.interleave_core.proofs.Tasks.TaskAsks.{off-mild}
 use Rattle.interleave_core.proofs.Replies.OwnerKinds.{NoRelease, IsLeaving, OwnKind, OwnOff, OwnAside, OwnSetup, OwnSend, OwnClose}
 
 pub record Chain (network : Network) (request : Request) (first : HopAt network request 0) (run : List Done) : Type 0 where
-  pub fates : 1 ≤ count_at network request 0 first run → (i : ℕ) (at : HopAt network request i) → Fate (count_at network request 0 first run) (count_at network request i at run) (held_at network request i at run)
-  pub whole : (terms : Reservation) → held_at network request 0 first run ≡ Some terms → terms.phase ≡ Ph.Committed → (levels : List ℕ) × AllComm network request levels 0 run
+  pub fates : 1 ≤ count_at network request 0 first run → (i : ℕ) (at : HopAt network request i) → Fate (count_at network request 0 first run) (count_at network request i at run) (held_at_hop network request i at run)
+  pub whole : (terms : Reservation) → held_at_hop network request 0 first run ≡ Some terms → terms.phase ≡ Ph.Committed → (levels : List ℕ) × AllComm network request levels 0 run
 
 -- with what the replies to a task that leaves the channel tell
 record ChainAt (network : Network) (request : Request) (first : HopAt network request 0) (run : List Done) (at : Standing) : Type 0 where
@@ -76,10 +76,10 @@ is-tick _ = inr (λ same. cc)
 
 fates-next : (network : Network) (request : Request) (first : HopAt network request 0) (done : Done) (past : List Done) → NetworkFits network → RequestFits network.links request → ((run : List Done) → IsRun network run → ChannelAsked request run) → IsRun network past → (next : IsNext network past done) → Chain network request first past
     → ((i : ℕ) (at : HopAt network request i) → link_number done.link ≡ link_number at.hop.link → TellsAll (channel_number request.chan) (count_at network request 0 first past) (count_at network request i at past) done.ask)
-    → 1 ≤ count_at network request 0 first (done ∷ past) → (i : ℕ) (at : HopAt network request i) → Fate (count_at network request 0 first (done ∷ past)) (count_at network request i at (done ∷ past)) (held_at network request i at (done ∷ past))
+    → 1 ≤ count_at network request 0 first (done ∷ past) → (i : ℕ) (at : HopAt network request i) → Fate (count_at network request 0 first (done ∷ past)) (count_at network request i at (done ∷ past)) (held_at_hop network request i at (done ∷ past))
 fates-next network request first done past fits sound asked run next was tells some i at =
     elim (is-tick done.ask) [
-      | inl tick ↦ elim (open-or-not (held_at network request 0 first past)) [
+      | inl tick ↦ elim (open-or-not (held_at_hop network request 0 first past)) [
         | inl opened ↦
             (let comm = (was.whole opened.0 opened.1 opened.2).1 i at (omega arith) in
             hop-fate network request i at done past (count_at network request 0 first (done ∷ past)) fits sound asked run next some (λ on. tick-tells (channel_number request.chan) _ _ done.ask tick) (FateOpen comm.terms comm.is comm.phase))
@@ -87,9 +87,9 @@ fates-next network request first done past fits sound asked run next was tells s
       ]
       | inr other ↦ kept (first-same network request first done past fits (asked past run) run next (λ tick. absurd (other tick)))
     ] where
-      kept : count_at network request 0 first (done ∷ past) ≡ count_at network request 0 first past → Fate (count_at network request 0 first (done ∷ past)) (count_at network request i at (done ∷ past)) (held_at network request i at (done ∷ past))
+      kept : count_at network request 0 first (done ∷ past) ≡ count_at network request 0 first past → Fate (count_at network request 0 first (done ∷ past)) (count_at network request i at (done ∷ past)) (held_at_hop network request i at (done ∷ past))
       kept same =
-          subst (λ n. Fate n (count_at network request i at (done ∷ past)) (held_at network request i at (done ∷ past))) (sym same)
+          subst (λ n. Fate n (count_at network request i at (done ∷ past)) (held_at_hop network request i at (done ∷ past))) (sym same)
           (hop-fate network request i at done past (count_at network request 0 first past) fits sound asked run next (subst (λ n. 1 ≤ n) same some) (tells i at) (was.fates (subst (λ n. 1 ≤ n) same some) i at))
 
 off-tells : (c least count : ℕ) (ask : Ask) → IsOff c ask → TellsAll c least count ask
@@ -129,18 +129,18 @@ close-tells network request first done past replies k here sound on is zeroth fr
 -- ---- the first hop committed
 
 mild-whole : (network : Network) (request : Request) (first : HopAt network request 0) (done : Done) (past : List Done) → NetworkFits network → IsRun network past → IsMild (channel_number request.chan) done.ask → Chain network request first past → ((levels : List ℕ) → AllComm network request levels 0 past → AllComm network request levels 0 (done ∷ past))
-    → (terms : Reservation) → held_at network request 0 first (done ∷ past) ≡ Some terms → terms.phase ≡ Ph.Committed → (levels : List ℕ) × AllComm network request levels 0 (done ∷ past)
+    → (terms : Reservation) → held_at_hop network request 0 first (done ∷ past) ≡ Some terms → terms.phase ≡ Ph.Committed → (levels : List ℕ) × AllComm network request levels 0 (done ∷ past)
 mild-whole network request first done past fits run mild was later terms held phase =
-    let before = committed-comes terms (held_at network request 0 first past) phase (hop-comes network request 0 first done past terms fits run mild held) in
+    let before = committed-comes terms (held_at_hop network request 0 first past) phase (hop-comes network request 0 first done past terms fits run mild held) in
     let all = was.whole terms before phase in (all.0, later all.0 all.1)
 
-setup-whole : (network : Network) (request : Request) (first : HopAt network request 0) (run : List Done) (offers : List ℕ) (p : Progress) → ((i : ℕ) (at : HopAt network request i) → HopStands None Some request offers p i (held_at network request i at run)) → (terms : Reservation) → held_at network request 0 first run ≡ Some terms → terms.phase ≡ Ph.Committed → (levels : List ℕ) × AllComm network request levels 0 run
+setup-whole : (network : Network) (request : Request) (first : HopAt network request 0) (run : List Done) (offers : List ℕ) (p : Progress) → ((i : ℕ) (at : HopAt network request i) → HopStands None Some request offers p i (held_at_hop network request i at run)) → (terms : Reservation) → held_at_hop network request 0 first run ≡ Some terms → terms.phase ≡ Ph.Committed → (levels : List ℕ) × AllComm network request levels 0 run
 setup-whole network request first run offers p stands terms held phase =
     elim (cases_lt 0 (reserved_of offers p)) [
       | inl less ↦ absurd (let tent = (stands 0 first).tent less in let same : tent.terms ≡ terms = same_Some tent.terms terms (sym tent.is ∙ held) in let clash : Ph.Tentative ≡ Ph.Committed = sym tent.phase ∙ ap (λ k. k.phase) same ∙ phase in cc)
       | inr from ↦ by-progress p (λ i at. (stands i at).tail (omega (arith, from)))
     ] where
-      by-progress : (q : Progress) → ((i : ℕ) (at : HopAt network request i) → IsTail None Some request q i (held_at network request i at run)) → (levels : List ℕ) × AllComm network request levels 0 run
+      by-progress : (q : Progress) → ((i : ℕ) (at : HopAt network request i) → IsTail None Some request q i (held_at_hop network request i at run)) → (levels : List ℕ) × AllComm network request levels 0 run
       by-progress (Reserving os reach) tails = absurd (let clash : None ≡ Some terms = sym (tails 0 first) ∙ held in cc)
       by-progress (Undoing left deny) tails = absurd (let clash : None ≡ Some terms = sym (tails 0 first) ∙ held in cc)
       by-progress (Relaxing left levels) tails = (levels, λ i at from. tails i at)
@@ -154,10 +154,10 @@ record FirstReleased (network : Network) (request : Request) (first : HopAt netw
   reply : done.reply ≡ Is.Closing count cancelled
   counts : count ≡ count_at network request 0 first past
   terms : Reservation
-  held : held_at network request 0 first (done ∷ past) ≡ Some terms
+  held : held_at_hop network request 0 first (done ∷ past) ≡ Some terms
   phase : terms.phase ≡ Ph.Closing
 
-first-released : (network : Network) (request : Request) (first : HopAt network request 0) (done : Done) (past : List Done) (levels : List ℕ) → NetworkFits network → ChannelAsked request past → IsRun network past → (next : IsNext network past done) → link_number done.link ≡ link_number first.hop.link → done.ask ≡ Release request.chan None → IsComm Some request levels 0 (held_at network request 0 first past) → FirstReleased network request first done past
+first-released : (network : Network) (request : Request) (first : HopAt network request 0) (done : Done) (past : List Done) (levels : List ℕ) → NetworkFits network → ChannelAsked request past → IsRun network past → (next : IsNext network past done) → link_number done.link ≡ link_number first.hop.link → done.ask ≡ Release request.chan None → IsComm Some request levels 0 (held_at_hop network request 0 first past) → FirstReleased network request first done past
 unfolding reply_at after
 first-released network request first done past levels fits asked run next on is comm =
     let reply : done.reply ≡ release_to (clock_of (part_of (link_number first.hop.link) past)) None (find (is_row_at_hop request.chan true) (scan_of first.link.shape (part_of (link_number first.hop.link) past)).rows) = hop-reply network request 0 first done past next on ∙ ap (reply_at first.link (clock_of (part_of (link_number first.hop.link) past)) (scan_of first.link.shape (part_of (link_number first.hop.link) past))) is in
@@ -179,11 +179,11 @@ first-released network request first done past levels fits asked run next on is 
       by-reply _ same reply released = absurd (subst IsReleased same released)
 
 -- the first hop is frozen after a release
-close-frozen : (network : Network) (request : Request) (first : HopAt network request 0) (done : Done) (past : List Done) (levels : List ℕ) (replies : List Reply) (k : ℕ) (here : HopAt network request k) (told : ℕ) → NetworkFits network → ChannelAsked request past → IsRun network past → (next : IsNext network past done) → link_number done.link ≡ link_number here.hop.link → done.ask ≡ Release request.chan (first_count replies) → (replies ≡ [] → k ≡ 0) → IsComm Some request levels k (held_at network request k here past) → ((given : ℕ) → first_count replies ≡ Some given → Frozen network request first past given)
+close-frozen : (network : Network) (request : Request) (first : HopAt network request 0) (done : Done) (past : List Done) (levels : List ℕ) (replies : List Reply) (k : ℕ) (here : HopAt network request k) (told : ℕ) → NetworkFits network → ChannelAsked request past → IsRun network past → (next : IsNext network past done) → link_number done.link ≡ link_number here.hop.link → done.ask ≡ Release request.chan (first_count replies) → (replies ≡ [] → k ≡ 0) → IsComm Some request levels k (held_at_hop network request k here past) → ((given : ℕ) → first_count replies ≡ Some given → Frozen network request first past given)
     → first_count (replies ++ done.reply ∷ []) ≡ Some told → Frozen network request first (done ∷ past) told
 close-frozen network request first done past levels [] k here told fits asked run next on is zeroth comm frozen tells =
     let hop : here.hop ≡ first.hop = same_Some here.hop first.hop (sym here.stands ∙ ap (slice_get request.route) (zeroth refl) ∙ first.stands) in
-    let own = first-released network request first done past levels fits asked run next (on ∙ ap link_of hop) is (subst (λ n. IsComm Some request levels n (held_at network request 0 first past)) (zeroth refl) (subst (IsComm Some request levels k) (same-held network request k 0 here first past (zeroth refl)) comm)) in
+    let own = first-released network request first done past levels fits asked run next (on ∙ ap link_of hop) is (subst (λ n. IsComm Some request levels n (held_at_hop network request 0 first past)) (zeroth refl) (subst (IsComm Some request levels k) (same-held network request k 0 here first past (zeroth refl)) comm)) in
     let given : own.count ≡ told = same_Some own.count told (ap (λ r. Some (told_count r)) (sym own.reply) ∙ tells) in
     let same = first-same network request first done past fits asked run next (λ tick. absurd (let clash : Release request.chan None ≡ Tick = sym is ∙ tick in cc)) in
     record {
@@ -193,8 +193,8 @@ close-frozen network request first done past levels [] k here told fits asked ru
 close-frozen network request first done past levels (reply ∷ replies) k here told fits asked run next on is zeroth comm frozen tells =
     frozen-later network request first done past told fits asked run next (subst (IsMild (channel_number request.chan)) (sym is) tt) (frozen told tells)
 
-close-whole : (network : Network) (request : Request) (first : HopAt network request 0) (done : Done) (past : List Done) (levels : List ℕ) (replies : List Reply) (k : ℕ) (here : HopAt network request k) → NetworkFits network → ChannelAsked request past → IsRun network past → (next : IsNext network past done) → link_number done.link ≡ link_number here.hop.link → done.ask ≡ Release request.chan (first_count replies) → (replies ≡ [] → k ≡ 0) → IsComm Some request levels k (held_at network request k here past) → ((given : ℕ) → first_count replies ≡ Some given → Frozen network request first past given)
-    → (terms : Reservation) → held_at network request 0 first (done ∷ past) ≡ Some terms → terms.phase ≡ Ph.Committed → ⊥
+close-whole : (network : Network) (request : Request) (first : HopAt network request 0) (done : Done) (past : List Done) (levels : List ℕ) (replies : List Reply) (k : ℕ) (here : HopAt network request k) → NetworkFits network → ChannelAsked request past → IsRun network past → (next : IsNext network past done) → link_number done.link ≡ link_number here.hop.link → done.ask ≡ Release request.chan (first_count replies) → (replies ≡ [] → k ≡ 0) → IsComm Some request levels k (held_at_hop network request k here past) → ((given : ℕ) → first_count replies ≡ Some given → Frozen network request first past given)
+    → (terms : Reservation) → held_at_hop network request 0 first (done ∷ past) ≡ Some terms → terms.phase ≡ Ph.Committed → ⊥
 close-whole network request first done past levels replies k here fits asked run next on is zeroth comm frozen terms held phase =
     by-first (first_count (replies ++ done.reply ∷ [])) refl where
       some-first : (rs : List Reply) → first_count (rs ++ done.reply ∷ []) ≡ None → ⊥
@@ -213,7 +213,7 @@ close-whole network request first done past levels replies k here fits asked run
 record OwnLeaves (network : Network) (request : Request) (first : HopAt network request 0) (run : List Done) (done : Done) (past : List Done) (task : Task) (replies : List Reply) : Type 0 where
   tells : (i : ℕ) (at : HopAt network request i) → link_number done.link ≡ link_number at.hop.link → TellsAll (channel_number request.chan) (count_at network request 0 first past) (count_at network request i at past) done.ask
   told : (given : ℕ) → IsLeaving request task → first_count (replies ++ done.reply ∷ []) ≡ Some given → Frozen network request first run given
-  whole : (terms : Reservation) → held_at network request 0 first run ≡ Some terms → terms.phase ≡ Ph.Committed → (levels : List ℕ) × AllComm network request levels 0 run
+  whole : (terms : Reservation) → held_at_hop network request 0 first run ≡ Some terms → terms.phase ≡ Ph.Committed → (levels : List ℕ) × AllComm network request levels 0 run
 
 opens-stay : (request : Request) (task : Task) → task ≡ Opens request → IsLeaving request task → ⊥
 opens-stay request task own (inl closes) = (let clash : Opens request ≡ Closes request = sym own ∙ closes in cc)

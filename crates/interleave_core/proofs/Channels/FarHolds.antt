@@ -34,7 +34,7 @@ use Rattle.channel_laws.proofs.ChannelRows.{own-count, legal-free}
 use Rattle.interleave_core.proofs.Flights.FlightOrigins.{part-grows}
 use Rattle.channel_laws.proofs.HoldFates.{Fate, FateOpen, FateClosing, FateGone, NoSecond, TellsAll, NotCommitted, fate-after, first-quiet}
 use Rattle.interleave_core.proofs.Channels.ChannelsAt.{stands-at}
-use Rattle.interleave_core.proofs.Channels.RowsFollow.{held_at, hop-may}
+use Rattle.interleave_core.proofs.Channels.RowsFollow.{held_at_hop, hop-may}
 use Rattle.interleave_core.proofs.Replies.RunGoes.{hop-comes}
 use Rattle.interleave_core.proofs.Runs.RunLegal.{part-admissible, by-part}
 use Rattle.channel_laws.specs.Asks.{IsMild}
@@ -79,7 +79,7 @@ no-second shape request h _ _ least legal once some fate = tt
 
 -- an entry keeps a hop's fate
 pub hop-fate : (network : Network) (request : Request) (i : ℕ) (at : HopAt network request i) (done : Done) (past : List Done) (least : ℕ) → NetworkFits network → RequestFits network.links request → ((run : List Done) → IsRun network run → ChannelAsked request run) → IsRun network past → (next : IsNext network past done) → 1 ≤ least
-    → (link_number done.link ≡ link_number at.hop.link → TellsAll (channel_number request.chan) least (count_at network request i at past) done.ask) → Fate least (count_at network request i at past) (held_at network request i at past) → Fate least (count_at network request i at (done ∷ past)) (held_at network request i at (done ∷ past))
+    → (link_number done.link ≡ link_number at.hop.link → TellsAll (channel_number request.chan) least (count_at network request i at past) done.ask) → Fate least (count_at network request i at past) (held_at_hop network request i at past) → Fate least (count_at network request i at (done ∷ past)) (held_at_hop network request i at (done ∷ past))
 unfolding scan_of offers_to
 hop-fate network request i at done past least fits sound asked run next some tells fate =
     let legal = part-admissible network past (link_number at.hop.link) at.link fits run at.linked in
@@ -92,7 +92,7 @@ hop-fate network request i at done past least fits sound asked run next some tel
     ((asked (done ∷ past) (is-run network past done run next)).once (link_number at.hop.link)) (count-grows network request i at done past)
 
 -- the first hop takes no packet but by a tick while it is committed
-pub first-same : (network : Network) (request : Request) (first : HopAt network request 0) (done : Done) (past : List Done) → NetworkFits network → ChannelAsked request past → IsRun network past → (next : IsNext network past done) → (done.ask ≡ Tick → NotCommitted (held_at network request 0 first past)) → count_at network request 0 first (done ∷ past) ≡ count_at network request 0 first past
+pub first-same : (network : Network) (request : Request) (first : HopAt network request 0) (done : Done) (past : List Done) → NetworkFits network → ChannelAsked request past → IsRun network past → (next : IsNext network past done) → (done.ask ≡ Tick → NotCommitted (held_at_hop network request 0 first past)) → count_at network request 0 first (done ∷ past) ≡ count_at network request 0 first past
 unfolding scan_of
 first-same network request first done past fits asked run next none =
     let legal = part-admissible network past (link_number first.hop.link) first.link fits run first.linked in
@@ -109,7 +109,7 @@ committed-comes terms before phase (Closed old count is closed) = absurd (let cl
 
 pub record Frozen (network : Network) (request : Request) (first : HopAt network request 0) (run : List Done) (told : ℕ) : Type 0 where
   pub upto : count_at network request 0 first run ≡ told
-  pub closes : (terms : Reservation) → held_at network request 0 first run ≡ Some terms → terms.phase ≡ Ph.Closing
+  pub closes : (terms : Reservation) → held_at_hop network request 0 first run ≡ Some terms → terms.phase ≡ Ph.Closing
 
 pub closing-comes : (terms : Reservation) (before : Option Reservation) → ((old : Reservation) → before ≡ Some old → old.phase ≡ Ph.Closing) → ComesOf terms before → terms.phase ≡ Ph.Closing
 closing-comes terms before closes (Stays is) = closes terms is
@@ -118,5 +118,5 @@ closing-comes terms before closes (Closed old count is closed) = ap (λ k. k.pha
 pub frozen-later : (network : Network) (request : Request) (first : HopAt network request 0) (done : Done) (past : List Done) (told : ℕ) → NetworkFits network → ChannelAsked request past → IsRun network past → (next : IsNext network past done) → IsMild (channel_number request.chan) done.ask → Frozen network request first past told → Frozen network request first (done ∷ past) told
 frozen-later network request first done past told fits asked run next mild was = record {
   upto = (let same = first-same network request first done past fits asked run next (λ tick terms held phase. (let clash : Ph.Committed ≡ Ph.Closing = sym phase ∙ was.closes terms held in cc)) in let upto = was.upto in omega (arith, same, upto));
-  closes = λ terms held. closing-comes terms (held_at network request 0 first past) was.closes (hop-comes network request 0 first done past terms fits run mild held);
+  closes = λ terms held. closing-comes terms (held_at_hop network request 0 first past) was.closes (hop-comes network request 0 first done past terms fits run mild held);
 }

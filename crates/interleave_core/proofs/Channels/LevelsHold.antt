@@ -22,7 +22,7 @@ use Rattle.interleave_core.proofs.Channels.ChainLaw.{is-tick, open-or-not, run-c
 use Rattle.interleave_core.proofs.Channels.FarHolds.{first-same}
 use Rattle.channel_laws.proofs.HoldFates.{Fate, FateOpen, FateClosing, FateGone}
 use Rattle.setup_protocol.proofs.HopHolds.{IsTail, HopStands, reserved_of}
-use Rattle.interleave_core.proofs.Channels.RowsFollow.{held_at, AfterRows, comm-kept}
+use Rattle.interleave_core.proofs.Channels.RowsFollow.{held_at_hop, AfterRows, comm-kept}
 use Rattle.interleave_core.proofs.Replies.ClosingStands.{AllComm, comm-later}
 use Rattle.interleave_core.proofs.Replies.RunCloses.{owned-once}
 use Rattle.call_script.specs.Owners.{OwnedFully}
@@ -42,11 +42,11 @@ pub record Levelled (network : Network) (request : Request) (run : List Done) : 
 all-levelled : (network : Network) (request : Request) (run : List Done) (levels : List ℕ) → NetworkFits network → IsRun network run → ChannelAsked request run → AllComm network request levels 0 run → Levelled network request run
 all-levelled network request run levels fits is asked comm = record {
   levels = levels;
-  rows = record { kept = λ i at terms held. comm-kept request levels i (held_at network request i at run) terms (comm i at (omega arith)) held };
+  rows = record { kept = λ i at terms held. comm-kept request levels i (held_at_hop network request i at run) terms (comm i at (omega arith)) held };
   packets = levels-settled network request levels run fits is asked (λ i at. comm i at (omega arith));
 }
 
-none-levelled : (network : Network) (request : Request) (done : Done) (past : List Done) → NetworkFits network → IsRun network (done ∷ past) → ChannelAsked request (done ∷ past) → ((i : ℕ) (at : HopAt network request i) → held_at network request i at (done ∷ past) ≡ None) → Levelled network request past → Levelled network request (done ∷ past)
+none-levelled : (network : Network) (request : Request) (done : Done) (past : List Done) → NetworkFits network → IsRun network (done ∷ past) → ChannelAsked request (done ∷ past) → ((i : ℕ) (at : HopAt network request i) → held_at_hop network request i at (done ∷ past) ≡ None) → Levelled network request past → Levelled network request (done ∷ past)
 none-levelled network request done past fits is asked none was =
     let rows : AfterRows network request was.levels (done ∷ past) = record { kept = λ i at terms held. absurd (let clash : None ≡ Some terms = sym (none i at) ∙ held in cc) } in
     record { levels = was.levels; rows = rows; packets = levels-later network request was.levels done past fits is asked rows was.packets }
@@ -56,13 +56,13 @@ never-tent least count held terms is tent (FateOpen own same phase) = (let e : t
 never-tent least count held terms is tent (FateClosing own same phase upto) = (let e : terms ≡ own = same_Some terms own (sym is ∙ same) in let clash : Ph.Tentative ≡ Ph.Closing = sym tent ∙ ap (λ k. k.phase) e ∙ phase in cc)
 never-tent least count held terms is tent (FateGone none upto) = (let clash : Some terms ≡ None = sym is ∙ none in cc)
 
-setup-levelled : (network : Network) (request : Request) (first : HopAt network request 0) (done : Done) (past : List Done) (offers : List ℕ) (p : Progress) (least count : ℕ) → NetworkFits network → IsRun network (done ∷ past) → ChannelAsked request (done ∷ past) → ((i : ℕ) (at : HopAt network request i) → HopStands None Some request offers p i (held_at network request i at (done ∷ past))) → Fate least count (held_at network request 0 first (done ∷ past)) → Levelled network request past → Levelled network request (done ∷ past)
+setup-levelled : (network : Network) (request : Request) (first : HopAt network request 0) (done : Done) (past : List Done) (offers : List ℕ) (p : Progress) (least count : ℕ) → NetworkFits network → IsRun network (done ∷ past) → ChannelAsked request (done ∷ past) → ((i : ℕ) (at : HopAt network request i) → HopStands None Some request offers p i (held_at_hop network request i at (done ∷ past))) → Fate least count (held_at_hop network request 0 first (done ∷ past)) → Levelled network request past → Levelled network request (done ∷ past)
 setup-levelled network request first done past offers p least count fits is asked stands fate was =
     elim (cases_lt 0 (reserved_of offers p)) [
-      | inl less ↦ absurd (let tent = (stands 0 first).tent less in never-tent least count (held_at network request 0 first (done ∷ past)) tent.terms tent.is tent.phase fate)
+      | inl less ↦ absurd (let tent = (stands 0 first).tent less in never-tent least count (held_at_hop network request 0 first (done ∷ past)) tent.terms tent.is tent.phase fate)
       | inr from ↦ by-progress p (λ i at. (stands i at).tail (omega (arith, from)))
     ] where
-      by-progress : (q : Progress) → ((i : ℕ) (at : HopAt network request i) → IsTail None Some request q i (held_at network request i at (done ∷ past))) → Levelled network request (done ∷ past)
+      by-progress : (q : Progress) → ((i : ℕ) (at : HopAt network request i) → IsTail None Some request q i (held_at_hop network request i at (done ∷ past))) → Levelled network request (done ∷ past)
       by-progress (Reserving os reach) tails = none-levelled network request done past fits is asked tails was
       by-progress (Undoing left deny) tails = none-levelled network request done past fits is asked tails was
       by-progress (Relaxing left levels) tails = all-levelled network request (done ∷ past) levels fits is asked (λ i at from. tails i at)
@@ -74,7 +74,7 @@ mild-levelled network request done past fits run is asked mild was =
     let rows = after-later network request was.levels done past fits run mild was.rows in
     record { levels = was.levels; rows = rows; packets = levels-later network request was.levels done past fits is asked rows was.packets }
 
-entry-levelled : (network : Network) (request : Request) (owner : ℕ) (first : HopAt network request 0) (done : Done) (past : List Done) (least count : ℕ) → NetworkFits network → IsRun network past → IsRun network (done ∷ past) → ChannelAsked request (done ∷ past) → Fate least count (held_at network request 0 first (done ∷ past)) → EntryIs network request owner past done → Levelled network request past → Levelled network request (done ∷ past)
+entry-levelled : (network : Network) (request : Request) (owner : ℕ) (first : HopAt network request 0) (done : Done) (past : List Done) (least count : ℕ) → NetworkFits network → IsRun network past → IsRun network (done ∷ past) → ChannelAsked request (done ∷ past) → Fate least count (held_at_hop network request 0 first (done ∷ past)) → EntryIs network request owner past done → Levelled network request past → Levelled network request (done ∷ past)
 entry-levelled network request owner first done past least count fits run is asked fate (MildOne mild) was = mild-levelled network request done past fits run is asked mild was
 entry-levelled network request owner first done past least count fits run is asked fate (SetupOne later rows) was = setup-levelled network request first done past _ _ least count fits is asked rows.hops fate was
 
@@ -89,7 +89,7 @@ next-levelled network request owner first done past fits sound full run next som
     entry-levelled network request owner first done past (count_at network request 0 first (done ∷ past)) (count_at network request 0 first (done ∷ past)) fits run is (asked (done ∷ past) is)
     ((run-chain network request owner first (done ∷ past) fits sound full is).fates some 0 first) (entry-is network request owner past done fits sound full run next) (was (omega (arith, some, same))) in
     elim (is-tick done.ask) [
-      | inl tick ↦ elim (open-or-not (held_at network request 0 first past)) [
+      | inl tick ↦ elim (open-or-not (held_at_hop network request 0 first past)) [
         | inl opened ↦
             (let all = (run-chain network request owner first past fits sound full run).whole opened.0 opened.1 opened.2 in
             all-levelled network request (done ∷ past) all.0 fits is (asked (done ∷ past) is) (comm-later network request all.0 0 done past fits run (off-tick (channel_number request.chan) done.ask tick) all.1))

@@ -29,7 +29,7 @@ use Rattle.run_record.specs.Runs.{part_of}
 use Rattle.interleave_core.specs.runs.Runs.{IsRun}
 use Rattle.channel_laws.proofs.ChannelRows.{tick-packets, row-of, find-passes, packets-off, sources-elsewhere, legal-free}
 use Rattle.interleave_core.proofs.Channels.ChannelsAt.{stands-at}
-use Rattle.interleave_core.proofs.Channels.RowsFollow.{held_at}
+use Rattle.interleave_core.proofs.Channels.RowsFollow.{held_at_hop}
 use Rattle.interleave_core.proofs.Runs.RunLegal.{part-admissible}
 use Rattle.channel_laws.specs.Reservations.{held_by}
 use Rattle.channel_laws.proofs.TermsAfter.{arrival-held}
@@ -40,7 +40,7 @@ held-row : (chan : ChanNo) (rows : List Row) (found : Option Row) (terms : Reser
 held-row chan rows None terms is held = absurd (let clash : None ≡ Some terms = sym (find-terms chan rows ∙ ap (option_map row_terms) is) ∙ held in cc)
 held-row chan rows (Some row) terms is held = (row, is, same_Some row.terms terms (sym (find-terms chan rows ∙ ap (option_map row_terms) is) ∙ held))
 
-pub levels-held : (network : Network) (request : Request) (i : ℕ) (at : HopAt network request i) (run : List Done) (terms : Reservation) → NetworkFits network → IsRun network run → ChannelAsked request run → held_at network request i at run ≡ Some terms → Each (λ p. p.level ≡ level_number terms.level) (packets_at network request i at run)
+pub levels-held : (network : Network) (request : Request) (i : ℕ) (at : HopAt network request i) (run : List Done) (terms : Reservation) → NetworkFits network → IsRun network run → ChannelAsked request run → held_at_hop network request i at run ≡ Some terms → Each (λ p. p.level ≡ level_number terms.level) (packets_at network request i at run)
 levels-held network request i at run terms fits is asked held =
     let found = held-row request.chan (scan_of at.link.shape (part_of (link_number at.hop.link) run)).rows (find (is_row_of request.chan) (scan_of at.link.shape (part_of (link_number at.hop.link) run)).rows) terms refl held in
     let own : channel_of found.0 ≡ channel_number request.chan = row-of request.chan found.0 (find-passes (is_row_of request.chan) found.0 _ found.1) in

@@ -47,23 +47,23 @@ use Rattle.link_steps.proofs.ListParts.{stands-at}
 
 -- ---- what a hop holds
 
-abbrev pub held_at : (network : Network) (request : Request) (i : ℕ) → HopAt network request i → List Done → Option Reservation
-held_at network request i at run = held_by request.chan (scan_of at.link.shape (part_of (link_number at.hop.link) run)).rows
+abbrev pub held_at_hop : (network : Network) (request : Request) (i : ℕ) → HopAt network request i → List Done → Option Reservation
+held_at_hop network request i at run = held_by request.chan (scan_of at.link.shape (part_of (link_number at.hop.link) run)).rows
 
 -- the setup's hops hold what its replies say, and the reach before the next hop is that of the last offer
 abbrev pub SetupRows : Network → Request → List Reply → List Done → Type 0
-SetupRows network request replies run = RouteStands None Some request (HopAt network request) (λ i at. held_at network request i at run) replies
+SetupRows network request replies run = RouteStands None Some request (HopAt network request) (λ i at. held_at_hop network request i at run) replies
 
 -- ---- the parts of a run
 
-pub held-elsewhere : (network : Network) (request : Request) (i : ℕ) (at : HopAt network request i) (done : Done) (past : List Done) → link_number done.link ≢ link_number at.hop.link → held_at network request i at (done ∷ past) ≡ held_at network request i at past
+pub held-elsewhere : (network : Network) (request : Request) (i : ℕ) (at : HopAt network request i) (done : Done) (past : List Done) → link_number done.link ≢ link_number at.hop.link → held_at_hop network request i at (done ∷ past) ≡ held_at_hop network request i at past
 held-elsewhere network request i at done past other = ap (λ h. held_by request.chan (scan_of at.link.shape h).rows) (part-off (link_number at.hop.link) done past other)
 
-pub held-here : (network : Network) (request : Request) (i : ℕ) (at : HopAt network request i) (done : Done) (past : List Done) → link_number done.link ≡ link_number at.hop.link → held_at network request i at (done ∷ past) ≡ held_by request.chan (after at.link.shape (clock_of (part_of (link_number at.hop.link) past)) (scan_of at.link.shape (part_of (link_number at.hop.link) past)) done.ask done.reply).rows
+pub held-here : (network : Network) (request : Request) (i : ℕ) (at : HopAt network request i) (done : Done) (past : List Done) → link_number done.link ≡ link_number at.hop.link → held_at_hop network request i at (done ∷ past) ≡ held_by request.chan (after at.link.shape (clock_of (part_of (link_number at.hop.link) past)) (scan_of at.link.shape (part_of (link_number at.hop.link) past)) done.ask done.reply).rows
 unfolding scan_of
 held-here network request i at done past on = ap (λ h. held_by request.chan (scan_of at.link.shape h).rows) (part-on (link_number at.hop.link) done past on)
 
-pub same-held : (network : Network) (request : Request) (i k : ℕ) (at : HopAt network request i) (own : HopAt network request k) (run : List Done) → i ≡ k → held_at network request i at run ≡ held_at network request k own run
+pub same-held : (network : Network) (request : Request) (i k : ℕ) (at : HopAt network request i) (own : HopAt network request k) (run : List Done) → i ≡ k → held_at_hop network request i at run ≡ held_at_hop network request k own run
 same-held network request i k at own run e =
     let hop : at.hop ≡ own.hop = same_Some at.hop own.hop (sym at.stands ∙ ap (slice_get request.route) e ∙ own.stands) in
     let link : at.link ≡ own.link = same_Some at.link own.link (sym at.linked ∙ ap (λ h. slice_get network.links (link_number h.link)) hop ∙ own.linked) in
@@ -91,14 +91,14 @@ other-hop network request i k at own done route on other same = other (index-apa
 
 -- it is one of its ask's, and the hops then hold what the replies with it say
 abbrev pub SetupGoes : Network → Request → List Reply → Done → List Done → Type 0
-SetupGoes network request replies done past = RouteGoes None Some request (HopAt network request) (λ i at. held_at network request i at (done ∷ past)) replies done.reply
+SetupGoes network request replies done past = RouteGoes None Some request (HopAt network request) (λ i at. held_at_hop network request i at (done ∷ past)) replies done.reply
 
 module _ (network : Network) (request : Request) (replies : List Reply) (done : Done) (past : List Done) (fits : NetworkFits network) (sound : RequestFits network.links request) (run : IsRun network past) (next : IsNext network past done) (rows : SetupRows network request replies past) where
   abbrev now : (i : ℕ) → HopAt network request i → Option Reservation
-  now i at = held_at network request i at past
+  now i at = held_at_hop network request i at past
 
   abbrev later : (i : ℕ) → HopAt network request i → Option Reservation
-  later i at = held_at network request i at (done ∷ past)
+  later i at = held_at_hop network request i at (done ∷ past)
 
   abbrev clock_there : (i : ℕ) → HopAt network request i → ℕ
   clock_there i at = clock_of (part_of (link_number at.hop.link) past)
@@ -198,16 +198,16 @@ pub record KeptTerms (request : Request) (levels : List ℕ) (i : ℕ) (terms : 
   pub up_bound : terms.up_bound ≡ bound_given request.route levels i
 
 pub record AfterRows (network : Network) (request : Request) (levels : List ℕ) (run : List Done) : Type 0 where
-  pub kept : (i : ℕ) (at : HopAt network request i) (terms : Reservation) → held_at network request i at run ≡ Some terms → KeptTerms request levels i terms
+  pub kept : (i : ℕ) (at : HopAt network request i) (terms : Reservation) → held_at_hop network request i at run ≡ Some terms → KeptTerms request levels i terms
 
 -- the levels are those of the verdict, where it accepts
 pub record Settles (network : Network) (request : Request) (replies : List Reply) (run : List Done) : Type 0 where
   pub levels : List ℕ
   pub accepted : Bool
   pub rows : AfterRows network request levels run
-  pub comm : accepted ≡ true → (i : ℕ) (at : HopAt network request i) → IsComm Some request levels i (held_at network request i at run)
+  pub comm : accepted ≡ true → (i : ℕ) (at : HopAt network request i) → IsComm Some request levels i (held_at_hop network request i at run)
   pub whole : accepted ≡ true → length request.route ≤ length levels
-  pub none : accepted ≡ false → (i : ℕ) (at : HopAt network request i) → held_at network request i at run ≡ None
+  pub none : accepted ≡ false → (i : ℕ) (at : HopAt network request i) → held_at_hop network request i at run ≡ None
   pub denied_is : accepted ≡ false → (deny : Denial) × (verdict_of request replies ≡ Some (Denies deny))
   pub verdict_is : accepted ≡ true → (delay : ℕ) × (verdict_of request replies ≡ Some (Accepts levels delay))
   pub verdict : (own : List ℕ) (delay : ℕ) → verdict_of request replies ≡ Some (Accepts own delay) → own ≡ levels
@@ -248,8 +248,8 @@ setup-settles network request replies run rows over = by-view (view request repl
     rows = record { kept = λ i at terms held. absurd (let clash : None ≡ Some terms = sym (gone i at) ∙ held in cc) };
     verdict = λ own delay same. absurd (let clash : Some (Denies deny) ≡ Some (Accepts own delay) = sym (ap settled_in is) ∙ same in cc);
   } where
-    gone : (i : ℕ) (at : HopAt network request i) → held_at network request i at run ≡ None
-    gone i at = (subst (λ p. HopStands None Some request (offers_in replies) p i (held_at network request i at run)) is (rows.hops i at)).tail (omega arith)
+    gone : (i : ℕ) (at : HopAt network request i) → held_at_hop network request i at run ≡ None
+    gone i at = (subst (λ p. HopStands None Some request (offers_in replies) p i (held_at_hop network request i at run)) is (rows.hops i at)).tail (omega arith)
 
   accepted : (levels : List ℕ) (delay : ℕ) → length request.route ≤ length levels → progress_of request replies ≡ Settled (Accepts levels delay) → Settles network request replies run
   accepted levels delay count is = record {
@@ -258,9 +258,9 @@ setup-settles network request replies run rows over = by-view (view request repl
     whole = λ is'. count;
     none = λ is'. cc;
     denied_is = λ is'. cc;
-    comm = λ is' i at. (subst (λ p. HopStands None Some request (offers_in replies) p i (held_at network request i at run)) is (rows.hops i at)).tail (omega arith);
+    comm = λ is' i at. (subst (λ p. HopStands None Some request (offers_in replies) p i (held_at_hop network request i at run)) is (rows.hops i at)).tail (omega arith);
     verdict_is = λ is'. (delay, ap settled_in is);
-    rows = record { kept = λ i at terms held. comm-kept request levels i (held_at network request i at run) terms ((subst (λ p. HopStands None Some request (offers_in replies) p i (held_at network request i at run)) is (rows.hops i at)).tail (omega arith)) held };
+    rows = record { kept = λ i at terms held. comm-kept request levels i (held_at_hop network request i at run) terms ((subst (λ p. HopStands None Some request (offers_in replies) p i (held_at_hop network request i at run)) is (rows.hops i at)).tail (omega arith)) held };
     verdict = λ own total same. accepted-levels own levels total delay (sym (ap settled_in is) ∙ same);
   }
 

@@ -90,22 +90,22 @@ near-quiet network shape c to n m done past flights legal other is =
 off-arrives : (c t : ℕ) (packet : Packet) (scan : Scan) (row : Row) → find (is_row_of packet.chan) scan.rows ≡ Some row → channel_number packet.chan ≢ c → channel_packets c (scan.packets ++ arrived_packet t (suc (length scan.packets)) packet row ∷ []) ≡ channel_packets c scan.packets
 off-arrives c t packet scan row is other = packets-off c scan.packets (arrived_packet t (suc (length scan.packets)) packet row) (λ same. other (sym (row-of packet.chan row (find-passes (is_row_of packet.chan) row scan.rows is)) ∙ same))
 
-abbrev pub IsOther : ℕ → Ask → Type 0
-IsOther c (Arrive packet) = channel_number packet.chan ≢ c
-IsOther c _ = Unit {0}
+abbrev pub IsNoArriveOf : ℕ → Ask → Type 0
+IsNoArriveOf c (Arrive packet) = channel_number packet.chan ≢ c
+IsNoArriveOf c _ = Unit {0}
 
-far-after : (network : Network) (request : Request) (i : ℕ) (two : TwoHops network request i) (past : List Done) (ask : Ask) (reply : Reply) → NetworkFits network → IsRun network past → ChannelAsked request past → IsOther (channel_number request.chan) ask
+far-after : (network : Network) (request : Request) (i : ℕ) (two : TwoHops network request i) (past : List Done) (ask : Ask) (reply : Reply) → NetworkFits network → IsRun network past → ChannelAsked request past → IsNoArriveOf (channel_number request.chan) ask
     → channel_packets (channel_number request.chan) (after two.far.shape (clock_of (part_of (link_number two.after.link) past)) (scan_of two.far.shape (part_of (link_number two.after.link) past)) ask reply).packets ≡ channel_packets (channel_number request.chan) (packets_on two.far (link_number two.after.link) past)
 far-after network request i two past ask reply fits run asked other =
     let c : ℕ = channel_number request.chan in
     let scan : Scan = scan_of two.far.shape (part_of (link_number two.after.link) past) in
-    packets-by (λ a r clock packets. IsOther c a → channel_packets c packets ≡ channel_packets c scan.packets) two.far.shape (clock_of (part_of (link_number two.after.link) past)) scan
+    packets-by (λ a r clock packets. IsNoArriveOf c a → channel_packets c packets ≡ channel_packets c scan.packets) two.far.shape (clock_of (part_of (link_number two.after.link) past)) scan
     (λ a r off. refl)
     (λ packet row clock e found off. off-arrives c (clock_of (part_of (link_number two.after.link) past)) packet scan row found off)
     (λ r off. far-ticks network request i two past fits run asked)
     ask reply other
 
-pub far-kept : (network : Network) (request : Request) (i : ℕ) (two : TwoHops network request i) (past : List Done) (done : Done) → NetworkFits network → IsRun network past → ChannelAsked request past → (link_number done.link ≡ link_number two.after.link → IsOther (channel_number request.chan) done.ask) → far_count network request i two (done ∷ past) ≡ far_count network request i two past
+pub far-kept : (network : Network) (request : Request) (i : ℕ) (two : TwoHops network request i) (past : List Done) (done : Done) → NetworkFits network → IsRun network past → ChannelAsked request past → (link_number done.link ≡ link_number two.after.link → IsNoArriveOf (channel_number request.chan) done.ask) → far_count network request i two (done ∷ past) ≡ far_count network request i two past
 unfolding scan_of
 far-kept network request i two past done fits run asked other =
     by-part (λ h. length (channel_packets (channel_number request.chan) (scan_of two.far.shape h).packets) ≡ far_count network request i two past) (link_number two.after.link) done past
@@ -199,13 +199,13 @@ leg-with network request i two plane (Some flight) done past fits sound before a
           (queue-head (leg (channel_number request.chan) (link_number two.after.link)) (far_count network request i two past) _ 0 _ plane.round plane.flights flight punctual due mine is).1))
       | inr off ↦
           subst (λ n. QueueOf two.near.shape (channel_number request.chan) (link_number two.after.link) n (part_of (link_number two.hop.link) past) (without_first (is_due plane.round) plane.flights))
-          (sym (far-kept network request i two past done fits before asked (λ at. subst (IsOther (channel_number request.chan)) arrives
+          (sym (far-kept network request i two past done fits before asked (λ at. subst (IsNoArriveOf (channel_number request.chan)) arrives
           (λ chan. (let mine : leg (channel_number request.chan) (link_number two.after.link) flight ≡ true = and_from (nat_eq (channel_number flight.packet.chan) (channel_number request.chan)) (nat_eq (link_number flight.to) (link_number two.after.link)) (eq-eqb (channel_number flight.packet.chan) (channel_number request.chan) chan) (eq-eqb (link_number flight.to) (link_number two.after.link) (ap link_number to ∙ at)) in let clash : false ≡ true = sym off ∙ mine in cc)))))
           (queue-skips (leg (channel_number request.chan) (link_number two.after.link)) (far_count network request i two past) _ 0 _ plane.round plane.flights flight due off is)
     ])
 leg-with network request i two plane None done past fits sound before after-run asked asked-after next counts punctual due asks is =
     let tick : Tick ≡ done.ask = ap (λ pair. pair.1) asks in
-    let kept = far-kept network request i two past done fits before asked (λ at. subst (IsOther (channel_number request.chan)) tick tt) in
+    let kept = far-kept network request i two past done fits before asked (λ at. subst (IsNoArriveOf (channel_number request.chan)) tick tt) in
     let answered : done.reply ≡ tick_reply next.link.shape (clock_of (part_of (link_number done.link) past)) (scan_of next.link.shape (part_of (link_number done.link) past)) = next.answered ∙ ap (reply_to next.link (part_of (link_number done.link) past)) (sym tick) ∙ tick-answer next.link (part_of (link_number done.link) past) in
     let part : part_of (link_number done.link) (done ∷ past) ≡ ticked next.link.shape (part_of (link_number done.link) past) = part-on (link_number done.link) done past refl ∙ ap (λ e. e ∷ part_of (link_number done.link) past) (entry-tick done _ tick answered) in
     let legal = part-admissible network past (link_number done.link) next.link fits before next.linked in
@@ -229,7 +229,7 @@ leg-with network request i two plane None done past fits sound before after-run 
 no-tick-callers : (ask : Ask) → IsCallers ask → ask ≢ Tick
 no-tick-callers ask callers same = subst IsCallers same callers
 
-other-callers : (c : ℕ) (ask : Ask) → IsCallers ask → IsOther c ask
+other-callers : (c : ℕ) (ask : Ask) → IsCallers ask → IsNoArriveOf c ask
 other-callers c (Arrive packet) callers = absurd callers
 other-callers c _ callers = tt
 

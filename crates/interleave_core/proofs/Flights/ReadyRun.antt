@@ -49,7 +49,7 @@ use Rattle.interleave_core.proofs.Flights.LegLaw.{LegStands, leg-start, leg-step
 use Rattle.interleave_core.proofs.Channels.LevelsHold.{Levelled, run-levelled}
 use Rattle.interleave_core.proofs.Channels.HopsAt.{hop-at}
 use Rattle.interleave_core.proofs.Flights.ReadyLaw.{FarReady, ready-counts, taken-reply, replied}
-use Rattle.interleave_core.proofs.Channels.RowsFollow.{held_at}
+use Rattle.interleave_core.proofs.Channels.RowsFollow.{held_at_hop}
 use Rattle.call_script.specs.Owners.{OwnedFully}
 use Rattle.interleave_core.proofs.Replies.RunCloses.{owned-once}
 use Rattle.interleave_core.proofs.Replies.RunGoes.{owned-asked}
@@ -119,7 +119,7 @@ pub record FindsReady (network : Network) (request : Request) (i : ℕ) (near : 
   pub ready : FarReady network request i (two_of network request i near far) past packet level
 
 ready-held : (network : Network) (request : Request) (i : ℕ) (near : HopAt network request i) (far : HopAt network request (suc i)) (past : List Done) (packet : Packet) (terms : Reservation) → NetworkFits network → RequestFits network.links request → ChannelAsked request past → IsRun network past → channel_number packet.chan ≡ channel_number request.chan → Levelled network request past
-    → held_at network request (suc i) far past ≡ Some terms → (terms.phase ≡ Ph.Tentative → ⊥) → (terms.phase ≡ Ph.Closing → count_at network request (suc i) far past < terms.count) → FindsReady network request i near far past packet
+    → held_at_hop network request (suc i) far past ≡ Some terms → (terms.phase ≡ Ph.Tentative → ⊥) → (terms.phase ≡ Ph.Closing → count_at network request (suc i) far past < terms.count) → FindsReady network request i near far past packet
 ready-held network request i near far past packet terms fits sound asked run chan levelled held settled counts =
     let own = held-row request.chan (scan_of far.link.shape (part_of (link_number far.hop.link) past)).rows terms held in
     let found : find (is_row_of packet.chan) (scan_of far.link.shape (part_of (link_number far.hop.link) past)).rows ≡ Some own.row = ap (λ n. find (λ r. nat_eq (channel_number r.terms.chan) n) (scan_of far.link.shape (part_of (link_number far.hop.link) past)).rows) chan ∙ own.found in
@@ -160,7 +160,7 @@ run-ready network request owner i near far done past packet fits sound full run 
     let some : count_at network request (suc i) far past < count_at network request 0 first past = omega (arith, turn, within, number, same, most) in
     let levelled = run-levelled network request owner first past fits sound full run (omega (arith, some)) in
     by-fate first some levelled ((run-chain network request owner first past fits sound full run).fates (omega (arith, some)) (suc i) far) where
-      by-fate : (first : HopAt network request 0) → count_at network request (suc i) far past < count_at network request 0 first past → Levelled network request past → Fate (count_at network request 0 first past) (count_at network request (suc i) far past) (held_at network request (suc i) far past) → FindsReady network request i near far past packet
+      by-fate : (first : HopAt network request 0) → count_at network request (suc i) far past < count_at network request 0 first past → Levelled network request past → Fate (count_at network request 0 first past) (count_at network request (suc i) far past) (held_at_hop network request (suc i) far past) → FindsReady network request i near far past packet
       by-fate first some levelled (FateOpen terms is phase) = ready-held network request i near far past packet terms fits sound (owned-asked network request owner fits sound (owned-once network request owner full) past run) run chan levelled is (λ tent. (let clash : Ph.Tentative ≡ Ph.Committed = sym tent ∙ phase in cc)) (λ closes. absurd (let clash : Ph.Closing ≡ Ph.Committed = sym closes ∙ phase in cc))
       by-fate first some levelled (FateClosing terms is phase upto) = ready-held network request i near far past packet terms fits sound (owned-asked network request owner fits sound (owned-once network request owner full) past run) run chan levelled is (λ tent. (let clash : Ph.Tentative ≡ Ph.Closing = sym tent ∙ phase in cc)) (λ closes. omega (arith, some, upto))
       by-fate first some levelled (FateGone none upto) = absurd (omega (arith, some, upto))

@@ -41,7 +41,7 @@ use Rattle.interleave_core.specs.runs.Runs.{IsNext, IsRun}
 use Rattle.interleave_core.proofs.Moves.Emptied.{uncancelled, none-left-closing}
 use Rattle.interleave_core.proofs.Channels.FarHolds.{Frozen}
 use Rattle.interleave_core.proofs.Moves.MoveLaw.{MoveTold, Was, Now, move-own, no-moves, run-moved, move-told}
-use Rattle.interleave_core.proofs.Channels.RowsFollow.{held_at, hop-may}
+use Rattle.interleave_core.proofs.Channels.RowsFollow.{held_at_hop, hop-may}
 use Rattle.interleave_core.proofs.Replies.RunCloses.{owned-once, others-off, step-kind}
 use Rattle.interleave_core.proofs.Replies.RunGoes.{owned-asked}
 use Rattle.interleave_core.proofs.Runs.RunLegal.{part-on, part-admissible, by-part}
@@ -164,7 +164,7 @@ begins-not network request first done past task replies kept frozen leaving none
 begins-not network request first done past task replies kept frozen leaving none (OwnClose levels own k here on is zeroth comm) =
     let place = same-place network request k first here (zeroth none) in
     let link : first.link ≡ here.link = same_Some first.link here.link (sym first.linked ∙ ap (slice_get network.links) place ∙ here.linked) in
-    let held : held_at network request 0 first past ≡ Some comm.terms = ap (λ l. held_on request.chan l.shape (link_number first.hop.link) past) link ∙ ap (λ n. held_on request.chan here.link.shape n past) place ∙ comm.is in
+    let held : held_at_hop network request 0 first past ≡ Some comm.terms = ap (λ l. held_on request.chan l.shape (link_number first.hop.link) past) link ∙ ap (λ n. held_on request.chan here.link.shape n past) place ∙ comm.is in
     let clash : Ph.Closing ≡ Ph.Committed = sym (frozen.closes comm.terms held) ∙ comm.phase in
     cc
 

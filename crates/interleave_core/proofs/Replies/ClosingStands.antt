@@ -29,7 +29,7 @@ use Rattle.call_script.specs.Tasks.{Network}
 use Rattle.run_record.specs.Runs.{part_of}
 use Rattle.interleave_core.specs.runs.Runs.{IsRun}
 use Rattle.setup_protocol.proofs.HopHolds.{IsComm}
-use Rattle.interleave_core.proofs.Channels.RowsFollow.{held_at}
+use Rattle.interleave_core.proofs.Channels.RowsFollow.{held_at_hop}
 use Rattle.interleave_core.proofs.Replies.RunGoes.{held-later, open-comm}
 use Rattle.channel_laws.specs.Asks.{IsOff}
 use Rattle.interleave_core.specs.channels.Paths.{HopAt}
@@ -50,7 +50,7 @@ FirstOff c (task ∷ tasks) = TaskOff c task
 -- ---- where the owner stands
 
 abbrev pub AllComm : Network → Request → List ℕ → ℕ → List Done → Type 0
-AllComm network request levels from run = (i : ℕ) (at : HopAt network request i) → from ≤ i → IsComm Some request levels i (held_at network request i at run)
+AllComm network request levels from run = (i : ℕ) (at : HopAt network request i) → from ≤ i → IsComm Some request levels i (held_at_hop network request i at run)
 
 -- no submit on the channel was asked
 abbrev pub Unsent : Request → List Done → Type 0
@@ -88,7 +88,7 @@ pub data ClosesAt (network : Network) (request : Request) (run : List Done) (at 
 
 pub comm-later : (network : Network) (request : Request) (levels : List ℕ) (from : ℕ) (done : Done) (past : List Done) → NetworkFits network → IsRun network past → IsOff (channel_number request.chan) done.ask → AllComm network request levels from past → AllComm network request levels from (done ∷ past)
 comm-later network request levels from done past fits run off comm i at upto =
-    (let own = comm i at upto in subst (IsComm Some request levels i) (sym (held-later network request i at done past fits run off (open-comm request levels i (held_at network request i at past) own))) own)
+    (let own = comm i at upto in subst (IsComm Some request levels i) (sym (held-later network request i at done past fits run off (open-comm request levels i (held_at_hop network request i at past) own))) own)
 
 -- a submit on the channel leaves what is held
 pub send-later : (network : Network) (request : Request) (done : Done) (past : List Done) (count gap size : ℕ) (levels : List ℕ) → done.ask ≡ Submit request.chan count gap size → AllComm network request levels 0 past → AllComm network request levels 0 (done ∷ past)

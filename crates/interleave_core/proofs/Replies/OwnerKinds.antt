@@ -25,7 +25,7 @@ use Rattle.call_script.specs.declared.tasks.Task.{Task}
 use Rattle.call_script.specs.declared.tasks.Task.TheVariants.{Opens, Sends, Closes, Moves}
 use Rattle.run_record.specs.declared.done.Done.{Done}
 use Rattle.interleave_core.specs.channels.Paths.{HopAt}
-use Rattle.interleave_core.proofs.Channels.RowsFollow.{held_at, SetupRows}
+use Rattle.interleave_core.proofs.Channels.RowsFollow.{held_at_hop, SetupRows}
 
 pub not-own : (request : Request) (task own : Task) → TaskOff (channel_number request.chan) task → task ≡ own → (TaskOff (channel_number request.chan) own → ⊥) → ⊥
 not-own request task own off same none = none (subst (TaskOff (channel_number request.chan)) same off)
@@ -47,7 +47,7 @@ pub data OwnKind (network : Network) (request : Request) (done : Done) (past : L
   OwnAside : (first : Reply) → replies ≡ first ∷ [] → IsOff (channel_number request.chan) done.ask → OwnKind network request done past task replies
   OwnSetup : (later : List Reply) → later ≡ replies ++ done.reply ∷ [] → task ≡ Opens request → SetupRows network request later (done ∷ past) → NoRelease done.ask → OwnKind network request done past task replies
   OwnSend : (count gap size : ℕ) → (IsLeaving request task → ⊥) → done.ask ≡ Submit request.chan count gap size → OwnKind network request done past task replies
-  OwnClose : (levels : List ℕ) → IsLeaving request task → (k : ℕ) → (here : HopAt network request k) → link_number done.link ≡ link_number here.hop.link → done.ask ≡ Release request.chan (first_count replies) → (replies ≡ [] → k ≡ 0) → IsComm Some request levels k (held_at network request k here past) → OwnKind network request done past task replies
+  OwnClose : (levels : List ℕ) → IsLeaving request task → (k : ℕ) → (here : HopAt network request k) → link_number done.link ≡ link_number here.hop.link → done.ask ≡ Release request.chan (first_count replies) → (replies ≡ [] → k ≡ 0) → IsComm Some request levels k (held_at_hop network request k here past) → OwnKind network request done past task replies
 
 -- a send doesn't leave it, nor does a move onto it
 pub send-stays : (request : Request) (link : LinkNo) (chan : ChanNo) (count gap size : ℕ) → IsLeaving request (Sends link (Some chan) count gap size) → ⊥

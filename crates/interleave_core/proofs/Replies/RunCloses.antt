@@ -30,7 +30,7 @@ use Rattle.interleave_core.proofs.Replies.ClosingStands.{FirstOff, AllComm, Fres
 use Rattle.call_script.proofs.OneOwner.{closes-sends}
 use Rattle.interleave_core.proofs.Replies.ClosingSteps.{fresh-off, off-step, send-step, close-step, from-step, onto-step, open-next, StepNext, IsUsualReply}
 use Rattle.interleave_core.proofs.Tasks.EachSetup.{OpenedOnce}
-use Rattle.interleave_core.proofs.Tasks.TaskAsks.{IsOther, off-other, task-off, off-from, entry-off}
+use Rattle.interleave_core.proofs.Tasks.TaskAsks.{IsNoOpeningOf, off-other, task-off, off-from, entry-off}
 use Rattle.interleave_core.proofs.Replies.OwnerKinds.{not-own, OwnKind, setup-keeps}
 
 -- ---- every reply to the owner
@@ -121,17 +121,17 @@ none-established request = refl
 
 -- ---- every run
 
-sends-other : (request : Request) (tasks : List Task) → SendsOnce request tasks → Each (IsOther (channel_number request.chan)) tasks
+sends-other : (request : Request) (tasks : List Task) → SendsOnce request tasks → Each (IsNoOpeningOf (channel_number request.chan)) tasks
 sends-other request [] sends = tt
 sends-other request (task ∷ tasks) (inl off) = (off-other (channel_number request.chan) task off.0, sends-other request tasks off.1)
-sends-other request (task ∷ tasks) (inr (inl own)) = (subst (IsOther (channel_number request.chan)) (sym own.0.is) tt, sends-other request tasks own.1)
-sends-other request (task ∷ tasks) (inr (inr (inl own))) = (subst (IsOther (channel_number request.chan)) (sym own.0) tt, sends-other request tasks (each-sends request tasks own.1))
-sends-other request (task ∷ tasks) (inr (inr (inr own))) = (subst (IsOther (channel_number request.chan)) (sym own.0.is) tt, sends-other request tasks (closes-sends request tasks own.1))
+sends-other request (task ∷ tasks) (inr (inl own)) = (subst (IsNoOpeningOf (channel_number request.chan)) (sym own.0.is) tt, sends-other request tasks own.1)
+sends-other request (task ∷ tasks) (inr (inr (inl own))) = (subst (IsNoOpeningOf (channel_number request.chan)) (sym own.0) tt, sends-other request tasks (each-sends request tasks own.1))
+sends-other request (task ∷ tasks) (inr (inr (inr own))) = (subst (IsNoOpeningOf (channel_number request.chan)) (sym own.0.is) tt, sends-other request tasks (closes-sends request tasks own.1))
 
-used-other : (request : Request) (tasks : List Task) → UsedOnce request tasks → Each (IsOther (channel_number request.chan)) tasks
+used-other : (request : Request) (tasks : List Task) → UsedOnce request tasks → Each (IsNoOpeningOf (channel_number request.chan)) tasks
 used-other request [] used = tt
 used-other request (task ∷ tasks) (inl off) = (off-other (channel_number request.chan) task off.0, used-other request tasks off.1)
-used-other request (task ∷ tasks) (inr (inl own)) = (subst (IsOther (channel_number request.chan)) (sym own.0.is) tt, sends-other request tasks own.1)
+used-other request (task ∷ tasks) (inr (inl own)) = (subst (IsNoOpeningOf (channel_number request.chan)) (sym own.0.is) tt, sends-other request tasks own.1)
 used-other request (task ∷ tasks) (inr (inr own)) = sends-other request (task ∷ tasks) (inr own)
 
 full-once : (request : Request) (tasks : List Task) → FullScript request tasks → OpenedOnce request tasks

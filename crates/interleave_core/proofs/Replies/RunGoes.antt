@@ -35,13 +35,13 @@ use Rattle.interleave_core.specs.channels.Paths.{HopAt, packets_at}
 use Rattle.interleave_core.specs.runs.Runs.{IsNext, IsRun}
 use Rattle.interleave_core.proofs.Channels.HopsAt.{HaveLevelsAt}
 use Rattle.interleave_core.proofs.Channels.RowLevels.{levels-held, none-comes}
-use Rattle.interleave_core.proofs.Channels.RowsFollow.{held_at, SetupRows, setup-goes, KeptTerms, AfterRows, Settles, setup-settles, held-here}
+use Rattle.interleave_core.proofs.Channels.RowsFollow.{held_at_hop, SetupRows, setup-goes, KeptTerms, AfterRows, Settles, setup-settles, held-here}
 use Rattle.interleave_core.proofs.Runs.EachRun.{OwnStep}
 use Rattle.interleave_core.proofs.Runs.RunLegal.{part-on, part-off, run-stands, part-admissible, by-part}
 use Rattle.interleave_core.proofs.Tasks.CallerAsksFit.{StandingFits}
 use Rattle.interleave_core.proofs.Tasks.EachSetup.{OpenedOnce, OpensOnce, SetupAt, Before, Under, After, KeptBySetup, is-run, each-setup}
 use Rattle.interleave_core.proofs.Tasks.SetupOnce.{channel-asked}
-use Rattle.interleave_core.proofs.Tasks.TaskAsks.{IsOther, off-other, entry-off}
+use Rattle.interleave_core.proofs.Tasks.TaskAsks.{IsNoOpeningOf, off-other, entry-off}
 
 -- ---- scripts
 
@@ -54,7 +54,7 @@ pub record OwnedOnce (network : Network) (request : Request) (owner : ℕ) : Typ
 pub opens-once : (network : Network) (request : Request) (owner : ℕ) → OwnedOnce network request owner → OpensOnce network request owner
 opens-once network request owner once = record {
   own = once.own;
-  others = λ actor tasks other found. Each-if (TaskOff (channel_number request.chan)) (IsOther (channel_number request.chan)) tasks (off-other (channel_number request.chan)) (once.others actor tasks other found);
+  others = λ actor tasks other found. Each-if (TaskOff (channel_number request.chan)) (IsNoOpeningOf (channel_number request.chan)) tasks (off-other (channel_number request.chan)) (once.others actor tasks other found);
 }
 
 pub owned-asked : (network : Network) (request : Request) (owner : ℕ) → NetworkFits network → RequestFits network.links request → OwnedOnce network request owner → (run : List Done) → IsRun network run → ChannelAsked request run
@@ -62,23 +62,23 @@ owned-asked network request owner fits sound once run is = channel-asked network
 
 -- ---- what entries leave
 
-pub held-later : (network : Network) (request : Request) (i : ℕ) (at : HopAt network request i) (done : Done) (past : List Done) → NetworkFits network → IsRun network past → IsOff (channel_number request.chan) done.ask → IsOpen (held_at network request i at past) → held_at network request i at (done ∷ past) ≡ held_at network request i at past
+pub held-later : (network : Network) (request : Request) (i : ℕ) (at : HopAt network request i) (done : Done) (past : List Done) → NetworkFits network → IsRun network past → IsOff (channel_number request.chan) done.ask → IsOpen (held_at_hop network request i at past) → held_at_hop network request i at (done ∷ past) ≡ held_at_hop network request i at past
 unfolding scan_of
 held-later network request i at done past fits run off opened =
-    by-part (λ h. held_by request.chan (scan_of at.link.shape h).rows ≡ held_at network request i at past) (link_number at.hop.link) done past
+    by-part (λ h. held_by request.chan (scan_of at.link.shape h).rows ≡ held_at_hop network request i at past) (link_number at.hop.link) done past
     (λ on. held-off at.link.shape request.chan (clock_of (part_of (link_number at.hop.link) past)) (scan_of at.link.shape (part_of (link_number at.hop.link) past)) done.ask done.reply off opened (legal-channels at.link.shape (part_of (link_number at.hop.link) past) (part-admissible network past (link_number at.hop.link) at.link fits run at.linked)))
     (λ away. refl)
 
 -- a mild entry keeps or closes a reservation
-pub hop-comes : (network : Network) (request : Request) (i : ℕ) (at : HopAt network request i) (done : Done) (past : List Done) (terms : Reservation) → NetworkFits network → IsRun network past → IsMild (channel_number request.chan) done.ask → held_at network request i at (done ∷ past) ≡ Some terms → ComesOf terms (held_at network request i at past)
+pub hop-comes : (network : Network) (request : Request) (i : ℕ) (at : HopAt network request i) (done : Done) (past : List Done) (terms : Reservation) → NetworkFits network → IsRun network past → IsMild (channel_number request.chan) done.ask → held_at_hop network request i at (done ∷ past) ≡ Some terms → ComesOf terms (held_at_hop network request i at past)
 unfolding scan_of
 hop-comes network request i at done past terms fits run mild =
-    by-part (λ h. held_by request.chan (scan_of at.link.shape h).rows ≡ Some terms → ComesOf terms (held_at network request i at past)) (link_number at.hop.link) done past
+    by-part (λ h. held_by request.chan (scan_of at.link.shape h).rows ≡ Some terms → ComesOf terms (held_at_hop network request i at past)) (link_number at.hop.link) done past
     (λ on held. comes-mild at.link.shape request.chan (clock_of (part_of (link_number at.hop.link) past)) (scan_of at.link.shape (part_of (link_number at.hop.link) past)) done.ask done.reply terms mild (legal-channels at.link.shape (part_of (link_number at.hop.link) past) (part-admissible network past (link_number at.hop.link) at.link fits run at.linked)) held)
     (λ away held. Stays held)
 
 abbrev pub NoneHeld : Network → Request → List Done → Type 0
-NoneHeld network request run = (i : ℕ) (at : HopAt network request i) → held_at network request i at run ≡ None
+NoneHeld network request run = (i : ℕ) (at : HopAt network request i) → held_at_hop network request i at run ≡ None
 
 open-none : (held : Option Reservation) → held ≡ None → IsOpen held
 open-none held none terms is = absurd (let clash : None ≡ Some terms = sym none ∙ is in cc)
@@ -108,21 +108,21 @@ none-comes-of terms before none (Stays is) = (let clash : None ≡ Some terms = 
 none-comes-of terms before none (Closed old count is same) = (let clash : None ≡ Some old = sym none ∙ is in cc)
 
 none-later : (network : Network) (request : Request) (done : Done) (past : List Done) → NetworkFits network → IsRun network past → IsMild (channel_number request.chan) done.ask → NoneHeld network request past → NoneHeld network request (done ∷ past)
-none-later network request done past fits run mild none i at = by (held_at network request i at (done ∷ past)) refl where
-  by : (held : Option Reservation) → held_at network request i at (done ∷ past) ≡ held → held ≡ None
+none-later network request done past fits run mild none i at = by (held_at_hop network request i at (done ∷ past)) refl where
+  by : (held : Option Reservation) → held_at_hop network request i at (done ∷ past) ≡ held → held ≡ None
   by None is = refl
-  by (Some terms) is = absurd (none-comes-of terms (held_at network request i at past) (none i at) (hop-comes network request i at done past terms fits run mild is))
+  by (Some terms) is = absurd (none-comes-of terms (held_at_hop network request i at past) (none i at) (hop-comes network request i at done past terms fits run mild is))
 
 rows-later : (network : Network) (request : Request) (replies : List Reply) (done : Done) (past : List Done) → NetworkFits network → IsRun network past → IsOff (channel_number request.chan) done.ask → SetupRows network request replies past → SetupRows network request replies (done ∷ past)
 rows-later network request replies done past fits run off rows = record {
-  hops = λ i at. subst (HopStands None Some request (offers_in replies) (progress_of request replies) i) (sym (held-later network request i at done past fits run off (open-stands request (offers_in replies) (progress_of request replies) i (held_at network request i at past) (rows.hops i at)))) (rows.hops i at);
+  hops = λ i at. subst (HopStands None Some request (offers_in replies) (progress_of request replies) i) (sym (held-later network request i at done past fits run off (open-stands request (offers_in replies) (progress_of request replies) i (held_at_hop network request i at past) (rows.hops i at)))) (rows.hops i at);
   up = rows.up;
 }
 
 pub rows-none : (network : Network) (request : Request) (run : List Done) → 1 ≤ length request.route → NoneHeld network request run → SetupRows network request [] run
 unfolding offers_in reach_after
 rows-none network request run some none = record {
-  hops = λ i at. subst (λ p. HopStands None Some request [] p i (held_at network request i at run)) (sym (progress-none request some)) (record { tent = λ less. absurd (omega (arith, less)); tail = λ from. none i at });
+  hops = λ i at. subst (λ p. HopStands None Some request [] p i (held_at_hop network request i at run)) (sym (progress-none request some)) (record { tent = λ less. absurd (omega (arith, less)); tail = λ from. none i at });
   up = λ alone. refl;
 }
 
@@ -135,7 +135,7 @@ kept-comes request levels i terms before (Closed old count is same) kept =
 
 pub after-later : (network : Network) (request : Request) (levels : List ℕ) (done : Done) (past : List Done) → NetworkFits network → IsRun network past → IsMild (channel_number request.chan) done.ask → AfterRows network request levels past → AfterRows network request levels (done ∷ past)
 after-later network request levels done past fits run mild rows = record {
-  kept = λ i at terms held. kept-comes request levels i terms (held_at network request i at past) (hop-comes network request i at done past terms fits run mild held) (rows.kept i at);
+  kept = λ i at terms held. kept-comes request levels i terms (held_at_hop network request i at past) (hop-comes network request i at done past terms fits run mild held) (rows.kept i at);
 }
 
 -- ---- the levels of its packets
@@ -143,13 +143,13 @@ after-later network request levels done past fits run mild rows = record {
 abbrev pub HopLevels : Network → Request → List ℕ → List Done → Type 0
 HopLevels network request levels run = (i : ℕ) (at : HopAt network request i) → Each (λ p. p.level ≡ get_or levels i 0) (packets_at network request i at run)
 
-pub levels-settled : (network : Network) (request : Request) (levels : List ℕ) (run : List Done) → NetworkFits network → IsRun network run → ChannelAsked request run → ((i : ℕ) (at : HopAt network request i) → IsComm Some request levels i (held_at network request i at run)) → HopLevels network request levels run
+pub levels-settled : (network : Network) (request : Request) (levels : List ℕ) (run : List Done) → NetworkFits network → IsRun network run → ChannelAsked request run → ((i : ℕ) (at : HopAt network request i) → IsComm Some request levels i (held_at_hop network request i at run)) → HopLevels network request levels run
 levels-settled network request levels run fits is asked comm i at = (let own = comm i at in subst (λ l. Each (λ p. p.level ≡ l) (packets_at network request i at run)) own.level (levels-held network request i at run own.terms fits is asked own.is))
 
 pub levels-later : (network : Network) (request : Request) (levels : List ℕ) (done : Done) (past : List Done) → NetworkFits network → IsRun network (done ∷ past) → ChannelAsked request (done ∷ past) → AfterRows network request levels (done ∷ past) → HopLevels network request levels past → HopLevels network request levels (done ∷ past)
 unfolding scan_of
-levels-later network request levels done past fits is asked rows before i at = by-held (held_at network request i at (done ∷ past)) refl where
-  by-held : (held : Option Reservation) → held_at network request i at (done ∷ past) ≡ held → Each (λ p. p.level ≡ get_or levels i 0) (packets_at network request i at (done ∷ past))
+levels-later network request levels done past fits is asked rows before i at = by-held (held_at_hop network request i at (done ∷ past)) refl where
+  by-held : (held : Option Reservation) → held_at_hop network request i at (done ∷ past) ≡ held → Each (λ p. p.level ≡ get_or levels i 0) (packets_at network request i at (done ∷ past))
   by-held (Some terms) held = subst (λ l. Each (λ p. p.level ≡ l) (packets_at network request i at (done ∷ past))) (rows.kept i at terms held).level (levels-held network request i at (done ∷ past) terms fits is asked held)
   by-held None none =
       elim (cases_Bool (nat_eq (link_number done.link) (link_number at.hop.link))) [

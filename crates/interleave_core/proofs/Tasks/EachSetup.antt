@@ -24,19 +24,19 @@ use Rattle.run_record.specs.Runs.{replies_to}
 use Rattle.run_record.specs.declared.done.Done.{Done}
 use Rattle.interleave_core.specs.runs.Runs.{IsNext, IsRun}
 use Rattle.interleave_core.proofs.Runs.EachRun.{head-same, tail-same, from-step-by, OwnStep, KeptBySteps, each-run}
-use Rattle.interleave_core.proofs.Tasks.TaskAsks.{IsOther, other-alike, task-mild, others-from, entry-mild}
+use Rattle.interleave_core.proofs.Tasks.TaskAsks.{IsNoOpeningOf, other-alike, task-mild, others-from, entry-mild}
 
 -- ---- scripts
 
 -- no task opens the channel, or one does, by this request
 abbrev pub OpenedOnce : Request → List Task → Type 0
 OpenedOnce request [] = Unit {0}
-OpenedOnce request (task ∷ tasks) = (IsOther (channel_number request.chan) task × OpenedOnce request tasks) ⊎ ((task ≡ Opens request) × Each (IsOther (channel_number request.chan)) tasks)
+OpenedOnce request (task ∷ tasks) = (IsNoOpeningOf (channel_number request.chan) task × OpenedOnce request tasks) ⊎ ((task ≡ Opens request) × Each (IsNoOpeningOf (channel_number request.chan)) tasks)
 
 -- one caller opens the request, once
 pub record OpensOnce (network : Network) (request : Request) (owner : ℕ) : Type 0 where
   pub own : (tasks : List Task) → slice_get network.scripts owner ≡ Some tasks → OpenedOnce request tasks
-  pub others : (actor : ℕ) (tasks : List Task) → actor ≢ owner → slice_get network.scripts actor ≡ Some tasks → Each (IsOther (channel_number request.chan)) tasks
+  pub others : (actor : ℕ) (tasks : List Task) → actor ≢ owner → slice_get network.scripts actor ≡ Some tasks → Each (IsNoOpeningOf (channel_number request.chan)) tasks
 
 -- ---- what is recorded of a request
 
@@ -64,7 +64,7 @@ unfolding outcome_in newest
 moved-outcome chan old new gap size None outcomes = refl
 moved-outcome chan old new gap size (Some told) outcomes = refl
 
-pub other-outcome : (request : Request) (task : Task) (replies : List Reply) (outcomes : List Learnt) → IsOther (channel_number request.chan) task → outcome_in request.chan (outcome_by task replies ++ outcomes) ≡ outcome_in request.chan outcomes
+pub other-outcome : (request : Request) (task : Task) (replies : List Reply) (outcomes : List Learnt) → IsNoOpeningOf (channel_number request.chan) task → outcome_in request.chan (outcome_by task replies ++ outcomes) ≡ outcome_in request.chan outcomes
 other-outcome request (Opens r) replies outcomes other = by-verdict (verdict_of r replies) where
   by-verdict : (verdict : Option Outcome) → outcome_in request.chan (settled_as r verdict ++ outcomes) ≡ outcome_in request.chan outcomes
   by-verdict None = refl
@@ -90,8 +90,8 @@ IsBegun request (task ∷ tasks) replies = task ≡ Opens request → replies �
 -- the request is not opened yet, or its setup is under way and has more to ask, or it is over. B, U and A are what is so then
 pub data SetupAt (request : Request) (B : List Done → Type 0) (U : List Done → List Reply → Type 0) (A : List Done → Option Outcome → Type 0) (run : List Done) (at : Standing) : Type 0 where
   Before : OpenedOnce request at.tasks → IsBegun request at.tasks at.replies → outcome_in request.chan at.outcomes ≡ None → B run → SetupAt request B U A run at
-  Under : (rest : List Task) → at.tasks ≡ Opens request ∷ rest → Each (IsOther (channel_number request.chan)) rest → outcome_in request.chan at.outcomes ≡ None → (to : LinkNo × Ask) → next_ask request at.replies ≡ Some to → U run at.replies → SetupAt request B U A run at
-  After : Each (IsOther (channel_number request.chan)) at.tasks → A run (outcome_in request.chan at.outcomes) → SetupAt request B U A run at
+  Under : (rest : List Task) → at.tasks ≡ Opens request ∷ rest → Each (IsNoOpeningOf (channel_number request.chan)) rest → outcome_in request.chan at.outcomes ≡ None → (to : LinkNo × Ask) → next_ask request at.replies ≡ Some to → U run at.replies → SetupAt request B U A run at
+  After : Each (IsNoOpeningOf (channel_number request.chan)) at.tasks → A run (outcome_in request.chan at.outcomes) → SetupAt request B U A run at
 
 -- what each kind of step keeps
 pub record KeptBySetup (network : Network) (request : Request) (owner : ℕ) (script : List Task) (B : List Done → Type 0) (U : List Done → List Reply → Type 0) (A : List Done → Option Outcome → Type 0) : Type 0 where
@@ -110,14 +110,14 @@ is-run network past done run next = (run, next)
 module _ (network : Network) (request : Request) (owner : ℕ) (script : List Task) (found : slice_get network.scripts owner ≡ Some script) (once : OpensOnce network request owner) (B : List Done → Type 0) (U : List Done → List Reply → Type 0) (A : List Done → Option Outcome → Type 0) (kept : KeptBySetup network request owner script B U A) where
   -- before the next task begins
   abbrev Left : List Done → List Learnt → List Task → Type 0
-  Left run outcomes tasks = (OpenedOnce request tasks × (outcome_in request.chan outcomes ≡ None) × B run) ⊎ (Each (IsOther (channel_number request.chan)) tasks × A run (outcome_in request.chan outcomes))
+  Left run outcomes tasks = (OpenedOnce request tasks × (outcome_in request.chan outcomes ≡ None) × B run) ⊎ (Each (IsNoOpeningOf (channel_number request.chan)) tasks × A run (outcome_in request.chan outcomes))
 
   begins : (run : List Done) (outcomes : List Learnt) (tasks : List Task) → Left run outcomes tasks → SetupAt request B U A run (begun outcomes tasks)
   begins run outcomes tasks (inr late) = After (others-from (channel_number request.chan) outcomes tasks late.0) late.1
   begins run outcomes tasks (inl early) =
       from-step-by (OpenedOnce request) (λ ts. SetupAt request B U A run (record { tasks = ts; replies = []; outcomes = outcomes })) outcomes (λ none. Before tt tt early.1 early.2) first passed tasks early.0 where
         first : (task : Task) (rest : List Task) → takes_step outcomes task ≡ true → OpenedOnce request (task ∷ rest) → SetupAt request B U A run (record { tasks = ready outcomes task ∷ rest; replies = []; outcomes = outcomes })
-        first task rest takes (inl other) = Before (inl (ready-keeps (IsOther (channel_number request.chan)) (other-alike (channel_number request.chan)) outcomes task other.0, other.1)) (λ is. refl) early.1 early.2
+        first task rest takes (inl other) = Before (inl (ready-keeps (IsNoOpeningOf (channel_number request.chan)) (other-alike (channel_number request.chan)) outcomes task other.0, other.1)) (λ is. refl) early.1 early.2
         first task rest takes (inr own) = Before (inr (ap (ready outcomes) own.0, own.1)) (λ is. refl) early.1 early.2
 
         passed : (task : Task) (rest : List Task) → takes_step outcomes task ≡ false → OpenedOnce request (task ∷ rest) → OpenedOnce request rest
@@ -143,13 +143,13 @@ module _ (network : Network) (request : Request) (owner : ℕ) (script : List Ta
   setup-first past done task rest replies outcomes step own empty is = setup-more past done task rest replies outcomes step own (subst (U past) (sym empty) (kept.starts past step.run is))
 
   -- another task's entry
-  own-mild : (past : List Done) (done : Done) (task : Task) (rest : List Task) (replies : List Reply) (outcomes : List Learnt) → OwnStep network owner script past done task rest replies outcomes → IsOther (channel_number request.chan) task → IsMild (channel_number request.chan) done.ask
+  own-mild : (past : List Done) (done : Done) (task : Task) (rest : List Task) (replies : List Reply) (outcomes : List Learnt) → OwnStep network owner script past done task rest replies outcomes → IsNoOpeningOf (channel_number request.chan) task → IsMild (channel_number request.chan) done.ask
   own-mild past done task rest replies outcomes step other = task-mild (channel_number request.chan) task replies done.link done.ask other step.asks
 
   goes : (past : List Done) (done : Done) (task : Task) (rest : List Task) (replies : List Reply) (outcomes : List Learnt) (to : LinkNo × Ask) → OwnStep network owner script past done task rest replies outcomes → task_ask task (replies ++ done.reply ∷ []) ≡ Some to
       → SetupAt request B U A past (record { tasks = task ∷ rest; replies = replies; outcomes = outcomes }) → SetupAt request B U A (done ∷ past) (record { tasks = task ∷ rest; replies = replies ++ done.reply ∷ []; outcomes = outcomes })
   goes past done task rest replies outcomes to step more (Before (inl other) begun' quiet is) =
-      Before (inl other) (λ own. absurd (subst (IsOther (channel_number request.chan)) own other.0 refl)) quiet (kept.before past done step.run step.next (own-mild past done task rest replies outcomes step other.0) is)
+      Before (inl other) (λ own. absurd (subst (IsNoOpeningOf (channel_number request.chan)) own other.0 refl)) quiet (kept.before past done step.run step.next (own-mild past done task rest replies outcomes step other.0) is)
   goes past done task rest replies outcomes to step more (Before (inr own) begun' quiet is) =
       Under rest (ap (λ t. t ∷ rest) own.0) own.1 quiet to (subst (λ t. task_ask t (replies ++ done.reply ∷ []) ≡ Some to) own.0 more) (setup-first past done task rest replies outcomes step own.0 (begun' own.0) is)
   goes past done task rest replies outcomes to step more (Under left same others quiet asked asks is) =
@@ -172,7 +172,7 @@ module _ (network : Network) (request : Request) (owner : ℕ) (script : List Ta
   over past done task rest replies outcomes step none (Before (inr own) begun' quiet is) = inr (own.1, settled past done task rest replies outcomes step none own.0 quiet (setup-first past done task rest replies outcomes step own.0 (begun' own.0) is))
   over past done task rest replies outcomes step none (Under left same others quiet asked asks is) =
       (let own = head-same task rest (Opens request) left same in
-      inr (subst (Each (IsOther (channel_number request.chan))) (sym (tail-same task rest (Opens request) left same)) others, settled past done task rest replies outcomes step none own quiet (setup-more past done task rest replies outcomes step own is)))
+      inr (subst (Each (IsNoOpeningOf (channel_number request.chan))) (sym (tail-same task rest (Opens request) left same)) others, settled past done task rest replies outcomes step none own quiet (setup-more past done task rest replies outcomes step own is)))
   over past done task rest replies outcomes step none (After others is) =
       inr (others.1, subst (A (done ∷ past)) (sym (other-outcome request task (replies ++ done.reply ∷ []) outcomes others.0)) (kept.after past done (outcome_in request.chan outcomes) step.run step.next (own-mild past done task rest replies outcomes step others.0) is))
 

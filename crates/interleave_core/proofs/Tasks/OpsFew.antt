@@ -78,11 +78,11 @@ openings-most first (c ∷ callers) (suc n) at caller found same =
     omega (arith, rest, more)
 
 -- the load of its operations, by what each request has to carry where they begin
-record IsWithin (requests : List RequestEntry) (loads : List ℕ) (callers : List CallerEntry) (caller : CallerEntry) : Type 0 where
+record LoadIsWithin (requests : List RequestEntry) (loads : List ℕ) (callers : List CallerEntry) (caller : CallerEntry) : Type 0 where
   started : List ℕ
   most : ops_load requests started caller.ops ≤ ops_load requests loads (ops_over callers)
 
-load-most : (requests : List RequestEntry) (loads : List ℕ) (callers : List CallerEntry) (n : ℕ) (caller : CallerEntry) → slice_get callers n ≡ Some caller → IsWithin requests loads callers caller
+load-most : (requests : List RequestEntry) (loads : List ℕ) (callers : List CallerEntry) (n : ℕ) (caller : CallerEntry) → slice_get callers n ≡ Some caller → LoadIsWithin requests loads callers caller
 unfolding ops_over
 load-most requests loads [] n caller found = absurd (let clash : None ≡ Some caller = found in cc)
 load-most requests loads (c ∷ callers) zero caller found =

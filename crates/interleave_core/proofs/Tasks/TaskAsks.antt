@@ -49,15 +49,15 @@ entry-off network c past done next each = entry-asks (IsOff c) (TaskOff c) (off-
 
 -- ---- tasks that don't open the channel
 
-abbrev pub IsOther : ℕ → Task → Type 0
-IsOther c (Opens request) = channel_number request.chan ≢ c
-IsOther c _ = Unit {0}
+abbrev pub IsNoOpeningOf : ℕ → Task → Type 0
+IsNoOpeningOf c (Opens request) = channel_number request.chan ≢ c
+IsNoOpeningOf c _ = Unit {0}
 
-pub other-alike : (c : ℕ) → MovesAlike (IsOther c)
+pub other-alike : (c : ℕ) → MovesAlike (IsNoOpeningOf c)
 other-alike c old new gap size other_gap other_size other = tt
 
 -- those that name another one don't
-pub off-other : (c : ℕ) (task : Task) → TaskOff c task → IsOther c task
+pub off-other : (c : ℕ) (task : Task) → TaskOff c task → IsNoOpeningOf c task
 off-other c (Opens request) off = off
 off-other c _ off = tt
 
@@ -67,18 +67,18 @@ off-mild c (Relax chan level up_bound) off = off
 off-mild c (Deny chan) off = off
 off-mild c _ off = tt
 
-pub task-mild : (c : ℕ) (task : Task) (replies : List Reply) (to : LinkNo) (ask : Ask) → IsOther c task → task_ask task replies ≡ Some (to, ask) → IsMild c ask
+pub task-mild : (c : ℕ) (task : Task) (replies : List Reply) (to : LinkNo) (ask : Ask) → IsNoOpeningOf c task → task_ask task replies ≡ Some (to, ask) → IsMild c ask
 task-mild c (Opens request) replies to ask other same = of-setup (IsMild c) request (progress_of request replies) to ask (λ offers reach. other) other (λ levels place. other) same
 task-mild c (Sends link chan count gap size) replies to ask other same =
     subst (IsMild c) (once-asked link (packets_ask chan count gap size) replies to ask same).is (packets-hold (IsMild c) chan count gap size (λ own. tt) tt)
 task-mild c (Moves old new gap size) replies to ask other same = move-ask-is (IsMild c) (move_between old new gap size) replies to ask (λ upstream. tt) (λ count. tt) same
 task-mild c (Closes request) replies to ask other same = of-hop (IsMild c) (slice_get request.route (length replies)) (λ hop. Release request.chan _) to ask (λ hop. tt) same
 
-pub mild-tasks : (c : ℕ) (tasks : List Task) (replies : List Reply) (to : LinkNo) (ask : Ask) → Each (IsOther c) tasks → first_ask tasks replies ≡ Some (to, ask) → IsMild c ask
-mild-tasks c tasks replies to ask others same = first-asks (IsMild c) (IsOther c) (task-mild c) tasks replies to ask others same
+pub mild-tasks : (c : ℕ) (tasks : List Task) (replies : List Reply) (to : LinkNo) (ask : Ask) → Each (IsNoOpeningOf c) tasks → first_ask tasks replies ≡ Some (to, ask) → IsMild c ask
+mild-tasks c tasks replies to ask others same = first-asks (IsMild c) (IsNoOpeningOf c) (task-mild c) tasks replies to ask others same
 
-pub others-from : (c : ℕ) (outcomes : List Learnt) (tasks : List Task) → Each (IsOther c) tasks → Each (IsOther c) (from_step outcomes tasks)
-others-from c outcomes tasks each = each-left (IsOther c) (other-alike c) outcomes tasks each
+pub others-from : (c : ℕ) (outcomes : List Learnt) (tasks : List Task) → Each (IsNoOpeningOf c) tasks → Each (IsNoOpeningOf c) (from_step outcomes tasks)
+others-from c outcomes tasks each = each-left (IsNoOpeningOf c) (other-alike c) outcomes tasks each
 
-pub entry-mild : (network : Network) (c : ℕ) (past : List Done) (done : Done) → IsNext network past done → ((tasks : List Task) → slice_get network.scripts (actor_number done.actor) ≡ Some tasks → Each (IsOther c) tasks) → IsMild c done.ask
-entry-mild network c past done next each = entry-asks (IsMild c) (IsOther c) (other-alike c) tt (λ packet. tt) (task-mild c) network past done next each
+pub entry-mild : (network : Network) (c : ℕ) (past : List Done) (done : Done) → IsNext network past done → ((tasks : List Task) → slice_get network.scripts (actor_number done.actor) ≡ Some tasks → Each (IsNoOpeningOf c) tasks) → IsMild c done.ask
+entry-mild network c past done next each = entry-asks (IsMild c) (IsNoOpeningOf c) (other-alike c) tt (λ packet. tt) (task-mild c) network past done next each

@@ -2,7 +2,7 @@
 use Rattle.std.proofs.Common.{◌≡◌, ℕ, zero, suc, ◌<◌, Bool, false, not, List, [], ◌∷◌, length, map, get_or, set, refl, sym, ap, ◌∙◌, arith}
 use Rattle.std.proofs.lemmas.Bool.{eq-eqb, ne_eqb}
 use Rattle.std.proofs.lemmas.List.{length-map, get_or-map}
-use Rattle.link_server.proofs.Words.{remove, if◌then◌else◌, filter, channel_number, key_of, IsDistinct, KeptRow, kept_stays, Each, reservation_in, row_in, is_served_row_of, summed, IsPlaceOf, ServedRow}
+use Rattle.link_server.proofs.Words.{remove, if◌then◌else◌, filter, channel_number, key_of, IsDistinct, AccountRow, kept_stays, Each, reservation_in, row_in, is_served_row_of, summed, IsPlaceOf, ServedRow}
 use Rattle.link_steps.specs.Hold.{hold_ended}
 use Rattle.rcsp_admission.proofs.OneRowPerKey.{distinct-later}
 
@@ -39,24 +39,24 @@ a-row [] i inside = absurd (omega arith)
 a-row (row ∷ rows) i inside = row
 
 -- one that doesn't stay may be taken out
-pub filter-without : (test : KeptRow → Bool) (rows : List ServedRow) (i : ℕ) (d : ServedRow) → i < length rows → test (row_in (get_or rows i d)) ≡ false → filter test (map row_in (remove rows i)) ≡ filter test (map row_in rows)
+pub filter-without : (test : AccountRow → Bool) (rows : List ServedRow) (i : ℕ) (d : ServedRow) → i < length rows → test (row_in (get_or rows i d)) ≡ false → filter test (map row_in (remove rows i)) ≡ filter test (map row_in rows)
 filter-without test [] i d inside is = absurd (omega (arith, inside))
 filter-without test (row ∷ rows) zero d inside is = rw is refl
 filter-without test (row ∷ rows) (suc i) d inside is = ap (λ rest. if test (row_in row) then row_in row ∷ rest else rest) (filter-without test rows i d (omega (arith, inside)) is)
 
 -- a fact of each row stays where one is taken out, is one of the row at a place, and stays where one that has it is put
-pub each-without : (P : KeptRow → Type 0) (rows : List ServedRow) (i : ℕ) → Each P (map row_in rows) → Each P (map row_in (remove rows i))
+pub each-without : (P : AccountRow → Type 0) (rows : List ServedRow) (i : ℕ) → Each P (map row_in rows) → Each P (map row_in (remove rows i))
 each-without P [] zero each = each
 each-without P [] (suc i) each = each
 each-without P (row ∷ rows) zero each = each.1
 each-without P (row ∷ rows) (suc i) each = (each.0, each-without P rows i each.1)
 
-pub each-at : (P : KeptRow → Type 0) (rows : List ServedRow) (i : ℕ) (d : ServedRow) → i < length rows → Each P (map row_in rows) → P (row_in (get_or rows i d))
+pub each-at : (P : AccountRow → Type 0) (rows : List ServedRow) (i : ℕ) (d : ServedRow) → i < length rows → Each P (map row_in rows) → P (row_in (get_or rows i d))
 each-at P [] i d inside each = absurd (omega arith)
 each-at P (row ∷ rows) zero d inside each = each.0
 each-at P (row ∷ rows) (suc i) d inside each = each-at P rows i d (omega arith) each.1
 
-pub each-set : (P : KeptRow → Type 0) (rows : List ServedRow) (i : ℕ) (new : ServedRow) → P (row_in new) → Each P (map row_in rows) → Each P (map row_in (set rows i new))
+pub each-set : (P : AccountRow → Type 0) (rows : List ServedRow) (i : ℕ) (new : ServedRow) → P (row_in new) → Each P (map row_in rows) → Each P (map row_in (set rows i new))
 each-set P [] i new is each = each
 each-set P (row ∷ rows) zero new is each = (is, each.1)
 each-set P (row ∷ rows) (suc i) new is each = (each.0, each-set P rows i new is each.1)

@@ -3,7 +3,7 @@ use Rattle.std.proofs.Common.{◌≡◌, ℕ, suc, ◌+◌, ◌<◌, ◌≤◌, 
 use Rattle.std.proofs.lemmas.Bool.{cases_Bool, cases_lt, eq-eqb, eqb-true, le-leb, leb-true, lt-leb}
 use Rattle.std.proofs.lemmas.List.{map_push, get_or_default}
 use Rattle.std.proofs.lemmas.List.Folds.{list_any_none}
-use Rattle.link_server.proofs.Words.{remove, if◌then◌else◌, filter, nat_eq, nat_le, channel_number, last_bound, ChanNo, newest, Closing, KeptRow, kept_stays, Each, is_phase, Entry, Schedule, TakesDue, row_in, IsAbsent, IsPlaceOf, ServedRow}
+use Rattle.link_server.proofs.Words.{remove, if◌then◌else◌, filter, nat_eq, nat_le, channel_number, last_bound, ChanNo, newest, Closing, AccountRow, kept_stays, Each, is_phase, Entry, Schedule, TakesDue, row_in, IsAbsent, IsPlaceOf, ServedRow}
 use Rattle.traffic_contract.proofs.AdmissionTest.{total-push}
 use Rattle.link_steps.specs.Hold.{hold_ended}
 use Rattle.link_steps.proofs.SearchAndFilter.{Each-append, Each-if, Each-both, filter-all}
@@ -18,7 +18,7 @@ use Rattle.link_server.proofs.RowsOfTable.Index.{one-place}
 -- ---- which rows an entry that is due tells of
 
 -- what holds of the row at each place holds of each
-pub each-place : (P : KeptRow → Type 0) (rows : List ServedRow) → ((k : ℕ) (d : ServedRow) → k < length rows → P (row_in (get_or rows k d))) → Each P (map row_in rows)
+pub each-place : (P : AccountRow → Type 0) (rows : List ServedRow) → ((k : ℕ) (d : ServedRow) → k < length rows → P (row_in (get_or rows k d))) → Each P (map row_in rows)
 each-place P [] at = tt
 each-place P (row ∷ rows) at = (at 0 row (omega arith), each-place P rows (λ k d inside. at (suc k) d (omega (arith, inside))))
 
@@ -62,14 +62,14 @@ held-on true false false d e more is = refl
 held-on true false true d false more is = refl
 held-on true false true d true more is = rw (more refl) at is
 
-stays-before : (bounds : List ℕ) (tick clock : ℕ) (row : KeptRow) → tick ≤ clock → kept_stays bounds clock row ≡ true → kept_stays bounds tick row ≡ true
+stays-before : (bounds : List ℕ) (tick clock : ℕ) (row : AccountRow) → tick ≤ clock → kept_stays bounds clock row ≡ true → kept_stays bounds tick row ≡ true
 unfolding hold_ended
 stays-before bounds tick clock row less =
     held-on (is_phase row.terms.phase Closing) (nat_eq row.terms.count 0) (nat_eq row.taken row.terms.count) (nat_le (newest row.recent + last_bound bounds) clock) (nat_le (newest row.recent + last_bound bounds) tick)
     (λ by. le-leb (newest row.recent + last_bound bounds) clock (let at = leb-true (newest row.recent + last_bound bounds) tick by in omega (arith, at, less)))
 
 -- so the entry tells the end of none of the rows that are left
-tells-none : (bounds : List ℕ) (clock tick key t : ℕ) (row : KeptRow) → tick ≤ clock → StaysIfOf bounds clock key row → tells_end bounds t row (tick, key) ≡ false
+tells-none : (bounds : List ℕ) (clock tick key t : ℕ) (row : AccountRow) → tick ≤ clock → StaysIfOf bounds clock key row → tells_end bounds t row (tick, key) ≡ false
 tells-none bounds clock tick key t row due stays =
     ⊎_elim (λ (same : nat_eq key (channel_number row.terms.chan) ≡ true).
     rw (stays-before bounds tick clock row due (stays (sym (eqb-true key (channel_number row.terms.chan) same)))) (both (nat_eq key (channel_number row.terms.chan)) (nat_le tick t)))
@@ -80,7 +80,7 @@ tells-none bounds clock tick key t row due stays =
       both true false = refl
       both true true = refl
 
-pub due-taken : (bounds : List ℕ) (clock key : ℕ) (old new : Schedule) (rows : List KeptRow) → TakesDue old.entries new.entries clock key → new.spare ≡ old.spare + 1 → new.clock ≡ clock → Each (IsListed bounds clock old.entries) rows → open_in rows ≤ old.spare → Each (StaysIfOf bounds clock key) rows → AreListed bounds clock new rows
+pub due-taken : (bounds : List ℕ) (clock key : ℕ) (old new : Schedule) (rows : List AccountRow) → TakesDue old.entries new.entries clock key → new.spare ≡ old.spare + 1 → new.clock ≡ clock → Each (IsListed bounds clock old.entries) rows → open_in rows ≤ old.spare → Each (StaysIfOf bounds clock key) rows → AreListed bounds clock new rows
 due-taken bounds clock key old new rows due spare begun listed room stays = record {
   begun = omega (arith, begun);
   listed =
@@ -92,7 +92,7 @@ due-taken bounds clock key old new rows due spare begun listed room stays = reco
 }
 
 -- where none is due, every row stays
-stays-on : (bounds : List ℕ) (clock : ℕ) (entries : List Entry) (row : KeptRow) → All (λ entry. clock < entry.0) entries → IsListed bounds clock entries row → kept_stays bounds clock row ≡ true
+stays-on : (bounds : List ℕ) (clock : ℕ) (entries : List Entry) (row : AccountRow) → All (λ entry. clock < entry.0) entries → IsListed bounds clock entries row → kept_stays bounds clock row ≡ true
 stays-on bounds clock entries row later listed =
     ⊎_elim (λ (is : kept_stays bounds clock row ≡ true). is)
     (λ (gone : kept_stays bounds clock row ≡ false). absurd (let f : false ≡ true = sym (list_any_none (tells_end bounds clock row) entries (λ k d inside. not-yet (get_or entries k d) (later k d inside))) ∙ listed.told clock (omega arith) gone in cc))
@@ -104,20 +104,20 @@ stays-on bounds clock entries row later listed =
       not-yet : (entry : Entry) → clock < entry.0 → tells_end bounds clock row entry ≡ false
       not-yet entry past = rw (lt-leb entry.0 clock past) (none (nat_eq entry.1 (channel_number row.terms.chan)))
 
-pub all-stay : (bounds : List ℕ) (clock : ℕ) (entries : List Entry) (rows : List KeptRow) → All (λ entry. clock < entry.0) entries → Each (IsListed bounds clock entries) rows → filter (kept_stays bounds clock) rows ≡ rows
+pub all-stay : (bounds : List ℕ) (clock : ℕ) (entries : List Entry) (rows : List AccountRow) → All (λ entry. clock < entry.0) entries → Each (IsListed bounds clock entries) rows → filter (kept_stays bounds clock) rows ≡ rows
 all-stay bounds clock entries rows later listed = filter-all (kept_stays bounds clock) rows (Each-if (IsListed bounds clock entries) (λ row. kept_stays bounds clock row ≡ true) rows (λ row is. stays-on bounds clock entries row later is) listed)
 
 -- ---- rows that come, change and go
 
 -- the rows that have yet to get an entry
-open-most : (row : KeptRow) → open_count row ≤ 1
+open-most : (row : AccountRow) → open_count row ≤ 1
 open-most row = most (is_open row) where
   most : (b : Bool) → (if b then 1 else 0) ≤ 1
   most true = omega arith
   most false = omega arith
 
 -- an open row counts as one
-pub open-one : (row : KeptRow) → is_open row ≡ true → open_count row ≡ 1
+pub open-one : (row : AccountRow) → is_open row ≡ true → open_count row ≡ 1
 open-one row is = rw is refl
 
 -- room for an open row
@@ -129,7 +129,7 @@ open-room bounds clock holds rows i d listed inside is =
     omega (arith, at, one, room)
 
 -- more room in the calendar
-pub listed-reserved : (bounds : List ℕ) (clock : ℕ) (old new : Schedule) (rows : List KeptRow) → new ≡ record old { spare = new.spare } → old.spare ≤ new.spare → AreListed bounds clock old rows → AreListed bounds clock new rows
+pub listed-reserved : (bounds : List ℕ) (clock : ℕ) (old new : Schedule) (rows : List AccountRow) → new ≡ record old { spare = new.spare } → old.spare ≤ new.spare → AreListed bounds clock old rows → AreListed bounds clock new rows
 listed-reserved bounds clock old new rows same grows listed = record {
   begun = (let begun = listed.begun in let clock_is : new.clock ≡ old.clock = ap (λ s. s.clock) same in omega (arith, begun, clock_is));
   listed = subst (λ entries. Each (IsListed bounds clock entries) rows) (sym (ap (λ s. s.entries) same)) listed.listed;
@@ -163,7 +163,7 @@ listed-set bounds clock holds rows i new d listed inside own is = record {
 
 -- a row whose entry was put, if no packet is left to wait for
 pub listed-put : (bounds : List ℕ) (clock : ℕ) (old new : Schedule) (rows : List ServedRow) (i : ℕ) (row d : ServedRow) → AreListed bounds clock old (map row_in rows) → i < length rows → is_open (row_in (get_or rows i d)) ≡ true
-    → new.clock ≡ old.clock → ((other : KeptRow) → IsListed bounds clock old.entries other → IsListed bounds clock new.entries other) → IsListed bounds clock new.entries (row_in row) → open_count (row_in row) + old.spare ≤ new.spare + 1 → AreListed bounds clock new (map row_in (set rows i row))
+    → new.clock ≡ old.clock → ((other : AccountRow) → IsListed bounds clock old.entries other → IsListed bounds clock new.entries other) → IsListed bounds clock new.entries (row_in row) → open_count (row_in row) + old.spare ≤ new.spare + 1 → AreListed bounds clock new (map row_in (set rows i row))
 listed-put bounds clock old new rows i row d listed inside is same others own spare = record {
   begun = (let begun = listed.begun in omega (arith, begun, same));
   listed = each-set (IsListed bounds clock new.entries) rows i row own (Each-if (IsListed bounds clock old.entries) (IsListed bounds clock new.entries) (map row_in rows) others listed.listed);

@@ -4,7 +4,7 @@ use Rattle.std.proofs.lemmas.Bool.{cases_Bool, eqb-true, le-leb, or_cases}
 use Rattle.link_server.proofs.Words.{if◌then◌else◌, find, nat_eq, nat_le, Packet, Closing, has_slot, Each, is_phase, SourcePacket, is_for, left_at, Arrival, SourceStep, Rests, Brings, Drops, source_step, taken_by, Entry, Schedule}
 use Rattle.link_steps.specs.declared.replies.Refusal.TheVariants.{Stray}
 use Rattle.link_steps.specs.declared.replies.Why.TheVariants.{PastCount}
-use Rattle.link_steps.specs.Kept.{KeptRow, kept_step, kept_after_step, kept_rows_after}
+use Rattle.link_steps.specs.Kept.{AccountRow, kept_step, kept_after_step, kept_rows_after}
 use Rattle.link_steps.specs.Refusals.{first_hop, uncommitted, wrong_number, past_count, big}
 use Rattle.link_steps.proofs.RulesPassed.{unless-none}
 use Rattle.link_server.specs.Holds.{is_open, open_count, open_in, IsListed, AreListed}
@@ -19,7 +19,7 @@ no-plan : (left : List SourcePacket) → length left ≡ 0 → left ≡ []
 no-plan [] none = refl
 no-plan (p ∷ left) none = absurd (omega (arith, none))
 
-pub rests : (bounds : List ℕ) (here : List Arrival) (t place : ℕ) (row : KeptRow) → length row.left ≡ 0 → kept_after_step (kept_step bounds here t row) t place row ≡ row
+pub rests : (bounds : List ℕ) (here : List Arrival) (t place : ℕ) (row : AccountRow) → length row.left ≡ 0 → kept_after_step (kept_step bounds here t row) t place row ≡ row
 unfolding kept_step
 rests bounds here t place row none =
     let nothing = no-plan row.left none in
@@ -27,19 +27,19 @@ rests bounds here t place row none =
     ∙ ap (λ left. record row { left = left }) (ap (left_at (suc t)) nothing ∙ sym nothing)
 
 -- a step leaves the reservation
-same-phase : (step : SourceStep) (t place : ℕ) (row : KeptRow) → is_phase (kept_after_step step t place row).terms.phase Closing ≡ is_phase row.terms.phase Closing
+same-phase : (step : SourceStep) (t place : ℕ) (row : AccountRow) → is_phase (kept_after_step step t place row).terms.phase Closing ≡ is_phase row.terms.phase Closing
 same-phase Rests t place row = refl
 same-phase (Brings size) t place row = refl
 same-phase Drops t place row = refl
 
 -- so a row is open after its step where it was
-step-open : (bounds : List ℕ) (here : List Arrival) (t place : ℕ) (row : KeptRow) → (is_phase row.terms.phase Closing ≡ true → length row.left ≡ 0) → is_open (kept_after_step (kept_step bounds here t row) t place row) ≡ is_open row
+step-open : (bounds : List ℕ) (here : List Arrival) (t place : ℕ) (row : AccountRow) → (is_phase row.terms.phase Closing ≡ true → length row.left ≡ 0) → is_open (kept_after_step (kept_step bounds here t row) t place row) ≡ is_open row
 step-open bounds here t place row none =
     ⊎_elim (λ (closing : is_phase row.terms.phase Closing ≡ true). ap is_open (rests bounds here t place row (none closing)))
     (λ (other : is_phase row.terms.phase Closing ≡ false). not-closing (kept_after_step (kept_step bounds here t row) t place row) (same-phase (kept_step bounds here t row) t place row ∙ other) ∙ sym (not-closing row other))
     (cases_Bool (is_phase row.terms.phase Closing))
 
-step-listed : (bounds : List ℕ) (here : List Arrival) (t later place : ℕ) (entries : List Entry) (row : KeptRow) → t ≤ later → IsListed bounds t entries row → IsListed bounds later entries (kept_after_step (kept_step bounds here t row) t place row)
+step-listed : (bounds : List ℕ) (here : List Arrival) (t later place : ℕ) (entries : List Entry) (row : AccountRow) → t ≤ later → IsListed bounds t entries row → IsListed bounds later entries (kept_after_step (kept_step bounds here t row) t place row)
 step-listed bounds here t later place entries row less listed =
     ⊎_elim (λ (closing : is_phase row.terms.phase Closing ≡ true). subst (IsListed bounds later entries) (sym (rests bounds here t place row (listed.plans_none closing))) (listed-later bounds t later entries row less listed))
     (λ (other : is_phase row.terms.phase Closing ≡ false).
@@ -48,13 +48,13 @@ step-listed bounds here t later place entries row less listed =
     (cases_Bool (is_phase row.terms.phase Closing))
 
 -- and so for the rows
-steps-listed : (bounds : List ℕ) (here : List Arrival) (t later taken : ℕ) (entries : List Entry) (rows : List KeptRow) → t ≤ later → Each (IsListed bounds t entries) rows → Each (IsListed bounds later entries) (kept_rows_after bounds here t taken rows)
+steps-listed : (bounds : List ℕ) (here : List Arrival) (t later taken : ℕ) (entries : List Entry) (rows : List AccountRow) → t ≤ later → Each (IsListed bounds t entries) rows → Each (IsListed bounds later entries) (kept_rows_after bounds here t taken rows)
 unfolding kept_rows_after
 steps-listed bounds here t later taken entries [] less listed = tt
 steps-listed bounds here t later taken entries (row ∷ rows) less listed =
     (step-listed bounds here t later (suc taken) entries row less listed.0, steps-listed bounds here t later (taken + taken_by (kept_step bounds here t row)) entries rows less listed.1)
 
-steps-open : (bounds : List ℕ) (here : List Arrival) (t taken : ℕ) (entries : List Entry) (rows : List KeptRow) → Each (IsListed bounds t entries) rows → open_in (kept_rows_after bounds here t taken rows) ≡ open_in rows
+steps-open : (bounds : List ℕ) (here : List Arrival) (t taken : ℕ) (entries : List Entry) (rows : List AccountRow) → Each (IsListed bounds t entries) rows → open_in (kept_rows_after bounds here t taken rows) ≡ open_in rows
 unfolding kept_rows_after
 steps-open bounds here t taken entries [] listed = refl
 steps-open bounds here t taken entries (row ∷ rows) listed =
@@ -62,7 +62,7 @@ steps-open bounds here t taken entries (row ∷ rows) listed =
     let rest = steps-open bounds here t (taken + taken_by (kept_step bounds here t row)) entries rows listed.1 in
     ap (λ n. n + open_in (kept_rows_after bounds here t (taken + taken_by (kept_step bounds here t row)) rows)) first ∙ ap (λ n. open_count row + n) rest
 
-pub listed-stepped : (bounds : List ℕ) (here : List Arrival) (t later taken : ℕ) (holds : Schedule) (rows : List KeptRow) → t ≤ later → AreListed bounds t holds rows → AreListed bounds later holds (kept_rows_after bounds here t taken rows)
+pub listed-stepped : (bounds : List ℕ) (here : List Arrival) (t later taken : ℕ) (holds : Schedule) (rows : List AccountRow) → t ≤ later → AreListed bounds t holds rows → AreListed bounds later holds (kept_rows_after bounds here t taken rows)
 listed-stepped bounds here t later taken holds rows less listed = record {
   begun = (let begun = listed.begun in omega (arith, begun, less));
   listed = steps-listed bounds here t later taken holds.entries rows less listed.listed;
@@ -78,7 +78,7 @@ within-count true false false d less is = refl
 within-count true true c d less is = rw (less refl) at is
 within-count true false true d less is = rw (less refl) at is
 
-pub stray-open : (packet : Packet) (row : KeptRow) → None ≡ stray packet row.terms row.taken → is_open row ≡ true
+pub stray-open : (packet : Packet) (row : AccountRow) → None ≡ stray packet row.terms row.taken → is_open row ≡ true
 stray-open packet row none =
     let terms = row.terms in
     let after = (rule-kept (first_hop terms) (uncommitted terms ∷ wrong_number packet.number (suc row.taken) ∷ past_count terms row.taken ∷ big terms packet.size ∷ []) none).1 in

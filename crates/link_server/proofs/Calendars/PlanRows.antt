@@ -2,7 +2,7 @@
 use Rattle.std.proofs.Common.{◌≡◌, ℕ, ◌+◌, ◌<◌, ◌≤◌, Bool, true, false, not, ◌&&◌, ⊎_elim, List, [], ◌∷◌, ◌++◌, Some, None, length, map, get_or, set, refl, sym, ap, ◌∙◌, subst, arith}
 use Rattle.std.proofs.lemmas.Bool.{cases_Bool, eqb-true, eq-eqb, false≢true}
 use Rattle.std.proofs.lemmas.List.{nil_from_length, map_push, get_or_default}
-use Rattle.link_server.proofs.Words.{remove, channel_number, ChanNo, Closing, KeptRow, Each, is_phase, SourcePacket, planned_from, is_for, Schedule, TakesDue, row_in, IsAbsent, IsPlaceOf, ServedRow}
+use Rattle.link_server.proofs.Words.{remove, channel_number, ChanNo, Closing, AccountRow, Each, is_phase, SourcePacket, planned_from, is_for, Schedule, TakesDue, row_in, IsAbsent, IsPlaceOf, ServedRow}
 use Rattle.std.specs.Prelude.{if◌then◌else◌, find, filter, is_none, nat_eq}
 use Rattle.traffic_contract.proofs.AdmissionTest.{total-push}
 use Rattle.link_steps.proofs.SearchAndFilter.{Each-append, Each-filter, Each-if}
@@ -90,14 +90,14 @@ called-more clock key i old new turns more index keys rows called is due spare b
 
 -- ---- rows that come, change and go
 
-idle-most : (row : KeptRow) → idle_count row ≤ 1
+idle-most : (row : AccountRow) → idle_count row ≤ 1
 idle-most row = most (is_idle row) where
   most : (b : Bool) → (if b then 1 else 0) ≤ 1
   most true = omega arith
   most false = omega arith
 
 -- more room in the calendar
-pub planned-reserved : (clock : ℕ) (old new : Schedule) (rows : List KeptRow) → new ≡ record old { spare = new.spare } → old.spare ≤ new.spare → ArePlanned clock old rows → ArePlanned clock new rows
+pub planned-reserved : (clock : ℕ) (old new : Schedule) (rows : List AccountRow) → new ≡ record old { spare = new.spare } → old.spare ≤ new.spare → ArePlanned clock old rows → ArePlanned clock new rows
 planned-reserved clock old new rows same grows planned = record {
   begun = (let begun = planned.begun in let clock_is : new.clock ≡ old.clock = ap (λ s. s.clock) same in omega (arith, begun, clock_is));
   told = subst (λ entries. Each (IsTold entries) rows) (sym (ap (λ s. s.entries) same)) planned.told;
@@ -105,7 +105,7 @@ planned-reserved clock old new rows same grows planned = record {
 }
 
 -- a later clock
-pub planned-later : (clock later : ℕ) (plans : Schedule) (rows : List KeptRow) → clock ≤ later → ArePlanned clock plans rows → ArePlanned later plans rows
+pub planned-later : (clock later : ℕ) (plans : Schedule) (rows : List AccountRow) → clock ≤ later → ArePlanned clock plans rows → ArePlanned later plans rows
 planned-later clock later plans rows less planned = record {
   begun = (let begun = planned.begun in omega (arith, begun, less));
   told = planned.told;
@@ -137,7 +137,7 @@ planned-set clock plans rows i new d planned inside own less = record {
 
 -- a row that was idle, and whose entry was put, if it has a packet left
 pub planned-put : (clock : ℕ) (old new : Schedule) (rows : List ServedRow) (i : ℕ) (row d : ServedRow) → ArePlanned clock old (map row_in rows) → i < length rows → idle_count (row_in (get_or rows i d)) ≡ 1
-    → new.clock ≡ old.clock → ((other : KeptRow) → IsTold old.entries other → IsTold new.entries other) → IsTold new.entries (row_in row) → idle_count (row_in row) + old.spare ≤ new.spare + 1 → ArePlanned clock new (map row_in (set rows i row))
+    → new.clock ≡ old.clock → ((other : AccountRow) → IsTold old.entries other → IsTold new.entries other) → IsTold new.entries (row_in row) → idle_count (row_in row) + old.spare ≤ new.spare + 1 → ArePlanned clock new (map row_in (set rows i row))
 planned-put clock old new rows i row d planned inside was same others own spare = record {
   begun = (let begun = planned.begun in omega (arith, begun, same));
   told = each-set (IsTold new.entries) rows i row own (Each-if (IsTold old.entries) (IsTold new.entries) (map row_in rows) others planned.told);
@@ -155,7 +155,7 @@ planned-removed clock plans rows i planned = record {
   room = (let fewer = row-gone idle_count rows i in let room = planned.room in omega (arith, fewer, room));
 }
 
-pub planned-left : (clock : ℕ) (plans : Schedule) (test : KeptRow → Bool) (rows : List KeptRow) → ArePlanned clock plans rows → ArePlanned clock plans (filter test rows)
+pub planned-left : (clock : ℕ) (plans : Schedule) (test : AccountRow → Bool) (rows : List AccountRow) → ArePlanned clock plans rows → ArePlanned clock plans (filter test rows)
 planned-left clock plans test rows planned = record {
   begun = planned.begun;
   told = Each-filter (IsTold plans.entries) test rows planned.told;
@@ -165,17 +165,17 @@ planned-left clock plans test rows planned = record {
 -- ---- whether a row is idle
 
 -- with the same packets left it is so, where it is closing as before
-pub same-idle : (new old : KeptRow) → new.left ≡ old.left → is_phase new.terms.phase Closing ≡ is_phase old.terms.phase Closing → idle_count new ≤ idle_count old
+pub same-idle : (new old : AccountRow) → new.left ≡ old.left → is_phase new.terms.phase Closing ≡ is_phase old.terms.phase Closing → idle_count new ≤ idle_count old
 same-idle new old left closing =
     let same : idle_count new ≡ idle_count old = ap (λ rest. if is_none (first_tick rest) && not (is_phase new.terms.phase Closing) then 1 else 0) left ∙ ap (λ b. if is_none (first_tick old.left) && not b then 1 else 0) closing in
     omega (arith, same)
 
 -- one that isn't closing and has none left is
-pub idle-one : (row : KeptRow) → length row.left ≡ 0 → is_phase row.terms.phase Closing ≡ false → idle_count row ≡ 1
+pub idle-one : (row : AccountRow) → length row.left ≡ 0 → is_phase row.terms.phase Closing ≡ false → idle_count row ≡ 1
 idle-one row none apart = ap (λ rest. if is_none (first_tick rest) && not (is_phase row.terms.phase Closing) then 1 else 0) (nil_from_length row.left none) ∙ rw apart refl
 
 -- one that is closing isn't
-pub closing-idle : (row : KeptRow) → is_phase row.terms.phase Closing ≡ true → idle_count row ≡ 0
+pub closing-idle : (row : AccountRow) → is_phase row.terms.phase Closing ≡ true → idle_count row ≡ 0
 closing-idle row closing = closed (is_none (first_tick row.left)) (is_phase row.terms.phase Closing) closing where
   counted : Bool → ℕ
   counted b = if b then 1 else 0

@@ -3,7 +3,7 @@ use Rattle.std.proofs.Common.{◌≡◌, ℕ, zero, suc, ◌+◌, ◌<◌, ◌�
 use Rattle.std.proofs.lemmas.Bool.{cases_lt, eq-eqb, ne_eqb}
 use Rattle.std.proofs.lemmas.List.Folds.{list_any-append, list_any_none}
 use Rattle.std.proofs.lemmas.Option.{none-some, same_Some}
-use Rattle.link_server.proofs.Words.{list_any, nat_eq, find, channel_number, KeptRow, Each, Entry, row_in, ServedRow}
+use Rattle.link_server.proofs.Words.{list_any, nat_eq, find, channel_number, AccountRow, Each, Entry, row_in, ServedRow}
 use Rattle.link_steps.specs.Rows.{SourcePacket, planned_from, is_for}
 use Rattle.link_server.specs.Planned.{IsPlannedFrom, first_tick}
 use Rattle.link_server.specs.Plans.{is_entry_of, IsTold, IsQuiet}
@@ -23,18 +23,18 @@ first-found tick [] first none = none-some tick first
 first-found tick (p ∷ left) first none = absurd (let is : nat_eq p.tick tick ≡ true = eq-eqb p.tick tick (same_Some p.tick tick first) in let found : Some p ≡ None = sym (rw is refl) ∙ none in cc)
 
 -- one with no packet left wants none
-pub told-none : (entries : List Entry) (row : KeptRow) → first_tick row.left ≡ None → IsTold entries row
+pub told-none : (entries : List Entry) (row : AccountRow) → first_tick row.left ≡ None → IsTold entries row
 told-none entries row none tick first = absurd (none-some tick (sym none ∙ first))
 
 -- what is told of a row is so of one with the same packets left and of the same channel
-pub told-same : (entries : List Entry) (new old : KeptRow) → new.left ≡ old.left → channel_number new.terms.chan ≡ channel_number old.terms.chan → IsTold entries old → IsTold entries new
+pub told-same : (entries : List Entry) (new old : AccountRow) → new.left ≡ old.left → channel_number new.terms.chan ≡ channel_number old.terms.chan → IsTold entries old → IsTold entries new
 told-same entries new old left chan told tick first =
     ap (λ channel. list_any (is_entry_of tick channel) entries) chan ∙ told tick (ap first_tick (sym left) ∙ first)
 
 -- ---- entries that are taken
 
 -- an entry that isn't the row's isn't missed
-pub told-without : (before after : List Entry) (entry : Entry) (row : KeptRow) → ((tick : ℕ) → first_tick row.left ≡ Some tick → is_entry_of tick (channel_number row.terms.chan) entry ≡ false) → IsTold (before ++ entry ∷ after) row → IsTold (before ++ after) row
+pub told-without : (before after : List Entry) (entry : Entry) (row : AccountRow) → ((tick : ℕ) → first_tick row.left ≡ Some tick → is_entry_of tick (channel_number row.terms.chan) entry ≡ false) → IsTold (before ++ entry ∷ after) row → IsTold (before ++ after) row
 told-without before after entry row other told tick first =
     let test = is_entry_of tick (channel_number row.terms.chan) in
     list_any-append test before after
@@ -54,7 +54,7 @@ other-entry at key tick channel apart = and-no (nat_eq at tick) (nat_eq key chan
 early-entry : (at key tick channel clock : ℕ) → at ≤ clock → clock ≤ tick → (clock ≡ tick → ⊥) → is_entry_of tick channel (at, key) ≡ false
 early-entry at key tick channel clock due from apart = rw (ne_eqb at tick (λ same. apart (omega (arith, same, due, from)))) refl
 
-pub resting-entry : (clock at key tick : ℕ) (row : KeptRow) → Each (IsPlannedFrom clock) row.left → find (is_for clock) row.left ≡ None → at ≤ clock → first_tick row.left ≡ Some tick → is_entry_of tick (channel_number row.terms.chan) (at, key) ≡ false
+pub resting-entry : (clock at key tick : ℕ) (row : AccountRow) → Each (IsPlannedFrom clock) row.left → find (is_for clock) row.left ≡ None → at ≤ clock → first_tick row.left ≡ Some tick → is_entry_of tick (channel_number row.terms.chan) (at, key) ≡ false
 resting-entry clock at key tick row ahead none due first =
     early-entry at key tick (channel_number row.terms.chan) clock due (first-from clock tick row.left ahead first)
     (λ same. first-found clock row.left (first ∙ ap Some (sym same)) none)
@@ -65,7 +65,7 @@ resting-entry clock at key tick row ahead none due first =
 not-yet : (tick channel clock : ℕ) (entry : Entry) → tick ≤ clock → clock < entry.0 → is_entry_of tick channel entry ≡ false
 not-yet tick channel clock entry by past = rw (ne_eqb entry.0 tick (λ same. omega (arith, same, by, past))) refl
 
-first-later : (clock tick : ℕ) (entries : List Entry) (row : KeptRow) → All (λ entry. clock < entry.0) entries → IsTold entries row → first_tick row.left ≡ Some tick → clock < tick
+first-later : (clock tick : ℕ) (entries : List Entry) (row : AccountRow) → All (λ entry. clock < entry.0) entries → IsTold entries row → first_tick row.left ≡ Some tick → clock < tick
 first-later clock tick entries row later told first = elim (cases_lt clock tick) [
   | inl is ↦ is
   | inr by ↦ absurd (let f : false ≡ true = sym (list_any_none (is_entry_of tick (channel_number row.terms.chan)) entries (λ k d inside. not-yet tick (channel_number row.terms.chan) clock (get_or entries k d) by (later k d inside))) ∙ told tick first in cc)

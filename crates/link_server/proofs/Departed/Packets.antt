@@ -4,7 +4,7 @@ use Rattle.std.proofs.lemmas.Bool.{cases_Bool, cases_eq, eq-eqb, eqb-false, eqb-
 use Rattle.std.proofs.lemmas.List.{length-append}
 use Rattle.std.proofs.lemmas.List.Elements.{filter-append}
 use Rattle.std.proofs.lemmas.Option.{same_Some}
-use Rattle.link_server.proofs.Words.{filter, Each, nat_eq, channel_number, find, is_kept_of, Arrival, KeptRow, SourceStep, Rests, Brings, Drops, lead_with, taken_by, kept_packet, kept_after_step, kept_arrived, kept_arrived_row, Packet}
+use Rattle.link_server.proofs.Words.{filter, Each, nat_eq, channel_number, find, is_kept_of, Arrival, AccountRow, SourceStep, Rests, Brings, Drops, lead_with, taken_by, kept_packet, kept_after_step, kept_arrived, kept_arrived_row, Packet}
 use Rattle.link_steps.specs.Buffer.{has_lead, held_packets}
 use Rattle.link_steps.specs.Kept.{kept_packets, kept_rows_after, kept_step, past_tick}
 use Rattle.link_steps.proofs.SearchAndFilter.{Each-append, Each-both, Each-find, Each-if}
@@ -32,13 +32,13 @@ other-lead own lead place apart below =
       | inr some ↦ rw some (ne_eqb own lead (λ same. eqb-false own 0 some (same ∙ apart same)))
     ]
 
-step-other : (step : SourceStep) (t taken lead : ℕ) (row : KeptRow) → IsApartFrom lead row → lead ≤ taken → held_packets lead (kept_packet step t (suc taken) row) ≡ 0
+step-other : (step : SourceStep) (t taken lead : ℕ) (row : AccountRow) → IsApartFrom lead row → lead ≤ taken → held_packets lead (kept_packet step t (suc taken) row) ≡ 0
 unfolding held_packets
 step-other Rests t taken lead row apart most = refl
 step-other Drops t taken lead row apart most = refl
 step-other (Brings size) t taken lead row apart most = rw (other-lead row.lead lead (suc taken) apart (omega (arith, most))) refl
 
-rows-other : (bounds : List ℕ) (was : List Arrival) (t taken lead : ℕ) (rows : List KeptRow) → Each (IsApartFrom lead) rows → lead ≤ taken → held_packets lead (kept_packets bounds was t taken rows) ≡ 0
+rows-other : (bounds : List ℕ) (was : List Arrival) (t taken lead : ℕ) (rows : List AccountRow) → Each (IsApartFrom lead) rows → lead ≤ taken → held_packets lead (kept_packets bounds was t taken rows) ≡ 0
 unfolding kept_packets held_packets
 rows-other bounds was t taken lead [] each most = refl
 rows-other bounds was t taken lead (row ∷ rows) each most =
@@ -47,7 +47,7 @@ rows-other bounds was t taken lead (row ∷ rows) each most =
     let rest = rows-other bounds was t (taken + taken_by step) lead rows each.1 (omega (arith, most)) in
     held-append lead (kept_packet step t (suc taken) row) (kept_packets bounds was t (taken + taken_by step) rows) ∙ omega (arith, own, rest)
 
-none-own : (row : KeptRow) (more : List Arrival) → held_packets row.lead more ≡ 0 → Each (IsOwn row) more
+none-own : (row : AccountRow) (more : List Arrival) → held_packets row.lead more ≡ 0 → Each (IsOwn row) more
 unfolding held_packets
 none-own row [] none = tt
 none-own row (p ∷ more) none =
@@ -56,13 +56,13 @@ none-own row (p ∷ more) none =
       | inr other ↦ ((λ same. absurd (eqb-false p.lead row.lead other same)), none-own row more (rw other at none))
     ]
 
-pub counted-more : (here more : List Arrival) (row : KeptRow) (n : ℕ) → held_packets row.lead more ≡ 0 → IsCounted here row n → IsCounted (here ++ more) row n
+pub counted-more : (here more : List Arrival) (row : AccountRow) (n : ℕ) → held_packets row.lead more ≡ 0 → IsCounted here row n → IsCounted (here ++ more) row n
 counted-more here more row n none counted = record {
   taken = (let all = counted.taken in omega (arith, all, held-append row.lead here more, none));
   own = Each-append (IsOwn row) here more counted.own (none-own row more none);
 }
 
-pub still-counted : (here more : List Arrival) (rows : List KeptRow) (ns : List ℕ) → Each (λ row. held_packets row.lead more ≡ 0) rows → AreCounted here rows ns → AreCounted (here ++ more) rows ns
+pub still-counted : (here more : List Arrival) (rows : List AccountRow) (ns : List ℕ) → Each (λ row. held_packets row.lead more ≡ 0) rows → AreCounted here rows ns → AreCounted (here ++ more) rows ns
 still-counted here more [] [] none each = tt
 still-counted here more (row ∷ rows) (n ∷ ns) none each = (counted-more here more row n none.0 each.0, still-counted here more rows ns none.1 each.1)
 still-counted here more [] (n ∷ ns) none each = absurd each
@@ -70,7 +70,7 @@ still-counted here more (row ∷ rows) [] none each = absurd each
 
 -- ---- a new row
 
-pub new-counted : (here : List Arrival) (row : KeptRow) (n : ℕ) → Each HasLead here → row.lead ≡ 0 → row.taken ≡ 0 → n ≡ 0 → IsCounted here row n
+pub new-counted : (here : List Arrival) (row : AccountRow) (n : ℕ) → Each HasLead here → row.lead ≡ 0 → row.taken ≡ 0 → n ≡ 0 → IsCounted here row n
 new-counted here row n leads lead taken none =
     let held = ap (λ l. held_packets l here) lead ∙ held-none here leads in
     record { taken = omega (arith, none, held, taken); own = none-own row here held }
@@ -95,7 +95,7 @@ held-lead_with taken lead (q ∷ here) led =
       | inr other ↦ rw (other, ne_eqb q.lead (lead_with lead (suc taken)) (λ same. eqb-false q.lead lead other (led-before taken lead q led.0 same))) rest
     ]
 
-counted-one : (here : List Arrival) (row new : KeptRow) (n taken : ℕ) (p : Arrival) → Each (IsLedUpTo taken) here → p.lead ≡ lead_with row.lead (suc taken) → channel_number p.chan ≡ channel_number row.terms.chan
+counted-one : (here : List Arrival) (row new : AccountRow) (n taken : ℕ) (p : Arrival) → Each (IsLedUpTo taken) here → p.lead ≡ lead_with row.lead (suc taken) → channel_number p.chan ≡ channel_number row.terms.chan
     → new.lead ≡ p.lead → new.taken ≡ suc row.taken → new.terms.chan ≡ row.terms.chan → IsCounted here row n → IsCounted (here ++ p ∷ []) new n
 unfolding held_packets
 counted-one here row new n taken p led lead chan same more terms counted =
@@ -116,7 +116,7 @@ held-other p own lead taken is apart most = rw (is, other-lead own lead (suc tak
 
 -- ---- a packet from the link before
 
-pub counted-arrived : (t taken : ℕ) (packet : Packet) (here : List Arrival) (rows : List KeptRow) (ns : List ℕ) (row : KeptRow) → Each (IsLedUpTo taken) here → HaveOwnLeads rows → Each (λ r. r.lead ≤ taken) rows → find (is_kept_of packet.chan) rows ≡ Some row → AreCounted here rows ns
+pub counted-arrived : (t taken : ℕ) (packet : Packet) (here : List Arrival) (rows : List AccountRow) (ns : List ℕ) (row : AccountRow) → Each (IsLedUpTo taken) here → HaveOwnLeads rows → Each (λ r. r.lead ≤ taken) rows → find (is_kept_of packet.chan) rows ≡ Some row → AreCounted here rows ns
     → AreCounted (here ++ kept_arrived t (suc taken) packet row ∷ []) (change_first (is_kept_of packet.chan) (kept_arrived_row t (suc taken) packet) rows) ns
 unfolding change_first
 counted-arrived t taken packet here [] [] row led apart most found each = cc
@@ -142,17 +142,17 @@ counted-arrived t taken packet here (r ∷ rows) [] row led apart most found eac
 
 -- ---- the packets of the sources
 
-step-counted : (step : SourceStep) (t taken n : ℕ) (row : KeptRow) (now : List Arrival) → Each (IsLedUpTo taken) now → IsCounted now row n → IsCounted (now ++ kept_packet step t (suc taken) row) (kept_after_step step t (suc taken) row) n
+step-counted : (step : SourceStep) (t taken n : ℕ) (row : AccountRow) (now : List Arrival) → Each (IsLedUpTo taken) now → IsCounted now row n → IsCounted (now ++ kept_packet step t (suc taken) row) (kept_after_step step t (suc taken) row) n
 step-counted (Brings size) t taken n row now led counted = counted-one now row (kept_after_step (Brings size) t (suc taken) row) n taken _ led refl refl refl refl refl counted
 step-counted Rests t taken n row now led counted = subst (λ all. IsCounted all (past_tick t row) n) (sym (append-nil now)) (record { taken = counted.taken; own = counted.own })
 step-counted Drops t taken n row now led counted = subst (λ all. IsCounted all (past_tick t row) n) (sym (append-nil now)) (record { taken = counted.taken; own = counted.own })
 
-step-led : (step : SourceStep) (t taken : ℕ) (row : KeptRow) → row.lead ≤ taken → Each (IsLedUpTo (taken + taken_by step)) (kept_packet step t (suc taken) row)
+step-led : (step : SourceStep) (t taken : ℕ) (row : AccountRow) → row.lead ≤ taken → Each (IsLedUpTo (taken + taken_by step)) (kept_packet step t (suc taken) row)
 step-led (Brings size) t taken row most = (record { some = lead_with-least row.lead (suc taken) (omega arith); upto = lead_with-most row.lead (suc taken) (taken + 1) (omega (arith, most)) (omega arith) }, tt)
 step-led Rests t taken row most = tt
 step-led Drops t taken row most = tt
 
-pub counted-brought : (bounds : List ℕ) (was : List Arrival) (t taken : ℕ) (rows : List KeptRow) (ns : List ℕ) (now : List Arrival) → Each (IsLedUpTo taken) now → HaveOwnLeads rows → Each (λ row. row.lead ≤ taken) rows → AreCounted now rows ns
+pub counted-brought : (bounds : List ℕ) (was : List Arrival) (t taken : ℕ) (rows : List AccountRow) (ns : List ℕ) (now : List Arrival) → Each (IsLedUpTo taken) now → HaveOwnLeads rows → Each (λ row. row.lead ≤ taken) rows → AreCounted now rows ns
     → AreCounted (now ++ kept_packets bounds was t taken rows) (kept_rows_after bounds was t taken rows) ns
 unfolding kept_packets kept_rows_after
 counted-brought bounds was t taken [] [] now led apart most each = tt

@@ -1,13 +1,13 @@
 -- The rows of a table are counted, with what is here of their packets, through the changes of the table and of the queue.
 use Rattle.std.proofs.Common.{◌≡◌, ℕ, zero, suc, ◌-◌, ◌<◌, Bool, true, false, ◌&&◌, Some, List, [], ◌∷◌, ◌++◌, length, map, get_or, set, refl, sym, ap, ◌∙◌, subst, arith}
-use Rattle.link_server.proofs.Words.{nat_eq, nat_lt, if◌then◌else◌, remove, ChanNo, is_kept_of, held_packets, Arrival, KeptQueue, KeptRow, KeptTable, LinkState, ServedRow, row_in, is_served_row_of, IsAbsent}
+use Rattle.link_server.proofs.Words.{nat_eq, nat_lt, if◌then◌else◌, remove, ChanNo, is_kept_of, held_packets, Arrival, KeptQueue, AccountRow, KeptTable, LinkState, ServedRow, row_in, is_served_row_of, IsAbsent}
 use Rattle.link_steps.specs.Lists.{change_first}
 use Rattle.std.proofs.lemmas.Bool.{cond_both}
 use Rattle.link_server.specs.Departed.{AreCounted, IsCounted, departed_after, departed_in}
 
 module _ (here : List Arrival) where
   -- one row is changed
-  pub rows-changed : (test : KeptRow → Bool) (change : KeptRow → KeptRow) → ((row : KeptRow) (n : ℕ) → IsCounted here row n → IsCounted here (change row) n) → (rows : List KeptRow) (ns : List ℕ) → AreCounted here rows ns → AreCounted here (change_first test change rows) ns
+  pub rows-changed : (test : AccountRow → Bool) (change : AccountRow → AccountRow) → ((row : AccountRow) (n : ℕ) → IsCounted here row n → IsCounted here (change row) n) → (rows : List AccountRow) (ns : List ℕ) → AreCounted here rows ns → AreCounted here (change_first test change rows) ns
   unfolding change_first
   rows-changed test change keeps [] ns each = each
   rows-changed test change keeps (row ∷ rows) (n ∷ ns) each =
@@ -15,7 +15,7 @@ module _ (here : List Arrival) where
   rows-changed test change keeps (row ∷ rows) [] each = absurd each
 
   -- taken out
-  pub counted-removed : (rows : List KeptRow) (ns : List ℕ) (i : ℕ) → AreCounted here rows ns → AreCounted here (remove rows i) (remove ns i)
+  pub counted-removed : (rows : List AccountRow) (ns : List ℕ) (i : ℕ) → AreCounted here rows ns → AreCounted here (remove rows i) (remove ns i)
   counted-removed [] [] zero each = tt
   counted-removed [] [] (suc i) each = tt
   counted-removed (row ∷ rows) (n ∷ ns) zero each = each.1
@@ -24,7 +24,7 @@ module _ (here : List Arrival) where
   counted-removed (row ∷ rows) [] i each = absurd each
 
   -- and added
-  pub counted-added : (rows : List KeptRow) (ns : List ℕ) (row : KeptRow) (n : ℕ) → AreCounted here rows ns → IsCounted here row n → AreCounted here (rows ++ row ∷ []) (ns ++ n ∷ [])
+  pub counted-added : (rows : List AccountRow) (ns : List ℕ) (row : AccountRow) (n : ℕ) → AreCounted here rows ns → IsCounted here row n → AreCounted here (rows ++ row ∷ []) (ns ++ n ∷ [])
   counted-added [] [] row n each new = (new, tt)
   counted-added (r ∷ rows) (m ∷ ns) row n each new = (each.0, counted-added rows ns row n each.1 new)
   counted-added [] (m ∷ ns) row n each new = absurd each
@@ -61,7 +61,7 @@ one-departs p (row ∷ rows) (suc i) new d inside own others counts =
 -- ---- a link
 
 -- a row is changed that keeps its channel, its lead and its packets
-pub counted-changed : (link : LinkState) (new : KeptTable) (looked : ℕ) (chan : ChanNo) (change : KeptRow → KeptRow) → ((row : KeptRow) (n : ℕ) → IsCounted link.queue.here row n → IsCounted link.queue.here (change row) n) → new ≡ record link.table { rows = change_first (is_kept_of chan) change link.table.rows; looked = looked }
+pub counted-changed : (link : LinkState) (new : KeptTable) (looked : ℕ) (chan : ChanNo) (change : AccountRow → AccountRow) → ((row : AccountRow) (n : ℕ) → IsCounted link.queue.here row n → IsCounted link.queue.here (change row) n) → new ≡ record link.table { rows = change_first (is_kept_of chan) change link.table.rows; looked = looked }
     → AreCounted link.queue.here new.rows new.departed
 counted-changed link new looked chan change keeps same =
     subst (λ (table : KeptTable). AreCounted link.queue.here table.rows table.departed) (sym same) (rows-changed link.queue.here (is_kept_of chan) change keeps link.table.rows link.table.departed link.counted)

@@ -4,7 +4,7 @@ use Rattle.std.proofs.lemmas.Bool.{cases_Bool, eq-eqb, eqb-false, eqb-true, lt-l
 use Rattle.std.proofs.Math.Bool.{and-false}
 use Rattle.std.proofs.lemmas.Option.{same_Some}
 use Rattle.std.specs.Option.{ForSome}
-use Rattle.link_server.proofs.Words.{Each, filter, find, nat_eq, nat_lt, if◌then◌else◌, channel_number, is_kept_of, is_other, Arrival, Start, Kept, KeptRow, Reply, Tick, LinkShape, SourceStep, Rests, Brings, Drops, best_packet, from_sources, held_rows, kept_stays}
+use Rattle.link_server.proofs.Words.{Each, filter, find, nat_eq, nat_lt, if◌then◌else◌, channel_number, is_kept_of, is_other, Arrival, Start, Account, AccountRow, Reply, Tick, LinkShape, SourceStep, Rests, Brings, Drops, best_packet, from_sources, held_rows, kept_stays}
 use Rattle.link_steps.specs.Buffer.{has_lead, held_packets}
 use Rattle.link_steps.specs.Kept.{brought, kept_after, kept_after_tick, kept_best, kept_rows_after, leaves_by, occupies, present, still_here}
 use Rattle.link_steps.proofs.SearchAndFilter.{Each-filter, Each-find, Each-if}
@@ -41,7 +41,7 @@ held-left start low (p ∷ here) high lead numbered found =
     ]
 
 -- the row's packets are counted without it
-left-counted : (start : Start) (here : List Arrival) (taken : ℕ) (row : KeptRow) (n : ℕ) → AreNumberedWithin 0 here taken → find (has_arrival_number start.packet.place) here ≡ Some start.packet → IsCounted here row n
+left-counted : (start : Start) (here : List Arrival) (taken : ℕ) (row : AccountRow) (n : ℕ) → AreNumberedWithin 0 here taken → find (has_arrival_number start.packet.place) here ≡ Some start.packet → IsCounted here row n
     → IsCounted (filter (is_other start) here) row (if is_kept_of start.packet.chan row && (nat_eq row.lead start.packet.lead && nat_lt n row.taken) then suc n else n)
 left-counted start here taken row n numbered found counted =
     let p = start.packet in
@@ -60,7 +60,7 @@ left-counted start here taken row n numbered found counted =
           rw (other, and-false (is_kept_of p.chan row)) (record { taken = omega (arith, all, held, none); own = own }))
     ]
 
-all-left : (start : Start) (here : List Arrival) (taken : ℕ) (rows : List KeptRow) (ns : List ℕ) → AreNumberedWithin 0 here taken → find (has_arrival_number start.packet.place) here ≡ Some start.packet → AreCounted here rows ns
+all-left : (start : Start) (here : List Arrival) (taken : ℕ) (rows : List AccountRow) (ns : List ℕ) → AreNumberedWithin 0 here taken → find (has_arrival_number start.packet.place) here ≡ Some start.packet → AreCounted here rows ns
     → AreCounted (filter (is_other start) here) rows (departed_after (Some start.packet) rows ns)
 all-left start here taken [] [] numbered found each = tt
 all-left start here taken (row ∷ rows) (n ∷ ns) numbered found each = (left-counted start here taken row n numbered found each.0, all-left start here taken rows ns numbered found each.1)
@@ -68,7 +68,7 @@ all-left start here taken [] (n ∷ ns) numbered found each = absurd each
 all-left start here taken (row ∷ rows) [] numbered found each = absurd each
 
 -- at the end of a tick
-pub counted-left : (rate t : ℕ) (on : Option Start) (here : List Arrival) (taken : ℕ) (rows : List KeptRow) (ns : List ℕ) → AreNumberedWithin 0 here taken → ForSome on (IsRunning rate t here) → AreCounted here rows ns
+pub counted-left : (rate t : ℕ) (on : Option Start) (here : List Arrival) (taken : ℕ) (rows : List AccountRow) (ns : List ℕ) → AreNumberedWithin 0 here taken → ForSome on (IsRunning rate t here) → AreCounted here rows ns
     → AreCounted (still_here rate t on here) rows (departed_after (leaver rate t on) rows ns)
 counted-left rate t None here taken rows ns numbered running each = each
 counted-left rate t (Some start) here taken rows ns numbered running each =
@@ -83,7 +83,7 @@ counted-left rate t (Some start) here taken rows ns numbered running each =
 pub sound-led : (levels taken : ℕ) (here : List Arrival) → Each (IsSoundPacket levels taken) here → Each (IsLedUpTo taken) here
 sound-led levels taken here each = Each-if (IsSoundPacket levels taken) (IsLedUpTo taken) here (λ p is. record { some = is.lead_least; upto = is.lead_most }) each
 
-pub rows-led : (levels t taken : ℕ) (rows : List KeptRow) → Each (IsSoundRow levels t taken) rows → Each (λ row. row.lead ≤ taken) rows
+pub rows-led : (levels t taken : ℕ) (rows : List AccountRow) → Each (IsSoundRow levels t taken) rows → Each (λ row. row.lead ≤ taken) rows
 rows-led levels t taken rows each = Each-if (IsSoundRow levels t taken) (λ row. row.lead ≤ taken) rows (λ row is. is.lead_most) each
 
 -- a best-effort packet is of no row
@@ -94,7 +94,7 @@ best-other Rests bounds taken t lead most = refl
 best-other Drops bounds taken t lead most = refl
 
 -- all packets of the tick have come
-counted-present : (shape : LinkShape) (room : ℕ) (k : Kept) (ns : List ℕ) → IsSound shape room k → AreCounted k.here (held_rows shape k) ns → AreCounted (present shape k) (kept_rows_after shape.bounds k.here k.clock k.taken (held_rows shape k)) ns
+counted-present : (shape : LinkShape) (room : ℕ) (k : Account) (ns : List ℕ) → IsSound shape room k → AreCounted k.here (held_rows shape k) ns → AreCounted (present shape k) (kept_rows_after shape.bounds k.here k.clock k.taken (held_rows shape k)) ns
 counted-present shape room k ns sound each =
     let levels : ℕ = length shape.bounds in
     let rows = held_rows shape k in
@@ -110,7 +110,7 @@ counted-present shape room k ns sound each =
     (still-counted (k.here ++ src) best after ns (Each-if (λ row. row.lead ≤ count) (λ row. held_packets row.lead best ≡ 0) after (λ row most. best-other (kept_best shape k) shape.bounds count k.clock row.lead most) led) came)
 
 -- and so one has left, if one does
-pub tick-counted : (shape : LinkShape) (room : ℕ) (k : Kept) (ns : List ℕ) → IsSound shape room k → AreCounted k.here (held_rows shape k) ns
+pub tick-counted : (shape : LinkShape) (room : ℕ) (k : Account) (ns : List ℕ) → IsSound shape room k → AreCounted k.here (held_rows shape k) ns
     → AreCounted (still_here shape.rate k.clock (occupies shape k) (present shape k)) (kept_rows_after shape.bounds k.here k.clock k.taken (held_rows shape k)) (departed_after (leaver shape.rate k.clock (occupies shape k)) (kept_rows_after shape.bounds k.here k.clock k.taken (held_rows shape k)) ns)
 unfolding with_brought
 tick-counted shape room k ns sound each =
@@ -120,6 +120,6 @@ tick-counted shape room k ns sound each =
     counted-left shape.rate k.clock (occupies shape k) (present shape k) taken _ ns served.numbered running (counted-present shape room k ns sound each)
 
 -- where those are that are here afterwards
-pub here-after : (shape : LinkShape) (k : Kept) (reply : Reply) → (kept_after shape k Tick reply).here ≡ still_here shape.rate k.clock (occupies shape k) (present shape k)
+pub here-after : (shape : LinkShape) (k : Account) (reply : Reply) → (kept_after shape k Tick reply).here ≡ still_here shape.rate k.clock (occupies shape k) (present shape k)
 unfolding kept_after kept_after_tick
 here-after shape k reply = refl

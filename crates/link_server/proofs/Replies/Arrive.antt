@@ -6,7 +6,7 @@ use Rattle.link_server.proofs.Words.{nat_eq, find, Arrive, Packet, Refusal, Repl
 use Rattle.link_steps.specs.declared.replies.Refusal.TheVariants.{Stray}
 use Rattle.link_steps.specs.declared.replies.Reply.TheVariants.{Taken, Refused}
 use Rattle.link_steps.specs.declared.replies.Why.TheVariants.{NoRow, WrongNumber}
-use Rattle.link_steps.specs.Kept.{Kept, KeptRow, kept_reply, kept_after, kept_arrive, kept_with_arrival, kept_arrived_row, kept_arrived, is_kept_of}
+use Rattle.link_steps.specs.Kept.{Account, AccountRow, kept_reply, kept_after, kept_arrive, kept_with_arrival, kept_arrived_row, kept_arrived, is_kept_of}
 use Rattle.link_steps.specs.Refusals.{RefusalRule, first_refusal, first_hop, uncommitted, wrong_number, past_count, big, full, stray_rules}
 use Rattle.link_steps.specs.Regulator.{eligible_next}
 use Rattle.link_steps.specs.Replies.{arrive_reply}
@@ -34,27 +34,27 @@ rules-kept (None ∷ rules) more reply none = rules-kept rules more reply none
 rules-kept (Some other ∷ rules) more reply none = cc
 
 -- the reply to a packet of a channel without a row
-pub arrive-absent : (shape : LinkShape) (k : Kept) (packet : Packet) → find (is_kept_of packet.chan) k.rows ≡ None → Refused (Stray NoRow) ≡ kept_reply (whole shape) k (Arrive packet)
+pub arrive-absent : (shape : LinkShape) (k : Account) (packet : Packet) → find (is_kept_of packet.chan) k.rows ≡ None → Refused (Stray NoRow) ≡ kept_reply (whole shape) k (Arrive packet)
 unfolding kept_reply
 arrive-absent shape k packet absent = rw absent refl
 
 -- or else it is that of the row at the place: its rules on strays come first, and then its slots
-abbrev pub slots-rule : LinkShape → List Arrival → KeptRow → RefusalRule
+abbrev pub slots-rule : LinkShape → List Arrival → AccountRow → RefusalRule
 slots-rule shape here row = full (held_packets row.lead here) (slots_of shape.bounds row.terms)
 
-abbrev taken-reply : ℕ → Packet → KeptRow → Reply
+abbrev taken-reply : ℕ → Packet → AccountRow → Reply
 taken-reply t packet row = Taken t (eligible_next row.terms row.recent t packet.due)
 
-arrive-found : (shape : LinkShape) (k : Kept) (packet : Packet) (row : KeptRow) → find (is_kept_of packet.chan) k.rows ≡ Some row
+arrive-found : (shape : LinkShape) (k : Account) (packet : Packet) (row : AccountRow) → find (is_kept_of packet.chan) k.rows ≡ Some row
     → kept_reply (whole shape) k (Arrive packet) ≡ first_refusal (stray_rules packet row.terms row.taken ++ slots-rule shape k.here row ∷ []) (taken-reply k.clock packet row)
 unfolding kept_reply arrive_reply
 arrive-found shape k packet row found = ap (kept_arrive shape k.clock k.here packet) found
 
 -- a packet without a place, one that finds each slot taken, and one that is taken
-pub arrive-stray : (shape : LinkShape) (k : Kept) (packet : Packet) (row : KeptRow) (refusal : Refusal) → find (is_kept_of packet.chan) k.rows ≡ Some row → Some refusal ≡ stray packet row.terms row.taken → Refused refusal ≡ kept_reply (whole shape) k (Arrive packet)
+pub arrive-stray : (shape : LinkShape) (k : Account) (packet : Packet) (row : AccountRow) (refusal : Refusal) → find (is_kept_of packet.chan) k.rows ≡ Some row → Some refusal ≡ stray packet row.terms row.taken → Refused refusal ≡ kept_reply (whole shape) k (Arrive packet)
 arrive-stray shape k packet row refusal found first = rule-applies (stray_rules packet row.terms row.taken) (slots-rule shape k.here row ∷ []) (taken-reply k.clock packet row) refusal first ∙ sym (arrive-found shape k packet row found)
 
-pub arrive-full : (shape : LinkShape) (k : Kept) (packet : Packet) (row : KeptRow) (refusal : Refusal) → find (is_kept_of packet.chan) k.rows ≡ Some row → None ≡ stray packet row.terms row.taken
+pub arrive-full : (shape : LinkShape) (k : Account) (packet : Packet) (row : AccountRow) (refusal : Refusal) → find (is_kept_of packet.chan) k.rows ≡ Some row → None ≡ stray packet row.terms row.taken
     → Some refusal ≡ slots-rule shape k.here row → Refused refusal ≡ kept_reply (whole shape) k (Arrive packet)
 arrive-full shape k packet row refusal found none holds =
     rule-applies (slots-rule shape k.here row ∷ []) [] (taken-reply k.clock packet row) refusal (one-rule (slots-rule shape k.here row) refusal holds)
@@ -63,7 +63,7 @@ arrive-full shape k packet row refusal found none holds =
       one-rule None refusal same = same
       one-rule (Some other) refusal same = same
 
-pub arrive-taken : (shape : LinkShape) (k : Kept) (packet : Packet) (row : KeptRow) (e : ℕ) → find (is_kept_of packet.chan) k.rows ≡ Some row → None ≡ stray packet row.terms row.taken
+pub arrive-taken : (shape : LinkShape) (k : Account) (packet : Packet) (row : AccountRow) (e : ℕ) → find (is_kept_of packet.chan) k.rows ≡ Some row → None ≡ stray packet row.terms row.taken
     → None ≡ slots-rule shape k.here row → e ≡ eligible_next row.terms row.recent k.clock packet.due → Taken k.clock e ≡ kept_reply (whole shape) k (Arrive packet)
 arrive-taken shape k packet row e found none free tick =
     ap (Taken k.clock) tick
@@ -74,7 +74,7 @@ arrive-taken shape k packet row e found none free tick =
       rule-none (Some other) reply none = cc
 
 -- a refusal changes nothing
-pub arrive-same : (shape : LinkShape) (k : Kept) (packet : Packet) (refusal : Refusal) → k ≡ kept_after shape k (Arrive packet) (Refused refusal)
+pub arrive-same : (shape : LinkShape) (k : Account) (packet : Packet) (refusal : Refusal) → k ≡ kept_after shape k (Arrive packet) (Refused refusal)
 unfolding kept_after
 arrive-same shape k packet refusal = refl
 
@@ -91,7 +91,7 @@ next-number packet terms taken none =
     eqb-true packet.number (suc taken) (unless-none (nat_eq packet.number (suc taken)) (Stray (WrongNumber (suc taken))) kept)
 
 -- what is kept with the packet
-pub arrive-kept : (shape : LinkShape) (t e : ℕ) (old new : KeptQueue) (packet : Packet) (rows : List KeptRow) (row : KeptRow) (taken : HeldPacket) → find (is_kept_of packet.chan) rows ≡ Some row
+pub arrive-kept : (shape : LinkShape) (t e : ℕ) (old new : KeptQueue) (packet : Packet) (rows : List AccountRow) (row : AccountRow) (taken : HeldPacket) → find (is_kept_of packet.chan) rows ≡ Some row
     → arrival_in taken ≡ kept_arrived t (suc old.taken) packet row
     → new ≡ record old { taken = old.taken + 1; here = old.here ++ arrival_in taken ∷ []; looked = new.looked }
     → account t new (change_first (is_kept_of packet.chan) (kept_arrived_row t (suc old.taken) packet) rows) ≡ kept_after shape (account t old rows) (Arrive packet) (Taken t e)
@@ -104,7 +104,7 @@ arrive-kept shape t e old new packet rows row taken found arrived kept =
     ∙ ap (kept_with_arrival packet (account t old rows)) (sym found)
 
 -- so where the account with the packet is sound, there was a place for it
-pub arrive-room : (shape : LinkShape) (room e : ℕ) (k : Kept) (packet : Packet) (row : KeptRow) → find (is_kept_of packet.chan) k.rows ≡ Some row → IsSound shape room (kept_after shape k (Arrive packet) (Taken k.clock e)) → length k.here < room
+pub arrive-room : (shape : LinkShape) (room e : ℕ) (k : Account) (packet : Packet) (row : AccountRow) → find (is_kept_of packet.chan) k.rows ≡ Some row → IsSound shape room (kept_after shape k (Arrive packet) (Taken k.clock e)) → length k.here < room
 unfolding kept_after kept_with_arrival
 arrive-room shape room e k packet row found sound =
     let upto = rows-upto shape room (kept_with_arrival packet k (Some row)) (subst (λ o. IsSound shape room (kept_with_arrival packet k o)) found sound) in
@@ -112,7 +112,7 @@ arrive-room shape room e k packet row found sound =
     omega (arith, upto, more)
 
 -- and where the newest eligible ticks of its rows are soon, so is that of the row with the packet
-pub arrive-soon : (shape : LinkShape) (e : ℕ) (k : Kept) (packet : Packet) (row : KeptRow) → find (is_kept_of packet.chan) k.rows ≡ Some row
+pub arrive-soon : (shape : LinkShape) (e : ℕ) (k : Account) (packet : Packet) (row : AccountRow) → find (is_kept_of packet.chan) k.rows ≡ Some row
     → Each (λ r. newest r.recent < 2 ^ 63) (kept_after shape k (Arrive packet) (Taken k.clock e)).rows → newest (kept_arrived_row k.clock (suc k.taken) packet row).recent < 2 ^ 63
 unfolding kept_after kept_with_arrival
 arrive-soon shape e k packet row found soon =

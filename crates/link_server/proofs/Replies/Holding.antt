@@ -6,9 +6,9 @@ use Rattle.std.proofs.lemmas.List.Elements.{All-push}
 use Rattle.link_server.proofs.Words.{channel_number, level_number, Offer, LinkShape, find, ReserveFits, Reservation, admitted, tentative, server_of, KeptTable, ServedRow, Offered, Wanted}
 use Rattle.traffic_contract.proofs.AdmissionTest.{Decides-admits}
 use Rattle.traffic_contract.specs.Admission.{Passes, admits, with_row}
-use Rattle.rcsp_admission.specs.Sums.{Sums, Held, Holds, held_at, admitted_rows}
+use Rattle.rcsp_admission.specs.Sums.{Sums, Held, Holds, row_held, admitted_rows}
 use Rattle.link_steps.specs.Buffer.{slots_of, free_units}
-use Rattle.link_steps.specs.Kept.{Kept, KeptRow, is_kept_of, kept_terms, kept_after, new_kept}
+use Rattle.link_steps.specs.Kept.{Account, AccountRow, is_kept_of, kept_terms, kept_after, new_kept}
 use Rattle.link_server.specs.Rows.{row_in, summed, IsWithinLevels, AreWithin}
 use Rattle.link_server.specs.Changes.{MayAdd}
 use Rattle.link_steps.proofs.RulesAsMeant.{need-kept}
@@ -25,7 +25,7 @@ abbrev pub held_terms : Wanted → Offered → Reservation
 held_terms wanted offer = tentative wanted.chan wanted.contract wanted.kind wanted.first wanted.next wanted.up_reach offer.level offer.reach
 
 -- the account with it is sound
-pub sound-held : (shape : LinkShape) (room : ℕ) (k : Kept) (wanted : Wanted) (offer : Offered) (row : KeptRow) → ReserveFits wanted.contract wanted.up_reach wanted.first → IsSound shape room k
+pub sound-held : (shape : LinkShape) (room : ℕ) (k : Account) (wanted : Wanted) (offer : Offered) (row : AccountRow) → ReserveFits wanted.contract wanted.up_reach wanted.first → IsSound shape room k
     → MayHold shape (map kept_terms k.rows) wanted offer → row ≡ new_kept (held_terms wanted offer)
     → most_places shape.bounds k.here k.rows + suc (slots_of shape.bounds row.terms) + suc shape.best ≤ room
     → IsSound shape room (kept_after shape k (ask_for wanted) (Offer offer.level offer.reach))
@@ -36,7 +36,7 @@ sound-held shape room k wanted offer row fits sound may same enough =
     sound-reserve shape room k wanted.chan wanted.contract wanted.kind wanted.delay wanted.up_reach wanted.first wanted.next offer.level offer.reach fits sound may (omega (arith, push, slots, enough))
 
 -- the row may be added to the table of a link that may make the offer
-pub may-add : (shape : LinkShape) (table : KeptTable) (wanted : Wanted) (offer : Offered) (row : KeptRow) → table ≡ record table { server = server_of shape; buffer = shape.buffer } → MayHold shape (map kept_terms table.rows) wanted offer → row ≡ new_kept (held_terms wanted offer) → MayAdd table row
+pub may-add : (shape : LinkShape) (table : KeptTable) (wanted : Wanted) (offer : Offered) (row : AccountRow) → table ≡ record table { server = server_of shape; buffer = shape.buffer } → MayHold shape (map kept_terms table.rows) wanted offer → row ≡ new_kept (held_terms wanted offer) → MayAdd table row
 unfolding free_units
 may-add shape table wanted offer row of_shape may same =
     let bounds = ap (λ (t : KeptTable). t.server.bounds) of_shape in
@@ -69,10 +69,10 @@ sums-pass rows sums row same passes =
 
 -- they hold it at its level
 pub summed-pushed : (rows : List ServedRow) (row : ServedRow) (key : ℕ) (sums : List Held) → key ≡ channel_number row.chan → sums ≡ map summed rows
-    → sums ++ held_at key row.contract (level_number row.level) ∷ [] ≡ map summed (rows ++ row ∷ [])
+    → sums ++ row_held key row.contract (level_number row.level) ∷ [] ≡ map summed (rows ++ row ∷ [])
 summed-pushed rows row key sums number held =
-    ap (λ all. all ++ held_at key row.contract (level_number row.level) ∷ []) held
-    ∙ ap (λ n. map summed rows ++ held_at n row.contract (level_number row.level) ∷ []) number
+    ap (λ all. all ++ row_held key row.contract (level_number row.level) ∷ []) held
+    ∙ ap (λ n. map summed rows ++ row_held n row.contract (level_number row.level) ∷ []) number
     ∙ sym (map_push summed rows row)
 
 -- at levels of the link

@@ -3,7 +3,7 @@ use Rattle.std.proofs.Common.{◌≡◌, ℕ, suc, ◌+◌, ◌<◌, ◌≤◌, 
 use Rattle.std.proofs.lemmas.Bool.{lt-leb, le-leb}
 use Rattle.link_server.proofs.Words.{find, filter, nat_lt, channel_number, ChanNo, Arrival, Pour, Refusal, Planned, Refused, LinkShape, busy, SourcePacket, planned_from, is_for, left_at, SourceStep, Rests, Brings, Drops, source_step, taken_by, whole, account, KeptQueue}
 use Rattle.link_steps.specs.declared.replies.Refusal.TheVariants.{TooBig}
-use Rattle.link_steps.specs.Kept.{Kept, KeptRow, waits_here, kept_waiting, kept_best, kept_reply, kept_after}
+use Rattle.link_steps.specs.Kept.{Account, AccountRow, waits_here, kept_waiting, kept_best, kept_reply, kept_after}
 use Rattle.link_steps.specs.Replies.{pour_reply}
 use Rattle.link_steps.specs.BestEffort.{best_step, best_arrival, best_packet}
 use Rattle.std.proofs.lemmas.List.{append-nil}
@@ -13,26 +13,26 @@ use Rattle.link_server.proofs.Calendars.Planning.{after-none, none-left}
 use Rattle.net_units.proofs.KnownByNumber.{same-channel}
 
 -- the account with another best-effort plan
-abbrev pub with_plan : Kept → List SourcePacket → Kept
+abbrev pub with_plan : Account → List SourcePacket → Account
 with_plan k plan = record k { best_left = plan }
 
-pub pour-busy : (shape : LinkShape) (t : ℕ) (queue : KeptQueue) (rows : List KeptRow) (count gap size : ℕ) (refusal : Refusal) → Some refusal ≡ busy (length queue.best) → Refused refusal ≡ kept_reply (whole shape) (account t queue rows) (Pour count gap size)
+pub pour-busy : (shape : LinkShape) (t : ℕ) (queue : KeptQueue) (rows : List AccountRow) (count gap size : ℕ) (refusal : Refusal) → Some refusal ≡ busy (length queue.best) → Refused refusal ≡ kept_reply (whole shape) (account t queue rows) (Pour count gap size)
 unfolding kept_reply pour_reply
 pour-busy shape t queue rows count gap size refusal left = rw (sym left) refl
 
-pub pour-big : (shape : LinkShape) (t : ℕ) (queue : KeptQueue) (rows : List KeptRow) (count gap size : ℕ) → None ≡ busy (length queue.best) → shape.cap < size → Refused (TooBig size shape.cap) ≡ kept_reply (whole shape) (account t queue rows) (Pour count gap size)
+pub pour-big : (shape : LinkShape) (t : ℕ) (queue : KeptQueue) (rows : List AccountRow) (count gap size : ℕ) → None ≡ busy (length queue.best) → shape.cap < size → Refused (TooBig size shape.cap) ≡ kept_reply (whole shape) (account t queue rows) (Pour count gap size)
 unfolding kept_reply pour_reply
 pour-big shape t queue rows count gap size left big = rw (sym left, lt-leb size shape.cap big) refl
 
-pub pour-planned : (shape : LinkShape) (t : ℕ) (queue : KeptQueue) (rows : List KeptRow) (count gap size : ℕ) → None ≡ busy (length queue.best) → size ≤ shape.cap → Planned t ≡ kept_reply (whole shape) (account t queue rows) (Pour count gap size)
+pub pour-planned : (shape : LinkShape) (t : ℕ) (queue : KeptQueue) (rows : List AccountRow) (count gap size : ℕ) → None ≡ busy (length queue.best) → size ≤ shape.cap → Planned t ≡ kept_reply (whole shape) (account t queue rows) (Pour count gap size)
 unfolding kept_reply pour_reply
 pour-planned shape t queue rows count gap size left small = rw (sym left, le-leb size shape.cap small) refl
 
-pub pour-same : (shape : LinkShape) (k : Kept) (count gap size : ℕ) (refusal : Refusal) → k ≡ kept_after shape k (Pour count gap size) (Refused refusal)
+pub pour-same : (shape : LinkShape) (k : Account) (count gap size : ℕ) (refusal : Refusal) → k ≡ kept_after shape k (Pour count gap size) (Refused refusal)
 unfolding kept_after
 pour-same shape k count gap size refusal = refl
 
-pub pour-kept : (shape : LinkShape) (t : ℕ) (queue : KeptQueue) (rows : List KeptRow) (count gap size clock : ℕ) → None ≡ busy (length queue.best) → account t (record queue { best = planned_from t gap size count }) rows ≡ kept_after shape (account t queue rows) (Pour count gap size) (Planned clock)
+pub pour-kept : (shape : LinkShape) (t : ℕ) (queue : KeptQueue) (rows : List AccountRow) (count gap size clock : ℕ) → None ≡ busy (length queue.best) → account t (record queue { best = planned_from t gap size count }) rows ≡ kept_after shape (account t queue rows) (Pour count gap size) (Planned clock)
 unfolding kept_after
 pour-kept shape t queue rows count gap size clock left =
     ap (with_plan (account t queue rows)) (after-none queue.best (planned_from t gap size count) (none-left (length queue.best) left))
@@ -62,11 +62,11 @@ unfolding best_step
 best-some fits waiting most t plan same = ap (λ b. source_step b (find (is_for t) plan)) same
 
 -- the step that the code finds is that of the account
-pub best-step-is : (shape : LinkShape) (k : Kept) (fits : Bool) (plan : List SourcePacket) → source_step fits (find (is_for k.clock) k.best_left) ≡ best_step (length (filter (waits_here shape.bounds k.on) k.here)) shape.best k.clock k.best_left → plan ≡ k.best_left → source_step fits (find (is_for k.clock) plan) ≡ kept_best shape k
+pub best-step-is : (shape : LinkShape) (k : Account) (fits : Bool) (plan : List SourcePacket) → source_step fits (find (is_for k.clock) k.best_left) ≡ best_step (length (filter (waits_here shape.bounds k.on) k.here)) shape.best k.clock k.best_left → plan ≡ k.best_left → source_step fits (find (is_for k.clock) plan) ≡ kept_best shape k
 unfolding kept_best kept_waiting
 best-step-is shape k fits plan step left = ap (λ p. source_step fits (find (is_for k.clock) p)) left ∙ step
 
-pub waiting-is : (shape : LinkShape) (k : Kept) → length (filter (waits_here shape.bounds k.on) k.here) ≡ kept_waiting shape k
+pub waiting-is : (shape : LinkShape) (k : Account) → length (filter (waits_here shape.bounds k.on) k.here) ≡ kept_waiting shape k
 unfolding kept_waiting
 waiting-is shape k = refl
 

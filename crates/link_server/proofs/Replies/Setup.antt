@@ -8,7 +8,7 @@ use Rattle.link_server.proofs.RowsOfTable.Places.{terms-found, terms-absent}
 use Rattle.link_server.proofs.RowsOfTable.Placed.{hop-changed}
 use Rattle.link_steps.specs.declared.replies.Refusal.TheVariants.{NoSuch, TooWide, Twice, NoLevel, NoBuffer}
 use Rattle.link_steps.specs.declared.replies.Reply.TheVariants.{Offer, Relaxed, Denied, Planned, Refused}
-use Rattle.link_steps.specs.Kept.{Kept, KeptRow, kept_terms, kept_reply, kept_after, with_kept_rows, new_kept, kept_relaxed, kept_planned, kept_submit, is_kept_of, is_kept_at_hop}
+use Rattle.link_steps.specs.Kept.{Account, AccountRow, kept_terms, kept_reply, kept_after, with_kept_rows, new_kept, kept_relaxed, kept_planned, kept_submit, is_kept_of, is_kept_at_hop}
 use Rattle.link_steps.specs.Refusals.{not_in_phase, unfit, busy, too_big}
 use Rattle.link_steps.specs.Room.{room_of, whole_room}
 use Rattle.link_steps.specs.Replies.{reserve_reply, relax_reply, deny_reply, submit_reply}
@@ -16,52 +16,52 @@ use Rattle.link_steps.proofs.ReservationFound.{whole-offer-may}
 
 -- ---- a deny
 
-pub deny-absent : (shape : LinkShape) (k : Kept) (chan : ChanNo) → find (is_kept_of chan) k.rows ≡ None → Refused NoSuch ≡ kept_reply (whole shape) k (Deny chan)
+pub deny-absent : (shape : LinkShape) (k : Account) (chan : ChanNo) → find (is_kept_of chan) k.rows ≡ None → Refused NoSuch ≡ kept_reply (whole shape) k (Deny chan)
 unfolding kept_reply deny_reply
 deny-absent shape k chan absent = rw (terms-absent chan k.rows absent) refl
 
-pub deny-refused : (shape : LinkShape) (k : Kept) (chan : ChanNo) (row : KeptRow) (refusal : Refusal) → find (is_kept_of chan) k.rows ≡ Some row → Some refusal ≡ not_in_phase Tentative row.terms → Refused refusal ≡ kept_reply (whole shape) k (Deny chan)
+pub deny-refused : (shape : LinkShape) (k : Account) (chan : ChanNo) (row : AccountRow) (refusal : Refusal) → find (is_kept_of chan) k.rows ≡ Some row → Some refusal ≡ not_in_phase Tentative row.terms → Refused refusal ≡ kept_reply (whole shape) k (Deny chan)
 unfolding kept_reply deny_reply
 deny-refused shape k chan row refusal found phase = rw (terms-found chan k.rows row found, sym phase) refl
 
-pub deny-denied : (shape : LinkShape) (k : Kept) (chan : ChanNo) (row : KeptRow) → find (is_kept_of chan) k.rows ≡ Some row → None ≡ not_in_phase Tentative row.terms → Denied ≡ kept_reply (whole shape) k (Deny chan)
+pub deny-denied : (shape : LinkShape) (k : Account) (chan : ChanNo) (row : AccountRow) → find (is_kept_of chan) k.rows ≡ Some row → None ≡ not_in_phase Tentative row.terms → Denied ≡ kept_reply (whole shape) k (Deny chan)
 unfolding kept_reply deny_reply
 deny-denied shape k chan row found phase = rw (terms-found chan k.rows row found, sym phase) refl
 
 -- a refusal changes nothing
-pub deny-same : (shape : LinkShape) (k : Kept) (chan : ChanNo) (refusal : Refusal) → k ≡ kept_after shape k (Deny chan) (Refused refusal)
+pub deny-same : (shape : LinkShape) (k : Account) (chan : ChanNo) (refusal : Refusal) → k ≡ kept_after shape k (Deny chan) (Refused refusal)
 unfolding kept_after
 deny-same shape k chan refusal = refl
 
 -- and a deny takes the row out
-pub deny-kept : (shape : LinkShape) (k : Kept) (chan : ChanNo) → with_kept_rows k (without_first (is_kept_of chan) k.rows) ≡ kept_after shape k (Deny chan) Denied
+pub deny-kept : (shape : LinkShape) (k : Account) (chan : ChanNo) → with_kept_rows k (without_first (is_kept_of chan) k.rows) ≡ kept_after shape k (Deny chan) Denied
 unfolding kept_after
 deny-kept shape k chan = refl
 
 -- ---- a relax
 
-pub relax-absent : (shape : LinkShape) (k : Kept) (chan : ChanNo) (level : Level) (up_bound : ℕ) → find (is_kept_of chan) k.rows ≡ None → Refused NoSuch ≡ kept_reply (whole shape) k (Relax chan level up_bound)
+pub relax-absent : (shape : LinkShape) (k : Account) (chan : ChanNo) (level : Level) (up_bound : ℕ) → find (is_kept_of chan) k.rows ≡ None → Refused NoSuch ≡ kept_reply (whole shape) k (Relax chan level up_bound)
 unfolding kept_reply relax_reply
 relax-absent shape k chan level up_bound absent = rw (terms-absent chan k.rows absent) refl
 
-pub relax-phase : (shape : LinkShape) (k : Kept) (chan : ChanNo) (level : Level) (up_bound : ℕ) (row : KeptRow) (refusal : Refusal) → find (is_kept_of chan) k.rows ≡ Some row → Some refusal ≡ not_in_phase Tentative row.terms → Refused refusal ≡ kept_reply (whole shape) k (Relax chan level up_bound)
+pub relax-phase : (shape : LinkShape) (k : Account) (chan : ChanNo) (level : Level) (up_bound : ℕ) (row : AccountRow) (refusal : Refusal) → find (is_kept_of chan) k.rows ≡ Some row → Some refusal ≡ not_in_phase Tentative row.terms → Refused refusal ≡ kept_reply (whole shape) k (Relax chan level up_bound)
 unfolding kept_reply relax_reply
 relax-phase shape k chan level up_bound row refusal found phase = rw (terms-found chan k.rows row found, sym phase) refl
 
-pub relax-unfit : (shape : LinkShape) (k : Kept) (chan : ChanNo) (level : Level) (up_bound : ℕ) (row : KeptRow) (refusal : Refusal) → find (is_kept_of chan) k.rows ≡ Some row → None ≡ not_in_phase Tentative row.terms → Some refusal ≡ unfit row.terms level up_bound → Refused refusal ≡ kept_reply (whole shape) k (Relax chan level up_bound)
+pub relax-unfit : (shape : LinkShape) (k : Account) (chan : ChanNo) (level : Level) (up_bound : ℕ) (row : AccountRow) (refusal : Refusal) → find (is_kept_of chan) k.rows ≡ Some row → None ≡ not_in_phase Tentative row.terms → Some refusal ≡ unfit row.terms level up_bound → Refused refusal ≡ kept_reply (whole shape) k (Relax chan level up_bound)
 unfolding kept_reply relax_reply
 relax-unfit shape k chan level up_bound row refusal found phase fits = rw (terms-found chan k.rows row found, sym phase, sym fits) refl
 
-pub relax-relaxed : (shape : LinkShape) (k : Kept) (chan : ChanNo) (level : Level) (up_bound : ℕ) (row : KeptRow) → find (is_kept_of chan) k.rows ≡ Some row → None ≡ not_in_phase Tentative row.terms → None ≡ unfit row.terms level up_bound → Relaxed k.clock ≡ kept_reply (whole shape) k (Relax chan level up_bound)
+pub relax-relaxed : (shape : LinkShape) (k : Account) (chan : ChanNo) (level : Level) (up_bound : ℕ) (row : AccountRow) → find (is_kept_of chan) k.rows ≡ Some row → None ≡ not_in_phase Tentative row.terms → None ≡ unfit row.terms level up_bound → Relaxed k.clock ≡ kept_reply (whole shape) k (Relax chan level up_bound)
 unfolding kept_reply relax_reply
 relax-relaxed shape k chan level up_bound row found phase fits = rw (terms-found chan k.rows row found, sym phase, sym fits) refl
 
-pub relax-same : (shape : LinkShape) (k : Kept) (chan : ChanNo) (level : Level) (up_bound : ℕ) (refusal : Refusal) → k ≡ kept_after shape k (Relax chan level up_bound) (Refused refusal)
+pub relax-same : (shape : LinkShape) (k : Account) (chan : ChanNo) (level : Level) (up_bound : ℕ) (refusal : Refusal) → k ≡ kept_after shape k (Relax chan level up_bound) (Refused refusal)
 unfolding kept_after
 relax-same shape k chan level up_bound refusal = refl
 
 -- a relax commits the row
-pub relax-kept : (shape : LinkShape) (k : Kept) (chan : ChanNo) (level : Level) (up_bound clock : ℕ) → with_kept_rows k (change_first (is_kept_of chan) (kept_relaxed level up_bound) k.rows) ≡ kept_after shape k (Relax chan level up_bound) (Relaxed clock)
+pub relax-kept : (shape : LinkShape) (k : Account) (chan : ChanNo) (level : Level) (up_bound clock : ℕ) → with_kept_rows k (change_first (is_kept_of chan) (kept_relaxed level up_bound) k.rows) ≡ kept_after shape k (Relax chan level up_bound) (Relaxed clock)
 unfolding kept_after
 relax-kept shape k chan level up_bound clock = refl
 
@@ -88,52 +88,52 @@ unfolding reserve_reply room_of whole_room
 reserve-offer shape held chan contract delay up_reach m wide found best room = rw (wide, found, best, room) refl
 
 -- what the reply offers the link may offer
-pub reply-may : (shape : LinkShape) (k : Kept) (wanted : Wanted) (offer : Offered) → Offer offer.level offer.reach ≡ kept_reply (whole shape) k (ask_for wanted) → MayHold shape (map kept_terms k.rows) wanted offer
+pub reply-may : (shape : LinkShape) (k : Account) (wanted : Wanted) (offer : Offered) → Offer offer.level offer.reach ≡ kept_reply (whole shape) k (ask_for wanted) → MayHold shape (map kept_terms k.rows) wanted offer
 unfolding kept_reply reserve_reply room_of
 reply-may shape k wanted offer same = whole-offer-may (whole shape) (map kept_terms k.rows) wanted.chan wanted.contract wanted.delay wanted.up_reach offer.level offer.reach same
 
 -- a refusal changes nothing
-pub reserve-same : (shape : LinkShape) (k : Kept) (wanted : Wanted) (refusal : Refusal) → k ≡ kept_after shape k (ask_for wanted) (Refused refusal)
+pub reserve-same : (shape : LinkShape) (k : Account) (wanted : Wanted) (refusal : Refusal) → k ≡ kept_after shape k (ask_for wanted) (Refused refusal)
 unfolding kept_after
 reserve-same shape k wanted refusal = refl
 
 -- and an offer holds a row more
-pub reserve-kept : (shape : LinkShape) (k : Kept) (wanted : Wanted) (level reach : Level) (new : KeptRow) → new ≡ new_kept (tentative wanted.chan wanted.contract wanted.kind wanted.first wanted.next wanted.up_reach level reach) → with_kept_rows k (k.rows ++ new ∷ []) ≡ kept_after shape k (ask_for wanted) (Offer level reach)
+pub reserve-kept : (shape : LinkShape) (k : Account) (wanted : Wanted) (level reach : Level) (new : AccountRow) → new ≡ new_kept (tentative wanted.chan wanted.contract wanted.kind wanted.first wanted.next wanted.up_reach level reach) → with_kept_rows k (k.rows ++ new ∷ []) ≡ kept_after shape k (ask_for wanted) (Offer level reach)
 unfolding kept_after
 reserve-kept shape k wanted level reach new same = ap (λ row. with_kept_rows k (k.rows ++ row ∷ [])) same
 
 -- ---- a submit
 
-pub submit-absent : (shape : LinkShape) (k : Kept) (chan : ChanNo) (count gap size : ℕ) → find (is_kept_at_hop chan true) k.rows ≡ None → Refused NoSuch ≡ kept_reply (whole shape) k (Submit chan count gap size)
+pub submit-absent : (shape : LinkShape) (k : Account) (chan : ChanNo) (count gap size : ℕ) → find (is_kept_at_hop chan true) k.rows ≡ None → Refused NoSuch ≡ kept_reply (whole shape) k (Submit chan count gap size)
 unfolding kept_reply
 submit-absent shape k chan count gap size absent = rw absent refl
 
 -- the reply is that of the row at the place
-submit-found : (shape : LinkShape) (k : Kept) (chan : ChanNo) (count gap size : ℕ) (row : KeptRow) → find (is_kept_at_hop chan true) k.rows ≡ Some row → kept_reply (whole shape) k (Submit chan count gap size) ≡ submit_reply k.clock size row.terms (length row.left)
+submit-found : (shape : LinkShape) (k : Account) (chan : ChanNo) (count gap size : ℕ) (row : AccountRow) → find (is_kept_at_hop chan true) k.rows ≡ Some row → kept_reply (whole shape) k (Submit chan count gap size) ≡ submit_reply k.clock size row.terms (length row.left)
 unfolding kept_reply
 submit-found shape k chan count gap size row found = ap (kept_submit k.clock size) found
 
-pub submit-phase : (shape : LinkShape) (k : Kept) (chan : ChanNo) (count gap size : ℕ) (row : KeptRow) (refusal : Refusal) → find (is_kept_at_hop chan true) k.rows ≡ Some row → Some refusal ≡ not_in_phase Committed row.terms → Refused refusal ≡ kept_reply (whole shape) k (Submit chan count gap size)
+pub submit-phase : (shape : LinkShape) (k : Account) (chan : ChanNo) (count gap size : ℕ) (row : AccountRow) (refusal : Refusal) → find (is_kept_at_hop chan true) k.rows ≡ Some row → Some refusal ≡ not_in_phase Committed row.terms → Refused refusal ≡ kept_reply (whole shape) k (Submit chan count gap size)
 unfolding submit_reply
 submit-phase shape k chan count gap size row refusal found phase = rw (submit-found shape k chan count gap size row found, sym phase) refl
 
-pub submit-busy : (shape : LinkShape) (k : Kept) (chan : ChanNo) (count gap size : ℕ) (row : KeptRow) (refusal : Refusal) → find (is_kept_at_hop chan true) k.rows ≡ Some row → None ≡ not_in_phase Committed row.terms → Some refusal ≡ busy (length row.left) → Refused refusal ≡ kept_reply (whole shape) k (Submit chan count gap size)
+pub submit-busy : (shape : LinkShape) (k : Account) (chan : ChanNo) (count gap size : ℕ) (row : AccountRow) (refusal : Refusal) → find (is_kept_at_hop chan true) k.rows ≡ Some row → None ≡ not_in_phase Committed row.terms → Some refusal ≡ busy (length row.left) → Refused refusal ≡ kept_reply (whole shape) k (Submit chan count gap size)
 unfolding submit_reply
 submit-busy shape k chan count gap size row refusal found phase left = rw (submit-found shape k chan count gap size row found, sym phase, sym left) refl
 
-pub submit-big : (shape : LinkShape) (k : Kept) (chan : ChanNo) (count gap size : ℕ) (row : KeptRow) (refusal : Refusal) → find (is_kept_at_hop chan true) k.rows ≡ Some row → None ≡ not_in_phase Committed row.terms → None ≡ busy (length row.left) → Some refusal ≡ too_big row.terms size → Refused refusal ≡ kept_reply (whole shape) k (Submit chan count gap size)
+pub submit-big : (shape : LinkShape) (k : Account) (chan : ChanNo) (count gap size : ℕ) (row : AccountRow) (refusal : Refusal) → find (is_kept_at_hop chan true) k.rows ≡ Some row → None ≡ not_in_phase Committed row.terms → None ≡ busy (length row.left) → Some refusal ≡ too_big row.terms size → Refused refusal ≡ kept_reply (whole shape) k (Submit chan count gap size)
 unfolding submit_reply
 submit-big shape k chan count gap size row refusal found phase left large = rw (submit-found shape k chan count gap size row found, sym phase, sym left, sym large) refl
 
-pub submit-planned : (shape : LinkShape) (k : Kept) (chan : ChanNo) (count gap size : ℕ) (row : KeptRow) → find (is_kept_at_hop chan true) k.rows ≡ Some row → None ≡ not_in_phase Committed row.terms → None ≡ busy (length row.left) → None ≡ too_big row.terms size → Planned k.clock ≡ kept_reply (whole shape) k (Submit chan count gap size)
+pub submit-planned : (shape : LinkShape) (k : Account) (chan : ChanNo) (count gap size : ℕ) (row : AccountRow) → find (is_kept_at_hop chan true) k.rows ≡ Some row → None ≡ not_in_phase Committed row.terms → None ≡ busy (length row.left) → None ≡ too_big row.terms size → Planned k.clock ≡ kept_reply (whole shape) k (Submit chan count gap size)
 unfolding submit_reply
 submit-planned shape k chan count gap size row found phase left large = rw (submit-found shape k chan count gap size row found, sym phase, sym left, sym large) refl
 
-pub submit-same : (shape : LinkShape) (k : Kept) (chan : ChanNo) (count gap size : ℕ) (refusal : Refusal) → k ≡ kept_after shape k (Submit chan count gap size) (Refused refusal)
+pub submit-same : (shape : LinkShape) (k : Account) (chan : ChanNo) (count gap size : ℕ) (refusal : Refusal) → k ≡ kept_after shape k (Submit chan count gap size) (Refused refusal)
 unfolding kept_after
 submit-same shape k chan count gap size refusal = refl
 
 -- a submit plans the row's packets
-pub submit-kept : (shape : LinkShape) (k : Kept) (chan : ChanNo) (count gap size clock : ℕ) (row : KeptRow) → IsRowAtHop chan true k.rows row → with_kept_rows k (change_first (is_kept_of chan) (kept_planned k.clock count gap size) k.rows) ≡ kept_after shape k (Submit chan count gap size) (Planned clock)
+pub submit-kept : (shape : LinkShape) (k : Account) (chan : ChanNo) (count gap size clock : ℕ) (row : AccountRow) → IsRowAtHop chan true k.rows row → with_kept_rows k (change_first (is_kept_of chan) (kept_planned k.clock count gap size) k.rows) ≡ kept_after shape k (Submit chan count gap size) (Planned clock)
 unfolding kept_after
 submit-kept shape k chan count gap size clock row is = ap (with_kept_rows k) (hop-changed chan true (kept_planned k.clock count gap size) k.rows row is)

@@ -4,18 +4,18 @@ use Rattle.std.specs.Prelude.{Option, nat_eq}
 use Rattle.link_server.proofs.Words.{Tick, Reply, LinkShape, whole, best_packet, left_at, Arrival, SourceStep, Rests, Brings, Drops, taken_by, dropped_by, account, KeptQueue}
 use Rattle.link_steps.specs.declared.replies.Reply.TheVariants.{Ticked}
 use Rattle.link_steps.specs.declared.replies.Sent.{Sent}
-use Rattle.link_steps.specs.Kept.{Kept, KeptRow, kept_reply, kept_after, kept_tick_reply, kept_after_tick, kept_lost, kept_rows_after, held_rows, from_sources, kept_best, brought, present, occupies, served, departs, best_departs, still_here, still_on}
+use Rattle.link_steps.specs.Kept.{Account, AccountRow, kept_reply, kept_after, kept_tick_reply, kept_after_tick, kept_lost, kept_rows_after, held_rows, from_sources, kept_best, brought, present, occupies, served, departs, best_departs, still_here, still_on}
 use Rattle.link_steps.proofs.Account.{same-kept}
 use Rattle.link_server.specs.Sources.{queue_after}
 
 -- once the sources and the best-effort packet have come, the queue is the account's, and the link serves the packet that it says
-pub record IsServedAs (shape : LinkShape) (k : Kept) (mid : KeptQueue) : Type 0 where
+pub record IsServedAs (shape : LinkShape) (k : Account) (mid : KeptQueue) : Type 0 where
   pub here : mid.here ≡ present shape k
   pub taken : mid.taken ≡ k.taken + length (brought shape k)
   pub occupant : served k.clock mid.here mid.on ≡ occupies shape k
   pub best : mid.best ≡ left_at (k.clock + 1) k.best_left
 
-pub all-came : (shape : LinkShape) (clock : ℕ) (queue src mid : KeptQueue) (rows : List KeptRow) (step : SourceStep)
+pub all-came : (shape : LinkShape) (clock : ℕ) (queue src mid : KeptQueue) (rows : List AccountRow) (step : SourceStep)
     → src ≡ queue_after shape.bounds clock (held_rows shape (account clock queue rows)) src.looked queue
     → step ≡ kept_best shape (account clock queue rows)
     → mid ≡ record src { taken = src.taken + taken_by step; here = src.here ++ best_packet step shape.bounds (suc src.taken) clock; best = left_at (clock + 1) src.best; looked = mid.looked }
@@ -26,7 +26,7 @@ all-came shape clock queue src mid rows step brings is came = record {
   occupant = ap (λ all. served clock all mid.on) here ∙ ap (served clock (present shape k)) (ap (λ (q : KeptQueue). q.on) came ∙ ap (λ (q : KeptQueue). q.on) brings);
   best = ap (λ (q : KeptQueue). q.best) came ∙ ap (λ (q : KeptQueue). left_at (clock + 1) q.best) brings;
 } where
-  k : Kept
+  k : Account
   k = account clock queue rows
 
   count : src.taken ≡ k.taken + length (from_sources shape k)
@@ -54,7 +54,7 @@ all-came shape clock queue src mid rows step brings is came = record {
   parts = length-append (from_sources shape k) last
 
 -- the reply
-pub tick-replied : (shape : LinkShape) (k : Kept) (mid : KeptQueue) (sent : Option Sent) (best lost_best : Bool) (step : SourceStep) → IsServedAs shape k mid
+pub tick-replied : (shape : LinkShape) (k : Account) (mid : KeptQueue) (sent : Option Sent) (best lost_best : Bool) (step : SourceStep) → IsServedAs shape k mid
     → sent ≡ departs shape k.clock (served k.clock mid.here mid.on) → best ≡ best_departs shape k.clock (served k.clock mid.here mid.on) → step ≡ kept_best shape k → lost_best ≡ nat_eq (dropped_by step) 1
     → Ticked k.clock (kept_lost shape.bounds k.here k.clock (held_rows shape k)) sent best lost_best ≡ kept_reply (whole shape) k Tick
 unfolding kept_reply kept_tick_reply
@@ -65,7 +65,7 @@ tick-replied shape k mid sent best lost_best step came left best_left is loses =
     ∙ ap (Ticked k.clock full (departs shape k.clock (occupies shape k)) (best_departs shape k.clock (occupies shape k))) (loses ∙ ap (λ s. nat_eq (dropped_by s) 1) is)
 
 -- the account after it
-pub tick-kept : (shape : LinkShape) (k : Kept) (last : List KeptRow) (mid new : KeptQueue) (reply : Reply) → IsServedAs shape k mid → last ≡ kept_rows_after shape.bounds k.here k.clock k.taken (held_rows shape k)
+pub tick-kept : (shape : LinkShape) (k : Account) (last : List AccountRow) (mid new : KeptQueue) (reply : Reply) → IsServedAs shape k mid → last ≡ kept_rows_after shape.bounds k.here k.clock k.taken (held_rows shape k)
     → new ≡ record mid { here = still_here shape.rate k.clock (served k.clock mid.here mid.on) mid.here; on = still_on shape.rate k.clock (served k.clock mid.here mid.on); looked = new.looked }
     → account (k.clock + 1) new last ≡ kept_after shape k Tick reply
 unfolding kept_after kept_after_tick

@@ -9,7 +9,7 @@ use Rattle.link_steps.proofs.ReservationFound.{phase-is}
 use Rattle.buffer_budget.specs.Parts.{whole_of, with_held, with_freed}
 use Rattle.traffic_contract.proofs.AdmissionTest.{total-push, total-map}
 use Rattle.link_steps.specs.Buffer.{stay_in, stay_of, slots_of, kept_units}
-use Rattle.link_steps.specs.Kept.{KeptRow, kept_relaxed, kept_terms, kept_step, kept_after_step, kept_rows_after}
+use Rattle.link_steps.specs.Kept.{AccountRow, kept_relaxed, kept_terms, kept_step, kept_after_step, kept_rows_after}
 use Rattle.link_steps.specs.Reservation.{Reservation, closing}
 use Rattle.link_server.specs.declared.table.keeping.Keeping.{Keeping}
 use Rattle.link_server.specs.Keeping.{places_for, IsKeeping}
@@ -130,12 +130,12 @@ keeps-swapped buffer bounds keeping rows i changed d keeps inside same alike =
     record { whole = keeps.whole; units = omega (arith, units, sum, same); places = omega (arith, all, places, alike) }
 
 -- the sources' steps leave the reservations as they are
-step-terms : (step : SourceStep) (t place : ℕ) (row : KeptRow) → kept_terms (kept_after_step step t place row) ≡ kept_terms row
+step-terms : (step : SourceStep) (t place : ℕ) (row : AccountRow) → kept_terms (kept_after_step step t place row) ≡ kept_terms row
 step-terms Rests t place row = refl
 step-terms Drops t place row = refl
 step-terms (Brings size) t place row = refl
 
-terms-after : (bounds : List ℕ) (here : List Arrival) (t taken : ℕ) (rows : List KeptRow) → map kept_terms (kept_rows_after bounds here t taken rows) ≡ map kept_terms rows
+terms-after : (bounds : List ℕ) (here : List Arrival) (t taken : ℕ) (rows : List AccountRow) → map kept_terms (kept_rows_after bounds here t taken rows) ≡ map kept_terms rows
 unfolding kept_rows_after
 terms-after bounds here t taken [] = refl
 terms-after bounds here t taken (row ∷ rows) =

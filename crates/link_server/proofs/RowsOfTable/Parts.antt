@@ -2,7 +2,7 @@
 use Rattle.std.proofs.Common.{◌≡◌, ℕ, ◌-◌, ◌<◌, List, [], ◌∷◌, length, map, get_or, Some, None, refl, sym, ap, ◌∙◌, subst, arith}
 use Rattle.std.proofs.lemmas.List.{get_or-map, length-map}
 use Rattle.std.proofs.lemmas.Option.{same_Some}
-use Rattle.link_server.proofs.Words.{IsDistinct, find, channel_number, ChanNo, is_kept_of, is_served_row_of, IsAbsent, level_number, Sums, Held, held_at, Tentative, Reservation, whole_of, total, LinkShape, KeptRow, kept_terms, server_of, LinkState, ServedRow, KeptTable, reservation_in, row_in, summed, IsPlaceOf, IsWithinLevels}
+use Rattle.link_server.proofs.Words.{IsDistinct, find, channel_number, ChanNo, is_kept_of, is_served_row_of, IsAbsent, level_number, Sums, Held, row_held, Tentative, Reservation, whole_of, total, LinkShape, AccountRow, kept_terms, server_of, LinkState, ServedRow, KeptTable, reservation_in, row_in, summed, IsPlaceOf, IsWithinLevels}
 use Rattle.link_server.specs.Changes.{HasRow}
 use Rattle.link_server.specs.Index.{channel_in, channels_in, IsIndex}
 use Rattle.link_server.specs.Keeping.{IsKeeping}
@@ -48,11 +48,11 @@ at-levels link row within = subst (λ n. IsWithinLevels n row) (ap (λ (table : 
 -- ---- one row
 
 -- the channel's row stands there, and what is seen of it is so
-pub record IsRowAt (P : KeptRow → Type 0) (t : Inside) (i : ℕ) (d : ServedRow) : Type 0 where
+pub record IsRowAt (P : AccountRow → Type 0) (t : Inside) (i : ℕ) (d : ServedRow) : Type 0 where
   pub inside : i < length t.rows.items
   pub is : P (row_in (get_or t.rows.items i d))
 
-pub row-at : (P : KeptRow → Type 0) (t : Inside) (seen : KeptTable) (chan : ChanNo) (i : ℕ) (d : ServedRow) → table_seen t ≡ seen → IsPlaceOf chan t.rows.items i → HasRow P chan seen.rows → IsRowAt P t i d
+pub row-at : (P : AccountRow → Type 0) (t : Inside) (seen : KeptTable) (chan : ChanNo) (i : ℕ) (d : ServedRow) → table_seen t ≡ seen → IsPlaceOf chan t.rows.items i → HasRow P chan seen.rows → IsRowAt P t i d
 row-at P t seen chan i d same place has =
     let found = subst (λ (table : KeptTable). find (is_kept_of chan) table.rows ≡ Some has.row) (sym same) has.found in
     record { inside = place.inside; is = subst P (same_Some has.row (row_in (get_or t.rows.items i d)) (sym found ∙ found-at chan t.rows.items i d place)) has.holds }
@@ -65,7 +65,7 @@ pub none-seen : (t : Inside) (seen : KeptTable) (chan : ChanNo) → table_seen t
 none-seen t seen chan same absent = subst (λ (table : KeptTable). find (is_kept_of chan) table.rows ≡ None) same (kept-absent (is_served_row_of chan) (is_kept_of chan) (λ row. refl) t.rows.items absent)
 
 -- a channel that has a row in the account has one in the table
-pub has-place : (P : KeptRow → Type 0) (t : Inside) (seen : KeptTable) (chan : ChanNo) → table_seen t ≡ seen → HasRow P chan seen.rows → IsAbsent chan t.rows.items → ⊥
+pub has-place : (P : AccountRow → Type 0) (t : Inside) (seen : KeptTable) (chan : ChanNo) → table_seen t ≡ seen → HasRow P chan seen.rows → IsAbsent chan t.rows.items → ⊥
 has-place P t seen chan same has absent = (let both : Some has.row ≡ None = sym has.found ∙ none-seen t seen chan same absent in cc)
 
 -- it is its channel's, and the only one
@@ -101,7 +101,7 @@ parts-still buffer bounds rows old sums keeping parts same keeps =
       keeps = keeps;
     } where
       held_of : Reservation → Held
-      held_of terms = held_at (channel_number terms.chan) terms.contract (level_number terms.level)
+      held_of terms = row_held (channel_number terms.chan) terms.contract (level_number terms.level)
 
       held-fixed : (all : List ServedRow) → map held_of (map fixed_in all) ≡ map summed all
       held-fixed [] = refl

@@ -2,7 +2,7 @@
 use Rattle.std.proofs.Common.{◌≡◌, Bool, true, false, ◌&&◌, ℕ, zero, suc, List, [], ◌∷◌, map, Option, Some, None, refl, sym, ap, ◌∙◌, arith}
 use Rattle.std.proofs.Common.{⊎_elim}
 use Rattle.std.proofs.lemmas.Bool.{cases_Bool}
-use Rattle.link_server.proofs.Words.{find, ChanNo, KeptRow, is_kept_of, kept_terms, is_of, ServedRow, reservation_in, row_in, is_served_row_of, NoRowPasses, IsFirstPlace, IsAbsent}
+use Rattle.link_server.proofs.Words.{find, ChanNo, AccountRow, is_kept_of, kept_terms, is_of, ServedRow, reservation_in, row_in, is_served_row_of, NoRowPasses, IsFirstPlace, IsAbsent}
 use Rattle.std.specs.List.{All, remove}
 use Rattle.std.specs.Option.{option_map}
 use Rattle.link_steps.proofs.SearchAndFilter.{find-map}
@@ -37,7 +37,7 @@ found-absent test (row ∷ rows) none =
     (cases_Bool (test row))
 
 -- where there is no row none is found in the account
-pub kept-absent : (test : ServedRow → Bool) (seen : KeptRow → Bool) → ((row : ServedRow) → seen (row_in row) ≡ test row) → (rows : List ServedRow) → NoRowPasses test rows → find seen (map row_in rows) ≡ None
+pub kept-absent : (test : ServedRow → Bool) (seen : AccountRow → Bool) → ((row : ServedRow) → seen (row_in row) ≡ test row) → (rows : List ServedRow) → NoRowPasses test rows → find seen (map row_in rows) ≡ None
 kept-absent test seen same rows absent = find-map row_in test seen same rows ∙ ap (option_map row_in) (absent-found test rows absent)
 
 -- the reservations of the account are those of the rows
@@ -45,19 +45,19 @@ pub terms-kept : (rows : List ServedRow) → map kept_terms (map row_in rows) �
 terms-kept [] = refl
 terms-kept (row ∷ rows) = ap (λ all. reservation_in row ∷ all) (terms-kept rows)
 
-find-terms : (chan : ChanNo) (rows : List KeptRow) → find (is_of chan) (map kept_terms rows) ≡ option_map kept_terms (find (is_kept_of chan) rows)
+find-terms : (chan : ChanNo) (rows : List AccountRow) → find (is_of chan) (map kept_terms rows) ≡ option_map kept_terms (find (is_kept_of chan) rows)
 find-terms chan rows = find-map kept_terms (is_kept_of chan) (is_of chan) (λ row. refl) rows
 
 -- the reservation of the channel, where it has a row, and where it has none
-pub terms-found : (chan : ChanNo) (rows : List KeptRow) (row : KeptRow) → find (is_kept_of chan) rows ≡ Some row → find (is_of chan) (map kept_terms rows) ≡ Some row.terms
+pub terms-found : (chan : ChanNo) (rows : List AccountRow) (row : AccountRow) → find (is_kept_of chan) rows ≡ Some row → find (is_of chan) (map kept_terms rows) ≡ Some row.terms
 terms-found chan rows row found = find-terms chan rows ∙ ap (option_map kept_terms) found
 
-pub terms-absent : (chan : ChanNo) (rows : List KeptRow) → find (is_kept_of chan) rows ≡ None → find (is_of chan) (map kept_terms rows) ≡ None
+pub terms-absent : (chan : ChanNo) (rows : List AccountRow) → find (is_kept_of chan) rows ≡ None → find (is_of chan) (map kept_terms rows) ≡ None
 terms-absent chan rows absent = find-terms chan rows ∙ ap (option_map kept_terms) absent
 
-pub terms-none : (chan : ChanNo) (rows : List KeptRow) → find (is_of chan) (map kept_terms rows) ≡ None → find (is_kept_of chan) rows ≡ None
+pub terms-none : (chan : ChanNo) (rows : List AccountRow) → find (is_of chan) (map kept_terms rows) ≡ None → find (is_kept_of chan) rows ≡ None
 terms-none chan rows none = mapped-none (find (is_kept_of chan) rows) (sym (find-terms chan rows) ∙ none) where
-  mapped-none : (found : Option KeptRow) → option_map kept_terms found ≡ None → found ≡ None
+  mapped-none : (found : Option AccountRow) → option_map kept_terms found ≡ None → found ≡ None
   mapped-none None none = refl
   mapped-none (Some row) none = cc
 

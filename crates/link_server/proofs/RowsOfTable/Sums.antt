@@ -3,7 +3,7 @@ use Rattle.std.proofs.Common.{◌≡◌, ℕ, zero, suc, ◌<◌, ◌≤◌, fal
 use Rattle.std.proofs.lemmas.Bool.{ne_eqb, eqb-true, eqb-false}
 use Rattle.link_server.proofs.Words.{remove, channel_number, level_number, ChanNo, Level, kept_terms, new_kept, kept_relaxed, Each, Reservation, admitted, ServedRow, reservation_in, row_in, is_served_row_of, summed, IsAbsent, IsPlaceOf, IsWithinLevels}
 use Rattle.traffic_contract.specs.Admission.{Admitted}
-use Rattle.rcsp_admission.specs.Sums.{Sums, Held, held_at, key_of, admitted_rows, has_key, Holds, HoldsUpTo, put_at, moved, without_key, IsDistinct}
+use Rattle.rcsp_admission.specs.Sums.{Sums, Held, row_held, key_of, admitted_rows, has_key, Holds, HoldsUpTo, put_at, moved, without_key, IsDistinct}
 use Rattle.link_server.proofs.RowsOfTable.Places.{place-later, terms-kept}
 use Rattle.rcsp_admission.proofs.OneRowPerKey.{distinct-later}
 
@@ -72,7 +72,7 @@ absent-new chan rows absent (k, inside, at) = absent-at chan rows absent k insid
 
 -- a row that is committed is moved in the sums
 pub summed-committed : (new old : ServedRow) (level : Level) (up_bound : ℕ) → row_in new ≡ kept_relaxed level up_bound (row_in old) → summed new ≡ put_at (level_number level) (summed old)
-summed-committed new old level up_bound same = ap (λ row. held_at (channel_number row.terms.chan) row.terms.contract (level_number row.terms.level)) same
+summed-committed new old level up_bound same = ap (λ row. row_held (channel_number row.terms.chan) row.terms.contract (level_number row.terms.level)) same
 
 -- and its levels are still the link's
 pub within-committed : (levels : ℕ) (new old : ServedRow) (level : Level) (up_bound : ℕ) → row_in new ≡ kept_relaxed level up_bound (row_in old) → level_number level ≤ levels → IsWithinLevels levels old → IsWithinLevels levels new

@@ -1,7 +1,7 @@
 -- What a table tells in a tick, told by the shape of its link: the rows that stay, and that they may bring their packets.
 use Rattle.std.proofs.Common.{◌≡◌, ℕ, ◌<◌, ◌^◌, List, ap, ◌∙◌, arith}
 use Rattle.std.proofs.lemmas.List.{length-append}
-use Rattle.link_server.proofs.Words.{filter, KeptRow, from_sources, held_rows, kept_stays, KeptTable, kept_in, LinkState}
+use Rattle.link_server.proofs.Words.{filter, AccountRow, from_sources, held_rows, kept_stays, KeptTable, kept_in, LinkState}
 use Rattle.link_steps.proofs.SearchAndFilter.{Each-filter}
 use Rattle.link_server.specs.Sources.{IsReady, MayBring}
 use Rattle.link_server.proofs.RowsOfTable.Totals.{filter-fewer}
@@ -10,7 +10,7 @@ use Rattle.link_server.proofs.Sound.Sources.{from_best}
 use Rattle.link_server.proofs.Sound.Stood.{all-ready, rows-few}
 
 -- what is told by the bounds and the rows of the table, once rows have expired, is told by the shape and the rows that are held
-pub at-shape : {X : Type 0} (f : List ℕ → List KeptRow → X) (link : LinkState) (table : KeptTable) → table ≡ record link.table { rows = filter (kept_stays link.table.server.bounds link.clock) link.table.rows; departed = table.departed; looked = link.clock }
+pub at-shape : {X : Type 0} (f : List ℕ → List AccountRow → X) (link : LinkState) (table : KeptTable) → table ≡ record link.table { rows = filter (kept_stays link.table.server.bounds link.clock) link.table.rows; departed = table.departed; looked = link.clock }
     → f table.server.bounds table.rows ≡ f link.shape.bounds (held_rows link.shape (kept_in link))
 at-shape f link table same =
     ap (λ (t : KeptTable). f t.server.bounds t.rows) same

@@ -1,7 +1,7 @@
 -- Rows of a sound account: leads that are apart, planned packets that lie ahead, and what keeps a row sound.
 use Rattle.std.proofs.Common.{◌≡◌, ℕ, zero, suc, ◌+◌, ◌<◌, ◌≤◌, Bool, List, [], ◌∷◌, ◌++◌, ⊎_elim, refl, sym, subst, arith}
 use Rattle.std.proofs.lemmas.Bool.{cases_eq, cond_both, leb-true, eq-eqb}
-use Rattle.link_server.proofs.Words.{filter, KeptRow, lead_with}
+use Rattle.link_server.proofs.Words.{filter, AccountRow, lead_with}
 use Rattle.link_steps.specs.Lists.{change_first, without_first, Each}
 use Rattle.link_steps.specs.Rows.{SourcePacket, planned_from, is_from, left_at}
 use Rattle.link_steps.proofs.SearchAndFilter.{Each-append, Each-filter, Each-if, Each-change_first, Each-without_first}
@@ -11,14 +11,14 @@ use Rattle.link_steps.proofs.PacketRows.{lead_with-later}
 -- ---- leads
 
 -- rows that are taken out leave the others apart
-pub AreApart-filter : (test : KeptRow → Bool) (rows : List KeptRow) → HaveOwnLeads rows → HaveOwnLeads (filter test rows)
+pub AreApart-filter : (test : AccountRow → Bool) (rows : List AccountRow) → HaveOwnLeads rows → HaveOwnLeads (filter test rows)
 AreApart-filter test [] apart = tt
 AreApart-filter test (row ∷ rows) apart =
     cond_both (test row) (row ∷ filter test rows) (filter test rows) HaveOwnLeads
     (λ _. (Each-filter (IsApartFrom row.lead) test rows apart.0, AreApart-filter test rows apart.1))
     (λ _. AreApart-filter test rows apart.1)
 
-pub AreApart-without_first : (test : KeptRow → Bool) (rows : List KeptRow) → HaveOwnLeads rows → HaveOwnLeads (without_first test rows)
+pub AreApart-without_first : (test : AccountRow → Bool) (rows : List AccountRow) → HaveOwnLeads rows → HaveOwnLeads (without_first test rows)
 unfolding without_first
 AreApart-without_first test [] apart = tt
 AreApart-without_first test (row ∷ rows) apart =
@@ -27,13 +27,13 @@ AreApart-without_first test (row ∷ rows) apart =
     (λ _. (Each-without_first (IsApartFrom row.lead) test rows apart.0, AreApart-without_first test rows apart.1))
 
 -- a row that has taken no packet is apart from all
-pub AreApart-push : (rows : List KeptRow) (new : KeptRow) → new.lead ≡ 0 → HaveOwnLeads rows → HaveOwnLeads (rows ++ new ∷ [])
+pub AreApart-push : (rows : List AccountRow) (new : AccountRow) → new.lead ≡ 0 → HaveOwnLeads rows → HaveOwnLeads (rows ++ new ∷ [])
 AreApart-push [] new none apart = (tt, tt)
 AreApart-push (row ∷ rows) new none apart =
     (Each-append (IsApartFrom row.lead) rows (new ∷ []) apart.0 (λ same. omega (arith, same, none), tt), AreApart-push rows new none apart.1)
 
 -- a change that keeps the lead
-pub AreApart-changed : (test : KeptRow → Bool) (change : KeptRow → KeptRow) → ((row : KeptRow) → (change row).lead ≡ row.lead) → (rows : List KeptRow) → HaveOwnLeads rows → HaveOwnLeads (change_first test change rows)
+pub AreApart-changed : (test : AccountRow → Bool) (change : AccountRow → AccountRow) → ((row : AccountRow) → (change row).lead ≡ row.lead) → (rows : List AccountRow) → HaveOwnLeads rows → HaveOwnLeads (change_first test change rows)
 unfolding change_first
 AreApart-changed test change same [] apart = tt
 AreApart-changed test change same (row ∷ rows) apart =
@@ -46,7 +46,7 @@ pub lead_with-first : (lead place : ℕ) → lead ≡ 0 → lead_with lead place
 lead_with-first lead place none = rw (eq-eqb lead 0 none) refl
 
 -- one above all leads is another than each of them
-pub apart-lead_with : (place lead : ℕ) (rows : List KeptRow) → Each (λ row. row.lead < place) rows → Each (IsApartFrom lead) rows → Each (IsApartFrom (lead_with lead place)) rows
+pub apart-lead_with : (place lead : ℕ) (rows : List AccountRow) → Each (λ row. row.lead < place) rows → Each (IsApartFrom lead) rows → Each (IsApartFrom (lead_with lead place)) rows
 apart-lead_with place lead rows low apart =
     ⊎_elim
     (λ (none : lead ≡ 0).
@@ -63,7 +63,7 @@ lead_with-apart place lead other low apart same =
     (cases_eq other 0)
 
 -- a row that takes a packet stays apart from the others
-pub AreApart-taken : (test : KeptRow → Bool) (change : KeptRow → KeptRow) (place : ℕ) → ((row : KeptRow) → (change row).lead ≡ lead_with row.lead place) → (rows : List KeptRow) → Each (λ row. row.lead < place) rows → HaveOwnLeads rows → HaveOwnLeads (change_first test change rows)
+pub AreApart-taken : (test : AccountRow → Bool) (change : AccountRow → AccountRow) (place : ℕ) → ((row : AccountRow) → (change row).lead ≡ lead_with row.lead place) → (rows : List AccountRow) → Each (λ row. row.lead < place) rows → HaveOwnLeads rows → HaveOwnLeads (change_first test change rows)
 unfolding change_first
 AreApart-taken test change place is [] low apart = tt
 AreApart-taken test change place is (row ∷ rows) low apart =

@@ -4,7 +4,7 @@ use Rattle.std.proofs.lemmas.Bool.{leb-false}
 use Rattle.std.proofs.lemmas.Option.{same_Some}
 use Rattle.link_server.proofs.Words.{filter, LinkShape, is_best, Each}
 use Rattle.std.specs.Option.{ForSome}
-use Rattle.link_steps.specs.Kept.{Kept, leaves_by, still_on, is_other, still_here}
+use Rattle.link_steps.specs.Kept.{Account, leaves_by, still_on, is_other, still_here}
 use Rattle.link_steps.specs.Service.{Arrival, Start, leaves_at}
 use Rattle.link_steps.proofs.SearchAndFilter.{Each-filter}
 use Rattle.link_server.specs.Sound.{of_channels, AreNumberedWithin, AreAhead, IsSoundPacket, IsRunning, IsSoundRow, IsSound}
@@ -21,11 +21,11 @@ channels-leave start bounds here levels taken numbered each =
 -- ---- the account
 
 -- the account with another clock, other packets here, and another that occupies the link
-abbrev with_service : Kept → ℕ → List Arrival → Option Start → Kept
+abbrev with_service : Account → ℕ → List Arrival → Option Start → Account
 with_service k clock here on = record k { clock = clock; here = here; on = on }
 
 -- no packet occupies the link
-serves-none : (shape : LinkShape) (room : ℕ) (k : Kept) → IsSound shape room k → Each (IsSoundRow (length shape.bounds) (suc k.clock) k.taken) k.rows → AreAhead (suc k.clock) k.best_left → IsSound shape room (with_service k (suc k.clock) k.here None)
+serves-none : (shape : LinkShape) (room : ℕ) (k : Account) → IsSound shape room k → Each (IsSoundRow (length shape.bounds) (suc k.clock) k.taken) k.rows → AreAhead (suc k.clock) k.best_left → IsSound shape room (with_service k (suc k.clock) k.here None)
 serves-none shape room k sound later ahead = record {
   taken_most = omega (arith, sound.taken_most);
   numbered = sound.numbered;
@@ -39,7 +39,7 @@ serves-none shape room k sound later ahead = record {
 }
 
 -- the one that occupies it stays
-serves-on : (shape : LinkShape) (room : ℕ) (k : Kept) (start : Start) → IsSound shape room k → Each (IsSoundRow (length shape.bounds) (suc k.clock) k.taken) k.rows → AreAhead (suc k.clock) k.best_left → IsRunning shape.rate k.clock k.here start → suc k.clock < leaves_at shape.rate start → IsSound shape room (with_service k (suc k.clock) k.here (Some start))
+serves-on : (shape : LinkShape) (room : ℕ) (k : Account) (start : Start) → IsSound shape room k → Each (IsSoundRow (length shape.bounds) (suc k.clock) k.taken) k.rows → AreAhead (suc k.clock) k.best_left → IsRunning shape.rate k.clock k.here start → suc k.clock < leaves_at shape.rate start → IsSound shape room (with_service k (suc k.clock) k.here (Some start))
 serves-on shape room k start sound later ahead running goes = record {
   taken_most = omega (arith, sound.taken_most);
   numbered = sound.numbered;
@@ -53,7 +53,7 @@ serves-on shape room k start sound later ahead running goes = record {
 }
 
 -- or it leaves
-serves-last : (shape : LinkShape) (room : ℕ) (k : Kept) (start : Start) → IsSound shape room k → Each (IsSoundRow (length shape.bounds) (suc k.clock) k.taken) k.rows → AreAhead (suc k.clock) k.best_left → IsRunning shape.rate k.clock k.here start → IsSound shape room (with_service k (suc k.clock) (filter (is_other start) k.here) None)
+serves-last : (shape : LinkShape) (room : ℕ) (k : Account) (start : Start) → IsSound shape room k → Each (IsSoundRow (length shape.bounds) (suc k.clock) k.taken) k.rows → AreAhead (suc k.clock) k.best_left → IsRunning shape.rate k.clock k.here start → IsSound shape room (with_service k (suc k.clock) (filter (is_other start) k.here) None)
 serves-last shape room k start sound later ahead running =
     let levels : ℕ = length shape.bounds in
     let leaves = one-leaves start 0 k.here k.taken sound.numbered (packets-lead levels k.taken k.here sound.packets) in
@@ -69,11 +69,11 @@ serves-last shape room k start sound later ahead running =
       running = λ other some. cc;
     }
 
-serves-start : (shape : LinkShape) (room : ℕ) (k : Kept) (start : Start) (by : Bool) → IsSound shape room k → Each (IsSoundRow (length shape.bounds) (suc k.clock) k.taken) k.rows → AreAhead (suc k.clock) k.best_left → IsRunning shape.rate k.clock k.here start → leaves_by shape.rate k.clock start ≡ by → IsSound shape room (with_service k (suc k.clock) (cond by (filter (is_other start) k.here) k.here) (cond by None (Some start)))
+serves-start : (shape : LinkShape) (room : ℕ) (k : Account) (start : Start) (by : Bool) → IsSound shape room k → Each (IsSoundRow (length shape.bounds) (suc k.clock) k.taken) k.rows → AreAhead (suc k.clock) k.best_left → IsRunning shape.rate k.clock k.here start → leaves_by shape.rate k.clock start ≡ by → IsSound shape room (with_service k (suc k.clock) (cond by (filter (is_other start) k.here) k.here) (cond by None (Some start)))
 serves-start shape room k start true sound later ahead running by = serves-last shape room k start sound later ahead running
 serves-start shape room k start false sound later ahead running by = serves-on shape room k start sound later ahead running (leb-false (leaves_at shape.rate start) (suc k.clock) by)
 
 -- the tick is over for the packets here and the one that occupies the link in it
-pub service-sound : (shape : LinkShape) (room : ℕ) (k : Kept) (on : Option Start) → IsSound shape room k → Each (IsSoundRow (length shape.bounds) (suc k.clock) k.taken) k.rows → AreAhead (suc k.clock) k.best_left → ForSome on (IsRunning shape.rate k.clock k.here) → IsSound shape room (with_service k (suc k.clock) (still_here shape.rate k.clock on k.here) (still_on shape.rate k.clock on))
+pub service-sound : (shape : LinkShape) (room : ℕ) (k : Account) (on : Option Start) → IsSound shape room k → Each (IsSoundRow (length shape.bounds) (suc k.clock) k.taken) k.rows → AreAhead (suc k.clock) k.best_left → ForSome on (IsRunning shape.rate k.clock k.here) → IsSound shape room (with_service k (suc k.clock) (still_here shape.rate k.clock on k.here) (still_on shape.rate k.clock on))
 service-sound shape room k None sound later ahead running = serves-none shape room k sound later ahead
 service-sound shape room k (Some start) sound later ahead running = serves-start shape room k start (leaves_by shape.rate k.clock start) sound later ahead (running start refl) refl

@@ -2,7 +2,7 @@
 use Rattle.std.proofs.Common.{◌≡◌, ℕ, ◌+◌, ◌<◌, ◌≤◌, true, false, cond, not, List, [], ◌∷◌, length, Option, Some, None, inl, inr, refl, sym, ap, subst, arith}
 use Rattle.std.proofs.lemmas.Bool.{cases_Bool, eqb-true, eq-eqb, ne_eqb, leb-true}
 use Rattle.std.proofs.lemmas.Option.{same_Some}
-use Rattle.link_server.proofs.Words.{filter, find, nat_eq, total, LinkShape, KeptRow, is_eligible_by, start_at, served, is_other, Each}
+use Rattle.link_server.proofs.Words.{filter, find, nat_eq, total, LinkShape, AccountRow, is_eligible_by, start_at, served, is_other, Each}
 use Rattle.std.specs.Option.{ForSome}
 use Rattle.link_steps.specs.Buffer.{has_lead, held_packets}
 use Rattle.link_steps.specs.Service.{Arrival, Start, first_in_line}
@@ -113,11 +113,11 @@ one-leaves start low (p ∷ here) high numbered leads =
 -- ---- the rows' places
 
 -- what the slots of a row gain by it
-abbrev gain : ℕ → ℕ → KeptRow → ℕ
+abbrev gain : ℕ → ℕ → AccountRow → ℕ
 gain lead count row = cond (nat_eq lead row.lead) count 0
 
 -- a row of another lead gains nothing
-gain-none : (lead count : ℕ) (rows : List KeptRow) → count ≤ lead → Each (IsApartFrom lead) rows → total (gain lead count) rows ≡ 0
+gain-none : (lead count : ℕ) (rows : List AccountRow) → count ≤ lead → Each (IsApartFrom lead) rows → total (gain lead count) rows ≡ 0
 gain-none lead count [] some apart = refl
 gain-none lead count (row ∷ rows) some apart =
     let rest = gain-none lead count rows some apart.1 in
@@ -127,7 +127,7 @@ gain-none lead count (row ∷ rows) some apart =
     ]
 
 -- of rows whose leads are apart one gains at most
-gain-one : (lead count : ℕ) (rows : List KeptRow) → count ≤ lead → HaveOwnLeads rows → total (gain lead count) rows ≤ count
+gain-one : (lead count : ℕ) (rows : List AccountRow) → count ≤ lead → HaveOwnLeads rows → total (gain lead count) rows ≤ count
 gain-one lead count [] some apart = omega arith
 gain-one lead count (row ∷ rows) some apart =
     elim (cases_Bool (nat_eq lead row.lead)) [
@@ -142,7 +142,7 @@ total-le-both f g h [] less = omega arith
 total-le-both f g h (x ∷ xs) less = omega (arith, less x, total-le-both f g h xs less)
 
 -- so the places are enough for the packets that are left
-pub left-places : (bounds : List ℕ) (here others : List Arrival) (rows : List KeptRow) → HaveOwnLeads rows → LeavesOne here others → places bounds others rows ≤ places bounds here rows
+pub left-places : (bounds : List ℕ) (here others : List Arrival) (rows : List AccountRow) → HaveOwnLeads rows → LeavesOne here others → places bounds others rows ≤ places bounds here rows
 unfolding places
 left-places bounds here others rows apart leaves =
     let gained = gain-one leaves.lead leaves.count rows leaves.has_lead apart in

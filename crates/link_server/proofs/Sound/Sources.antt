@@ -3,7 +3,7 @@ use Rattle.std.proofs.Common.{◌≡◌, ℕ, suc, ◌+◌, ◌<◌, ◌≤◌, 
 use Rattle.std.proofs.lemmas.Bool.{cases_eq, ltb-true}
 use Rattle.link_server.proofs.Words.{find, total, LinkShape, best_packet, slots_of, has_slot, held_packets, Each, SourcePacket, is_for, left_at, Arrival, SourceStep, Rests, Brings, Drops, lead_with, source_step, taken_by}
 use Rattle.traffic_contract.proofs.AdmissionTest.{total-filter-le}
-use Rattle.link_steps.specs.Kept.{Kept, KeptRow, kept_stays, kept_step, kept_tick, kept_packet, past_tick, kept_after_step, kept_packets, kept_rows_after, held_rows, from_sources, kept_waiting, kept_best, brought, present}
+use Rattle.link_steps.specs.Kept.{Account, AccountRow, kept_stays, kept_step, kept_tick, kept_packet, past_tick, kept_after_step, kept_packets, kept_rows_after, held_rows, from_sources, kept_waiting, kept_best, brought, present}
 use Rattle.link_steps.proofs.SearchAndFilter.{Each-append, Each-filter, Each-find, Each-if}
 use Rattle.link_server.specs.Sound.{places_of, places, of_channels, best_count, AreNumberedWithin, HasSize, AreAhead, IsApartFrom, HaveOwnLeads, IsSoundPacket, IsSoundRow, IsSound, with_brought}
 use Rattle.link_server.proofs.Sound.Packets.{HasLead, packets-lead, numbered-append, held-more, held-taken}
@@ -16,12 +16,12 @@ use Rattle.link_steps.proofs.PacketRows.{lead_with-later}
 -- ---- one row
 
 -- what a source brings has a size, and finds a slot free
-abbrev pub IsStep : List ℕ → List Arrival → KeptRow → SourceStep → Type 0
+abbrev pub IsStep : List ℕ → List Arrival → AccountRow → SourceStep → Type 0
 IsStep bounds here row (Brings size) = (held_packets row.lead here < slots_of bounds row.terms) × (1 ≤ size) × (size ≤ 65536)
 IsStep bounds here row Rests = Unit {0}
 IsStep bounds here row Drops = Unit {0}
 
-pub kept_step-is : (bounds : List ℕ) (here : List Arrival) (t u : ℕ) (row : KeptRow) → AreAhead u row.left → IsStep bounds here row (kept_step bounds here t row)
+pub kept_step-is : (bounds : List ℕ) (here : List Arrival) (t u : ℕ) (row : AccountRow) → AreAhead u row.left → IsStep bounds here row (kept_step bounds here t row)
 unfolding kept_step
 kept_step-is bounds here t u row ahead = by-found (has_slot bounds row.terms row.lead here) refl (find (is_for t) row.left) refl where
   by-found : (slot : Bool) → has_slot bounds row.terms row.lead here ≡ slot → (found : Option SourcePacket) → find (is_for t) row.left ≡ found → IsStep bounds here row (source_step slot found)
@@ -33,20 +33,20 @@ kept_step-is bounds here t u row ahead = by-found (has_slot bounds row.terms row
       (ltb-true (held_packets row.lead here) (slots_of bounds row.terms) free, size.least, size.most)
 
 -- the packet, if there is one, has the next arrival number
-packet-numbered : (step : SourceStep) (t taken : ℕ) (row : KeptRow) → AreNumberedWithin taken (kept_packet step t (suc taken) row) (taken + taken_by step)
+packet-numbered : (step : SourceStep) (t taken : ℕ) (row : AccountRow) → AreNumberedWithin taken (kept_packet step t (suc taken) row) (taken + taken_by step)
 packet-numbered (Brings size) t taken row = (omega arith, omega arith)
 packet-numbered Rests t taken row = omega arith
 packet-numbered Drops t taken row = omega arith
 
 -- its place is one of the row's free slots
-step-places : (bounds : List ℕ) (here chans before after : List Arrival) (t place : ℕ) (row : KeptRow) (step : SourceStep) → ((l : ℕ) → held_packets l chans ≤ held_packets l here) → Each HasLead chans → IsStep bounds here row step → taken_by step + places_of bounds (chans ++ (before ++ (kept_packet step t place row ++ after))) (kept_after_step step t place row) ≤ places_of bounds chans row
+step-places : (bounds : List ℕ) (here chans before after : List Arrival) (t place : ℕ) (row : AccountRow) (step : SourceStep) → ((l : ℕ) → held_packets l chans ≤ held_packets l here) → Each HasLead chans → IsStep bounds here row step → taken_by step + places_of bounds (chans ++ (before ++ (kept_packet step t place row ++ after))) (kept_after_step step t place row) ≤ places_of bounds chans row
 step-places bounds here chans before after t place row (Brings size) less leads is =
     omega (arith, places-taken bounds chans (chans ++ (before ++ (kept_packet (Brings size) t place row ++ after))) place (kept_tick row t) row (omega (arith, is.0, less row.lead)) (held-taken row.lead place chans before _ after leads refl))
 step-places bounds here chans before after t place row Rests less leads is = omega (arith, held-more row.lead chans (before ++ after))
 step-places bounds here chans before after t place row Drops less leads is = omega (arith, held-more row.lead chans (before ++ after))
 
 -- the row without what was planned for the tick
-past-sound : (levels t taken : ℕ) (row : KeptRow) → IsSoundRow levels t taken row → IsSoundRow levels (suc t) taken (past_tick t row)
+past-sound : (levels t taken : ℕ) (row : AccountRow) → IsSoundRow levels t taken row → IsSoundRow levels (suc t) taken (past_tick t row)
 past-sound levels t taken row sound = record {
   contract = sound.contract;
   level_most = sound.level_most;
@@ -59,26 +59,26 @@ past-sound levels t taken row sound = record {
 }
 
 -- the row after its source's step
-step-sound : (levels t before_all taken more : ℕ) (row : KeptRow) (step : SourceStep) → before_all ≤ taken → taken + taken_by step ≤ more → IsSoundRow levels t before_all row → IsSoundRow levels (suc t) more (kept_after_step step t (suc taken) row)
+step-sound : (levels t before_all taken more : ℕ) (row : AccountRow) (step : SourceStep) → before_all ≤ taken → taken + taken_by step ≤ more → IsSoundRow levels t before_all row → IsSoundRow levels (suc t) more (kept_after_step step t (suc taken) row)
 step-sound levels t before_all taken more row (Brings size) less upto sound =
     taken-sound levels (suc t) before_all more (suc taken) (kept_tick row t) (past_tick t row) (omega arith) (omega arith) (omega (arith, sound.taken_most)) (past-sound levels t before_all row sound)
 step-sound levels t before_all taken more row Rests less upto sound = more-sound levels (suc t) before_all more (past_tick t row) (omega arith) (past-sound levels t before_all row sound)
 step-sound levels t before_all taken more row Drops less upto sound = more-sound levels (suc t) before_all more (past_tick t row) (omega arith) (past-sound levels t before_all row sound)
 
 -- the packet that it brings
-step-packet : (levels t before_all taken more : ℕ) (bounds : List ℕ) (here : List Arrival) (row : KeptRow) (step : SourceStep) → before_all ≤ taken → taken + taken_by step ≤ more → IsStep bounds here row step → IsSoundRow levels t before_all row → Each (IsSoundPacket levels more) (kept_packet step t (suc taken) row)
+step-packet : (levels t before_all taken more : ℕ) (bounds : List ℕ) (here : List Arrival) (row : AccountRow) (step : SourceStep) → before_all ≤ taken → taken + taken_by step ≤ more → IsStep bounds here row step → IsSoundRow levels t before_all row → Each (IsSoundPacket levels more) (kept_packet step t (suc taken) row)
 step-packet levels t before_all taken more bounds here row (Brings size) less upto is sound =
     (packet-sound levels t before_all more (suc taken) (suc row.taken) size t (kept_tick row t) row (omega arith) (omega arith) (omega arith) is.1 is.2 sound, tt)
 step-packet levels t before_all taken more bounds here row Rests less upto is sound = tt
 step-packet levels t before_all taken more bounds here row Drops less upto is sound = tt
 
 -- its lead afterwards: the one that it had, or else the new arrival number
-pub step-lead : (P : ℕ → Type 0) (t place : ℕ) (row : KeptRow) (step : SourceStep) → P row.lead → P (lead_with row.lead place) → P (kept_after_step step t place row).lead
+pub step-lead : (P : ℕ → Type 0) (t place : ℕ) (row : AccountRow) (step : SourceStep) → P row.lead → P (lead_with row.lead place) → P (kept_after_step step t place row).lead
 step-lead P t place row (Brings size) before new = new
 step-lead P t place row Rests before new = before
 step-lead P t place row Drops before new = before
 
-pub step-lead-most : (t taken : ℕ) (row : KeptRow) (step : SourceStep) → row.lead ≤ taken → (kept_after_step step t (suc taken) row).lead ≤ taken + taken_by step
+pub step-lead-most : (t taken : ℕ) (row : AccountRow) (step : SourceStep) → row.lead ≤ taken → (kept_after_step step t (suc taken) row).lead ≤ taken + taken_by step
 step-lead-most t taken row (Brings size) most = omega (arith, lead_with-most row.lead (suc taken) (suc taken) (omega arith) (omega arith))
 step-lead-most t taken row Rests most = omega arith
 step-lead-most t taken row Drops most = omega arith
@@ -86,15 +86,15 @@ step-lead-most t taken row Drops most = omega arith
 -- ---- all rows
 
 -- each row's step, from plans that lie ahead
-abbrev pub AreSteps : List ℕ → List Arrival → ℕ → List KeptRow → Type 0
+abbrev pub AreSteps : List ℕ → List Arrival → ℕ → List AccountRow → Type 0
 AreSteps bounds here t rows = Each (λ row. IsStep bounds here row (kept_step bounds here t row)) rows
 
-pub kept_steps-are : (bounds : List ℕ) (here : List Arrival) (levels t taken : ℕ) (rows : List KeptRow) → Each (IsSoundRow levels t taken) rows → AreSteps bounds here t rows
+pub kept_steps-are : (bounds : List ℕ) (here : List Arrival) (levels t taken : ℕ) (rows : List AccountRow) → Each (IsSoundRow levels t taken) rows → AreSteps bounds here t rows
 kept_steps-are bounds here levels t taken rows each =
     Each-if (IsSoundRow levels t taken) (λ row. IsStep bounds here row (kept_step bounds here t row)) rows (λ row sound. kept_step-is bounds here t t row sound.ahead) each
 
 -- the packets brought take places of their rows
-pub sources-places : (bounds : List ℕ) (here chans before : List Arrival) (t taken : ℕ) (rows : List KeptRow) → ((l : ℕ) → held_packets l chans ≤ held_packets l here) → Each HasLead chans → AreSteps bounds here t rows → length (kept_packets bounds here t taken rows) + total (places_of bounds (chans ++ (before ++ kept_packets bounds here t taken rows))) (kept_rows_after bounds here t taken rows) ≤ total (places_of bounds chans) rows
+pub sources-places : (bounds : List ℕ) (here chans before : List Arrival) (t taken : ℕ) (rows : List AccountRow) → ((l : ℕ) → held_packets l chans ≤ held_packets l here) → Each HasLead chans → AreSteps bounds here t rows → length (kept_packets bounds here t taken rows) + total (places_of bounds (chans ++ (before ++ kept_packets bounds here t taken rows))) (kept_rows_after bounds here t taken rows) ≤ total (places_of bounds chans) rows
 unfolding kept_packets kept_rows_after
 sources-places bounds here chans before t taken [] less leads steps = omega arith
 sources-places bounds here chans before t taken (row ∷ rows) less leads steps =
@@ -106,7 +106,7 @@ sources-places bounds here chans before t taken (row ∷ rows) less leads steps 
     omega (arith, first, rest, length-append packet after, packet-length step t (suc taken) row)
 
 -- they have the next arrival numbers
-pub sources-numbered : (bounds : List ℕ) (here : List Arrival) (t taken : ℕ) (rows : List KeptRow) → AreNumberedWithin taken (kept_packets bounds here t taken rows) (taken + length (kept_packets bounds here t taken rows))
+pub sources-numbered : (bounds : List ℕ) (here : List Arrival) (t taken : ℕ) (rows : List AccountRow) → AreNumberedWithin taken (kept_packets bounds here t taken rows) (taken + length (kept_packets bounds here t taken rows))
 unfolding kept_packets
 sources-numbered bounds here t taken [] = omega arith
 sources-numbered bounds here t taken (row ∷ rows) =
@@ -118,7 +118,7 @@ sources-numbered bounds here t taken (row ∷ rows) =
     (numbered-append taken (taken + taken_by step) (taken + taken_by step + length after) packet after (packet-numbered step t taken row) (sources-numbered bounds here t (taken + taken_by step) rows))
 
 -- and are sound
-pub sources-packets : (levels t before_all taken more : ℕ) (bounds : List ℕ) (here : List Arrival) (rows : List KeptRow) → before_all ≤ taken → taken + length (kept_packets bounds here t taken rows) ≤ more → AreSteps bounds here t rows → Each (IsSoundRow levels t before_all) rows → Each (IsSoundPacket levels more) (kept_packets bounds here t taken rows)
+pub sources-packets : (levels t before_all taken more : ℕ) (bounds : List ℕ) (here : List Arrival) (rows : List AccountRow) → before_all ≤ taken → taken + length (kept_packets bounds here t taken rows) ≤ more → AreSteps bounds here t rows → Each (IsSoundRow levels t before_all) rows → Each (IsSoundPacket levels more) (kept_packets bounds here t taken rows)
 unfolding kept_packets
 sources-packets levels t before_all taken more bounds here [] less upto steps each = tt
 sources-packets levels t before_all taken more bounds here (row ∷ rows) less upto steps each =
@@ -132,7 +132,7 @@ sources-packets levels t before_all taken more bounds here (row ∷ rows) less u
     (sources-packets levels t before_all (taken + taken_by step) more bounds here rows (omega (arith, less)) (omega (arith, upto, n, m)) steps.1 each.1)
 
 -- the rows are sound a tick later
-pub sources-rows : (levels t before_all taken more : ℕ) (bounds : List ℕ) (here : List Arrival) (rows : List KeptRow) → before_all ≤ taken → taken + length (kept_packets bounds here t taken rows) ≤ more → Each (IsSoundRow levels t before_all) rows → Each (IsSoundRow levels (suc t) more) (kept_rows_after bounds here t taken rows)
+pub sources-rows : (levels t before_all taken more : ℕ) (bounds : List ℕ) (here : List Arrival) (rows : List AccountRow) → before_all ≤ taken → taken + length (kept_packets bounds here t taken rows) ≤ more → Each (IsSoundRow levels t before_all) rows → Each (IsSoundRow levels (suc t) more) (kept_rows_after bounds here t taken rows)
 unfolding kept_packets kept_rows_after
 sources-rows levels t before_all taken more bounds here [] less upto each = tt
 sources-rows levels t before_all taken more bounds here (row ∷ rows) less upto each =
@@ -144,7 +144,7 @@ sources-rows levels t before_all taken more bounds here (row ∷ rows) less upto
     )
 
 -- leads: those that the rows had, and new ones
-leads-after : (P : ℕ → Type 0) (bounds : List ℕ) (here : List Arrival) (t taken : ℕ) (rows : List KeptRow) → ((n : ℕ) → taken < n → P n) → Each (λ row. P row.lead) rows → Each (λ row. P row.lead) (kept_rows_after bounds here t taken rows)
+leads-after : (P : ℕ → Type 0) (bounds : List ℕ) (here : List Arrival) (t taken : ℕ) (rows : List AccountRow) → ((n : ℕ) → taken < n → P n) → Each (λ row. P row.lead) rows → Each (λ row. P row.lead) (kept_rows_after bounds here t taken rows)
 unfolding kept_rows_after
 leads-after P bounds here t taken [] new each = tt
 leads-after P bounds here t taken (row ∷ rows) new each = (
@@ -156,7 +156,7 @@ leads-after P bounds here t taken (row ∷ rows) new each = (
 )
 
 -- and their leads are apart
-pub sources-apart : (bounds : List ℕ) (here : List Arrival) (t taken : ℕ) (rows : List KeptRow) → Each (λ row. row.lead ≤ taken) rows → HaveOwnLeads rows → HaveOwnLeads (kept_rows_after bounds here t taken rows)
+pub sources-apart : (bounds : List ℕ) (here : List Arrival) (t taken : ℕ) (rows : List AccountRow) → Each (λ row. row.lead ≤ taken) rows → HaveOwnLeads rows → HaveOwnLeads (kept_rows_after bounds here t taken rows)
 unfolding kept_rows_after
 sources-apart bounds here t taken [] most apart = tt
 sources-apart bounds here t taken (row ∷ rows) most apart =
@@ -171,11 +171,11 @@ sources-apart bounds here t taken (row ∷ rows) most apart =
 -- ---- the account in the tick
 
 -- the rows that stay held are sound
-pub held-sound : (shape : LinkShape) (room : ℕ) (k : Kept) → IsSound shape room k → Each (IsSoundRow (length shape.bounds) k.clock k.taken) (held_rows shape k)
+pub held-sound : (shape : LinkShape) (room : ℕ) (k : Account) → IsSound shape room k → Each (IsSoundRow (length shape.bounds) k.clock k.taken) (held_rows shape k)
 held-sound shape room k sound = Each-filter (IsSoundRow (length shape.bounds) k.clock k.taken) (kept_stays shape.bounds k.clock) k.rows sound.rows
 
 -- the sources' packets are of channels
-sources-channels : (bounds : List ℕ) (here : List Arrival) (levels t before_all taken : ℕ) (rows : List KeptRow) → levels ≤ length bounds → Each (IsSoundRow levels t before_all) rows → Each (IsChannels bounds) (kept_packets bounds here t taken rows)
+sources-channels : (bounds : List ℕ) (here : List Arrival) (levels t before_all taken : ℕ) (rows : List AccountRow) → levels ≤ length bounds → Each (IsSoundRow levels t before_all) rows → Each (IsChannels bounds) (kept_packets bounds here t taken rows)
 unfolding kept_packets
 sources-channels bounds here levels t before_all taken [] less each = tt
 sources-channels bounds here levels t before_all taken (row ∷ rows) less each =
@@ -187,26 +187,26 @@ sources-channels bounds here levels t before_all taken (row ∷ rows) less each 
       one Rests = tt
       one Drops = tt
 
-pub brought-channels : (shape : LinkShape) (room : ℕ) (k : Kept) → IsSound shape room k → Each (IsChannels shape.bounds) (from_sources shape k)
+pub brought-channels : (shape : LinkShape) (room : ℕ) (k : Account) → IsSound shape room k → Each (IsChannels shape.bounds) (from_sources shape k)
 brought-channels shape room k sound = sources-channels shape.bounds k.here (length shape.bounds) k.clock k.taken k.taken (held_rows shape k) (omega arith) (held-sound shape room k sound)
 
 -- the places of the packets that are brought were places of those rows
-pub brought-places : (shape : LinkShape) (room : ℕ) (k : Kept) → IsSound shape room k → length (from_sources shape k) + total (places_of shape.bounds (of_channels shape.bounds k.here ++ from_sources shape k)) (kept_rows_after shape.bounds k.here k.clock k.taken (held_rows shape k)) ≤ total (places_of shape.bounds (of_channels shape.bounds k.here)) (held_rows shape k)
+pub brought-places : (shape : LinkShape) (room : ℕ) (k : Account) → IsSound shape room k → length (from_sources shape k) + total (places_of shape.bounds (of_channels shape.bounds k.here ++ from_sources shape k)) (kept_rows_after shape.bounds k.here k.clock k.taken (held_rows shape k)) ≤ total (places_of shape.bounds (of_channels shape.bounds k.here)) (held_rows shape k)
 brought-places shape room k sound =
     sources-places shape.bounds k.here (of_channels shape.bounds k.here) [] k.clock k.taken (held_rows shape k) (held-channels shape.bounds k.here) (channels-lead shape.bounds k.here (packets-lead (length shape.bounds) k.taken k.here sound.packets))
     (kept_steps-are shape.bounds k.here (length shape.bounds) k.clock k.taken (held_rows shape k) (held-sound shape room k sound))
 
 -- the best-effort packet of the tick
-abbrev pub from_best : LinkShape → Kept → List Arrival
+abbrev pub from_best : LinkShape → Account → List Arrival
 from_best shape k = best_packet (kept_best shape k) shape.bounds (suc (k.taken + length (from_sources shape k))) k.clock
 
 -- the rows lie ahead of the next tick
-pub brought-rows : (shape : LinkShape) (room : ℕ) (k : Kept) → IsSound shape room k → Each (IsSoundRow (length shape.bounds) (suc k.clock) (k.taken + length (brought shape k))) (kept_rows_after shape.bounds k.here k.clock k.taken (held_rows shape k))
+pub brought-rows : (shape : LinkShape) (room : ℕ) (k : Account) → IsSound shape room k → Each (IsSoundRow (length shape.bounds) (suc k.clock) (k.taken + length (brought shape k))) (kept_rows_after shape.bounds k.here k.clock k.taken (held_rows shape k))
 brought-rows shape room k sound =
     sources-rows (length shape.bounds) k.clock k.taken k.taken (k.taken + length (brought shape k)) shape.bounds k.here (held_rows shape k) (omega arith) (omega (arith, length-append (from_sources shape k) (from_best shape k))) (held-sound shape room k sound)
 
 -- a row that lies ahead of the next tick lies ahead of this one
-row-earlier : (levels t taken : ℕ) (row : KeptRow) → IsSoundRow levels (suc t) taken row → IsSoundRow levels t taken row
+row-earlier : (levels t taken : ℕ) (row : AccountRow) → IsSoundRow levels (suc t) taken row → IsSoundRow levels t taken row
 row-earlier levels t taken row sound = record {
   contract = sound.contract;
   level_most = sound.level_most;
@@ -219,11 +219,11 @@ row-earlier levels t taken row sound = record {
 }
 
 -- once the sources have brought their packets, and the best-effort packet has come, the account is sound
-pub brought-sound : (shape : LinkShape) (room : ℕ) (k : Kept) → IsSound shape room k → IsSound shape room (with_brought shape k)
+pub brought-sound : (shape : LinkShape) (room : ℕ) (k : Account) → IsSound shape room k → IsSound shape room (with_brought shape k)
 unfolding with_brought places
 brought-sound shape room k sound =
     let levels : ℕ = length shape.bounds in
-    let rows : List KeptRow = held_rows shape k in
+    let rows : List AccountRow = held_rows shape k in
     let src : List Arrival = from_sources shape k in
     let best : List Arrival = from_best shape k in
     let chans : List Arrival = of_channels shape.bounds k.here in

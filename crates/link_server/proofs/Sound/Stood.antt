@@ -10,7 +10,7 @@ use Rattle.traffic_contract.specs.Contract.{IsContract, most_in, burst_of}
 use Rattle.link_steps.specs.declared.replies.Entry.{Entry}
 use Rattle.link_steps.specs.Admissible.{IsAdmissible}
 use Rattle.link_steps.specs.Buffer.{kept_units, stay_in, stay_of}
-use Rattle.link_steps.specs.Kept.{HasContract, Kept, KeptRow, StandsFor, nothing_kept, kept_at, kept_row, kept_terms, kept_reply, kept_after}
+use Rattle.link_steps.specs.Kept.{HasContract, Account, AccountRow, StandsFor, nothing_kept, kept_at, kept_row, kept_terms, kept_reply, kept_after}
 use Rattle.link_steps.specs.Rows.{Row}
 use Rattle.link_steps.specs.Slots.{IsSoon, HasSoonTicks}
 use Rattle.link_steps.proofs.Account.{nothing-stands, stands-entry}
@@ -32,26 +32,26 @@ unfolding IsAdmissible
 nothing-stood shape none = none [] tt (nothing-stands shape)
 
 -- an answered ask leads on
-pub stood-answered : (shape : LinkShape) (k : Kept) (ask : Ask) (reply : Reply) → Each HasContract k.rows → AskFits shape ask → reply ≡ kept_reply (whole shape) k ask → IsStood shape k → IsStood shape (kept_after shape k ask reply)
+pub stood-answered : (shape : LinkShape) (k : Account) (ask : Ask) (reply : Reply) → Each HasContract k.rows → AskFits shape ask → reply ≡ kept_reply (whole shape) k ask → IsStood shape k → IsStood shape (kept_after shape k ask reply)
 stood-answered shape k ask reply each fits same stood none =
     stood (λ h before stands. none (record { ask = ask; reply = reply } ∷ h) (step-admissible shape k ask reply each fits same h stands before) (stands-entry shape k h ask reply each stands))
 
 -- and so does an offer that the link may make
-pub stood-offered : (shape : LinkShape) (k : Kept) (wanted : Wanted) (offer : Offered) → Each HasContract k.rows → ReserveFits wanted.contract wanted.up_reach wanted.first → MayHold shape (map kept_terms k.rows) wanted offer → IsStood shape k → IsStood shape (kept_after shape k (ask_for wanted) (Offer offer.level offer.reach))
+pub stood-offered : (shape : LinkShape) (k : Account) (wanted : Wanted) (offer : Offered) → Each HasContract k.rows → ReserveFits wanted.contract wanted.up_reach wanted.first → MayHold shape (map kept_terms k.rows) wanted offer → IsStood shape k → IsStood shape (kept_after shape k (ask_for wanted) (Offer offer.level offer.reach))
 stood-offered shape k wanted offer each fits may stood none =
     stood (λ h before stands. none (record { ask = ask_for wanted; reply = Offer offer.level offer.reach } ∷ h) (wanted-admissible shape k wanted offer fits may h stands before) (stands-entry shape k h (ask_for wanted) (Offer offer.level offer.reach) each stands))
 
 -- ---- what is promised in numbers
 
 -- a number that is below another by each admissible history is below it
-stood-below : (shape : LinkShape) (k : Kept) (a b : ℕ) → IsStood shape k → ((h : List Entry) → IsAdmissible shape h → StandsFor shape k h → a < b) → a < b
+stood-below : (shape : LinkShape) (k : Account) (a b : ℕ) → IsStood shape k → ((h : List Entry) → IsAdmissible shape h → StandsFor shape k h → a < b) → a < b
 stood-below shape k a b stood fact =
     ⊎_elim (λ (below : a < b). below)
     (λ (over : b ≤ a). absurd (stood (λ h admissible stands. (let below = fact h admissible stands in omega (arith, below, over)))))
     (cases_lt a b)
 
 -- and so with the numbers of rows
-stood-each : (shape : LinkShape) (k : Kept) (number : KeptRow → ℕ) (most : ℕ) (rows : List KeptRow) → IsStood shape k → ((h : List Entry) → IsAdmissible shape h → StandsFor shape k h → Each (λ row. number row < most) rows) → Each (λ row. number row < most) rows
+stood-each : (shape : LinkShape) (k : Account) (number : AccountRow → ℕ) (most : ℕ) (rows : List AccountRow) → IsStood shape k → ((h : List Entry) → IsAdmissible shape h → StandsFor shape k h → Each (λ row. number row < most) rows) → Each (λ row. number row < most) rows
 stood-each shape k number most [] stood fact = tt
 stood-each shape k number most (row ∷ rows) stood fact = (
   stood-below shape k (number row) most stood (λ h admissible stands. (fact h admissible stands).0),
@@ -59,7 +59,7 @@ stood-each shape k number most (row ∷ rows) stood fact = (
 )
 
 -- the rows keep no more than the buffer
-units-stood : (shape : LinkShape) (k : Kept) → IsStood shape k → total (kept_units shape.bounds) (map kept_terms k.rows) < suc shape.buffer
+units-stood : (shape : LinkShape) (k : Account) → IsStood shape k → total (kept_units shape.bounds) (map kept_terms k.rows) < suc shape.buffer
 units-stood shape k stood =
     stood-below shape k (total (kept_units shape.bounds) (map kept_terms k.rows)) (suc shape.buffer) stood
     (λ h admissible stands.
@@ -77,7 +77,7 @@ rows-soon t [] soon = tt
 rows-soon t (row ∷ rows) soon = (newest-soon (burst_of row.terms.contract) row.ticks soon.0, rows-soon t rows soon.1)
 
 -- and their newest eligible ticks are soon
-pub newest-stood : (shape : LinkShape) (k : Kept) → k.clock < 2 ^ 61 → IsStood shape k → Each (λ row. newest row.recent < 2 ^ 63) k.rows
+pub newest-stood : (shape : LinkShape) (k : Account) → k.clock < 2 ^ 61 → IsStood shape k → Each (λ row. newest row.recent < 2 ^ 63) k.rows
 unfolding kept_at
 newest-stood shape k early stood =
     stood-each shape k (λ row. newest row.recent) (2 ^ 63) k.rows stood
@@ -102,7 +102,7 @@ units-some shape terms valid level reach =
     let e : 1 * terms.contract.smax ≤ most_in terms.contract (stay_of shape.bounds terms) * terms.contract.smax = mul-le-mul_right terms.contract.smax packets in
     omega (arith, e, valid.smax_least)
 
-rows-units : (shape : LinkShape) (clock taken : ℕ) (rows : List KeptRow) → Each (IsSoundRow (length shape.bounds) clock taken) rows → length rows ≤ total (kept_units shape.bounds) (map kept_terms rows)
+rows-units : (shape : LinkShape) (clock taken : ℕ) (rows : List AccountRow) → Each (IsSoundRow (length shape.bounds) clock taken) rows → length rows ≤ total (kept_units shape.bounds) (map kept_terms rows)
 rows-units shape clock taken [] each = omega arith
 rows-units shape clock taken (row ∷ rows) each =
     let one = units-some shape row.terms each.0.contract each.0.level_most each.0.reach_most in
@@ -131,5 +131,5 @@ pub all-ready : (link : LinkState) → link.clock < 2 ^ 61 → Each (IsReady lin
 all-ready link early = rows-ready link.shape link.queue.room (kept_in link) early link.few link.sound (newest-stood link.shape (kept_in link) early link.stood)
 
 -- an ask that is answered leaves a state that stands
-pub still-stood : (link : LinkState) (ask : Ask) (reply : Reply) (next : Kept) → AskFits link.shape ask → reply ≡ kept_reply (whole link.shape) (kept_in link) ask → next ≡ kept_after link.shape (kept_in link) ask reply → IsStood link.shape next
+pub still-stood : (link : LinkState) (ask : Ask) (reply : Reply) (next : Account) → AskFits link.shape ask → reply ≡ kept_reply (whole link.shape) (kept_in link) ask → next ≡ kept_after link.shape (kept_in link) ask reply → IsStood link.shape next
 still-stood link ask reply next fits replied kept = subst (IsStood link.shape) (sym kept) (stood-answered link.shape (kept_in link) ask reply (rows-have link) fits replied link.stood)

@@ -9,7 +9,7 @@ use Rattle.link_server.proofs.Words.{find, total, Arrive, Packet, Reply, LinkSha
 use Rattle.traffic_contract.proofs.AdmissionTest.{total-le}
 use Rattle.traffic_contract.specs.Eligible.{eligible}
 use Rattle.link_steps.specs.declared.replies.Reply.TheVariants as Is
-use Rattle.link_steps.specs.Kept.{Kept, KeptRow, kept_with, is_kept_of, kept_arrive, kept_arrived_tick, kept_arrived_row, kept_arrived, kept_with_arrival, kept_reply, kept_after}
+use Rattle.link_steps.specs.Kept.{Account, AccountRow, kept_with, is_kept_of, kept_arrive, kept_arrived_tick, kept_arrived_row, kept_arrived, kept_with_arrival, kept_reply, kept_after}
 use Rattle.link_steps.specs.Legal.{PacketFits}
 use Rattle.link_steps.specs.Lists.{change_first, Each}
 use Rattle.link_steps.proofs.SearchAndFilter.{Each-append, Each-find, Each-if}
@@ -37,7 +37,7 @@ lead_with-least lead place some =
 -- ---- a row that takes a packet
 
 -- it stays sound
-pub taken-sound : (levels clock taken more place e : ℕ) (row : KeptRow) → taken ≤ more → place ≤ more → suc row.taken ≤ more → IsSoundRow levels clock taken row → IsSoundRow levels clock more (kept_with place e row)
+pub taken-sound : (levels clock taken more place e : ℕ) (row : AccountRow) → taken ≤ more → place ≤ more → suc row.taken ≤ more → IsSoundRow levels clock taken row → IsSoundRow levels clock more (kept_with place e row)
 taken-sound levels clock taken more place e row less upto counted sound = record {
   contract = sound.contract;
   level_most = sound.level_most;
@@ -50,7 +50,7 @@ taken-sound levels clock taken more place e row less upto counted sound = record
 }
 
 -- and so do the others
-pub more-sound : (levels clock taken more : ℕ) (row : KeptRow) → taken ≤ more → IsSoundRow levels clock taken row → IsSoundRow levels clock more row
+pub more-sound : (levels clock taken more : ℕ) (row : AccountRow) → taken ≤ more → IsSoundRow levels clock taken row → IsSoundRow levels clock more row
 more-sound levels clock taken more row less sound = record {
   contract = sound.contract;
   level_most = sound.level_most;
@@ -77,7 +77,7 @@ packets-more levels taken more here less each =
     each
 
 -- and the packet that is taken is sound
-pub packet-sound : (levels clock taken more place number size t e : ℕ) (row : KeptRow) → taken ≤ more → 1 ≤ place → place ≤ more → 1 ≤ size → size ≤ 65536 → IsSoundRow levels clock taken row → IsSoundPacket levels more (arrival_at row.terms row.lead place number size t e)
+pub packet-sound : (levels clock taken more place number size t e : ℕ) (row : AccountRow) → taken ≤ more → 1 ≤ place → place ≤ more → 1 ≤ size → size ≤ 65536 → IsSoundRow levels clock taken row → IsSoundPacket levels more (arrival_at row.terms row.lead place number size t e)
 packet-sound levels clock taken more place number size t e row less some upto least most sound = record {
   lead_least = lead_with-least row.lead place some;
   lead_most = lead_with-most row.lead place more (omega (arith, sound.lead_most)) upto;
@@ -88,11 +88,11 @@ packet-sound levels clock taken more place number size t e row less some upto le
 }
 
 -- it takes one of the row's free slots
-pub places-taken : (bounds : List ℕ) (here all : List Arrival) (place e : ℕ) (row : KeptRow) → held_packets row.lead here < slots_of bounds row.terms → suc (held_packets row.lead here) ≤ held_packets (lead_with row.lead place) all → suc (places_of bounds all (kept_with place e row)) ≤ places_of bounds here row
+pub places-taken : (bounds : List ℕ) (here all : List Arrival) (place e : ℕ) (row : AccountRow) → held_packets row.lead here < slots_of bounds row.terms → suc (held_packets row.lead here) ≤ held_packets (lead_with row.lead place) all → suc (places_of bounds all (kept_with place e row)) ≤ places_of bounds here row
 places-taken bounds here all place e row slot one = omega arith
 
 -- other rows have no more free slots than before
-places-more : (bounds : List ℕ) (here new : List Arrival) (row : KeptRow) → places_of bounds (here ++ new) row ≤ places_of bounds here row
+places-more : (bounds : List ℕ) (here new : List Arrival) (row : AccountRow) → places_of bounds (here ++ new) row ≤ places_of bounds here row
 places-more bounds here new row = omega (arith, held-more row.lead here new)
 
 -- ---- the packet that occupies the link
@@ -137,7 +137,7 @@ total-change_drop f g test change x (y ∷ xs) less found drop =
 -- ---- an arrive
 
 -- the account with the packet taken
-arrival-sound : (shape : LinkShape) (room : ℕ) (k : Kept) (packet : Packet) (clock eligible : ℕ) (found : Option KeptRow) → PacketFits packet → IsSound shape room k → find (is_kept_of packet.chan) k.rows ≡ found → Is.Taken clock eligible ≡ kept_arrive shape k.clock k.here packet found → IsSound shape room (kept_with_arrival packet k found)
+arrival-sound : (shape : LinkShape) (room : ℕ) (k : Account) (packet : Packet) (clock eligible : ℕ) (found : Option AccountRow) → PacketFits packet → IsSound shape room k → find (is_kept_of packet.chan) k.rows ≡ found → Is.Taken clock eligible ≡ kept_arrive shape k.clock k.here packet found → IsSound shape room (kept_with_arrival packet k found)
 unfolding kept_with_arrival places
 arrival-sound shape room k packet clock eligible None fits sound found same = sound
 arrival-sound shape room k packet clock eligible (Some row) fits sound found same =
@@ -167,7 +167,7 @@ arrival-sound shape room k packet clock eligible (Some row) fits sound found sam
       running = λ start on. running-more shape.rate k.clock k.here (new ∷ []) start (sound.running start on);
     }
 
-pub sound-arrive : (shape : LinkShape) (room : ℕ) (k : Kept) (packet : Packet) (reply : Reply) → PacketFits packet → IsSound shape room k → reply ≡ kept_reply (whole shape) k (Arrive packet) → IsSound shape room (kept_after shape k (Arrive packet) reply)
+pub sound-arrive : (shape : LinkShape) (room : ℕ) (k : Account) (packet : Packet) (reply : Reply) → PacketFits packet → IsSound shape room k → reply ≡ kept_reply (whole shape) k (Arrive packet) → IsSound shape room (kept_after shape k (Arrive packet) reply)
 unfolding kept_after kept_reply
 sound-arrive shape room k packet (Is.Taken clock eligible) fits sound same =
     arrival-sound shape room k packet clock eligible (find (is_kept_of packet.chan) k.rows) fits sound refl same

@@ -3,7 +3,7 @@
 use Rattle.std.proofs.Common.{◌≡◌, ℕ, zero, suc, ◌+◌, ◌-◌, ◌<◌, ◌≤◌, Bool, true, false, List, [], ◌∷◌, ◌++◌, length, map, take, drop, get_or, set, refl, sym, ap, ◌∙◌, subst, arith}
 use Rattle.link_server.proofs.Words.{if◌then◌else◌, Each, Arrival, Rests, taken_by, dropped_by, row_in, ServedRow}
 use Rattle.std.proofs.lemmas.List.{drop_more, drop-drop, get_or-drop, set-get_or, drop-set-lt, take_more_set, map_push, append_assoc, length-append, append-nil, drop_all, take_all}
-use Rattle.link_steps.specs.Kept.{KeptRow, kept_packet, kept_after_step, kept_packets, kept_rows_after, kept_lost}
+use Rattle.link_steps.specs.Kept.{AccountRow, kept_packet, kept_after_step, kept_packets, kept_rows_after, kept_lost}
 use Rattle.link_server.specs.Plans.{IsQuiet}
 use Rattle.link_server.specs.Sources.{step_in, brought_by, served_rows_after, lost_by_rows, IsReady, AreReady}
 use Rattle.link_server.proofs.Calendars.Expiry.{a-row}
@@ -44,7 +44,7 @@ pub packets-now : (bounds : List ℕ) (was : List Arrival) (t taken : ℕ) (old 
 packets-now bounds was t taken old i rows d after inside = let split = brought-from bounds was t taken old i rows d after inside in omega (arith, split)
 
 -- what is so of each row is so of those from one on
-each-after : (P : KeptRow → Type 0) (rows : List ServedRow) (i : ℕ) → Each P (map row_in rows) → Each P (map row_in (drop i rows))
+each-after : (P : AccountRow → Type 0) (rows : List ServedRow) (i : ℕ) → Each P (map row_in rows) → Each P (map row_in (drop i rows))
 each-after P [] zero each = each
 each-after P [] (suc i) each = each
 each-after P (row ∷ rows) zero each = each

@@ -3,7 +3,7 @@ use Rattle.std.proofs.Common.{◌≡◌, ℕ, suc, ◌+◌, ◌-◌, ◌≤◌, 
 use Rattle.std.proofs.lemmas.Option.{none-some}
 use Rattle.std.specs.Prelude.{find, unwrap_or}
 use Rattle.link_server.proofs.Words.{nat_lt, slots_of, SourcePacket, is_for, Arrival, SourceStep, Rests, Brings, Drops, source_step, arrival_at, taken_by, dropped_by, reservation_in, row_in, ServedRow, HeldPacket}
-use Rattle.link_steps.specs.Kept.{KeptRow, kept_step, kept_tick, kept_with, kept_packet, kept_after_step, past_tick}
+use Rattle.link_steps.specs.Kept.{AccountRow, kept_step, kept_tick, kept_with, kept_packet, kept_after_step, past_tick}
 use Rattle.link_server.specs.Departed.{IsCounted}
 use Rattle.link_server.specs.Planned.{left_in, size_of}
 use Rattle.link_server.specs.Sources.{own_step, step_in}
@@ -31,7 +31,7 @@ step-by-slot : (bounds : List ℕ) (t : ℕ) (free : Bool) (row next : ServedRow
     → own_step bounds t row ≡ source_step free (find (is_for t) (left_in row.planned))
 step-by-slot bounds t free row next departed same slot =
     ap (λ b. source_step b (find (is_for t) (left_in row.planned)))
-    (sym (slot ∙ ap (λ (r : KeptRow). nat_lt (r.taken - next.departed) (slots_of bounds r.terms)) same ∙ ap (λ n. nat_lt (row.taken - n) (slots_of bounds (reservation_in row))) departed))
+    (sym (slot ∙ ap (λ (r : AccountRow). nat_lt (r.taken - next.departed) (slots_of bounds r.terms)) same ∙ ap (λ n. nat_lt (row.taken - n) (slots_of bounds (reservation_in row))) departed))
 
 pub step-loses : (bounds : List ℕ) (t size : ℕ) (free : Bool) (row next : ServedRow) → Some size ≡ size_of (find (is_for t) (left_in row.planned)) → next.departed ≡ row.departed → row_in next ≡ past_tick t (row_in row) → free ≡ nat_lt (next.taken - next.departed) (slots_of bounds (reservation_in next)) → free ≡ false
     → own_step bounds t row ≡ Drops
@@ -51,7 +51,7 @@ step-counted bounds here t row counted =
     ap (λ n. source_step (nat_lt n (slots_of bounds (reservation_in row))) (find (is_for t) (left_in row.planned))) (omega (arith, all))
 
 -- a step takes as many packets as it brings, and loses one at most
-pub packet-length : (step : SourceStep) (t place : ℕ) (row : KeptRow) → length (kept_packet step t place row) ≡ taken_by step
+pub packet-length : (step : SourceStep) (t place : ℕ) (row : AccountRow) → length (kept_packet step t place row) ≡ taken_by step
 packet-length (Brings size) t place row = refl
 packet-length Rests t place row = refl
 packet-length Drops t place row = refl

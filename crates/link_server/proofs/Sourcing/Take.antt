@@ -3,7 +3,7 @@ use Rattle.std.proofs.Common.{◌≡◌, ℕ, suc, ◌+◌, Bool, true, false, L
 use Rattle.std.specs.Prelude.{max}
 use Rattle.net_units.specs.declared.Kind.{Kind}
 use Rattle.net_units.specs.declared.Kind.TheVariants.{Rate, Jitter}
-use Rattle.link_server.proofs.Words.{level_number, KeptRow, kept_with, Reservation, SourcePacket, Arrival, lead_with, arrival_at}
+use Rattle.link_server.proofs.Words.{level_number, AccountRow, kept_with, Reservation, SourcePacket, Arrival, lead_with, arrival_at}
 use Rattle.traffic_contract.specs.Contract.{burst_of}
 use Rattle.traffic_contract.specs.Eligible.{eligible, earliest_tick}
 use Rattle.regulator_core.specs.Kept.{KeptTicks, regulator_with}
@@ -48,7 +48,7 @@ packet-taken terms level lead new_lead place taken size t e answered at_level sa
     rw (more, same, tick, at_level) refl
 
 -- and so is the row
-abbrev row-of : Reservation → ℕ → ℕ → List ℕ → List SourcePacket → KeptRow
+abbrev row-of : Reservation → ℕ → ℕ → List ℕ → List SourcePacket → AccountRow
 row-of terms lead taken recent left = record { terms = terms; lead = lead; taken = taken; recent = recent; left = left }
 
 pub row-taken : (terms : Reservation) (lead new_lead place taken : ℕ) (left : List SourcePacket) (old new : KeptTicks) (e answered : ℕ) → new_lead ≡ lead_with lead place → old.contract ≡ terms.contract → new ≡ regulator_with old answered → answered ≡ e

@@ -2,7 +2,7 @@
 use Rattle.std.proofs.Common.{◌≡◌, ◌≢◌, ℕ, suc, ◌+◌, ◌-◌, ◌<◌, ◌≤◌, Bool, true, false, inl, inr, ⊎_elim, List, [], ◌∷◌, length, map, get_or, set, drop, refl, sym, ap, ◌∙◌, subst, All, arith}
 use Rattle.std.proofs.lemmas.Bool.{cases_Bool, cases_lt, eqb-true, eq-eqb, leb-true, false≢true}
 use Rattle.std.proofs.lemmas.List.{drop_more, drop_all, get_or_past, get_or_default, get_or-set_same, get_or-set_other, length-set}
-use Rattle.link_server.proofs.Words.{nat_eq, nat_le, if◌then◌else◌, KeptRow, kept_after_step, Each, SourcePacket, left_at, Arrival, SourceStep, Rests, Brings, Drops, Entry, Schedule, row_in, ServedRow}
+use Rattle.link_server.proofs.Words.{nat_eq, nat_le, if◌then◌else◌, AccountRow, kept_after_step, Each, SourcePacket, left_at, Arrival, SourceStep, Rests, Brings, Drops, Entry, Schedule, row_in, ServedRow}
 use Rattle.link_server.specs.Planned.{IsPlannedFrom}
 use Rattle.link_server.specs.KeyedList.{AreRising}
 use Rattle.link_server.specs.Plans.{IsTold, idle_count, idle_in, is_turn, ArePlanned, AreCalled, IsQuiet}
@@ -64,19 +64,19 @@ later-left t (p ∷ left) = from (nat_le (suc t) p.tick) refl (later-left t left
   from true is rest = (leb-true (suc t) p.tick is, rest)
   from false is rest = rest
 
-left-after : (step : SourceStep) (t place : ℕ) (row : KeptRow) → (kept_after_step step t place row).left ≡ left_at (suc t) row.left
+left-after : (step : SourceStep) (t place : ℕ) (row : AccountRow) → (kept_after_step step t place row).left ≡ left_at (suc t) row.left
 left-after Rests t place row = refl
 left-after (Brings size) t place row = refl
 left-after Drops t place row = refl
 
-pub stepped-later : (step : SourceStep) (t place : ℕ) (new row : KeptRow) → new ≡ kept_after_step step t place row → Each (IsPlannedFrom (suc t)) new.left
+pub stepped-later : (step : SourceStep) (t place : ℕ) (new row : AccountRow) → new ≡ kept_after_step step t place row → Each (IsPlannedFrom (suc t)) new.left
 stepped-later step t place new row same =
     subst (Each (IsPlannedFrom (suc t))) (sym (ap (λ r. r.left) same ∙ left-after step t place row)) (later-left t row.left)
 
 -- the row of a turn is told of once its next packet was put, and so are those that were told of
 pub told-after : (turns : List ℕ) (k : ℕ) (old new : List Entry) (rows : List ServedRow) (row : ServedRow) → k < length turns → get_or turns k 0 < length rows
     → ((place : ℕ) (d : ServedRow) → place < length rows → is_turn (drop k turns) place ≡ false → IsTold old (row_in (get_or rows place d)))
-    → ((other : KeptRow) → IsTold old other → IsTold new other) → IsTold new (row_in row)
+    → ((other : AccountRow) → IsTold old other → IsTold new other) → IsTold new (row_in row)
     → (place : ℕ) (d : ServedRow) → place < length (set rows (get_or turns k 0) row) → is_turn (drop (k + 1) turns) place ≡ false → IsTold new (row_in (get_or (set rows (get_or turns k 0) row) place d))
 told-after turns k old new rows row inside within told others own place d below not =
     ⊎_elim

@@ -9,7 +9,7 @@ use Rattle.std.proofs.lemmas.List.Sorted.{sum_by-IsPermutation, IsPermutation-co
 use Rattle.std.specs.List.{sum_by}
 use Rattle.link_server.proofs.Words.{IsPermutation, filter, find, is_other, Each, Arrival, Start}
 use Rattle.link_steps.proofs.SearchAndFilter.{Each-append, Each-filter, Each-from, Each-if, filter-all, filter-none}
-use Rattle.link_server.specs.Arrived.{all_here, arrived, HaveOwnNumbers, IsNumbered, AreNumbered}
+use Rattle.link_server.specs.Arrived.{all_here, arrived, HaveOwnNumbers, IsNumbered, AreNumberedUpTo}
 use Rattle.link_server.specs.Sound.{AreNumberedWithin, has_arrival_number}
 use Rattle.link_server.proofs.Sound.Packets.{numbered-append}
 use Rattle.link_server.proofs.Waiting.Queues.{each-same}
@@ -123,19 +123,19 @@ arrived-above p ps zero above = refl
 arrived-above p ps (suc n) above =
     rw (ne_eqb p.place (suc n) (λ same. absurd (omega (arith, same, above)))) (ap (λ rs. rs ++ filter (has_arrival_number (suc n)) ps) (arrived-above p ps n (omega (arith, above))))
 
-none-newer : (ps : List Arrival) (newest n : ℕ) → AreNumbered newest ps → newest < n → filter (has_arrival_number n) ps ≡ []
+none-newer : (ps : List Arrival) (newest n : ℕ) → AreNumberedUpTo newest ps → newest < n → filter (has_arrival_number n) ps ≡ []
 none-newer ps newest n numbered newer =
     filter-none (has_arrival_number n) ps
     (Each-if (IsNumbered newest) (λ p. has_arrival_number n p ≡ false) ps (λ p is. ne_eqb p.place n (λ same. absurd (let most = is.most in omega (arith, same, most, newer)))) numbered)
 
-pub arrived-came : (p : Arrival) (ps : List Arrival) (taken : ℕ) → AreNumbered taken ps → p.place ≡ taken + 1 → arrived (p ∷ ps) (taken + 1) ≡ arrived ps taken ++ p ∷ []
+pub arrived-came : (p : Arrival) (ps : List Arrival) (taken : ℕ) → AreNumberedUpTo taken ps → p.place ≡ taken + 1 → arrived (p ∷ ps) (taken + 1) ≡ arrived ps taken ++ p ∷ []
 unfolding arrived
 arrived-came p ps taken numbered next =
     let number : taken + 1 ≡ suc taken = omega arith in
     subst (λ n. arrived (p ∷ ps) n ≡ arrived ps taken ++ p ∷ []) (sym number)
     (rw (eq-eqb p.place (suc taken) (next ∙ number), none-newer ps taken (suc taken) numbered (omega arith)) (ap (λ rs. rs ++ p ∷ []) (arrived-above p ps taken (omega (arith, next)))))
 
-pub own-came : (p : Arrival) (ps : List Arrival) (taken : ℕ) → AreNumbered taken ps → HaveOwnNumbers ps → taken < p.place → HaveOwnNumbers (p ∷ ps)
+pub own-came : (p : Arrival) (ps : List Arrival) (taken : ℕ) → AreNumberedUpTo taken ps → HaveOwnNumbers ps → taken < p.place → HaveOwnNumbers (p ∷ ps)
 own-came p ps taken numbered own newer n =
     elim (cases_Bool (has_arrival_number n p)) [
       | inl at ↦ (let same = eqb-true p.place n at in rw (at, none-newer ps taken n numbered (omega (arith, same, newer))) (omega arith))
@@ -200,13 +200,13 @@ unfolding arrived
 none-arrived zero = refl
 none-arrived (suc n) = append-nil (arrived [] n) ∙ none-arrived n
 
-pub count-arrived : (test : Arrival → Bool) (ps : List Arrival) (n : ℕ) → AreNumbered n ps → length (filter test (arrived ps n)) ≡ length (filter test ps)
+pub count-arrived : (test : Arrival → Bool) (ps : List Arrival) (n : ℕ) → AreNumberedUpTo n ps → length (filter test (arrived ps n)) ≡ length (filter test ps)
 count-arrived test [] n numbered = ap (λ qs. length (filter test qs)) (none-arrived n)
 count-arrived test (p ∷ ps) n numbered =
     let rest = count-arrived test ps n numbered.1 in
     omega (arith, rest, count-here test p ps n numbered.0.least numbered.0.most, one-more test p ps)
 
-pub long-arrived : (ps : List Arrival) (n : ℕ) → AreNumbered n ps → length (arrived ps n) ≡ length ps
+pub long-arrived : (ps : List Arrival) (n : ℕ) → AreNumberedUpTo n ps → length (arrived ps n) ≡ length ps
 long-arrived ps n numbered = sym (all (arrived ps n)) ∙ count-arrived (λ p. true) ps n numbered ∙ all ps where
   all : (qs : List Arrival) → length (filter (λ p. true) qs) ≡ length qs
   all qs = ap length (filter-all (λ p. true) qs (Each-from (λ p. true ≡ true) qs (λ p. refl)))

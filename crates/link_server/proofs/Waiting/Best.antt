@@ -2,7 +2,7 @@
 use Rattle.std.proofs.Common.{◌≡◌, ℕ, Bool, true, false, ◌&&◌, List, [], ◌∷◌, Option, Some, None, length, refl, sym, ap, ◌∙◌, inl, inr}
 use Rattle.std.proofs.lemmas.Bool.{cases_Bool}
 use Rattle.link_server.proofs.Words.{filter, is_best, is_other, waits_here, Arrival, Start}
-use Rattle.link_server.specs.Arrived.{all_here, arrived, HaveOwnNumbers, AreNumbered}
+use Rattle.link_server.specs.Arrived.{all_here, arrived, HaveOwnNumbers, AreNumberedUpTo}
 use Rattle.link_server.proofs.Waiting.Arrived.{arrived-departed, count-arrived}
 
 -- those that wait are the best-effort packets but for the one on the link
@@ -22,7 +22,7 @@ best-others bounds start (p ∷ here) =
       none-waits true = refl
       none-waits false = refl
 
-pub best-waiting : (bounds : List ℕ) (on : Option Start) (waiting : List Arrival) (taken : ℕ) → HaveOwnNumbers (all_here on waiting) → AreNumbered taken (all_here on waiting)
+pub best-waiting : (bounds : List ℕ) (on : Option Start) (waiting : List Arrival) (taken : ℕ) → HaveOwnNumbers (all_here on waiting) → AreNumberedUpTo taken (all_here on waiting)
     → length (filter (waits_here bounds on) (arrived (all_here on waiting) taken)) ≡ length (filter (is_best bounds) waiting)
 best-waiting bounds None waiting taken own numbered = count-arrived (is_best bounds) waiting taken numbered
 best-waiting bounds (Some start) waiting taken own numbered =

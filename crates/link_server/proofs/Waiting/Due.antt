@@ -5,7 +5,7 @@ use Rattle.std.proofs.lemmas.List.{map-append, length-append, length-map}
 use Rattle.std.specs.List.{All}
 use Rattle.link_server.proofs.Words.{IsPermutation, Each, HeldPacket}
 use Rattle.tick_calendar.specs.Calendar.{Entry, TakesDue, key_at, without_place}
-use Rattle.link_server.specs.Keys.{packet_at, packets_at, queues_at, key_of, keys_of, times, held_at, IsUnderTick, AreKeyed, AreInOrder}
+use Rattle.link_server.specs.Keys.{packet_at, packets_at, queues_at, key_of, keys_of, times, count_at_key, IsUnderTick, AreKeyed, AreInOrder}
 use Rattle.link_server.specs.Line.{AreAfter, AreFrom}
 use Rattle.link_server.specs.Queues.{joined, pushed}
 use Rattle.link_server.proofs.Waiting.Keys.{keyed-moved, times-append, under-tick}
@@ -87,7 +87,7 @@ module _ (slots : List (Option HeldPacket)) (old new : List Entry) (queues : Lis
       (omega (arith, own, due))))
 
 -- the key that is taken out is held
-pub due-held : (slots : List (Option HeldPacket)) (old new : List Entry) (queues : List (List ℕ)) (until key : ℕ) → TakesDue old new until key → AreKeyed slots old queues → held_at slots key ≡ 1
+pub due-held : (slots : List (Option HeldPacket)) (old new : List Entry) (queues : List (List ℕ)) (until key : ℕ) → TakesDue old new until key → AreKeyed slots old queues → count_at_key slots key ≡ 1
 due-held slots old new queues until key taken keyed =
     let once = keyed.once key in
     let parts = times-append key (keys_of old) (joined queues) in

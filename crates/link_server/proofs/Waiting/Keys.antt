@@ -8,7 +8,7 @@ use Rattle.std.specs.List.{sum_by}
 use Rattle.link_server.proofs.Words.{IsPermutation, Each, Entry, HeldPacket}
 use Rattle.slab.specs.Slab.{Slab, Updates, get}
 use Rattle.link_steps.proofs.SearchAndFilter.{Each-append}
-use Rattle.link_server.specs.Keys.{packet_told, packet_at, packets_at, queues_at, key_of, keys_of, keys_in, times, held_at, IsUnderTick, AreKeyed}
+use Rattle.link_server.specs.Keys.{packet_told, packet_at, packets_at, queues_at, key_of, keys_of, keys_in, times, count_at_key, IsUnderTick, AreKeyed}
 use Rattle.link_server.specs.Queues.{joined, first_of, after_first, pushed}
 use Rattle.link_server.proofs.Waiting.Queues.{Each-parts, comes-before, moved-between, joined-first, joined-map, pushed-map}
 
@@ -66,13 +66,13 @@ module _ (old new : Slab HeldPacket) (key : ℕ) (slot : Option HeldPacket) (upd
 
 -- ---- which keys are held
 
-held-other : (old new : Slab HeldPacket) (key : ℕ) (slot : Option HeldPacket) (k : ℕ) → Updates old new key slot → nat_eq k key ≡ false → held_at new.slots k ≡ held_at old.slots k
+held-other : (old new : Slab HeldPacket) (key : ℕ) (slot : Option HeldPacket) (k : ℕ) → Updates old new key slot → nat_eq k key ≡ false → count_at_key new.slots k ≡ count_at_key old.slots k
 held-other old new key slot k updates other = ap (λ (o : Option HeldPacket). if is_some o then 1 else 0) (updates.others k (eqb-false k key other))
 
-held-own : (old new : Slab HeldPacket) (key : ℕ) (slot : Option HeldPacket) → Updates old new key slot → held_at new.slots key ≡ (if is_some slot then 1 else 0)
+held-own : (old new : Slab HeldPacket) (key : ℕ) (slot : Option HeldPacket) → Updates old new key slot → count_at_key new.slots key ≡ (if is_some slot then 1 else 0)
 held-own old new key slot updates = ap (λ (o : Option HeldPacket). if is_some o then 1 else 0) updates.changed
 
-held-none : (old : Slab HeldPacket) (key : ℕ) → get old key ≡ None → held_at old.slots key ≡ 0
+held-none : (old : Slab HeldPacket) (key : ℕ) → get old key ≡ None → count_at_key old.slots key ≡ 0
 held-none old key none = ap (λ (o : Option HeldPacket). if is_some o then 1 else 0) none
 
 -- ---- a key comes
@@ -83,7 +83,7 @@ came later queues tick key =
     subst (λ (keys : List ℕ). IsPermutation (key ∷ keys_in later queues) (keys ++ joined queues)) (sym (map-append key_of later ((tick, key) ∷ []))) (comes-before (keys_of later) key (joined queues))
 
 -- a key that isn't held is none of these
-none-held : (slots : List (Option HeldPacket)) (later : List Entry) (queues : List (List ℕ)) (key : ℕ) → AreKeyed slots later queues → held_at slots key ≡ 0 → (times key (keys_of later) ≡ 0) × (times key (joined queues) ≡ 0)
+none-held : (slots : List (Option HeldPacket)) (later : List Entry) (queues : List (List ℕ)) (key : ℕ) → AreKeyed slots later queues → count_at_key slots key ≡ 0 → (times key (keys_of later) ≡ 0) × (times key (joined queues) ≡ 0)
 none-held slots later queues key keyed none =
     let once = keyed.once key in
     let parts = times-append key (keys_of later) (joined queues) in
@@ -102,8 +102,8 @@ keyed-came old new later queues key packet keyed none updates more =
             | inl at ↦ (
                 let same = eqb-true k key at in
                 let one : ◌≡◌ {A = ℕ} (if nat_eq key k then 1 else 0) 1 = rw (eq-eqb key k (sym same)) refl in
-                let held : held_at new.slots k ≡ 1 = ap (held_at new.slots) same ∙ held-own old new key (Some packet) updates in
-                let not : held_at old.slots k ≡ 0 = ap (held_at old.slots) same ∙ held-none old key none in
+                let held : count_at_key new.slots k ≡ 1 = ap (count_at_key new.slots) same ∙ held-own old new key (Some packet) updates in
+                let not : count_at_key old.slots k ≡ 0 = ap (count_at_key old.slots) same ∙ held-none old key none in
                 omega (arith, all, were, one, held, not))
             | inr other ↦ (
                 let zero_more : ◌≡◌ {A = ℕ} (if nat_eq key k then 1 else 0) 0 = rw (ne_eqb key k (λ same. eqb-false k key other (sym same))) refl in
@@ -159,7 +159,7 @@ module _ (old new : Slab HeldPacket) (later : List Entry) (queues : List (List �
 
 -- the key of the first in the queues is held, and is none of the others
 pub first-held : (slots : List (Option HeldPacket)) (later : List Entry) (queues : List (List ℕ)) (key : ℕ) → AreKeyed slots later queues → first_of queues ≡ Some key
-    → (held_at slots key ≡ 1) × (times key (keys_of later) ≡ 0) × (times key (joined (after_first queues)) ≡ 0)
+    → (count_at_key slots key ≡ 1) × (times key (keys_of later) ≡ 0) × (times key (joined (after_first queues)) ≡ 0)
 first-held slots later queues key keyed first =
     let once = keyed.once key in
     let parts = times-append key (keys_of later) (joined queues) in
@@ -185,7 +185,7 @@ keyed-left old new later queues key keyed first updates fewer =
           elim (cases_Bool (nat_eq k key)) [
             | inl at ↦ (
                 let same = eqb-true k key at in
-                let held : held_at new.slots k ≡ 0 = ap (held_at new.slots) same ∙ held-own old new key None updates in
+                let held : count_at_key new.slots k ≡ 0 = ap (count_at_key new.slots) same ∙ held-own old new key None updates in
                 let first_none : times k (keys_of later) ≡ 0 = ap (λ n. times n (keys_of later)) same ∙ apart.1 in
                 let then_none : times k (joined (after_first queues)) ≡ 0 = ap (λ n. times n (joined (after_first queues))) same ∙ apart.2 in
                 omega (arith, parts_after, held, first_none, then_none))
@@ -220,7 +220,7 @@ long-packets slots later queues =
     let rest = ap length (joined-map (packet_at slots) queues) ∙ length-map (joined queues) (packet_at slots) in
     omega (arith, all, keys, first, rest)
 
-pub is-held : (slots : List (Option HeldPacket)) (key : ℕ) → held_at slots key ≡ 1 → is_some (get_or slots key None) ≡ true
+pub is-held : (slots : List (Option HeldPacket)) (key : ℕ) → count_at_key slots key ≡ 1 → is_some (get_or slots key None) ≡ true
 is-held slots key held = some (is_some (get_or slots key None)) held where
   some : (b : Bool) → ◌≡◌ {A = ℕ} (if b then 1 else 0) 1 → b ≡ true
   some true one = refl

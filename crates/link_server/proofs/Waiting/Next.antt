@@ -8,7 +8,7 @@ use Rattle.link_steps.specs.Quiet.{IsEligibleFrom}
 use Rattle.link_steps.specs.Service.{Arrival, goes_before, sooner, first_in_line}
 use Rattle.link_steps.proofs.SearchAndFilter.{Each-if, Each-map, Each-both, Each-filter, filter-none}
 use Rattle.link_steps.proofs.ServiceStarts.{first_in_line-fact}
-use Rattle.link_server.specs.Arrived.{arrived, HaveOwnNumbers, AreNumbered}
+use Rattle.link_server.specs.Arrived.{arrived, HaveOwnNumbers, AreNumberedUpTo}
 use Rattle.link_server.specs.Line.{AreAfter, AreFrom, IsBehind}
 use Rattle.link_server.specs.Packets.{arrival_in, here_in}
 use Rattle.link_server.specs.Order.{stands_before}
@@ -94,7 +94,7 @@ first-is tick low high (x ∷ xs) q rising found by go =
     ]
 
 -- so the next packet is the first in line
-pub next-first : (tick taken : ℕ) (q : HeldPacket) (others : List HeldPacket) → HaveOwnNumbers (here_in (q ∷ others)) → AreNumbered taken (here_in (q ∷ others)) → q.eligible ≤ tick → Each (IsBehind tick q) others
+pub next-first : (tick taken : ℕ) (q : HeldPacket) (others : List HeldPacket) → HaveOwnNumbers (here_in (q ∷ others)) → AreNumberedUpTo taken (here_in (q ∷ others)) → q.eligible ≤ tick → Each (IsBehind tick q) others
     → first_in_line (filter (is_eligible_by tick) (arrived (here_in (q ∷ others)) taken)) ≡ Some (arrival_in q)
 next-first tick taken q others own numbered by behind =
     let here = here_in (q ∷ others) in

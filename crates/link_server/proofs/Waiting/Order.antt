@@ -10,7 +10,7 @@ use Rattle.link_steps.proofs.SearchAndFilter.{Each-append, Each-if, Each-both}
 use Rattle.link_server.specs.Keys.{AreInOrder}
 use Rattle.link_server.specs.Line.{AreAfter, IsAfter, IsBehind, IsNext}
 use Rattle.link_server.specs.Queues.{joined, first_of, after_first, pushed}
-use Rattle.link_server.specs.Order.{IsAtLevel, IsBy, IsAhead, IsAheadOf, ArrivedBefore, IsNewest, AreByArrival, AreByTick, AreByLevel}
+use Rattle.link_server.specs.Order.{IsAtLevel, IsBy, IsSooner, IsSoonerThanEach, ArrivedBefore, IsNewest, AreByArrival, AreByTick, AreByLevel}
 use Rattle.link_server.proofs.Waiting.Queues.{Each-parts, Each-pushed, joined-first}
 
 -- ---- one comes
@@ -26,9 +26,9 @@ order-came later queues until r order from newest =
       arrived = arrived-last later r order.arrived older.0;
       levels = order.levels;
       ahead =
-          Each-if (λ s. IsAheadOf later s × (IsBy until s × ArrivedBefore s r)) (IsAheadOf (later ++ r ∷ [])) (joined queues)
-          (λ s all. Each-append (IsAhead s) later (r ∷ []) all.0 (((let by = all.1.0 in omega (arith, by, from)), (λ _. all.1.1)), tt))
-          (Each-both (IsAheadOf later) (λ s. IsBy until s × ArrivedBefore s r) (joined queues) order.ahead (Each-both (IsBy until) (λ s. ArrivedBefore s r) (joined queues) order.by older.1));
+          Each-if (λ s. IsSoonerThanEach later s × (IsBy until s × ArrivedBefore s r)) (IsSoonerThanEach (later ++ r ∷ [])) (joined queues)
+          (λ s all. Each-append (IsSooner s) later (r ∷ []) all.0 (((let by = all.1.0 in omega (arith, by, from)), (λ _. all.1.1)), tt))
+          (Each-both (IsSoonerThanEach later) (λ s. IsBy until s × ArrivedBefore s r) (joined queues) order.ahead (Each-both (IsBy until) (λ s. ArrivedBefore s r) (joined queues) order.by older.1));
       by = order.by;
     }
 
@@ -44,25 +44,25 @@ arrived-from : (before after : List HeldPacket) (r : HeldPacket) → AreByArriva
 arrived-from [] after r arrived = arrived.0
 arrived-from (s ∷ before) after r arrived = arrived-from before after r arrived.1
 
-tick-last : (queue : List HeldPacket) (r : HeldPacket) → AreByTick queue → Each (λ s. IsAhead s r) queue → AreByTick (queue ++ r ∷ [])
+tick-last : (queue : List HeldPacket) (r : HeldPacket) → AreByTick queue → Each (λ s. IsSooner s r) queue → AreByTick (queue ++ r ∷ [])
 tick-last [] r by ahead = (tt, tt)
-tick-last (s ∷ queue) r by ahead = (Each-append (IsAhead s) queue (r ∷ []) by.0 (ahead.0, tt), tick-last queue r by.1 ahead.1)
+tick-last (s ∷ queue) r by ahead = (Each-append (IsSooner s) queue (r ∷ []) by.0 (ahead.0, tt), tick-last queue r by.1 ahead.1)
 
-levels-pushed : (level : ℕ) (queues : List (List HeldPacket)) (place : ℕ) (r : HeldPacket) → r.level ≡ level + place → AreByLevel level queues → Each (λ s. IsAhead s r) (joined queues) → AreByLevel level (pushed queues place r)
+levels-pushed : (level : ℕ) (queues : List (List HeldPacket)) (place : ℕ) (r : HeldPacket) → r.level ≡ level + place → AreByLevel level queues → Each (λ s. IsSooner s r) (joined queues) → AreByLevel level (pushed queues place r)
 levels-pushed level [] place r at levels ahead = tt
 levels-pushed level (queue ∷ queues) zero r at levels ahead =
-    let parts = Each-parts (λ s. IsAhead s r) queue (joined queues) ahead in
+    let parts = Each-parts (λ s. IsSooner s r) queue (joined queues) ahead in
     (Each-append (IsAtLevel level) queue (r ∷ []) levels.0 (omega (arith, at), tt), tick-last queue r levels.1 parts.0, levels.2)
 levels-pushed level (queue ∷ queues) (suc place) r at levels ahead =
-    let parts = Each-parts (λ s. IsAhead s r) queue (joined queues) ahead in
+    let parts = Each-parts (λ s. IsSooner s r) queue (joined queues) ahead in
     (levels.0, levels.1, levels-pushed (suc level) queues place r (omega (arith, at)) levels.2 parts.1)
 
 -- the first that is due is ahead of those that stay
-ahead-of-rest : (before after : List HeldPacket) (r : HeldPacket) → AreByArrival (before ++ r ∷ after) → Each (λ s. r.eligible < s.eligible) before → Each (λ s. r.eligible ≤ s.eligible) after → IsAheadOf (before ++ after) r
+ahead-of-rest : (before after : List HeldPacket) (r : HeldPacket) → AreByArrival (before ++ r ∷ after) → Each (λ s. r.eligible < s.eligible) before → Each (λ s. r.eligible ≤ s.eligible) after → IsSoonerThanEach (before ++ after) r
 ahead-of-rest before after r arrived earliest least =
-    Each-append (IsAhead r) before after
-    (Each-if (λ s. r.eligible < s.eligible) (IsAhead r) before (λ s later. (omega (arith, later), (λ by. absurd (omega (arith, later, by))))) earliest)
-    (Each-if (λ s. (r.eligible ≤ s.eligible) × ArrivedBefore r s) (IsAhead r) after (λ s both. (both.0, (λ by. both.1)))
+    Each-append (IsSooner r) before after
+    (Each-if (λ s. r.eligible < s.eligible) (IsSooner r) before (λ s later. (omega (arith, later), (λ by. absurd (omega (arith, later, by))))) earliest)
+    (Each-if (λ s. (r.eligible ≤ s.eligible) × ArrivedBefore r s) (IsSooner r) after (λ s both. (both.0, (λ by. both.1)))
     (Each-both (λ s. r.eligible ≤ s.eligible) (ArrivedBefore r) after least (arrived-from before after r arrived)))
 
 pub order-moved : (before after : List HeldPacket) (queues : List (List HeldPacket)) (until : ℕ) (r : HeldPacket) → AreInOrder (before ++ r ∷ after) queues until → Each (λ s. r.eligible < s.eligible) before → Each (λ s. r.eligible ≤ s.eligible) after → r.eligible ≤ until
@@ -73,11 +73,11 @@ order-moved before after queues until r order earliest least due =
       arrived = arrived-without before after r order.arrived;
       levels =
           levels-pushed 1 queues (r.level - 1) r (omega (arith, least_level)) order.levels
-          (Each-if (IsAheadOf (before ++ r ∷ after)) (λ s. IsAhead s r) (joined queues) (λ s ahead. (Each-parts (IsAhead s) before (r ∷ after) ahead).1.0) order.ahead);
+          (Each-if (IsSoonerThanEach (before ++ r ∷ after)) (λ s. IsSooner s r) (joined queues) (λ s ahead. (Each-parts (IsSooner s) before (r ∷ after) ahead).1.0) order.ahead);
       ahead =
-          Each-pushed (IsAheadOf (before ++ after)) queues (r.level - 1) r (ahead-of-rest before after r order.arrived earliest least)
-          (Each-if (IsAheadOf (before ++ r ∷ after)) (IsAheadOf (before ++ after)) (joined queues)
-          (λ s ahead. let parts = Each-parts (IsAhead s) before (r ∷ after) ahead in Each-append (IsAhead s) before after parts.0 parts.1.1) order.ahead);
+          Each-pushed (IsSoonerThanEach (before ++ after)) queues (r.level - 1) r (ahead-of-rest before after r order.arrived earliest least)
+          (Each-if (IsSoonerThanEach (before ++ r ∷ after)) (IsSoonerThanEach (before ++ after)) (joined queues)
+          (λ s ahead. let parts = Each-parts (IsSooner s) before (r ∷ after) ahead in Each-append (IsSooner s) before after parts.0 parts.1.1) order.ahead);
       by = Each-pushed (IsBy until) queues (r.level - 1) r due order.by;
     }
 
@@ -105,7 +105,7 @@ pub order-left : (later : List HeldPacket) (queues : List (List HeldPacket)) (un
 order-left later queues until order = record {
   arrived = order.arrived;
   levels = levels-left 1 queues order.levels;
-  ahead = Each-left (IsAheadOf later) queues order.ahead;
+  ahead = Each-left (IsSoonerThanEach later) queues order.ahead;
   by = Each-left (IsBy until) queues order.by;
 }
 
@@ -131,8 +131,8 @@ head-behind : (level tick : ℕ) (r : HeldPacket) (queue : List HeldPacket) (que
 head-behind level tick r queue queues levels =
     let own = levels.0.0 in
     Each-append (IsBehind tick r) queue (joined queues)
-    (Each-if (λ s. IsAtLevel level s × IsAhead r s) (IsBehind tick r) queue (λ s both by. after-test r.level s.level r.eligible s.eligible r.place s.place (both.0 ∙ sym own) both.1.0 both.1.1)
-    (Each-both (IsAtLevel level) (IsAhead r) queue levels.0.1 levels.1.0))
+    (Each-if (λ s. IsAtLevel level s × IsSooner r s) (IsBehind tick r) queue (λ s both by. after-test r.level s.level r.eligible s.eligible r.place s.place (both.0 ∙ sym own) both.1.0 both.1.1)
+    (Each-both (IsAtLevel level) (IsSooner r) queue levels.0.1 levels.1.0))
     (Each-if (λ s. suc level ≤ s.level) (IsBehind tick r) (joined queues) (λ s above by. higher-test r.level s.level _ (omega (arith, above, own))) (levels-from (suc level) queues levels.2))
 
 first-behind : (level tick : ℕ) (queues : List (List HeldPacket)) (r : HeldPacket) → first_of queues ≡ Some r → AreByLevel level queues → Each (IsBehind tick r) (joined (after_first queues))

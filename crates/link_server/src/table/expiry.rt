@@ -1,7 +1,7 @@
 //! Rows expire once their hold has ended: a calendar tells which, and in which tick.
 ghost use Rattle.std.specs.Prelude.{◌≡◌, ◌+◌, ◌^◌, ◌<◌, ◌≤◌, List, length, map, filter, IfNone, IfSome};
 ghost use Rattle.buffer_budget.specs.Parts.{whole_of};
-ghost use Rattle.link_steps.specs.Kept.{KeptRow, kept_stays};
+ghost use Rattle.link_steps.specs.Kept.{AccountRow, kept_stays};
 ghost use Rattle.link_steps.specs.Lists.{Each};
 ghost use Rattle.link_steps.specs.Service.{Arrival};
 ghost use Rattle.link_server.specs.Departed.{AreCounted, departed_in};
@@ -27,7 +27,7 @@ pub(crate) fn put_hold(holds: &mut Calendar, row: &ServedRow, bounds: &Bounds, c
     requires room { 1 ≤ holds.old.spare }
     requires last { row.now.last < 2 ^ 63 }
     ensures clock { holds.new.clock ≡ holds.old.clock }
-    ensures others { (other : KeptRow) → IsListed bounds.now clock holds.old.entries other → IsListed bounds.now clock holds.new.entries other }
+    ensures others { (other : AccountRow) → IsListed bounds.now clock holds.old.entries other → IsListed bounds.now clock holds.new.entries other }
     ensures own { PlansNone (row_in row.now) → IsListed bounds.now clock holds.new.entries (row_in row.now) }
     ensures room { open_count (row_in row.now) + holds.old.spare ≤ holds.new.spare + 1 }
 {

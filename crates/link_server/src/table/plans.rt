@@ -1,7 +1,7 @@
 //! When the rows' next packets are planned: a calendar tells which rows bring a packet in a tick.
 ghost use Rattle.std.specs.Prelude.{◌≡◌, ◌+◌, ◌<◌, ◌≤◌, ℕ, true, false, [], IfOk, IfNone, IfSome, OnOk, All, length, map};
 ghost use Rattle.std.specs.Vec.{vec_capacity};
-ghost use Rattle.link_steps.specs.Kept.{KeptRow};
+ghost use Rattle.link_steps.specs.Kept.{AccountRow};
 ghost use Rattle.link_steps.specs.Lists.{Each};
 ghost use Rattle.link_server.specs.Index.{channels_in, IsIndex};
 ghost use Rattle.link_server.specs.Planned.{IsPlannedAhead};
@@ -77,7 +77,7 @@ pub(crate) fn put_plan(calendar: &mut Calendar, row: &ServedRow)
     requires ahead { IsPlannedAhead calendar.old.clock row.now.planned }
     requires room { 1 ≤ calendar.old.spare }
     ensures clock { calendar.new.clock ≡ calendar.old.clock }
-    ensures others { (other : KeptRow) → IsTold calendar.old.entries other → IsTold calendar.new.entries other }
+    ensures others { (other : AccountRow) → IsTold calendar.old.entries other → IsTold calendar.new.entries other }
     ensures own { IsTold calendar.new.entries (row_in row.now) }
     ensures room { idle_count (row_in row.now) + calendar.old.spare ≤ calendar.new.spare + 1 }
 {

@@ -1,7 +1,7 @@
 //! A race with a move. A caller opens two channels over links between the same nodes, sends 4 packets on the first, one every 10
 //! ticks, moves what is left of them to the second, and closes the first.
 ghost use Rattle.std.specs.Prelude.{◌≡◌, IfOk, length};
-ghost use Rattle.race_run_tests.specs.Worked.{AreMovers, AreNumbered, IsMovedRequest, IsMover, IsWorkedLink};
+ghost use Rattle.race_run_tests.specs.Worked.{AreMovers, EachWithNumber, IsMovedRequest, IsMover, IsWorkedLink};
 
 use super::{link, name, rises, route, run_of};
 use call_script::{CallerEntry, Do, LinkEntry, Op, Ops, Plan, RequestEntry, Version, push_request};
@@ -18,7 +18,7 @@ use traffic_contract::{Contract, Test};
 
 // Two links between the same nodes.
 fn links(alloc: Global) -> Result<Vec<LinkEntry>, Fail>
-    ensures { IfOk result (λ made. AreNumbered IsWorkedLink 0 made.items) }
+    ensures { IfOk result (λ made. EachWithNumber IsWorkedLink 0 made.items) }
 {
     let mut links = Vec::new(alloc);
     for number in 0..2 {
@@ -47,7 +47,7 @@ fn request(number: u8, delay: u64, found: Option<(Name, Name)>) -> Result<Reques
 
 // Two of these; the second one has this end-to-end bound.
 fn requests(alloc: Global, delay: u64) -> Result<Vec<RequestEntry>, Fail>
-    ensures all { IfOk result (λ made. AreNumbered IsMovedRequest 0 made.items) }
+    ensures all { IfOk result (λ made. EachWithNumber IsMovedRequest 0 made.items) }
     ensures count { IfOk result (λ made. length made.items ≡ 2) }
 {
     let mut requests = Vec::new(alloc);

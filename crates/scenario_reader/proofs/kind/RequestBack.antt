@@ -31,7 +31,7 @@ use Rattle.scenario_reader.specs.Forms.{is_word, is_among, route_length, has_for
 use Rattle.scenario_reader.specs.line.Request.{rate_form, jitter_form, is_found_line, is_open_line, nodes_in, route_in, way_fields_rule, way_rule, route_hops, route_fields, after_route, has_jitter, control_in, contract_told, contract_of, hops_in, route_names_rule, terms_rule, jitter_rule, open_fields_rule, is_way, open_limits_rule, open_rule, request_said, with_name, route_names, way_fields, contract_fields, control_fields, delay_fields, open_fields}
 use Rattle.scenario_reader.specs.declared.form.Part.{Part}
 use Rattle.scenario_reader.specs.BothWays.{AreNodesNamed, IsFoundRoute}
-use Rattle.scenario_reader.specs.Nodes.{AreNumbered, is_node, route_between}
+use Rattle.scenario_reader.specs.Nodes.{LinksAreNumbered, is_node, route_between}
 use Rattle.scenario_reader.proofs.FoundNodes.{found-nodes}
 use Rattle.scenario_reader.proofs.ShapeOfNumbers.{actor-is, channel-is}
 use Rattle.scenario_reader.proofs.NumberText.{value-decimal, decimal-passes}
@@ -190,7 +190,7 @@ pub record IsNextOpen (version : Version) (said : Said) (entry : RequestEntry) :
   pub kept : request_has_version version entry ≡ true
   pub nodes : AreNodesNamed entry.found
   pub found : IsFoundRoute said.links entry.request.route entry.found
-  pub numbered : AreNumbered said.links
+  pub numbered : LinksAreNumbered said.links
   pub few_links : length said.links ≤ 32
   pub name : is_name entry.name ≡ true
   pub new : is_among (request_names said.requests) entry.name ≡ false

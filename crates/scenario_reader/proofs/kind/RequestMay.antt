@@ -31,11 +31,11 @@ use Rattle.scenario_reader.proofs.NodesByNumber.{found-route, named-equal}
 use Rattle.scenario_reader.specs.declared.cause.Cause.TheVariants as cause
 
 -- links with the numbers of their places
-abbrev pub AreNumbered : List LinkEntry → Type 0
-AreNumbered links = (n : ℕ) (entry : LinkEntry) → slice_get links n ≡ Some entry → link_number entry.shape.link ≡ n
+abbrev pub StandAtOwnNumbers : List LinkEntry → Type 0
+StandAtOwnNumbers links = (n : ℕ) (entry : LinkEntry) → slice_get links n ≡ Some entry → link_number entry.shape.link ≡ n
 
 -- a link that is found stands at its number
-pub link-found : (links : List LinkEntry) (name : List ℕ) (entry : LinkEntry) → AreNumbered links → link_named links name ≡ Some entry
+pub link-found : (links : List LinkEntry) (name : List ℕ) (entry : LinkEntry) → StandAtOwnNumbers links → link_named links name ≡ Some entry
     → slice_get links (link_number entry.shape.link) ≡ Some entry
 link-found links name entry numbered found =
     let place = position_or_len (λ (e : LinkEntry). is_named name e.name) links in
@@ -43,7 +43,7 @@ link-found links name entry numbered found =
     subst (λ n. slice_get links n ≡ Some entry) (sym (numbered place entry at)) at
 
 -- the hops of a route are over links that are there
-route-there : (links : List LinkEntry) (names : List (List ℕ)) → AreNumbered links → list_all (λ (hop : Hop). has_link links hop.link) (route_over links names) ≡ true
+route-there : (links : List LinkEntry) (names : List (List ℕ)) → StandAtOwnNumbers links → list_all (λ (hop : Hop). has_link links hop.link) (route_over links names) ≡ true
 route-there links [] numbered = refl
 route-there links (name ∷ names) numbered = by (link_named links name) refl (route-there links names numbered) where
   by : (found : Option LinkEntry) → link_named links name ≡ found → list_all (λ (hop : Hop). has_link links hop.link) (route_over links names) ≡ true → list_all (λ (hop : Hop). has_link links hop.link) (with_hop found (route_over links names)) ≡ true
@@ -54,7 +54,7 @@ route-there links (name ∷ names) numbered = by (link_named links name) refl (r
       (lt-ltb (link_number entry.shape.link) (length links) within) rest
 
 -- and have their bounds and propagations
-route-follows : (links : List LinkEntry) (names : List (List ℕ)) → AreNumbered links → Each (FollowsLink links) (route_over links names)
+route-follows : (links : List LinkEntry) (names : List (List ℕ)) → StandAtOwnNumbers links → Each (FollowsLink links) (route_over links names)
 route-follows links [] numbered = tt
 route-follows links (name ∷ names) numbered = by (link_named links name) refl (route-follows links names numbered) where
   by : (found : Option LinkEntry) → link_named links name ≡ found → Each (FollowsLink links) (route_over links names) → Each (FollowsLink links) (with_hop found (route_over links names))
@@ -88,7 +88,7 @@ record MayGo (said : Said) (fields : List (List ℕ)) : Type 0 where
   hops : Each (FollowsLink said.links) (route_in said fields)
   route : IsRoute (route_in said fields)
 
-written-may : (said : Said) (fields : List (List ℕ)) → is_found fields ≡ false → AreNumbered said.links → way_rule said fields ≡ None → MayGo said fields
+written-may : (said : Said) (fields : List (List ℕ)) → is_found fields ≡ false → StandAtOwnNumbers said.links → way_rule said fields ≡ None → MayGo said fields
 written-may said fields is numbered rule =
     let passes : unless (is_way said (hops_in said fields)) cause.Route ≡ None = rw is at rule in
     let way = and_parts (is_none (fault_in (hops_in said fields))) (is_joined said.links (hops_in said fields)) (unless-passes (is_way said (hops_in said fields)) cause.Route passes) in
@@ -107,7 +107,7 @@ some-is (Some x) is = (x, refl)
 found-is : (said : Said) (fields : List (List ℕ)) (hops : List Hop) → is_found fields ≡ true → found_in said fields ≡ Some hops → hops ≡ route_in said fields
 found-is said fields hops is found = rw is (rw found refl)
 
-found-may : (said : Said) (fields : List (List ℕ)) → is_found fields ≡ true → AreNumbered said.links → length said.links ≤ 32 → way_fields_rule said fields ≡ None → way_rule said fields ≡ None → MayGo said fields
+found-may : (said : Said) (fields : List (List ℕ)) → is_found fields ≡ true → StandAtOwnNumbers said.links → length said.links ≤ 32 → way_fields_rule said fields ≡ None → way_rule said fields ≡ None → MayGo said fields
 found-may said fields is numbered few names rule =
     let nodes : nodes_rule said fields ≡ None = rw is at names in
     let both = both-pass (node_rule said (field_at fields 3)) (node_rule said (field_at fields 5)) nodes in
@@ -126,7 +126,7 @@ found-may said fields is numbered few names rule =
       route = subst IsRoute same good.route;
     }
 
-may-go : (said : Said) (fields : List (List ℕ)) → AreNumbered said.links → length said.links ≤ 32 → way_fields_rule said fields ≡ None → way_rule said fields ≡ None → MayGo said fields
+may-go : (said : Said) (fields : List (List ℕ)) → StandAtOwnNumbers said.links → length said.links ≤ 32 → way_fields_rule said fields ≡ None → way_rule said fields ≡ None → MayGo said fields
 may-go said fields numbered few names rule = elim (cases_Bool (is_found fields)) [
   | inl is ↦ found-may said fields is numbered few names rule
   | inr is ↦ written-may said fields is numbered rule

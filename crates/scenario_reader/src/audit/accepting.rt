@@ -6,7 +6,7 @@ ghost use Rattle.net_units.specs.Numbers.{channel_number};
 ghost use Rattle.setup_protocol.specs.State.{HaveLevels};
 ghost use Rattle.scenario_reader.specs.AuditKept.{KeepsTold, told_of};
 ghost use Rattle.scenario_reader.specs.AuditLines.{acceptance_in, are_level_fields, are_within, channel_in, has_accept_words, is_untold, levels_told, request_in};
-ghost use Rattle.scenario_reader.specs.declared.audit.place.Place.TheVariants as place;
+ghost use Rattle.scenario_reader.specs.declared.audit.place.Section.TheVariants as place;
 
 use crate::audit::draft::AuditDraft;
 use crate::draft::Draft;

@@ -9,9 +9,9 @@ ghost use Rattle.scenario_reader.specs.ReadSteps.{Adds};
 ghost use Rattle.scenario_reader.specs.Drafts.{is_complete, parts_said};
 ghost use Rattle.scenario_reader.specs.Fields.{are_fields, field_at, fields_of};
 ghost use Rattle.std.specs.Cmp.Lexicographic.{pointwise};
-ghost use Rattle.scenario_reader.specs.declared.audit.place.Place.TheVariants as place;
+ghost use Rattle.scenario_reader.specs.declared.audit.place.Section.TheVariants as place;
 
-use crate::audit::place::Place;
+use crate::audit::place::Section;
 use crate::audit::row::is_row_text;
 use crate::audit::table_reader::TableReader;
 use crate::by_line::TakesLines;
@@ -35,7 +35,7 @@ const HEADER: &[u8] = b"channel,packet,hop,link,size,at,eligible,departed";
 #[derive(Drop)]
 pub struct AuditDraft {
     pub(crate) draft: Draft,
-    pub(crate) place: Place,
+    pub(crate) place: Section,
     // From `report` on one entry a request.
     pub(crate) levels: Vec<Option<Levels>>,
     pub(crate) rows: Vec<HopRow>,
@@ -73,17 +73,17 @@ impl TakesLines for AuditDraft {
         ahead: &[u8],
     ) -> Result<(), LineFault> {
         match self.place {
-            Place::Scenario => self.take_scenario(alloc, number, line, ahead),
-            Place::Report => self.take_report(line),
-            Place::Table => self.take_row(alloc, line, ahead),
+            Section::Scenario => self.take_scenario(alloc, number, line, ahead),
+            Section::Report => self.take_report(line),
+            Section::Table => self.take_row(alloc, line, ahead),
         }
     }
 
     fn judge_end(&self) -> Result<(), Cause> {
         match self.place {
-            Place::Scenario => Err(Cause::End),
-            Place::Report => Err(Cause::Table),
-            Place::Table => Ok(()),
+            Section::Scenario => Err(Cause::End),
+            Section::Report => Err(Cause::Table),
+            Section::Table => Ok(()),
         }
     }
 
@@ -97,7 +97,7 @@ impl AuditDraft {
     {
         Ok(AuditDraft {
             draft: Draft::new(alloc)?,
-            place: Place::Scenario,
+            place: Section::Scenario,
             levels: Vec::new(alloc),
             rows: Vec::new(alloc),
             table: TableReader::new(alloc),
@@ -138,7 +138,7 @@ impl AuditDraft {
         ensures { OnOk result (self.new ≡ report_begun self.old) }
     {
         self.levels = no_levels(alloc, self.draft.request_count())?;
-        self.place = Place::Report;
+        self.place = Section::Report;
         Ok(())
     }
 
@@ -148,7 +148,7 @@ impl AuditDraft {
         ensures { Adds result self.new (report_line self.old line.now) }
     {
         if line == HEADER {
-            self.place = Place::Table;
+            self.place = Section::Table;
         } else if line.starts_with(b"accept ") {
             match self.acceptance(&Fields::of(line)) {
                 Some(told) => self.levels[told.request] = Some(told.levels),

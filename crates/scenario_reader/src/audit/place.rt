@@ -2,7 +2,7 @@
 
 /// Which lines are read now.
 #[derive(Clone, Copy, Debug, PartialEq, Eq)]
-pub enum Place {
+pub enum Section {
     /// Those of a scenario, up to the line `report`.
     Scenario,
     /// Those of a report, up to the header of the table.

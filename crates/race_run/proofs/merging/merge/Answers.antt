@@ -2,7 +2,7 @@ use Rattle.std.proofs.Common.{rules, map, refl, sym, ap, subst, ◌∙◌, List,
 use Rattle.std.proofs.lemmas.List.Elements.{All-map}
 use Rattle.std.proofs.lemmas.List.MinMax.{IsStrictWeakOrder-by_number}
 use Rattle.race_run.specs.Merging.{is_before}
-use Rattle.race_run.specs.declared.merging.Place.{Place}
+use Rattle.race_run.specs.declared.merging.EntryPlace.{EntryPlace}
 use Rattle.race_run.proofs.Sources.{sources-give, gave-all}
 use Rattle.race_run.proofs.merging.merge.Goals as goal
 
@@ -22,5 +22,5 @@ returns-clause-order c =
     let sorted = rw (sym same) at c.requires in
     let says = run.3 is_before (search rules) (IsStrictWeakOrder-by_number (λ e. e.stamp)) (map (λ j. j.items) run.0.items) (sources-give _ (λ v it g. g.0) run.0.items) (All-map (IsSortedBy is_before) _ _ sorted) in
     let yields = rw c.into_iter-place-iterator.ensures.into_iter_gives at c.loop-place.yielded_by in
-    let P : List Place → Type 0 = λ l. IsSortedBy is_before l in
+    let P : List EntryPlace → Type 0 = λ l. IsSortedBy is_before l in
     subst P (sym c.loop-place.invariant) (says c.loop-place.yielded true (c.loop-place.place-iterator, yields, λ _. (c.next.new.self, c.in-None.ensures.steps)))

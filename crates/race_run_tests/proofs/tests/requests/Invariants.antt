@@ -1,7 +1,7 @@
 use Rattle.std.proofs.Common.{◌≡◌, length}
-use Rattle.race_run_tests.specs.Worked.{AreNumbered, IsWorkedRequest}
+use Rattle.race_run_tests.specs.Worked.{EachWithNumber, IsWorkedRequest}
 use Rattle.race_run_tests.proofs.tests.requests.Given as goal
 
 -- one a number so far
 abbrev pub invariant-loop-number : goal.invariant-loop-number
-invariant-loop-number l = record { all : AreNumbered IsWorkedRequest 0 l.requests.items; count : length l.requests.items ≡ l.number }
+invariant-loop-number l = record { all : EachWithNumber IsWorkedRequest 0 l.requests.items; count : length l.requests.items ≡ l.number }

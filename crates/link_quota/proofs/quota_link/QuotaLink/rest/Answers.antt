@@ -1,6 +1,6 @@
 -- The link inside rests, and the groups hold what they held.
 use Rattle.std.proofs.Common.{sym, ap, subst, arith}
-use Rattle.link_steps.specs.Kept.{Kept}
+use Rattle.link_steps.specs.Kept.{Account}
 use Rattle.link_steps.specs.Split.{Link, SplitFits}
 use Rattle.link_steps.proofs.QuietTicks.{later-rests, quiet-ticks}
 use Rattle.link_server.specs.Resting.{RestsFromClock}
@@ -23,10 +23,10 @@ invariant_of-self c =
     record {
       fits = subst (λ s. SplitFits (record { shape = s; split = quota.split })) (sym shape) quota.fits;
       shared = subst (λ s. AreShares (record { shape = s; split = quota.split }) (held_in (kept_in c.rest.new.self)) quota.shares.items) (sym shape)
-          (subst (λ (k : Kept). AreShares (rules_of quota) (held_in k) quota.shares.items) (sym c.rest.ensures.kept) quota.shared);
+          (subst (λ (k : Account). AreShares (rules_of quota) (held_in k) quota.shares.items) (sym c.rest.ensures.kept) quota.shared);
       listed = subst (λ s. AreClosing (record { shape = s; split = quota.split }) (held_in (kept_in c.rest.new.self)) quota.closing.items) (sym shape)
-          (subst (λ (k : Kept). AreClosing (rules_of quota) (held_in k) quota.closing.items) (sym c.rest.ensures.kept) quota.listed);
-      room = subst (λ (k : Kept). HasRoomToClose quota.split (held_in k) (vec_capacity quota.closing)) (sym c.rest.ensures.kept) quota.room;
+          (subst (λ (k : Account). AreClosing (rules_of quota) (held_in k) quota.closing.items) (sym c.rest.ensures.kept) quota.listed);
+      room = subst (λ (k : Account). HasRoomToClose quota.split (held_in k) (vec_capacity quota.closing)) (sym c.rest.ensures.kept) quota.room;
       stood = subst (λ s. IsLegallyStood (record { shape = s; split = quota.split }) (kept_in c.rest.new.self)) (sym shape)
           (subst (IsLegallyStood (rules_of quota)) (sym c.rest.ensures.kept) (later-stood (rules_of quota) rests.0 c.args.ticks (kept_in quota.link) (rows-have quota.link) rests.1.0 rests.1.1 quota.stood));
       rests = subst (λ s. RestsFromClock s quota.due (kept_in c.rest.new.self)) (sym shape)

@@ -2,7 +2,7 @@
 use Rattle.std.proofs.Common.{◌≡◌, ◌++◌, ◌∷◌, [], ◌+◌, ◌<◌, ◌^◌, ℕ, Option, None, Some, suc, refl, sym, ap, ◌∙◌, subst, arith}
 use Rattle.link_server.proofs.Words.{IfSome, find, newest, Arrive, Packet, LinkShape, slots_of, whole, account, KeptQueue, KeptTable, reservation_in, row_in, kept_in}
 use Rattle.link_steps.specs.declared.replies.Reply.TheVariants.{Taken}
-use Rattle.link_steps.specs.Kept.{Kept, KeptRow, is_kept_of, kept_reply, kept_after, kept_arrived, kept_arrived_row, kept_arrived_tick, kept_with_arrival}
+use Rattle.link_steps.specs.Kept.{Account, AccountRow, is_kept_of, kept_reply, kept_after, kept_arrived, kept_arrived_row, kept_arrived_tick, kept_with_arrival}
 use Rattle.link_steps.specs.Refusals.{full}
 use Rattle.link_steps.proofs.AccountOfRows.{eligible-from}
 use Rattle.link_steps.specs.Lists.{change_first}
@@ -33,10 +33,10 @@ ready : (c : In-Some) → c.args.self.now.clock < 2 ^ 61 → IsReady c.args.self
 ready c early = Each-find (IsReady c.args.self.now.clock) (is_kept_of c.args.packet.now.chan) c.args.self.now.table.rows (row_in c.in-Some.row.now) (all-ready c.args.self.now early) c.in-Some.ensures.some
 
 -- the clock stays
-arrive-clock : (shape : LinkShape) (k : Kept) (packet : Packet) (e : ℕ) → k.clock < 2 ^ 61 → (kept_after shape k (Arrive packet) (Taken k.clock e)).clock < 2 ^ 61
+arrive-clock : (shape : LinkShape) (k : Account) (packet : Packet) (e : ℕ) → k.clock < 2 ^ 61 → (kept_after shape k (Arrive packet) (Taken k.clock e)).clock < 2 ^ 61
 unfolding kept_after kept_with_arrival
 arrive-clock shape k packet e early = same-clock (find (is_kept_of packet.chan) k.rows) where
-  same-clock : (row : Option KeptRow) → (kept_with_arrival packet k row).clock < 2 ^ 61
+  same-clock : (row : Option AccountRow) → (kept_with_arrival packet k row).clock < 2 ^ 61
   same-clock None = early
   same-clock (Some row) = early
 

@@ -1,7 +1,7 @@
 -- There is room for the packets of the row, and the row comes into the table.
 use Rattle.std.proofs.Common.{◌≡◌, ◌+◌, ◌≤◌, suc, length, refl, sym, ap, ◌∙◌, subst, arith}
 use Rattle.std.specs.Prelude.{Result, Ok, Err, OnErr}
-use Rattle.link_server.proofs.Words.{KeptRow, total, Offer, slots_of, kept_after, account, KeptQueue, KeptTable, reservation_in, row_in, IsWithinLevels, kept_in}
+use Rattle.link_server.proofs.Words.{AccountRow, total, Offer, slots_of, kept_after, account, KeptQueue, KeptTable, reservation_in, row_in, IsWithinLevels, kept_in}
 use Rattle.link_steps.proofs.ReservationFound.{may-reach}
 use Rattle.link_server.specs.Held.{reservations_held}
 use Rattle.link_server.specs.Resting.{RestsFromClock}
@@ -97,7 +97,7 @@ invariant_of-self-2 c =
           subst (λ (queue : KeptQueue). AreCounted queue.here c.add.new.self.rows c.add.new.self.departed) (sym kept)
           (subst (λ (table : KeptTable). AreCounted link.queue.here table.rows table.departed) (sym added)
           (counted-added link.queue.here link.table.rows link.table.departed (row_in row) row.departed link.counted
-          (new-counted link.queue.here (row_in row) row.departed (packets-lead _ link.queue.taken link.queue.here link.sound.packets) (ap (λ (r : KeptRow). r.lead) c.in_ok-row.ensures.row) (ap (λ (r : KeptRow). r.taken) c.in_ok-row.ensures.row) c.in_ok-row.ensures.departed)));
+          (new-counted link.queue.here (row_in row) row.departed (packets-lead _ link.queue.taken link.queue.here link.sound.packets) (ap (λ (r : AccountRow). r.lead) c.in_ok-row.ensures.row) (ap (λ (r : AccountRow). r.taken) c.in_ok-row.ensures.row) c.in_ok-row.ensures.departed)));
       rests = due-now _ _;
     }
 

@@ -10,7 +10,7 @@ use Rattle.link_server.specs.Departed.{AreCounted, departed_after, leaver}
 use Rattle.link_server.specs.Packets.{arrival_in}
 use Rattle.std.specs.Option.{option_map}
 use Rattle.link_server.proofs.Departed.Tick.{here-after, tick-counted}
-use Rattle.link_steps.specs.Kept.{Kept, from_sources, held_rows, occupies, present, still_here, kept_lost, kept_rows_after, kept_reply, kept_after}
+use Rattle.link_steps.specs.Kept.{Account, from_sources, held_rows, occupies, present, still_here, kept_lost, kept_rows_after, kept_reply, kept_after}
 use Rattle.link_server.specs.Serving.{CanServe}
 use Rattle.link_server.specs.Sound.{IsSound}
 use Rattle.link_server.proofs.Sound.Numbers.{best-room, brought-room, ahead-from}
@@ -157,7 +157,7 @@ invariant_of-self c =
       same_bounds = bounds ∙ link.same_bounds;
       stood = still-stood link Tick reply _ tt (replied at.After-serve-left (ap (λ (q : KeptQueue). q.best) queue) served) after;
       counted =
-          subst (λ here. AreCounted here c.depart.new.self.rows c.depart.new.self.departed) (sym (ap (λ (kept : Kept). kept.here) after ∙ here-after link.shape (kept_in link) reply))
+          subst (λ here. AreCounted here c.depart.new.self.rows c.depart.new.self.departed) (sym (ap (λ (kept : Account). kept.here) after ∙ here-after link.shape (kept_in link) reply))
           (subst (λ (t : KeptTable). AreCounted still t.rows t.departed) (sym left)
           (subst (λ gone. AreCounted still table.rows (departed_after gone table.rows table.departed)) (sym (leaves at.After-serve-left served))
           (subst (λ rows. AreCounted still rows (departed_after gone rows table.departed)) (sym (rows at.After-serve-left))

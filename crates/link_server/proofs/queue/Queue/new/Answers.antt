@@ -1,7 +1,7 @@
 -- None are here, and none are planned.
 use Rattle.std.proofs.Common.{length, refl, sym, ap, subst, arith}
 use Rattle.link_steps.specs.Rows.{planned_from}
-use Rattle.link_server.specs.Arrived.{arrived, HaveOwnNumbers, AreNumbered}
+use Rattle.link_server.specs.Arrived.{arrived, HaveOwnNumbers, AreNumberedUpTo}
 use Rattle.link_server.specs.Packets.{here_in}
 use Rattle.link_server.proofs.Words.{filter, is_best}
 use Rattle.link_server.proofs.queue.Queue.new.Goals as goal
@@ -11,7 +11,7 @@ invariant_of-result-2 c =
     let none = c.in_ok-new.ensures.waiting in
     record {
       own = subst (λ packets. HaveOwnNumbers (here_in packets)) (sym none) (λ n. omega arith);
-      numbered = subst (λ packets. AreNumbered 0 (here_in packets)) (sym none) tt;
+      numbered = subst (λ packets. AreNumberedUpTo 0 (here_in packets)) (sym none) tt;
       fits = (let long = ap (λ packets. length (here_in packets)) none in omega (arith, long));
       lines_up = omega arith;
       best_counted = ap (λ packets. length (filter (is_best c.args.bounds) (here_in packets))) (sym none);

@@ -1,7 +1,7 @@
 -- The packet that occupies the link can go on, so where it doesn't it departs.
 use Rattle.std.proofs.Common.{◌≡◌, ◌≤◌, ◌∷◌, List, None, Some, length, sym, ap, ◌∙◌, subst, arith}
 use Rattle.link_server.proofs.Words.{filter, is_other, Arrival, KeptQueue}
-use Rattle.link_server.specs.Arrived.{all_here, arrived, HaveOwnNumbers, AreNumbered}
+use Rattle.link_server.specs.Arrived.{all_here, arrived, HaveOwnNumbers, AreNumberedUpTo}
 use Rattle.link_server.specs.Line.{waiting_in}
 use Rattle.link_server.specs.Packets.{start_in, here_in, on_in}
 use Rattle.link_server.specs.Planned.{left_in}
@@ -67,7 +67,7 @@ invariant_of-self c =
     let fits = with-it at (λ ps. length ps ≤ q.room) c.self.invariant.fits in
     record {
       own = own-left start.packet waiting (with-it at HaveOwnNumbers c.self.invariant.own);
-      numbered = (with-it at (AreNumbered q.taken) c.self.invariant.numbered).1;
+      numbered = (with-it at (AreNumberedUpTo q.taken) c.self.invariant.numbered).1;
       fits = omega (arith, fits);
       lines_up = c.self.invariant.lines_up;
       best_counted = c.self.invariant.best_counted;

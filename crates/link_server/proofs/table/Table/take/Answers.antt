@@ -3,7 +3,7 @@ use Rattle.std.proofs.Common.{None, ℕ, suc, true, ◌≡◌, ◌+◌, ◌^◌,
 use Rattle.std.proofs.lemmas.List.{length-set}
 use Rattle.std.proofs.Math.Seq.{map-set_same}
 use Rattle.link_server.specs.KeyedList.{position}
-use Rattle.link_server.proofs.Words.{IfSome, find, is_kept_of, Packet, Reservation, whole_of, channel_number, newest, Closing, KeptRow, kept_arrived, kept_arrived_row, is_phase, arrival_at, KeptTable, reservation_in, row_in, ServedRow}
+use Rattle.link_server.proofs.Words.{IfSome, find, is_kept_of, Packet, Reservation, whole_of, channel_number, newest, Closing, AccountRow, kept_arrived, kept_arrived_row, is_phase, arrival_at, KeptTable, reservation_in, row_in, ServedRow}
 use Rattle.link_steps.specs.Regulator.{eligible_next}
 use Rattle.link_server.specs.Changes.{MayTake}
 use Rattle.link_server.specs.Strays.{stray}
@@ -118,5 +118,5 @@ returns-clause-packet c =
     ∙ ap (λ (row : ServedRow). arrival_at (reservation_in row) row.lead c.args.number (suc row.taken) packet.size c.args.clock (tick row)) c.index_mut-row.ensures.value
     ∙ ap (λ n. arrival_at (reservation_in was) was.lead c.args.number n packet.size c.args.clock (tick was)) (sym (next-number packet (reservation_in was) was.taken row.is.placed)) in
     subst (λ (table : KeptTable). IfSome (find (is_kept_of packet.chan) table.rows) (λ row. arrival_in c.take-taken.result ≡ kept_arrived c.args.clock c.args.number packet row)) c.self.view_is
-    (subst (λ o. IfSome o (λ (row : KeptRow). arrival_in c.take-taken.result ≡ kept_arrived c.args.clock c.args.number packet row))
+    (subst (λ o. IfSome o (λ (row : AccountRow). arrival_in c.take-taken.result ≡ kept_arrived c.args.clock c.args.number packet row))
     (sym (found-at packet.chan c.self.inside.rows.items (position c.self.inside.rows.keys c.held_key-key.result) c.index_mut-row.result.now c.held_key-key.ensures)) arrived)

@@ -1,11 +1,11 @@
 -- The lesser of two ticks is before each of them.
 use Rattle.std.proofs.Common.{◌≤◌, ℕ, List, arith}
-use Rattle.link_server.proofs.Words.{KeptRow, RowRests}
+use Rattle.link_server.proofs.Words.{AccountRow, RowRests}
 use Rattle.link_steps.proofs.SearchAndFilter.{Each-if}
 use Rattle.link_server.proofs.LinkRests.{plans-from, service-from}
 use Rattle.link_server.proofs.tick.resting.next_due.Goals as goal
 
-row-from : (bounds : List ℕ) (clock until least : ℕ) (row : KeptRow) → until ≤ least → RowRests bounds clock least row → RowRests bounds clock until row
+row-from : (bounds : List ℕ) (clock until least : ℕ) (row : AccountRow) → until ≤ least → RowRests bounds clock least row → RowRests bounds clock until row
 row-from bounds clock until least row less rests = record {
   plans = plans-from until least row.left less rests.plans;
   stays = λ t from before. rests.stays t from (omega (arith, before, less));
