@@ -13,7 +13,7 @@ use Rattle.link_steps.specs.declared.replies.Reply.{Reply}
 use Rattle.link_steps.specs.declared.replies.Reply.TheVariants as Is
 use Rattle.link_steps.specs.declared.shape.LinkShape.{LinkShape}
 use Rattle.link_steps.specs.Hold.{stays}
-use Rattle.link_steps.specs.Kept.{Account, StandsFor}
+use Rattle.link_steps.specs.Account.{Account, StandsFor}
 use Rattle.link_steps.specs.Lists.{change_first, without_first}
 use Rattle.link_steps.specs.Reservation.{Reservation, is_of, is_phase, tentative}
 use Rattle.link_steps.specs.Rows.{Row, row_terms, new_row}

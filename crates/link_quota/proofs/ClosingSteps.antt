@@ -18,7 +18,7 @@ use Rattle.link_steps.specs.declared.replies.Reply.{Reply}
 use Rattle.link_steps.specs.declared.replies.Reply.TheVariants as Is
 use Rattle.link_steps.specs.declared.shape.LinkShape.{LinkShape}
 use Rattle.link_steps.specs.Hold.{stays}
-use Rattle.link_steps.specs.Kept.{Account, StandsFor}
+use Rattle.link_steps.specs.Account.{Account, StandsFor}
 use Rattle.link_steps.specs.Replies.{reply_to, reply_at, relax_reply, deny_reply, release_reply, release_to}
 use Rattle.link_steps.specs.Reservation.{Reservation, is_of, is_phase, tentative}
 use Rattle.link_steps.specs.Room.{group_work, group_units}

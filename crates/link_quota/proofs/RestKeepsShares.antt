@@ -1,7 +1,7 @@
 -- While a split link rests its groups hold what they held, and some legal history stands for it.
 use Rattle.std.proofs.Common.{ℕ, ◌+◌, ◌<◌, ◌≤◌, ap, ◌∙◌, subst, arith, ◌∷◌}
 use Rattle.link_steps.specs.declared.asks.Ask.TheVariants.{Tick}
-use Rattle.link_steps.specs.Kept.{Account, HasContracts, StandsFor}
+use Rattle.link_steps.specs.Account.{Account, HasContracts, StandsFor}
 use Rattle.link_steps.specs.Quiet.{RestsUntil, later_by, quiet_reply, quiet_ticks}
 use Rattle.link_steps.specs.Split.{Link}
 use Rattle.link_steps.proofs.QuietTicks.{quiet-ticks}

@@ -26,7 +26,7 @@ use Rattle.link_steps.specs.Levels.{level_of}
 use Rattle.link_steps.proofs.Account.{stands-entry}
 use Rattle.link_steps.proofs.ReservationFound.{offer-best}
 use Rattle.link_server.proofs.EveryHistoryAgrees.{rows-have}
-use Rattle.link_steps.specs.Kept.{Account, StandsFor, kept_terms, kept_after}
+use Rattle.link_steps.specs.Account.{Account, StandsFor, kept_terms, kept_after}
 use Rattle.link_steps.specs.Legal.{AskFits, IsLegal}
 use Rattle.link_steps.specs.Replies.{reserve_reply, reply_at, reply_to}
 use Rattle.link_steps.specs.Reservation.{Reservation, is_of}

@@ -11,7 +11,7 @@ use Rattle.net_units.specs.declared.numbers.Level.{Level}
 use Rattle.net_units.specs.declared.numbers.LinkNo.{LinkNo}
 use Rattle.traffic_contract.specs.Contract.{Traffic}
 use Rattle.link_steps.specs.declared.replies.Reply.TheVariants.{Offer}
-use Rattle.link_steps.specs.Kept.{Account, StandsFor}
+use Rattle.link_steps.specs.Account.{Account, StandsFor}
 use Rattle.link_steps.specs.declared.shape.LinkShape.{LinkShape}
 use Rattle.link_steps.specs.HopGuarantee.{HopGuarantee}
 use Rattle.link_steps.specs.Legal.{AskFits, IsLegal}

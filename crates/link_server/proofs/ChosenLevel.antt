@@ -11,7 +11,7 @@ use Rattle.traffic_contract.proofs.AdmissionTest.{best_level-is}
 use Rattle.link_steps.specs.declared.asks.Ask.TheVariants.{Reserve, Relax, Deny, Submit, Release, Arrive, Tick, Pour}
 use Rattle.link_steps.specs.declared.replies.Entry.{Entry}
 use Rattle.link_steps.specs.Admissible.{MayOffer, MayAnswer, IsAdmissible}
-use Rattle.link_steps.specs.Kept.{HasContract, StandsFor, Account, AccountRow, kept_at, kept_terms, kept_reply}
+use Rattle.link_steps.specs.Account.{HasContract, StandsFor, Account, AccountRow, kept_at, kept_terms, kept_reply}
 use Rattle.link_steps.specs.Replies.{reserve_reply, reply_to}
 use Rattle.link_steps.specs.Room.{room_of, whole_room}
 use Rattle.link_steps.specs.Rows.{row_terms}

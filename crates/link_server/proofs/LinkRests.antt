@@ -3,7 +3,7 @@ use Rattle.std.proofs.Common.{◌≡◌, ℕ, zero, suc, ◌+◌, ◌<◌, ◌�
 use Rattle.std.proofs.lemmas.Bool.{cases_Bool, lt-leb}
 use Rattle.std.proofs.lemmas.List.Folds.{list_any_none}
 use Rattle.link_server.proofs.Words.{Tick, LinkShape, Each, SourcePacket, Arrival, Start, channel_number, Entry, Schedule, ServedRow, row_in}
-use Rattle.link_steps.specs.Kept.{HasContracts, Account, AccountRow, kept_stays, kept_after, kept_reply}
+use Rattle.link_steps.specs.Account.{HasContracts, Account, AccountRow, kept_stays, kept_after, kept_reply}
 use Rattle.link_steps.proofs.SearchAndFilter.{Each-if}
 use Rattle.link_server.specs.Holds.{AreListed, IsListed, tells_end}
 use Rattle.link_server.specs.Plans.{IsTold}

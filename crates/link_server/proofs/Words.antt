@@ -13,7 +13,7 @@ pub use Rattle.link_server.specs.declared.table.served_row.Wanted.{Wanted}
 pub use Rattle.link_steps.specs.Admissible.{MayOffer}
 pub use Rattle.link_steps.specs.BestEffort.{best_packet, is_best}
 pub use Rattle.link_steps.specs.Buffer.{free_units, has_slot, held_packets, kept_units, need_of, slots_of}
-pub use Rattle.link_steps.specs.Kept.{HasContract, Account, AccountRow, StandsFor, from_sources, held_rows, is_eligible_by, is_kept_at_hop, is_kept_of, is_other, kept_after, kept_after_step, kept_arrived, kept_arrived_row, kept_closed, kept_packet, kept_planned, kept_relaxed, kept_reply, kept_stays, kept_terms, kept_with, new_kept, nothing_kept, served, start_at, waits_here, with_kept_rows}
+pub use Rattle.link_steps.specs.Account.{HasContract, Account, AccountRow, StandsFor, from_sources, held_rows, is_eligible_by, is_kept_at_hop, is_kept_of, is_other, kept_after, kept_after_step, kept_arrived, kept_arrived_row, kept_closed, kept_packet, kept_planned, kept_relaxed, kept_reply, kept_stays, kept_terms, kept_with, new_kept, nothing_kept, served, start_at, waits_here, with_kept_rows}
 pub use Rattle.link_steps.specs.Legal.{AskFits, ReserveFits}
 pub use Rattle.link_steps.specs.Levels.{level_of}
 pub use Rattle.link_steps.specs.Lists.{Each}

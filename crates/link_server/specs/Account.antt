@@ -1,7 +1,7 @@
 -- What a link keeps is an account: its clock, its rows, and the packets that it has taken, that are here, and that
 -- occupy it.
 use Rattle.std.specs.Prelude.{ℕ, List}
-use Rattle.link_steps.specs.Kept.{Account, AccountRow}
+use Rattle.link_steps.specs.Account.{Account, AccountRow}
 use Rattle.link_server.specs.KeptQueue.{KeptQueue}
 
 -- the account of a clock, a queue of packets and rows

@@ -7,7 +7,7 @@ use Rattle.traffic_contract.specs.Admission.{total, admits}
 use Rattle.traffic_contract.specs.Eligible.{newest}
 use Rattle.link_steps.specs.declared.replies.Phase.TheVariants.{Tentative, Committed}
 use Rattle.link_steps.specs.Buffer.{slots_of, kept_units}
-use Rattle.link_steps.specs.Kept.{AccountRow, is_kept_of, is_kept_at_hop, kept_terms, kept_arrived_row}
+use Rattle.link_steps.specs.Account.{AccountRow, is_kept_of, is_kept_at_hop, kept_terms, kept_arrived_row}
 use Rattle.link_steps.specs.declared.asks.Packet.{Packet}
 use Rattle.link_steps.specs.Refusals.{not_in_phase}
 use Rattle.link_steps.specs.Reservation.{admitted, committed}

@@ -5,7 +5,7 @@ use Rattle.std.specs.Coded.{×_prop, Unit-prop}
 use native.Mathlib.Nat.{ℕ_set}
 use Rattle.net_units.specs.Numbers.{channel_number}
 use Rattle.link_steps.specs.Buffer.{held_packets}
-use Rattle.link_steps.specs.Kept.{AccountRow, is_kept_of, leaves_by}
+use Rattle.link_steps.specs.Account.{AccountRow, is_kept_of, leaves_by}
 use Rattle.link_steps.specs.Lists.{Each}
 use Rattle.link_steps.specs.Service.{Arrival, Start}
 use Rattle.link_server.specs.SoundProp.{Each-prop}

@@ -13,7 +13,7 @@ use Rattle.link_steps.specs.declared.asks.Ask.TheVariants.{Reserve}
 use Rattle.link_steps.specs.declared.shape.LinkShape.{LinkShape}
 use Rattle.link_steps.specs.Admissible.{MayOffer}
 use Rattle.link_steps.specs.Buffer.{kept_units}
-use Rattle.link_steps.specs.Kept.{kept_terms}
+use Rattle.link_steps.specs.Account.{kept_terms}
 use Rattle.link_steps.specs.Levels.{level_of}
 use Rattle.link_steps.specs.Reservation.{Reservation, admitted, is_of}
 use Rattle.link_steps.specs.Shape.{server_of}

@@ -3,7 +3,7 @@
 -- looked which of them fall due.
 use Rattle.std.specs.Prelude.{ℕ, List}
 use Rattle.traffic_contract.specs.Admission.{Server}
-use Rattle.link_steps.specs.Kept.{AccountRow}
+use Rattle.link_steps.specs.Account.{AccountRow}
 
 -- what a contract sees of a table
 pub record KeptTable : Type 0 where

@@ -7,7 +7,7 @@ use Rattle.std.specs.List.{list_any}
 use Rattle.net_units.specs.Numbers.{channel_number}
 use Rattle.traffic_contract.specs.Admission.{total}
 use Rattle.link_steps.specs.declared.replies.Phase.TheVariants.{Closing}
-use Rattle.link_steps.specs.Kept.{AccountRow}
+use Rattle.link_steps.specs.Account.{AccountRow}
 use Rattle.link_steps.specs.Lists.{Each}
 use Rattle.link_steps.specs.Reservation.{is_phase}
 use Rattle.link_steps.specs.Rows.{is_for}

@@ -4,7 +4,7 @@ use Rattle.std.specs.Prelude.{ℕ, ◌<◌, List, Option, Some, None}
 use Rattle.std.specs.Coded.{le_prop}
 use Rattle.std.proofs.Math.Bool.{Bool-set}
 use Rattle.link_steps.specs.declared.shape.LinkShape.{LinkShape}
-use Rattle.link_steps.specs.Kept.{Account, AccountRow}
+use Rattle.link_steps.specs.Account.{Account, AccountRow}
 use Rattle.link_steps.specs.Quiet.{IsEligibleFrom, RowRests, ServiceRests, RestsUntil}
 use Rattle.link_steps.specs.Service.{Arrival, Start}
 use Rattle.link_server.specs.SoundProp.{Each-prop}

@@ -7,7 +7,7 @@ use Rattle.std.specs.List.{All}
 use Rattle.net_units.specs.Numbers.{channel_number, level_number}
 use Rattle.net_units.specs.declared.numbers.ChanNo.{ChanNo}
 use Rattle.rcsp_admission.specs.Sums.{Held, row_held}
-use Rattle.link_steps.specs.Kept.{AccountRow}
+use Rattle.link_steps.specs.Account.{AccountRow}
 use Rattle.link_steps.specs.Reservation.{Reservation, is_of, is_at_hop}
 use Rattle.link_server.specs.declared.table.served_row.ServedRow.{ServedRow}
 use Rattle.link_server.specs.KeyedList.{Listed, position}

@@ -13,7 +13,7 @@ use Rattle.traffic_contract.specs.Contract.{IsContract}
 use Rattle.link_steps.specs.declared.shape.LinkShape.{LinkShape}
 use Rattle.link_steps.specs.BestEffort.{is_best}
 use Rattle.link_steps.specs.Buffer.{slots_of, held_packets}
-use Rattle.link_steps.specs.Kept.{Account, AccountRow, kept_rows_after, held_rows, brought, present}
+use Rattle.link_steps.specs.Account.{Account, AccountRow, kept_rows_after, held_rows, brought, present}
 use Rattle.link_steps.specs.Lists.{Each}
 use Rattle.link_steps.specs.Rows.{SourcePacket, left_at}
 use Rattle.link_steps.specs.Service.{Arrival, Start, leaves_at}

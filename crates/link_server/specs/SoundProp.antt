@@ -5,7 +5,7 @@ use mathlib.Core.HLevel.{×₃_prop}
 use mathlib.Core.Sum.{⊎_set}
 use native.Mathlib.Nat.{ℕ_set}
 use Rattle.link_steps.specs.declared.shape.LinkShape.{LinkShape}
-use Rattle.link_steps.specs.Kept.{Account, AccountRow}
+use Rattle.link_steps.specs.Account.{Account, AccountRow}
 use Rattle.link_steps.specs.Lists.{Each}
 use Rattle.link_steps.specs.Rows.{SourcePacket}
 use Rattle.link_steps.specs.Service.{Arrival, Start}

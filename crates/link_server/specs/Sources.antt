@@ -3,7 +3,7 @@
 -- account says what each row and the packets become; here it is said of the rows and packets that the link keeps.
 use Rattle.std.specs.Prelude.{ℕ, ◌+◌, ◌-◌, ◌<◌, ◌≤◌, ◌^◌, ◌++◌, nat_lt, find, List, length, map}
 use Rattle.traffic_contract.specs.Eligible.{newest}
-use Rattle.link_steps.specs.Kept.{AccountRow, kept_step, kept_packets, kept_rows_after, kept_lost}
+use Rattle.link_steps.specs.Account.{AccountRow, kept_step, kept_packets, kept_rows_after, kept_lost}
 use Rattle.link_steps.specs.Lists.{Each}
 use Rattle.link_steps.specs.Service.{Arrival}
 use Rattle.link_steps.specs.Buffer.{slots_of}

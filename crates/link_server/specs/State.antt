@@ -2,7 +2,7 @@
 use Rattle.std.specs.Prelude.{◌≡◌, List}
 use Rattle.std.proofs.Common.{ap}
 use Rattle.link_steps.specs.declared.replies.Entry.{Entry}
-use Rattle.link_steps.specs.Kept.{Account, StandsFor, kept_at}
+use Rattle.link_steps.specs.Account.{Account, StandsFor, kept_at}
 use Rattle.link_steps.specs.Scan.{clock_of}
 use Rattle.link_steps.specs.Split.{SplitFits, whole}
 use Rattle.link_steps.proofs.LegalAdmissible.{whole-fits}

@@ -6,7 +6,7 @@ use Rattle.std.specs.Prelude.{List}
 use Rattle.link_steps.specs.declared.replies.Entry.{Entry}
 use Rattle.link_steps.specs.declared.shape.LinkShape.{LinkShape}
 use Rattle.link_steps.specs.Admissible.{IsAdmissible}
-use Rattle.link_steps.specs.Kept.{Account, StandsFor}
+use Rattle.link_steps.specs.Account.{Account, StandsFor}
 
 -- no admissible history stands for the account
 abbrev pub StandsForNone : LinkShape → Account → Type 0

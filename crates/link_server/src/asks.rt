@@ -1,7 +1,7 @@
 //! The asks of a link but for its ticks.
 ghost use Rattle.std.specs.Prelude.{◌≡◌, ◌^◌, ◌<◌, IfOk, OnErr, IsOk};
 ghost use Rattle.link_steps.specs.declared.asks.Ask.TheVariants.{Tick as AskTick};
-ghost use Rattle.link_steps.specs.Kept.{kept_reply, kept_after};
+ghost use Rattle.link_steps.specs.Account.{kept_reply, kept_after};
 ghost use Rattle.link_steps.specs.Legal.{AskFits};
 ghost use Rattle.link_steps.specs.Split.{whole};
 ghost use Rattle.link_server.specs.Asks.{IsOffer, TakesNone};

@@ -60,7 +60,7 @@ pub(crate) struct Left {
 impl Queue {
     ghost use Rattle.std.specs.Option.{option_map};
     ghost use Rattle.link_steps.specs.BestEffort.{best_packet, best_step};
-    ghost use Rattle.link_steps.specs.Kept.{served, departs, best_departs, still_on, still_here, waits_here};
+    ghost use Rattle.link_steps.specs.Account.{served, departs, best_departs, still_on, still_here, waits_here};
     ghost use Rattle.link_steps.specs.Lists.{Each};
     ghost use Rattle.link_steps.specs.Quiet.{ServiceRests};
     ghost use Rattle.link_steps.specs.Rows.{is_for, left_at};

@@ -8,7 +8,7 @@ ghost use Rattle.net_units.specs.LevelBounds.{last_bound};
 ghost use Rattle.net_units.specs.Numbers.{channel_number, level_number};
 ghost use Rattle.traffic_contract.specs.Admission.{total, best_level, refused_sum};
 ghost use Rattle.link_steps.specs.Buffer.{kept_units};
-ghost use Rattle.link_steps.specs.Kept.{is_kept_of, is_kept_at_hop, kept_terms, kept_stays, kept_relaxed, kept_planned, kept_closed, kept_arrived_row, kept_arrived, kept_packets, kept_rows_after, kept_lost};
+ghost use Rattle.link_steps.specs.Account.{is_kept_of, is_kept_at_hop, kept_terms, kept_stays, kept_relaxed, kept_planned, kept_closed, kept_arrived_row, kept_arrived, kept_packets, kept_rows_after, kept_lost};
 ghost use Rattle.link_steps.specs.Lists.{Each, change_first, without_first};
 ghost use Rattle.link_steps.specs.Quiet.{RowRests};
 ghost use Rattle.link_steps.specs.Reservation.{admitted};

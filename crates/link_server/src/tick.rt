@@ -1,7 +1,7 @@
 //! The tick of a link: its parts in their order, or none of them where nothing falls due.
 ghost use Rattle.std.specs.Prelude.{◌≡◌, ◌^◌, ◌<◌, suc, IfOk, IsOk};
 ghost use Rattle.link_steps.specs.declared.asks.Ask.TheVariants.{Tick as AskTick};
-ghost use Rattle.link_steps.specs.Kept.{kept_reply, kept_after};
+ghost use Rattle.link_steps.specs.Account.{kept_reply, kept_after};
 ghost use Rattle.link_steps.specs.Split.{whole};
 ghost use Rattle.link_server.specs.State.{kept_in};
 

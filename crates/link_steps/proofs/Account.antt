@@ -17,7 +17,7 @@ use Rattle.link_steps.specs.declared.shape.LinkShape.{LinkShape}
 use Rattle.link_steps.specs.Split.{Link}
 use Rattle.link_steps.specs.Buffer.{held_packets}
 use Rattle.link_steps.specs.Hold.{stays}
-use Rattle.link_steps.specs.Kept.{HasContract, HasContracts, StandsFor, nothing_kept, Account, AccountRow, kept_row, start_on, new_kept, with_kept_rows, kept_at, kept_of, kept_terms, held_rows, brought, present, occupies, kept_lost, kept_rows_after, kept_after_tick, kept_tick_reply, is_kept_of, is_kept_at_hop, kept_submit, kept_release, kept_arrive, kept_reply, kept_relaxed, kept_planned, kept_closed, kept_arrived_row, kept_arrived, kept_with_arrival, kept_after, from_sources, kept_best, kept_waiting, waits_here}
+use Rattle.link_steps.specs.Account.{HasContract, HasContracts, StandsFor, nothing_kept, Account, AccountRow, kept_row, start_on, new_kept, with_kept_rows, kept_at, kept_of, kept_terms, held_rows, brought, present, occupies, kept_lost, kept_rows_after, kept_after_tick, kept_tick_reply, is_kept_of, is_kept_at_hop, kept_submit, kept_release, kept_arrive, kept_reply, kept_relaxed, kept_planned, kept_closed, kept_arrived_row, kept_arrived, kept_with_arrival, kept_after, from_sources, kept_best, kept_waiting, waits_here}
 use Rattle.link_steps.specs.Lists.{Each}
 use Rattle.link_steps.specs.Replies.{submit_to, release_to, arrive_to, arrive_reply, tick_reply, reply_at, reply_to}
 use Rattle.link_steps.specs.Reservation.{Reservation, tentative}

@@ -13,7 +13,7 @@ use Rattle.traffic_contract.proofs.BurstIsPositive.{burst-least}
 use Rattle.traffic_contract.proofs.LeastEligibleTick.{eligible-take, first_from-reached, newest-take, take-cons-take}
 use Rattle.link_steps.specs.Buffer.{has_slot}
 use Rattle.link_steps.specs.Hold.{stays}
-use Rattle.link_steps.specs.Kept.{kept_row, kept_stays, kept_step, kept_tick, kept_packet, kept_with, past_tick, kept_after_step, kept_packets, kept_rows_after, kept_lost}
+use Rattle.link_steps.specs.Account.{kept_row, kept_stays, kept_step, kept_tick, kept_packet, kept_with, past_tick, kept_after_step, kept_packets, kept_rows_after, kept_lost}
 use Rattle.link_steps.specs.Lists.{Each}
 use Rattle.link_steps.specs.Reservation.{Reservation}
 use Rattle.link_steps.specs.Service.{Arrival}

@@ -5,7 +5,7 @@ use Rattle.std.proofs.lemmas.Bool.{le-leb, lt-leb, ltb-true, lt-ltb, le-ltb, ne_
 use Rattle.std.proofs.lemmas.List.Elements.{filter-append}
 use Rattle.std.specs.Prelude.{filter, nat_le, nat_lt}
 use Rattle.link_steps.specs.declared.shape.LinkShape.{LinkShape}
-use Rattle.link_steps.specs.Kept.{waits_here, best_departs, start_on, is_eligible_by, start_at, served, still_on, departs, is_other, still_here}
+use Rattle.link_steps.specs.Account.{waits_here, best_departs, start_on, is_eligible_by, start_at, served, still_on, departs, is_other, still_here}
 use Rattle.link_steps.specs.Lists.{Each}
 use Rattle.link_steps.specs.Replies.{sent_at, best_sent_at}
 use Rattle.link_steps.specs.BestEffort.{is_best, waits_best, waiting_best}

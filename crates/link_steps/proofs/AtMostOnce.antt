@@ -11,7 +11,7 @@ use Rattle.link_steps.specs.declared.replies.Reply.{Reply}
 use Rattle.link_steps.specs.declared.replies.Reply.TheVariants as Is
 use Rattle.link_steps.specs.declared.shape.LinkShape.{LinkShape}
 use Rattle.link_steps.specs.Admissible.{MayReply, MayAnswer, IsAdmissible}
-use Rattle.link_steps.specs.Kept.{Account, StandsFor}
+use Rattle.link_steps.specs.Account.{Account, StandsFor}
 use Rattle.link_steps.specs.Legal.{AskFits, IsLegal}
 use Rattle.link_steps.specs.Reservation.{Reservation}
 use Rattle.net_units.specs.declared.numbers.ChanNo.{ChanNo}

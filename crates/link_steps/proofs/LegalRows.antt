@@ -5,7 +5,7 @@ use Rattle.link_steps.specs.declared.replies.Entry.{Entry}
 use Rattle.link_steps.specs.declared.shape.LinkShape.{LinkShape}
 use Rattle.link_steps.specs.Admissible.{IsAdmissible}
 use Rattle.link_steps.specs.Hold.{stays}
-use Rattle.link_steps.specs.Kept.{HasContract, HasContracts, kept_row, kept_at, kept_of}
+use Rattle.link_steps.specs.Account.{HasContract, HasContracts, kept_row, kept_at, kept_of}
 use Rattle.link_steps.specs.Lists.{Each}
 use Rattle.link_steps.specs.Scan.{Scan, clock_of, is_row_of, arrived_row, with_arrival, without_expired, with_sources, with_best, after_tick, scan_of}
 use Rattle.link_steps.specs.Service.{Arrival}

@@ -7,7 +7,7 @@ use Rattle.link_steps.specs.declared.replies.Entry.{Entry}
 use Rattle.link_steps.specs.declared.replies.Reply.TheVariants.{Ticked}
 use Rattle.link_steps.specs.declared.replies.Sent.{Sent}
 use Rattle.link_steps.specs.declared.shape.LinkShape.{LinkShape}
-use Rattle.link_steps.specs.Kept.{Account, AccountRow, HasContracts, StandsFor, kept_stays, kept_step, past_tick, kept_packets, kept_rows_after, kept_lost, kept_best, kept_reply, kept_after, held_rows, brought, present, served, still_on, still_here, departs, best_departs, is_eligible_by, kept_after_tick, kept_tick_reply}
+use Rattle.link_steps.specs.Account.{Account, AccountRow, HasContracts, StandsFor, kept_stays, kept_step, past_tick, kept_packets, kept_rows_after, kept_lost, kept_best, kept_reply, kept_after, held_rows, brought, present, served, still_on, still_here, departs, best_departs, is_eligible_by, kept_after_tick, kept_tick_reply}
 use Rattle.link_steps.specs.BestEffort.{best_step}
 use Rattle.link_steps.specs.Legal.{IsLegal}
 use Rattle.link_steps.specs.Lists.{Each}

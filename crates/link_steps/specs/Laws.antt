@@ -10,7 +10,7 @@ use Rattle.traffic_contract.specs.Admission.{total}
 use Rattle.link_steps.specs.Buffer.{kept_units}
 use Rattle.link_steps.specs.BusyPeriod.{HasWork, IsClear, FitsWindow, FitsWithin, EndsWithin}
 use Rattle.link_steps.specs.HopGuarantee.{AfterEach, HeldRowsPass, HopGuarantee}
-use Rattle.link_steps.specs.Kept.{HasContracts, kept_of, kept_reply, kept_after}
+use Rattle.link_steps.specs.Account.{HasContracts, kept_of, kept_reply, kept_after}
 use Rattle.link_steps.specs.Legal.{AskFits, IsLegal}
 use Rattle.link_steps.specs.Lists.{Each}
 use Rattle.link_steps.specs.Replies.{reply_to}

@@ -25,7 +25,7 @@ pub mod WindowRows
 pub mod SourceGuarantee
 pub mod Journals
 pub mod RowLaws
-pub mod Kept
+pub mod Account
 pub mod BusyPeriod
 pub mod Laws
 pub mod BufferHolds

@@ -4,7 +4,7 @@ use Rattle.std.proofs.lemmas.Bool.{cases_Bool, eqb-true, le-leb, or_cases}
 use Rattle.link_server.proofs.Words.{if◌then◌else◌, find, nat_eq, nat_le, Packet, Closing, has_slot, Each, is_phase, SourcePacket, is_for, left_at, Arrival, SourceStep, Rests, Brings, Drops, source_step, taken_by, Entry, Schedule}
 use Rattle.link_steps.specs.declared.replies.Refusal.TheVariants.{Stray}
 use Rattle.link_steps.specs.declared.replies.Why.TheVariants.{PastCount}
-use Rattle.link_steps.specs.Kept.{AccountRow, kept_step, kept_after_step, kept_rows_after}
+use Rattle.link_steps.specs.Account.{AccountRow, kept_step, kept_after_step, kept_rows_after}
 use Rattle.link_steps.specs.Refusals.{first_hop, uncommitted, wrong_number, past_count, big}
 use Rattle.link_steps.proofs.RulesPassed.{unless-none}
 use Rattle.link_server.specs.Holds.{is_open, open_count, open_in, IsListed, AreListed}

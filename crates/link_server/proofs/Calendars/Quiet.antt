@@ -2,7 +2,7 @@
 use Rattle.std.proofs.Common.{◌≡◌, ℕ, zero, suc, ◌+◌, ◌<◌, ◌≤◌, List, [], ◌∷◌, None, refl, ap, arith}
 use Rattle.std.proofs.lemmas.Bool.{ne_eqb, le-leb}
 use Rattle.link_server.proofs.Words.{find, Each, Arrival, Rests}
-use Rattle.link_steps.specs.Kept.{AccountRow, kept_step, past_tick}
+use Rattle.link_steps.specs.Account.{AccountRow, kept_step, past_tick}
 use Rattle.link_steps.specs.Rows.{SourcePacket, planned_from, is_for, left_at}
 use Rattle.link_server.specs.Planned.{IsPlannedFrom}
 use Rattle.link_server.specs.Plans.{IsQuiet}

@@ -6,7 +6,7 @@ use Rattle.std.proofs.lemmas.List.Elements.{filter-append}
 use Rattle.std.proofs.lemmas.Option.{same_Some}
 use Rattle.link_server.proofs.Words.{filter, Each, nat_eq, channel_number, find, is_kept_of, Arrival, AccountRow, SourceStep, Rests, Brings, Drops, lead_with, taken_by, kept_packet, kept_after_step, kept_arrived, kept_arrived_row, Packet}
 use Rattle.link_steps.specs.Buffer.{has_lead, held_packets}
-use Rattle.link_steps.specs.Kept.{kept_packets, kept_rows_after, kept_step, past_tick}
+use Rattle.link_steps.specs.Account.{kept_packets, kept_rows_after, kept_step, past_tick}
 use Rattle.link_steps.proofs.SearchAndFilter.{Each-append, Each-both, Each-find, Each-if}
 use Rattle.link_steps.specs.Lists.{change_first}
 use Rattle.link_steps.proofs.PacketRows.{lead_with-later}

@@ -6,7 +6,7 @@ use Rattle.std.proofs.lemmas.Option.{same_Some}
 use Rattle.std.specs.Option.{ForSome}
 use Rattle.link_server.proofs.Words.{Each, filter, find, nat_eq, nat_lt, if◌then◌else◌, channel_number, is_kept_of, is_other, Arrival, Start, Account, AccountRow, Reply, Tick, LinkShape, SourceStep, Rests, Brings, Drops, best_packet, from_sources, held_rows, kept_stays}
 use Rattle.link_steps.specs.Buffer.{has_lead, held_packets}
-use Rattle.link_steps.specs.Kept.{brought, kept_after, kept_after_tick, kept_best, kept_rows_after, leaves_by, occupies, present, still_here}
+use Rattle.link_steps.specs.Account.{brought, kept_after, kept_after_tick, kept_best, kept_rows_after, leaves_by, occupies, present, still_here}
 use Rattle.link_steps.proofs.SearchAndFilter.{Each-filter, Each-find, Each-if}
 use Rattle.link_steps.proofs.RowPackets.{IsLedUpTo}
 use Rattle.link_server.specs.Departed.{AreCounted, IsCounted, IsOwn, departed_after, leaver}

@@ -6,7 +6,7 @@ use Rattle.link_server.proofs.Words.{nat_eq, find, Arrive, Packet, Refusal, Repl
 use Rattle.link_steps.specs.declared.replies.Refusal.TheVariants.{Stray}
 use Rattle.link_steps.specs.declared.replies.Reply.TheVariants.{Taken, Refused}
 use Rattle.link_steps.specs.declared.replies.Why.TheVariants.{NoRow, WrongNumber}
-use Rattle.link_steps.specs.Kept.{Account, AccountRow, kept_reply, kept_after, kept_arrive, kept_with_arrival, kept_arrived_row, kept_arrived, is_kept_of}
+use Rattle.link_steps.specs.Account.{Account, AccountRow, kept_reply, kept_after, kept_arrive, kept_with_arrival, kept_arrived_row, kept_arrived, is_kept_of}
 use Rattle.link_steps.specs.Refusals.{RefusalRule, first_refusal, first_hop, uncommitted, wrong_number, past_count, big, full, stray_rules}
 use Rattle.link_steps.specs.Regulator.{eligible_next}
 use Rattle.link_steps.specs.Replies.{arrive_reply}

@@ -4,7 +4,7 @@ use Rattle.std.specs.Prelude.{is_some, find}
 use Rattle.link_server.proofs.Words.{ChanNo, Release, Committed, Refusal, LinkShape, whole, not_in_phase, names_first_hop}
 use Rattle.link_steps.specs.declared.replies.Refusal.TheVariants.{NoSuch}
 use Rattle.link_steps.specs.declared.replies.Reply.TheVariants.{Closing, Refused}
-use Rattle.link_steps.specs.Kept.{Account, AccountRow, kept_reply, kept_after, with_kept_rows, kept_closed, kept_release, is_kept_of, is_kept_at_hop}
+use Rattle.link_steps.specs.Account.{Account, AccountRow, kept_reply, kept_after, with_kept_rows, kept_closed, kept_release, is_kept_of, is_kept_at_hop}
 use Rattle.link_steps.specs.Replies.{release_reply, count_at_release, cancelled_at_release}
 use Rattle.link_steps.specs.Lists.{change_first}
 use Rattle.link_server.specs.Changes.{IsRowAtHop}

@@ -8,7 +8,7 @@ use Rattle.traffic_contract.proofs.AdmissionTest.{Decides-admits}
 use Rattle.traffic_contract.specs.Admission.{Passes, admits, with_row}
 use Rattle.rcsp_admission.specs.Sums.{Sums, Held, Holds, row_held, admitted_rows}
 use Rattle.link_steps.specs.Buffer.{slots_of, free_units}
-use Rattle.link_steps.specs.Kept.{Account, AccountRow, is_kept_of, kept_terms, kept_after, new_kept}
+use Rattle.link_steps.specs.Account.{Account, AccountRow, is_kept_of, kept_terms, kept_after, new_kept}
 use Rattle.link_server.specs.Rows.{row_in, summed, IsWithinLevels, AreWithin}
 use Rattle.link_server.specs.Changes.{MayAdd}
 use Rattle.link_steps.proofs.RulesAsMeant.{need-kept}

@@ -3,7 +3,7 @@ use Rattle.std.proofs.Common.{◌≡◌, ℕ, suc, ◌+◌, ◌<◌, ◌≤◌, 
 use Rattle.std.proofs.lemmas.Bool.{lt-leb, le-leb}
 use Rattle.link_server.proofs.Words.{find, filter, nat_lt, channel_number, ChanNo, Arrival, Pour, Refusal, Planned, Refused, LinkShape, busy, SourcePacket, planned_from, is_for, left_at, SourceStep, Rests, Brings, Drops, source_step, taken_by, whole, account, KeptQueue}
 use Rattle.link_steps.specs.declared.replies.Refusal.TheVariants.{TooBig}
-use Rattle.link_steps.specs.Kept.{Account, AccountRow, waits_here, kept_waiting, kept_best, kept_reply, kept_after}
+use Rattle.link_steps.specs.Account.{Account, AccountRow, waits_here, kept_waiting, kept_best, kept_reply, kept_after}
 use Rattle.link_steps.specs.Replies.{pour_reply}
 use Rattle.link_steps.specs.BestEffort.{best_step, best_arrival, best_packet}
 use Rattle.std.proofs.lemmas.List.{append-nil}

@@ -8,7 +8,7 @@ use Rattle.link_server.proofs.RowsOfTable.Places.{terms-found, terms-absent}
 use Rattle.link_server.proofs.RowsOfTable.Placed.{hop-changed}
 use Rattle.link_steps.specs.declared.replies.Refusal.TheVariants.{NoSuch, TooWide, Twice, NoLevel, NoBuffer}
 use Rattle.link_steps.specs.declared.replies.Reply.TheVariants.{Offer, Relaxed, Denied, Planned, Refused}
-use Rattle.link_steps.specs.Kept.{Account, AccountRow, kept_terms, kept_reply, kept_after, with_kept_rows, new_kept, kept_relaxed, kept_planned, kept_submit, is_kept_of, is_kept_at_hop}
+use Rattle.link_steps.specs.Account.{Account, AccountRow, kept_terms, kept_reply, kept_after, with_kept_rows, new_kept, kept_relaxed, kept_planned, kept_submit, is_kept_of, is_kept_at_hop}
 use Rattle.link_steps.specs.Refusals.{not_in_phase, unfit, busy, too_big}
 use Rattle.link_steps.specs.Room.{room_of, whole_room}
 use Rattle.link_steps.specs.Replies.{reserve_reply, relax_reply, deny_reply, submit_reply}

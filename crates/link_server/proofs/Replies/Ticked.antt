@@ -4,7 +4,7 @@ use Rattle.std.specs.Prelude.{Option, nat_eq}
 use Rattle.link_server.proofs.Words.{Tick, Reply, LinkShape, whole, best_packet, left_at, Arrival, SourceStep, Rests, Brings, Drops, taken_by, dropped_by, account, KeptQueue}
 use Rattle.link_steps.specs.declared.replies.Reply.TheVariants.{Ticked}
 use Rattle.link_steps.specs.declared.replies.Sent.{Sent}
-use Rattle.link_steps.specs.Kept.{Account, AccountRow, kept_reply, kept_after, kept_tick_reply, kept_after_tick, kept_lost, kept_rows_after, held_rows, from_sources, kept_best, brought, present, occupies, served, departs, best_departs, still_here, still_on}
+use Rattle.link_steps.specs.Account.{Account, AccountRow, kept_reply, kept_after, kept_tick_reply, kept_after_tick, kept_lost, kept_rows_after, held_rows, from_sources, kept_best, brought, present, occupies, served, departs, best_departs, still_here, still_on}
 use Rattle.link_steps.proofs.Account.{same-kept}
 use Rattle.link_server.specs.Sources.{queue_after}
 

@@ -9,7 +9,7 @@ use Rattle.link_steps.proofs.ReservationFound.{phase-is}
 use Rattle.buffer_budget.specs.Parts.{whole_of, with_held, with_freed}
 use Rattle.traffic_contract.proofs.AdmissionTest.{total-push, total-map}
 use Rattle.link_steps.specs.Buffer.{stay_in, stay_of, slots_of, kept_units}
-use Rattle.link_steps.specs.Kept.{AccountRow, kept_relaxed, kept_terms, kept_step, kept_after_step, kept_rows_after}
+use Rattle.link_steps.specs.Account.{AccountRow, kept_relaxed, kept_terms, kept_step, kept_after_step, kept_rows_after}
 use Rattle.link_steps.specs.Reservation.{Reservation, closing}
 use Rattle.link_server.specs.declared.table.keeping.Keeping.{Keeping}
 use Rattle.link_server.specs.Keeping.{places_for, IsKeeping}

@@ -7,7 +7,7 @@ use Rattle.std.specs.Prelude.{filter, find, not, nat_lt}
 use Rattle.link_server.proofs.Words.{LinkShape, Each, SourcePacket, is_for, Arrival, Start, SourceStep, Rests, Brings, Drops, source_step}
 use Rattle.link_steps.specs.BestEffort.{is_best, best_step, best_packet}
 use Rattle.link_steps.specs.Buffer.{has_lead, held_packets}
-use Rattle.link_steps.specs.Kept.{Account, waits_here, is_other, kept_waiting, kept_best}
+use Rattle.link_steps.specs.Account.{Account, waits_here, is_other, kept_waiting, kept_best}
 use Rattle.link_steps.proofs.SearchAndFilter.{Each-filter, Each-find, Each-if, filter-all, filter-none, filter-filter}
 use Rattle.link_server.specs.Sound.{of_channels, best_count, AreNumberedWithin, IsSoundPacket, HasSize, AreAhead}
 use Rattle.link_server.proofs.Sound.Packets.{HasLead, packets-lead, numbered-filter, count-upto}

@@ -3,7 +3,7 @@
 use Rattle.std.proofs.Common.{◌≡◌, ℕ, suc, ◌+◌, ◌^◌, ◌<◌, ◌≤◌, List, [], ◌∷◌, ◌++◌, length, arith, length-append}
 use Rattle.traffic_contract.proofs.AdmissionTest.{total-append, total-filter-le}
 use Rattle.link_server.proofs.Words.{total, newest, LinkShape, slots_of, Each, SourcePacket, Arrival}
-use Rattle.link_steps.specs.Kept.{Account, AccountRow, kept_stays, kept_waiting, kept_best, from_sources, brought}
+use Rattle.link_steps.specs.Account.{Account, AccountRow, kept_stays, kept_waiting, kept_best, from_sources, brought}
 use Rattle.link_steps.proofs.SearchAndFilter.{Each-both, Each-if}
 use Rattle.link_server.specs.Planned.{IsPlannedFrom}
 use Rattle.link_server.specs.Sources.{IsReady}

@@ -4,7 +4,7 @@ use Rattle.std.proofs.lemmas.Bool.{leb-false}
 use Rattle.std.proofs.lemmas.Option.{same_Some}
 use Rattle.link_server.proofs.Words.{filter, LinkShape, is_best, Each}
 use Rattle.std.specs.Option.{ForSome}
-use Rattle.link_steps.specs.Kept.{Account, leaves_by, still_on, is_other, still_here}
+use Rattle.link_steps.specs.Account.{Account, leaves_by, still_on, is_other, still_here}
 use Rattle.link_steps.specs.Service.{Arrival, Start, leaves_at}
 use Rattle.link_steps.proofs.SearchAndFilter.{Each-filter}
 use Rattle.link_server.specs.Sound.{of_channels, AreNumberedWithin, AreAhead, IsSoundPacket, IsRunning, IsSoundRow, IsSound}

@@ -10,7 +10,7 @@ use Rattle.traffic_contract.proofs.AdmissionTest.{total-le}
 use Rattle.traffic_contract.proofs.LongerWindows.{most_in-mono}
 use Rattle.link_steps.specs.declared.replies.Reply.TheVariants as Is
 use Rattle.link_steps.specs.Buffer.{slots_of, stay_in, held_packets}
-use Rattle.link_steps.specs.Kept.{Account, AccountRow, nothing_kept, with_kept_rows, kept_terms, is_kept_of, is_kept_at_hop, kept_relaxed, kept_planned, kept_closed, new_kept, kept_submit, kept_release, kept_reply, kept_after}
+use Rattle.link_steps.specs.Account.{Account, AccountRow, nothing_kept, with_kept_rows, kept_terms, is_kept_of, is_kept_at_hop, kept_relaxed, kept_planned, kept_closed, new_kept, kept_submit, kept_release, kept_reply, kept_after}
 use Rattle.link_steps.specs.Legal.{ReserveFits, RelaxFits, SubmitFits}
 use Rattle.link_steps.specs.Lists.{change_first, without_first, Each}
 use Rattle.link_steps.specs.Replies.{relax_reply, submit_reply, release_reply}

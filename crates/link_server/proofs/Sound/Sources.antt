@@ -3,7 +3,7 @@ use Rattle.std.proofs.Common.{◌≡◌, ℕ, suc, ◌+◌, ◌<◌, ◌≤◌, 
 use Rattle.std.proofs.lemmas.Bool.{cases_eq, ltb-true}
 use Rattle.link_server.proofs.Words.{find, total, LinkShape, best_packet, slots_of, has_slot, held_packets, Each, SourcePacket, is_for, left_at, Arrival, SourceStep, Rests, Brings, Drops, lead_with, source_step, taken_by}
 use Rattle.traffic_contract.proofs.AdmissionTest.{total-filter-le}
-use Rattle.link_steps.specs.Kept.{Account, AccountRow, kept_stays, kept_step, kept_tick, kept_packet, past_tick, kept_after_step, kept_packets, kept_rows_after, held_rows, from_sources, kept_waiting, kept_best, brought, present}
+use Rattle.link_steps.specs.Account.{Account, AccountRow, kept_stays, kept_step, kept_tick, kept_packet, past_tick, kept_after_step, kept_packets, kept_rows_after, held_rows, from_sources, kept_waiting, kept_best, brought, present}
 use Rattle.link_steps.proofs.SearchAndFilter.{Each-append, Each-filter, Each-find, Each-if}
 use Rattle.link_server.specs.Sound.{places_of, places, of_channels, best_count, AreNumberedWithin, HasSize, AreAhead, IsApartFrom, HaveOwnLeads, IsSoundPacket, IsSoundRow, IsSound, with_brought}
 use Rattle.link_server.proofs.Sound.Packets.{HasLead, packets-lead, numbered-append, held-more, held-taken}

@@ -10,7 +10,7 @@ use Rattle.traffic_contract.specs.Contract.{IsContract, most_in, burst_of}
 use Rattle.link_steps.specs.declared.replies.Entry.{Entry}
 use Rattle.link_steps.specs.Admissible.{IsAdmissible}
 use Rattle.link_steps.specs.Buffer.{kept_units, stay_in, stay_of}
-use Rattle.link_steps.specs.Kept.{HasContract, Account, AccountRow, StandsFor, nothing_kept, kept_at, kept_row, kept_terms, kept_reply, kept_after}
+use Rattle.link_steps.specs.Account.{HasContract, Account, AccountRow, StandsFor, nothing_kept, kept_at, kept_row, kept_terms, kept_reply, kept_after}
 use Rattle.link_steps.specs.Rows.{Row}
 use Rattle.link_steps.specs.Slots.{IsSoon, HasSoonTicks}
 use Rattle.link_steps.proofs.Account.{nothing-stands, stands-entry}

@@ -9,7 +9,7 @@ use Rattle.link_server.proofs.Words.{find, total, Arrive, Packet, Reply, LinkSha
 use Rattle.traffic_contract.proofs.AdmissionTest.{total-le}
 use Rattle.traffic_contract.specs.Eligible.{eligible}
 use Rattle.link_steps.specs.declared.replies.Reply.TheVariants as Is
-use Rattle.link_steps.specs.Kept.{Account, AccountRow, kept_with, is_kept_of, kept_arrive, kept_arrived_tick, kept_arrived_row, kept_arrived, kept_with_arrival, kept_reply, kept_after}
+use Rattle.link_steps.specs.Account.{Account, AccountRow, kept_with, is_kept_of, kept_arrive, kept_arrived_tick, kept_arrived_row, kept_arrived, kept_with_arrival, kept_reply, kept_after}
 use Rattle.link_steps.specs.Legal.{PacketFits}
 use Rattle.link_steps.specs.Lists.{change_first, Each}
 use Rattle.link_steps.proofs.SearchAndFilter.{Each-append, Each-find, Each-if}

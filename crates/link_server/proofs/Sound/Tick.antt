@@ -1,7 +1,7 @@
 -- A tick keeps an account sound: rows expire, the sources bring their packets, and the link serves.
 use Rattle.std.proofs.Common.{ℕ, suc, ◌+◌, length}
 use Rattle.link_server.proofs.Words.{Tick, Reply, LinkShape}
-use Rattle.link_steps.specs.Kept.{Account, brought, present, occupies, kept_after_tick, kept_after}
+use Rattle.link_steps.specs.Account.{Account, brought, present, occupies, kept_after_tick, kept_after}
 use Rattle.link_server.specs.Sound.{IsSound, with_brought}
 use Rattle.link_server.proofs.Sound.Service.{served-running}
 use Rattle.link_server.proofs.Sound.Served.{service-sound}

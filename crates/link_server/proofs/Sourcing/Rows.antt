@@ -3,7 +3,7 @@
 use Rattle.std.proofs.Common.{◌≡◌, ℕ, zero, suc, ◌+◌, ◌-◌, ◌<◌, ◌≤◌, Bool, true, false, List, [], ◌∷◌, ◌++◌, length, map, take, drop, get_or, set, refl, sym, ap, ◌∙◌, subst, arith}
 use Rattle.link_server.proofs.Words.{if◌then◌else◌, Each, Arrival, Rests, taken_by, dropped_by, row_in, ServedRow}
 use Rattle.std.proofs.lemmas.List.{drop_more, drop-drop, get_or-drop, set-get_or, drop-set-lt, take_more_set, map_push, append_assoc, length-append, append-nil, drop_all, take_all}
-use Rattle.link_steps.specs.Kept.{AccountRow, kept_packet, kept_after_step, kept_packets, kept_rows_after, kept_lost}
+use Rattle.link_steps.specs.Account.{AccountRow, kept_packet, kept_after_step, kept_packets, kept_rows_after, kept_lost}
 use Rattle.link_server.specs.Plans.{IsQuiet}
 use Rattle.link_server.specs.Sources.{step_in, brought_by, served_rows_after, lost_by_rows, IsReady, AreReady}
 use Rattle.link_server.proofs.Calendars.Expiry.{a-row}

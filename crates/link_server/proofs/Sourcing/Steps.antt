@@ -3,7 +3,7 @@ use Rattle.std.proofs.Common.{◌≡◌, ℕ, suc, ◌+◌, ◌-◌, ◌≤◌, 
 use Rattle.std.proofs.lemmas.Option.{none-some}
 use Rattle.std.specs.Prelude.{find, unwrap_or}
 use Rattle.link_server.proofs.Words.{nat_lt, slots_of, SourcePacket, is_for, Arrival, SourceStep, Rests, Brings, Drops, source_step, arrival_at, taken_by, dropped_by, reservation_in, row_in, ServedRow, HeldPacket}
-use Rattle.link_steps.specs.Kept.{AccountRow, kept_step, kept_tick, kept_with, kept_packet, kept_after_step, past_tick}
+use Rattle.link_steps.specs.Account.{AccountRow, kept_step, kept_tick, kept_with, kept_packet, kept_after_step, past_tick}
 use Rattle.link_server.specs.Departed.{IsCounted}
 use Rattle.link_server.specs.Planned.{left_in, size_of}
 use Rattle.link_server.specs.Sources.{own_step, step_in}

@@ -3,7 +3,7 @@ use Rattle.std.proofs.Common.{◌≡◌, ℕ, suc, ◌+◌, ◌<◌, ◌≤◌, 
 use Rattle.std.proofs.lemmas.Bool.{leb-true, lt-leb, le-leb, eq-eqb, cond_both}
 use Rattle.link_server.proofs.Words.{filter, LinkShape, is_best, Each, KeptQueue}
 use Rattle.link_steps.specs.declared.replies.Sent.{Sent}
-use Rattle.link_steps.specs.Kept.{is_eligible_by, is_other, start_at, served, departs, best_departs, still_here, still_on}
+use Rattle.link_steps.specs.Account.{is_eligible_by, is_other, start_at, served, departs, best_departs, still_here, still_on}
 use Rattle.link_steps.specs.Replies.{sent_of}
 use Rattle.link_steps.specs.Service.{Arrival, Start, leaves_at, first_in_line}
 use Rattle.link_steps.proofs.ServiceStarts.{first_in_line-fact}

@@ -8,7 +8,7 @@ ghost use Rattle.link_steps.specs.Admissible.{IsAdmissible};
 ghost use Rattle.link_steps.specs.HopGuarantee.{HopGuarantee};
 ghost use Rattle.link_steps.specs.Replies.{reply_to};
 ghost use Rattle.link_steps.specs.Split.{whole};
-ghost use Rattle.link_steps.specs.Kept.{kept_reply, kept_after};
+ghost use Rattle.link_steps.specs.Account.{kept_reply, kept_after};
 ghost use Rattle.link_steps.specs.Legal.{AskFits, ReserveFits, RelaxFits};
 ghost use Rattle.link_server.specs.Asks.{IsOffer};
 ghost use Rattle.link_server.specs.Held.{reservations_held, reach_at, MayReserve, IsBestFor};

@@ -1,7 +1,7 @@
 //! Rows expire once their hold has ended: a calendar tells which, and in which tick.
 ghost use Rattle.std.specs.Prelude.{◌≡◌, ◌+◌, ◌^◌, ◌<◌, ◌≤◌, List, length, map, filter, IfNone, IfSome};
 ghost use Rattle.buffer_budget.specs.Parts.{whole_of};
-ghost use Rattle.link_steps.specs.Kept.{AccountRow, kept_stays};
+ghost use Rattle.link_steps.specs.Account.{AccountRow, kept_stays};
 ghost use Rattle.link_steps.specs.Lists.{Each};
 ghost use Rattle.link_steps.specs.Service.{Arrival};
 ghost use Rattle.link_server.specs.Departed.{AreCounted, departed_in};

@@ -1,7 +1,7 @@
 //! When the rows' next packets are planned: a calendar tells which rows bring a packet in a tick.
 ghost use Rattle.std.specs.Prelude.{◌≡◌, ◌+◌, ◌<◌, ◌≤◌, ℕ, true, false, [], IfOk, IfNone, IfSome, OnOk, All, length, map};
 ghost use Rattle.std.specs.Vec.{vec_capacity};
-ghost use Rattle.link_steps.specs.Kept.{AccountRow};
+ghost use Rattle.link_steps.specs.Account.{AccountRow};
 ghost use Rattle.link_steps.specs.Lists.{Each};
 ghost use Rattle.link_server.specs.Index.{channels_in, IsIndex};
 ghost use Rattle.link_server.specs.Planned.{IsPlannedAhead};

@@ -78,7 +78,7 @@ impl ServedRow {
     ghost use Rattle.link_steps.specs.Buffer.{stay_of, slots_of, kept_units};
     ghost use Rattle.link_steps.specs.declared.replies.Phase.TheVariants.{Tentative, Committed};
     ghost use Rattle.link_steps.specs.Refusals.{not_in_phase, unfit, too_big, full};
-    ghost use Rattle.link_steps.specs.Kept.{new_kept, kept_relaxed, kept_planned, kept_closed, past_tick, kept_with};
+    ghost use Rattle.link_steps.specs.Account.{new_kept, kept_relaxed, kept_planned, kept_closed, past_tick, kept_with};
     ghost use Rattle.link_steps.specs.Regulator.{eligible_next};
     ghost use Rattle.link_steps.specs.Replies.{count_at_release, cancelled_at_release};
     ghost use Rattle.link_steps.specs.Hold.{hold_ended};

@@ -1,6 +1,6 @@
 //! The sources' part of a tick: the packets that are planned for it arrive.
 ghost use Rattle.std.specs.Prelude.{◌≡◌, ◌+◌, ◌^◌, ◌<◌, ◌≤◌, ◌++◌, suc, if◌then◌else◌, All, length, map};
-ghost use Rattle.link_steps.specs.Kept.{kept_packet, kept_after_step};
+ghost use Rattle.link_steps.specs.Account.{kept_packet, kept_after_step};
 ghost use Rattle.link_steps.specs.Sources.{taken_by, dropped_by};
 ghost use Rattle.link_server.specs.Plans.{ArePlanned, AreCalled};
 ghost use Rattle.link_server.specs.Departed.{AreCounted, departed_in};

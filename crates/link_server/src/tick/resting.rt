@@ -1,7 +1,7 @@
 //! A link rests while nothing falls due in it: its ticks then change its clock alone.
 ghost use Rattle.std.specs.Prelude.{◌≡◌, true, ℕ, ◌+◌, ◌^◌, ◌<◌, ◌≤◌, suc, List};
 ghost use Rattle.link_steps.specs.declared.asks.Ask.TheVariants.{Tick as AskTick};
-ghost use Rattle.link_steps.specs.Kept.{kept_reply, kept_after};
+ghost use Rattle.link_steps.specs.Account.{kept_reply, kept_after};
 ghost use Rattle.link_steps.specs.Lists.{Each};
 ghost use Rattle.link_steps.specs.Replies.{reply_to};
 ghost use Rattle.link_steps.specs.Split.{whole};

@@ -5,7 +5,7 @@ use Rattle.net_units.specs.Numbers.{level_number}
 use Rattle.net_units.specs.LevelBounds.{reach_of}
 use Rattle.link_steps.specs.declared.replies.Entry.{Entry}
 use Rattle.link_steps.specs.declared.replies.Reply.TheVariants.{Offer, Refused}
-use Rattle.link_steps.specs.Kept.{StandsFor}
+use Rattle.link_steps.specs.Account.{StandsFor}
 use Rattle.link_steps.specs.Levels.{level_of}
 use Rattle.link_steps.specs.Split.{SplitFits}
 use Rattle.std.specs.Option.{option_map}

@@ -1,6 +1,6 @@
 -- The link inside rests, and the groups hold what they held.
 use Rattle.std.proofs.Common.{sym, ap, subst, arith}
-use Rattle.link_steps.specs.Kept.{Account}
+use Rattle.link_steps.specs.Account.{Account}
 use Rattle.link_steps.specs.Split.{Link, SplitFits}
 use Rattle.link_steps.proofs.QuietTicks.{later-rests, quiet-ticks}
 use Rattle.link_server.specs.Resting.{RestsFromClock}

@@ -2,7 +2,7 @@
 use Rattle.std.proofs.Common.{◌≡◌, ◌++◌, ◌∷◌, [], ◌+◌, ◌<◌, ◌^◌, ℕ, Option, None, Some, suc, refl, sym, ap, ◌∙◌, subst, arith}
 use Rattle.link_server.proofs.Words.{IfSome, find, newest, Arrive, Packet, LinkShape, slots_of, whole, account, KeptQueue, KeptTable, reservation_in, row_in, kept_in}
 use Rattle.link_steps.specs.declared.replies.Reply.TheVariants.{Taken}
-use Rattle.link_steps.specs.Kept.{Account, AccountRow, is_kept_of, kept_reply, kept_after, kept_arrived, kept_arrived_row, kept_arrived_tick, kept_with_arrival}
+use Rattle.link_steps.specs.Account.{Account, AccountRow, is_kept_of, kept_reply, kept_after, kept_arrived, kept_arrived_row, kept_arrived_tick, kept_with_arrival}
 use Rattle.link_steps.specs.Refusals.{full}
 use Rattle.link_steps.proofs.AccountOfRows.{eligible-from}
 use Rattle.link_steps.specs.Lists.{change_first}

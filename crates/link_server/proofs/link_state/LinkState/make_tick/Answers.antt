@@ -10,7 +10,7 @@ use Rattle.link_server.specs.Departed.{AreCounted, departed_after, leaver}
 use Rattle.link_server.specs.Packets.{arrival_in}
 use Rattle.std.specs.Option.{option_map}
 use Rattle.link_server.proofs.Departed.Tick.{here-after, tick-counted}
-use Rattle.link_steps.specs.Kept.{Account, from_sources, held_rows, occupies, present, still_here, kept_lost, kept_rows_after, kept_reply, kept_after}
+use Rattle.link_steps.specs.Account.{Account, from_sources, held_rows, occupies, present, still_here, kept_lost, kept_rows_after, kept_reply, kept_after}
 use Rattle.link_server.specs.Serving.{CanServe}
 use Rattle.link_server.specs.Sound.{IsSound}
 use Rattle.link_server.proofs.Sound.Numbers.{best-room, brought-room, ahead-from}

@@ -3,7 +3,7 @@ use Rattle.std.proofs.Common.{◌≡◌, ◌≤◌, length, map, sym, ap, ◌∙
 use Rattle.std.proofs.lemmas.Bool.{le-leb, lt-leb}
 use Rattle.link_server.proofs.Words.{level_number, last_bound, reach_of, best_level, refused_sum, Offer, Refused, need_of, free_units, admitted, KeptTable, level_of, reservation_in, row_in, kept_in}
 use Rattle.link_steps.specs.declared.replies.Refusal.TheVariants.{NoLevel}
-use Rattle.link_steps.specs.Kept.{kept_terms, kept_reply}
+use Rattle.link_steps.specs.Account.{kept_terms, kept_reply}
 use Rattle.link_steps.proofs.LevelByNumber.{level_of-level}
 use Rattle.link_server.proofs.RowsOfTable.Places.{terms-found, terms-absent}
 use Rattle.link_server.proofs.RowsOfTable.Parts.{free-is}

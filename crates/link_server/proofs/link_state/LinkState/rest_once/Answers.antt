@@ -1,6 +1,6 @@
 -- The account is as it was, but for its clock.
 use Rattle.std.proofs.Common.{sym, ap, ◌∙◌, arith}
-use Rattle.link_steps.specs.Kept.{kept_reply, kept_after}
+use Rattle.link_steps.specs.Account.{kept_reply, kept_after}
 use Rattle.link_server.proofs.Words.{kept_in}
 use Rattle.link_steps.proofs.QuietTicks.{quiet-after, quiet-tick}
 use Rattle.link_server.proofs.link_state.LinkState.rest_once.Goals as goal

@@ -12,7 +12,7 @@ use Rattle.traffic_contract.specs.declared.admission.Test.TheVariants.{Whole}
 use Rattle.link_steps.specs.declared.shape.LinkShape.{LinkShape}
 use Rattle.link_steps.specs.Admissible.{MayOffer}
 use Rattle.link_steps.specs.Buffer.{need_of, free_units}
-use Rattle.link_steps.specs.Kept.{Account, StandsFor, kept_terms}
+use Rattle.link_steps.specs.Account.{Account, StandsFor, kept_terms}
 use Rattle.link_steps.specs.Levels.{level_of}
 use Rattle.link_steps.specs.Scan.{scan_of}
 use Rattle.link_steps.specs.Shape.{server_of, IsShapeOf}
