@@ -1,8 +1,9 @@
 -- What a call for the next line answers. A line comes where one stands whole among the bytes that may stand in lines;
 -- the end comes where the source ended and all its bytes were given. The call refuses where the source failed, where
 -- memory ran out, where one byte too many was taken and no whole line is left, and where the source ended inside a
--- line. Where the source tells its bytes, the lines given and the answer after them are a function of those bytes,
--- whatever the sizes of the reads: each call takes the first line off the outlook, or answers what the outlook ends in.
+-- line. Where the source makes its bytes known, the lines given and the answer after them are a function of those
+-- bytes, whatever the sizes of the reads: each call takes the first line off the outlook, or answers what the outlook
+-- ends in.
 use Rattle.std.specs.Prelude.{◌≡◌, ℕ, ◌+◌, ◌≤◌, List, [], ◌∷◌, ◌++◌, length, Option, Some, None, Result, Ok, Err, ⊤}
 use Rattle.std.specs.Io.KnownBytes.{Consumes, IsAtEnd}
 use Rattle.byte_ends.specs.Faults.{FaultsRise}

@@ -1,7 +1,7 @@
--- One read of a source. A source is seen as the bytes that it has left, where it tells them, and its count of faults.
--- A read that takes n bytes, at least one and at most as many as the room has, moves the first n bytes left into the
--- front of the room. A read answers the end only where no byte is left. A read fails only where the count of faults
--- rose in that read, and then it takes no byte.
+-- One read of a source. A source is seen as the bytes that it has left, where it makes them known, and its count of
+-- faults. A read that takes n bytes, at least one and at most as many as the room has, moves the first n bytes left
+-- into the front of the room. A read answers the end only where no byte is left. A read fails only where the count of
+-- faults rose in that read, and then it takes no byte.
 use Rattle.std.specs.Prelude.{◌≡◌, ℕ, ◌≤◌, List, [], length, take, Option, ⊤}
 use Rattle.std.specs.Io.KnownBytes.{Consumes, Keeps, IsAtEnd}
 use Rattle.byte_ends.specs.Faults.{FaultsRise}

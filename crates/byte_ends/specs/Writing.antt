@@ -1,4 +1,4 @@
--- One write to a sink. A sink is seen as the bytes that were written to it, where it tells them, and its count of
+-- One write to a sink. A sink is seen as the bytes that were written to it, where it makes them known, and its count of
 -- faults. A write that takes n bytes of a piece, at least one, appends the first n bytes of the piece. A write fails
 -- only where the count of faults rose in that write, and then it appends nothing.
 use Rattle.std.specs.Prelude.{ℕ, ◌≤◌, ◌<◌, List, length, take, Option}

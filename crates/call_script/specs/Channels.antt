@@ -1,6 +1,6 @@
 -- What a caller has learnt of each channel, kept by the channels' numbers: what its request has come to, whether it is established,
--- the gap and the size of the packets that were planned on it last, and what a move from it has told. A channel that isn't kept is one
--- of which nothing was learnt.
+-- the gap and the size of the packets that were planned on it last, and what a move from it has reported. A channel that isn't kept
+-- is one of which nothing was learnt.
 use Rattle.std.specs.Prelude.{◌≡◌, ◌<◌, ℕ, Bool, true, false, Option, None, List, get_or, option_map}
 use Rattle.net_units.specs.Numbers.{channel_number}
 use Rattle.net_units.specs.declared.numbers.ChanNo.{ChanNo}

@@ -1,5 +1,5 @@
--- What leaves a link in a tick. A tick tells the packet of a channel that leaves at its end, if one does. That packet is the one
--- that started last. It was eligible before it left, and left within the bound of its level.
+-- What leaves a link in a tick. A tick reports the packet of a channel that leaves at its end, if one does. That packet is the
+-- one that started last. It was eligible before it left, and left within the bound of its level.
 use Rattle.std.specs.Prelude.{◌≡◌, ◌≢◌, ℕ, suc, ◌<◌, ◌≤◌, Bool, Some, List, ◌∷◌, length, filter}
 use Rattle.net_units.specs.Numbers.{channel_number}
 use Rattle.link_steps.specs.declared.asks.Ask.TheVariants.{Tick}

@@ -1,5 +1,5 @@
--- A report tells the delays of packets, and not their way. So of the rows of a run it needs those of first hops, and those of the
--- last hops of the channels. Whoever writes no table of packets may leave the others out as they come.
+-- A report states the delays of packets, and not their way. So of the rows of a run it needs those of first hops, and those of
+-- the last hops of the channels. Whoever writes no table of packets may leave the others out as they come.
 use Rattle.std.specs.Prelude.{◌≡◌, Bool, true, false, ◌||◌, nat_eq, Option, Some, None, List, ◌++◌, length, filter, map}
 use Rattle.std.specs.List.{slice_get}
 use Rattle.net_units.specs.Numbers.{channel_number}

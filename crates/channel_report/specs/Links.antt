@@ -1,4 +1,4 @@
--- What the history of a link tells of the link: its clock; how many of the channels' packets have departed; how many source packets
+-- What the history of a link says of the link: its clock; how many of the channels' packets have departed; how many source packets
 -- were dropped because they found no slot; and of its best-effort packets how many have departed, how many were lost, and how many
 -- pours were refused.
 use Rattle.std.specs.Prelude.{ℕ, ◌+◌, Bool, true, false, not, ◌&&◌, Option, Some, None, List, [], ◌∷◌, codes, nat_eq}

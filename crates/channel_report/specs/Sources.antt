@@ -1,7 +1,7 @@
--- What a run tells of the source of a channel, by the history of its first link. A submit that was answered plans packets: one at the
--- tick of the answer, and then one every gap. A release that was answered cancels those whose tick the link hadn't made yet. Those
--- that are left and whose tick the link has made are what the source has offered, including packets that found no slot and were
--- dropped. A send is refused while planned packets are left, or because its packets are too large.
+-- What a run says of the source of a channel, by the history of its first link. A submit that was answered plans packets: one at
+-- the tick of the answer, and then one every gap. A release that was answered cancels those whose tick the link hadn't made yet.
+-- Those that are left and whose tick the link has made are what the source has offered, including packets that found no slot and
+-- were dropped. A send is refused while planned packets are left, or because its packets are too large.
 use Rattle.std.specs.Prelude.{ℕ, zero, suc, ◌+◌, Bool, nat_eq, nat_lt, if◌then◌else◌, Option, Some, None, List, [], ◌∷◌, ◌++◌, filter}
 use Rattle.net_units.specs.Numbers.{channel_number, link_number}
 use Rattle.net_units.specs.declared.numbers.ChanNo.{ChanNo}

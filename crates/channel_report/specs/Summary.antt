@@ -1,7 +1,7 @@
--- The summary of a run of a plan that was made from a number and a size: one line, which tells how many of the plan's requests were
--- accepted, how many were denied, how many packets of all channels were delivered, and how many steps the run has. What a request has
--- come to, and which packets were delivered, is as the report tells it. So a request that is still pending is neither accepted nor
--- denied, and a packet on its way isn't delivered.
+-- The summary of a run of a plan that was made from a number and a size: one line, which states how many of the plan's requests
+-- were accepted, how many were denied, how many packets of all channels were delivered, and how many steps the run has. What a
+-- request has come to, and which packets were delivered, is as the report states it. So a request that is still pending is neither
+-- accepted nor denied, and a packet on its way isn't delivered.
 use Rattle.std.specs.Prelude.{ℕ, ◌+◌, Bool, true, false, Option, Some, None, List, [], ◌∷◌, length, reverse, codes}
 use Rattle.std.specs.Fmt.{decimal}
 use Rattle.traffic_contract.specs.Admission.{total}

@@ -1,4 +1,4 @@
--- The line of a request tells what it has come to: the delay and the levels of an accepted one; of a denied one which hop
+-- The line of a request shows what it has come to: the delay and the levels of an accepted one; of a denied one which hop
 -- refused it, and for what, or what the destination found; or that its setup hasn't ended.
 use Rattle.std.specs.Prelude.{ℕ, Option, Some, None, List, [], ◌∷◌, map, codes}
 use Rattle.std.specs.Fmt.{decimal}

@@ -1,7 +1,7 @@
 -- A request goes forward along its route, and each hop offers a level or refuses. What is offered grows from the first hop
--- on, one level a hop. The delay offered is the sum of each such hop's level bound and propagation. A hop that offers
--- also tells its reach: the largest level that the request could be relaxed to there. The next hop keeps buffer for
--- the bound of that level, so its reserve carries it.
+-- on, one level a hop. The delay offered is the sum of each such hop's level bound and propagation. A hop that offers also
+-- states its reach: the largest level that the request could be relaxed to there. The next hop keeps buffer for the bound
+-- of that level, so its reserve carries it.
 use Rattle.std.specs.Prelude.{◌≡◌, ℕ, ◌+◌, ◌*◌, ◌^◌, ◌≤◌, List, [], ◌∷◌, length}
 use Rattle.net_units.specs.LevelBounds.{bound_at}
 use Rattle.net_units.specs.Limits.{most_bound}

@@ -1,6 +1,6 @@
--- What holds of a link whenever its lock is free. The link stands for what its journal tells; that history is legal and has
--- the hop guarantee; the journal's marks are the list of the link's seat; its stamps rise, and the seat has seen them; each
--- ask about a channel was asked by its owner, and each reserve's next link is one of the network's. No stamp is over
+-- What holds of a link whenever its lock is free. The link stands for what its journal records; that history is legal and
+-- has the hop guarantee; the journal's marks are the list of the link's seat; its stamps rise, and the seat has seen them;
+-- each ask about a channel was asked by its owner, and each reserve's next link is one of the network's. No stamp is over
 -- 65 * 2^40, so the journal is shorter than 2^47, and the link's clock is early enough for every step.
 use Rattle.std.specs.Prelude.{◌≡◌, ℕ, ◌*◌, ◌^◌, ◌≤◌, List}
 use Rattle.net_units.specs.declared.numbers.ActorNo.{ActorNo}

@@ -1,6 +1,6 @@
 -- A pass keeps an entry of its own for each step that it has made. The marks of these entries are all that its seat has
 -- drawn. What the seat knows of a link has of its actor exactly these, in their order, each at its place. So the marks
--- that it knows, whose replies follow from the rules, tell it the whole journal up to there.
+-- that it knows, whose replies follow from the rules, show it the whole journal up to there.
 use Rattle.std.specs.Prelude.{◌≡◌, ℕ, ◌+◌, ◌-◌, ◌<◌, ◌≤◌, ◌==◌, ◌⊎◌, Some, List, [], ◌∷◌, ◌++◌, length, map, filter, slice_get}
 use mathlib.Core.List.{IsPrefix}
 use Rattle.net_units.specs.Numbers.{actor_number, link_number}

@@ -1,4 +1,4 @@
--- A row itself tells how many of its packets are here: it counts those that it has taken, and how many of these have departed.
+-- A row itself says how many of its packets are here: it counts those that it has taken, and how many of these have departed.
 -- A packet that departs is of the row with its lead, if that row is still held, and the row is found by the packet's channel.
 use Rattle.std.specs.Prelude.{◌≡◌, ℕ, suc, ◌+◌, ◌&&◌, nat_eq, nat_lt, if◌then◌else◌, Option, Some, None, List, [], ◌∷◌}
 use Rattle.std.specs.Coded.{×_prop, Unit-prop}

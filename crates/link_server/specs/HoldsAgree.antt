@@ -1,4 +1,4 @@
--- Two rules tell when the hold of a released channel is over: the rule of holds tells it by all the eligible ticks that the
+-- Two rules tell when the hold of a released channel is over: the rule of holds decides it by all the eligible ticks that the
 -- channel was given, and the rule by which a row expires by how many they are and by the newest one. Where no earlier tick is
 -- above the newest one, the two agree.
 use Rattle.std.specs.Prelude.{◌≡◌, ◌≤◌, ◌&&◌, ℕ, List, [], ◌∷◌, length, All}

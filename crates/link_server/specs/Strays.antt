@@ -1,6 +1,6 @@
 -- A packet that arrives from the link before has no place here where this is its channel's first hop, where the
 -- reservation isn't committed yet, where it isn't the next packet, where the channel is closing and has taken its count,
--- or where it is larger than its contract allows. The first of these that applies is told.
+-- or where it is larger than its contract allows. The first of these that applies is the answer.
 use Rattle.std.specs.Prelude.{ℕ, Some, None, List, [], ◌∷◌}
 use Rattle.link_steps.specs.declared.asks.Packet.{Packet}
 use Rattle.link_steps.specs.Refusals.{RefusalRule, stray_rules}

@@ -1,9 +1,9 @@
 -- The legal reply to each ask, from the history before it. A reserve is offered the best level of its contract, and its
 -- reach: the largest level whose bound is within the end-to-end bound or that of the offer, whichever is larger. A
 -- relax, a deny, a submit and a release are answered where a reservation of the channel is held in the phase that they
--- want; a submit, and a release that is told no count, name it at its first hop, a release that is told a count at a
+-- want; a submit, and a release that carries no count, name it at its first hop, a release that carries a count at a
 -- later one. A release at the first hop answers with the count of packets taken and cancels what is planned. One at a
--- later hop answers with its own count or the one that it was told, whichever is larger, and cancels nothing. A packet
+-- later hop answers with its own count or the one that it carries, whichever is larger, and cancels nothing. A packet
 -- that arrives is taken where the reservation is ready for it and has a slot free, and the reply says at which tick it
 -- is eligible. A tick says how many source packets were dropped in it, and which packet departs at its end.
 use Rattle.std.specs.Prelude.{ℕ, suc, ◌+◌, Bool, true, false, not, ◌&&◌, nat_eq, if◌then◌else◌, Option, Some, None, List, [], ◌∷◌, length, map, find, max, unwrap_or, ◌++◌}

@@ -1,5 +1,5 @@
 -- A link may be split between groups of channels. Each group has a quota: so many units of the buffer, and at each level so
--- much of its load. A channel's group is told by its number; channels without a group, and groups without a quota, have
+-- much of its load. A channel's group is given by its number; channels without a group, and groups without a quota, have
 -- quotas of 0. A split fits a link where each group has at most one quota and a number from 1 to 4, the quotas of a level
 -- together leave room for the blocking within its bound, and those of the buffer fit it. A link without quotas isn't split.
 use Rattle.std.specs.Prelude.{◌≡◌, ◌≢◌, ℕ, ◌+◌, ◌-◌, ◌≤◌, Bool, true, false, nat_eq, if◌then◌else◌, List, [], ◌∷◌, length, slice_index}

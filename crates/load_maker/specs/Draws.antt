@@ -1,4 +1,4 @@
--- The numbers that a load is drawn from. A draw moves the state on by a linear congruence modulo 2^31, and tells its upper half,
+-- The numbers that a load is drawn from. A draw moves the state on by a linear congruence modulo 2^31, and gives its upper half,
 -- a number below 32,768.
 use Rattle.std.specs.Prelude.{ℕ, zero, suc, ◌+◌, ◌*◌, ◌/◌, ◌%◌}
 

@@ -1,4 +1,4 @@
--- Turns that an engine makes while a watcher sees the run. `saw` tells which runs of a plan the watcher has seen.
+-- Turns that an engine makes while a watcher sees the run. `saw` says which runs of a plan the watcher has seen.
 use Rattle.std.specs.Prelude.{◌≡◌, ℕ, Some, List}
 use Rattle.net_units.specs.Numbers.{actor_number}
 use Rattle.net_units.specs.declared.numbers.ActorNo.{ActorNo}

@@ -1,4 +1,5 @@
--- What a link at a desk is: its rules, the histories that it stands for, and the replies that it has given and that aren't told yet.
+-- What a link at a desk is: its rules, the histories that it stands for, and the replies that it has given and that aren't handed
+-- on yet.
 use Rattle.std.specs.Prelude.{List, drop}
 use Rattle.link_steps.specs.Split.{Link}
 use Rattle.link_steps.specs.declared.replies.Entry.{Entry}

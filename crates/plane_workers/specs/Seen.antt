@@ -1,5 +1,5 @@
 -- A watcher of a run sees the steps of a window as they are put in order. Between two windows, and within one, links, plane and
--- watcher stand for one run. `saw` tells which runs of a plan the watcher has seen.
+-- watcher stand for one run. `saw` says which runs of a plan the watcher has seen.
 use Rattle.std.specs.Prelude.{ℕ, ◌≤◌, List}
 use Rattle.net_units.specs.declared.numbers.ActorNo.{ActorNo}
 use Rattle.link_steps.specs.Split.{Link}

@@ -1,7 +1,7 @@
 -- Where a caller stands between two operations of its script, by the own entries of its pass. These are what its tasks so far have
 -- asked, each after the replies before it. A channel that no task so far names has no entry. One that was accepted, and neither
 -- closed nor left by a move yet, is established. And what it has learnt of the packets that were planned last on a channel is what
--- its entries tell.
+-- its entries say.
 use Rattle.std.specs.Prelude.{◌≡◌, ◌≢◌, ℕ, true, Some, List, ◌++◌, map, reverse, take, drop, length, ◌<◌, ◌≤◌}
 use Rattle.std.specs.List.{slice_get}
 use Rattle.net_units.specs.Numbers.{actor_number, channel_number}

@@ -1,5 +1,5 @@
 -- The merge of the journals handles places: an entry's stamp, the number of its journal, and its place there, from 0. The places of
--- all entries, in order of stamp, tell the weave.
+-- all entries, in order of stamp, give the weave.
 use Rattle.std.specs.Prelude.{◌≡◌, ℕ, suc, Bool, nat_lt, Some, List, [], ◌∷◌, flat_map}
 use Rattle.std.specs.List.{slice_get}
 use Rattle.link_ledger.specs.declared.entries.Entry.{Entry}

@@ -1,7 +1,7 @@
 -- A link looks for the least window that fits a load without a look at each step of the load. A contract brings a burst into
 -- each of its intervals, so over a long window its work rises at least as a line does, by the ticks of a burst in each interval.
 -- The sum of such lines stays below the load, and where it is over the window, the load is. So no window fits before the two
--- cross. A line's slope is told in parts of a tick for each tick, of which 2^32 are one tick, and rounded down.
+-- cross. A line's slope is given in parts of a tick for each tick, of which 2^32 are one tick, and rounded down.
 use Rattle.std.specs.Prelude.{ℕ, ◌+◌, ◌*◌, ◌≤◌}
 
 -- the slope that rises by a tick in each tick

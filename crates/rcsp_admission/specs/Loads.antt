@@ -1,6 +1,6 @@
 -- Beside its rows a link keeps a running load for each of its levels: the work that the rows at this level and at those
 -- before it may bring into a window as long as the level's bound. A row changes the loads from its own level on, so a
--- load is told without looking at a row.
+-- load is known without looking at a row.
 use Rattle.std.specs.Prelude.{◌≡◌, ℕ, ◌+◌, ◌<◌, List, length, slice_index}
 use Rattle.net_units.specs.LevelBounds.{bound_at}
 use Rattle.traffic_contract.specs.Admission.{Admitted, total, work_up_to}

@@ -1,7 +1,7 @@
--- What the report of a run tells of a channel is within what its accept line promises. Where the channel's line says that its source keeps
--- its contract, the worst delay is at most the delay of the accept line, which is within the delay that was asked for. Under
--- delay-jitter control the worst and the least delay differ by less than the bound of the last hop, which is within the jitter that was
--- asked for. Runs are listed newest first here, and the entries of a report in the order of time.
+-- What the report of a run says of a channel is within what its accept line promises. Where the channel's line says that its source
+-- keeps its contract, the worst delay is at most the delay of the accept line, which is within the delay that was asked for. Under
+-- delay-jitter control the worst and the least delay differ by less than the bound of the last hop, which is within the jitter that
+-- was asked for. Runs are listed newest first here, and the entries of a report in the order of time.
 use Rattle.std.specs.Prelude.{◌≡◌, ℕ, ◌+◌, ◌<◌, ◌≤◌, true, Some, List, reverse}
 use Rattle.std.specs.List.{slice_get}
 use Rattle.traffic_contract.specs.Keeping.{keeps}

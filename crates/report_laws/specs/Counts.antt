@@ -1,8 +1,8 @@
--- What the report counts of a link, of a channel's sends and of the run. A link's *sent* is the number of the channels' packets that have
--- left it, and *full* that of the source packets that its rows have dropped, those of rows that are gone among them. Its *best* is the
--- number of the best-effort packets that have left it, *lost* that of those whose tick was made and which it hasn't taken, and its
--- *refused* that of the pours that were refused. A channel's *refused* is the number of its submits at its first link that were. The
--- last line tells how many steps the run has.
+-- What the report counts of a link, of a channel's sends and of the run. A link's *sent* is the number of the channels' packets
+-- that have left it, and *full* that of the source packets that its rows have dropped, those of rows that are gone among them. Its
+-- *best* is the number of the best-effort packets that have left it, *lost* that of those whose tick was made and which it hasn't
+-- taken, and its *refused* that of the pours that were refused. A channel's *refused* is the number of its submits at its first
+-- link that were. The last line states how many steps the run has.
 use Rattle.std.specs.Prelude.{◌≡◌, ℕ, ◌+◌, Bool, true, false, nat_eq, nat_le, not, ◌&&◌, Some, List, ◌++◌, length, filter, reverse}
 use Rattle.std.specs.List.{slice_get}
 use Rattle.net_units.specs.Numbers.{channel_number}

@@ -1,6 +1,6 @@
--- Every packet of an accepted channel that has departed is told, and once. At each hop it has one row. The report's *delivered* is the
--- number of the packets that have departed from the last hop, and its *least* and *worst* are the least and the greatest of the
--- delays of these packets, each from its arrival at the first hop to its arrival at the destination.
+-- Every packet of an accepted channel that has departed is reported, and once. At each hop it has one row. The report's *delivered*
+-- is the number of the packets that have departed from the last hop, and its *least* and *worst* are the least and the greatest of
+-- the delays of these packets, each from its arrival at the first hop to its arrival at the destination.
 use Rattle.std.specs.Prelude.{◌≡◌, ℕ, suc, ◌≤◌, true, Option, Some, None, List, [], length, filter, reverse}
 use Rattle.std.specs.List.{slice_get}
 use Rattle.net_units.specs.Numbers.{channel_number}

@@ -1,5 +1,6 @@
--- What a row of a run tells of a packet: that it has left a hop of its channel's route, the hop's place in the route and its link, when the packet
--- arrived there, when it was eligible, and when it departed. These are the packets and the ticks that the whole guarantee speaks of.
+-- What a row of a run says of a packet: that it has left a hop of its channel's route, the hop's place in the route and its link,
+-- when the packet arrived there, when it was eligible, and when it departed. These are the packets and the ticks that the whole
+-- guarantee speaks of.
 use Rattle.std.specs.Prelude.{◌≡◌, ℕ, suc, ◌≤◌, true, Some, List, reverse}
 use Rattle.std.specs.List.{slice_get}
 use Rattle.net_units.specs.Numbers.{link_number, channel_number}

@@ -1,8 +1,8 @@
--- The rows of a run: one for each packet that a tick tells as sent. A row names the packet, the hop that it has departed from,
--- when it arrived there, when it was eligible and when it departed, which is the tick after the one that tells it. The offers
--- tell which hop of its channel a link is: the links that have made one to the channel are its hops, in the order of time. The
--- rows stand in the order of channel, packet and hop. Those that agree in all three, which no run of a plan has, stand in the
--- order of their departures.
+-- The rows of a run: one for each packet that a tick reports as sent. A row names the packet, the hop that it has departed
+-- from, when it arrived there, when it was eligible and when it departed, which is the tick after the one that reports it. The
+-- offers show which hop of its channel a link is: the links that have made one to the channel are its hops, in the order of
+-- time. The rows stand in the order of channel, packet and hop. Those that agree in all three, which no run of a plan has,
+-- stand in the order of their departures.
 use Rattle.std.specs.Prelude.{ℕ, zero, suc, ◌<◌, ◌^◌, Bool, false, nat_eq, if◌then◌else◌, min, Option, Some, None, List, [], ◌∷◌, ◌++◌}
 use Rattle.std.specs.Ordering.{is_lt, nat_cmp, ordering_then}
 use Rattle.std.specs.declared.cmp.Ordering.{Ordering}

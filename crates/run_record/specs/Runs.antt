@@ -1,5 +1,5 @@
 -- A run lists what was done, newest first. Its part on a link is the history of that link. What an actor has got are the
--- replies to its own asks. Links and actors are told by their numbers.
+-- replies to its own asks. Links and actors are named by their numbers.
 use Rattle.std.specs.Prelude.{ℕ, Bool, nat_eq, if◌then◌else◌, List, [], ◌∷◌}
 use Rattle.net_units.specs.Numbers.{link_number, actor_number}
 use Rattle.link_steps.specs.declared.replies.Entry.{Entry}

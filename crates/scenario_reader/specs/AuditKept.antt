@@ -1,5 +1,5 @@
--- What was read of an audit's input, where no line was refused: from `report` on the scenario is complete, and there is one entry a request;
--- levels that were told keep what their request asks for; and the numbers of the rows are small.
+-- What was read of an audit's input, where no line was refused: from `report` on the scenario is complete, and there is one entry a
+-- request; levels that were stated keep what their request asks for; and the numbers of the rows are small.
 use Rattle.std.specs.Prelude.{◌≡◌, ℕ, true, Option, Some, List, [], length, map, option_map}
 use Rattle.std.specs.List.{slice_get}
 use Rattle.net_units.specs.Allotted.{levels_of}

@@ -1,8 +1,8 @@
--- An audit's input is a scenario, the line `report`, the lines of a report, and its table of packets. Of the report's lines those that
--- begin with `accept ` are read: each tells the levels with which a request was accepted. Such a line is right where it has the form
--- `accept NAME delay SUM levels L1 .. Lh` with a known request, which no such line above has named, with one level of the link for each
--- hop of its route, with the sum of their bounds and propagations, and where the destination denies nothing: the sum is within the delay
--- that was asked for, and under delay-jitter control the last hop's bound is within the jitter.
+-- An audit's input is a scenario, the line `report`, the lines of a report, and its table of packets. Of the report's lines those
+-- that begin with `accept ` are read: each states the levels with which a request was accepted. Such a line is right where it has
+-- the form `accept NAME delay SUM levels L1 .. Lh` with a known request, which no such line above has named, with one level of the
+-- link for each hop of its route, with the sum of their bounds and propagations, and where the destination denies nothing: the sum
+-- is within the delay that was asked for, and under delay-jitter control the last hop's bound is within the jitter.
 use Rattle.std.specs.Prelude.{ℕ, Bool, true, false, nat_eq, ◌&&◌, if◌then◌else◌, Option, Some, None, List, [], ◌∷◌, codes, drop, is_none, length, map, option_map}
 use Rattle.std.specs.List.{slice_index_or, starts_with}
 use Rattle.net_units.specs.Limits.{most_delay}

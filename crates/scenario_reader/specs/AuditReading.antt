@@ -1,9 +1,9 @@
 -- What the bytes of an audit's input come to. Its lines are judged one after another, as those of a scenario are. Up to the line
--- `report`, which may stand where a scenario may end, they are those of a scenario. Then those that begin with `accept ` tell levels,
--- and others are passed over, up to the header of the table. After it each line is a row. The first line that is refused gives the
--- verdict: before `report` by the scenario's causes; a line that tells levels and isn't right by `Accept`; a line of the table that
--- isn't a row by `Table`. Where the input ends before `report` the cause is `End`, and where it ends before the table's header
--- `Table`, both at the line after the last one. A line that is cut is refused as cut wherever it stands.
+-- `report`, which may stand where a scenario may end, they are those of a scenario. Then those that begin with `accept ` state
+-- levels, and others are passed over, up to the header of the table. After it each line is a row. The first line that is refused
+-- gives the verdict: before `report` by the scenario's causes; a line that states levels and isn't right by `Accept`; a line of the
+-- table that isn't a row by `Table`. Where the input ends before `report` the cause is `End`, and where it ends before the table's
+-- header `Table`, both at the line after the last one. A line that is cut is refused as cut wherever it stands.
 use Rattle.std.specs.Prelude.{ℕ, suc, Bool, nat_eq, ◌&&◌, if◌then◌else◌, Option, Some, None, Result, Ok, Err, List, [], ◌∷◌, ◌++◌, codes, length, replicate, slice_set}
 use Rattle.std.specs.Cmp.Lexicographic.{pointwise}
 use Rattle.byte_ends.specs.WholeLines.{Ending, all_given, cut_short, too_long, Outlook, outlook}

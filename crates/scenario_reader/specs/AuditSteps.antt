@@ -1,4 +1,5 @@
--- What reading an audit's input answers, line by line and whole. Where the source tells its bytes, they determine the answer.
+-- What reading an audit's input answers, line by line and whole. Where the source makes its bytes known, they determine the
+-- answer.
 use Rattle.std.specs.Prelude.{List, Option, Some, None, IfSome, ℕ}
 use Rattle.scenario_reader.specs.AuditReading.{AuditSaid, AuditReading, BadAuditLine, TooManyAuditBytes, audit_line, audit_on, audit_reading, nothing_read}
 use Rattle.scenario_reader.specs.Causes.{Rule}

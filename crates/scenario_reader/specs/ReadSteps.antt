@@ -1,5 +1,5 @@
 -- How a text of lines, a scenario or an audit's input, is read line by line: whatever line was read last, what the bytes ahead come
--- to, after what was read so far, is the same. So the answer is a function of all bytes, where the source tells them.
+-- to, after what was read so far, is the same. So the answer is a function of all bytes, where the source makes them known.
 use Rattle.std.specs.Prelude.{◌≡◌, ℕ, suc, ◌+◌, ◌≤◌, ◌++◌, length, Bool, true, false, List, [], ◌∷◌, Option, Some, None, IfSome, Result, Ok, Err, ⊤}
 use Rattle.std.specs.Io.KnownBytes.{Consumes, IsAtEnd}
 use Rattle.byte_ends.specs.Cutting.{Cutting, IsCutting, IsOf, allowance}

@@ -1,5 +1,5 @@
--- A teardown as it is kept: its channel, its route, how many hops have replied, and the count that the first has told. It
--- stands for the replies after which this is so.
+-- A teardown as it is kept: its channel, its route, how many hops have replied, and the count that the first hop has
+-- reported. It stands for the replies after which this is so.
 use Rattle.std.specs.Prelude.{◌≡◌, List, length}
 use Rattle.link_steps.specs.declared.replies.Reply.{Reply}
 use Rattle.setup_protocol.specs.Teardown.{first_count}

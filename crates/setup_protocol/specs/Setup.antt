@@ -1,8 +1,8 @@
 -- A channel is established in one round trip along its route (after the Tenet suite, Banerjea, Ferrari et al. 1996).
--- Forward, each hop in turn is asked to reserve, and told the reach of the hop before. At the first refusal the hops before
--- it are asked to give their rows back, from the last of them to the first, and the request is denied with that hop and
--- refusal. Where all hops have offered, the destination tests the offers. Where it denies, every hop is asked to give its
--- row back, from the last to the first; else each is asked to relax to the level that it is allotted, from the last to
+-- Forward, each hop in turn is asked to reserve, and given the reach of the hop before. At the first refusal the hops
+-- before it are asked to give their rows back, from the last of them to the first, and the request is denied with that hop
+-- and refusal. Where all hops have offered, the destination tests the offers. Where it denies, every hop is asked to give
+-- its row back, from the last to the first; else each is asked to relax to the level that it is allotted, from the last to
 -- the first, so that the first hop is committed last. What is asked next follows from the replies so far: the offers at
 -- their front, and how many replies came after these.
 use Rattle.std.specs.Prelude.{ℕ, zero, suc, ◌-◌, Bool, true, false, nat_lt, nat_le, nat_eq, ◌&&◌, if◌then◌else◌, Option, Some, None, option_map, List, [], ◌∷◌, length, slice_index}

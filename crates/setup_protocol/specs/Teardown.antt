@@ -1,6 +1,6 @@
--- A channel is released by a message that goes forward along its route. The first hop is told no count, cancels the packets
--- whose tick isn't made, and replies how many it has taken. Each later hop is told that count, since that many packets are
--- still to pass it.
+-- A channel is released by a message that goes forward along its route. The first hop is given no count, cancels the
+-- packets whose tick isn't made, and replies how many it has taken. Each later hop is given that count, since that many
+-- packets are still to pass it.
 use Rattle.std.specs.Prelude.{ℕ, Bool, true, false, Option, Some, None, List, [], ◌∷◌, length}
 use Rattle.std.specs.List.{slice_get}
 use Rattle.net_units.specs.declared.numbers.ChanNo.{ChanNo}

@@ -1,7 +1,7 @@
 -- What each hop is asked on the way back, and whether it can refuse. Each hop that has offered is asked once more: to give
 -- its row back where the request is denied, or to relax to the level that it is allotted. A hop refuses a relax that is
 -- below its offer or beyond its reach, or whose bound before it is over the one that its reserve carried. No hop refuses
--- so where each offer tells the reach that a link tells: the largest level whose bound is within the delay asked for, or
+-- so where each offer states the reach that a link states: the largest level whose bound is within the delay asked for, or
 -- within that of the level offered, if that is larger. A channel is released hop by hop: each ask of a teardown goes to
 -- the hop of its route that is next.
 use Rattle.std.specs.Prelude.{◌≡◌, ℕ, suc, ◌<◌, ◌≤◌, true, Some, List, [], ◌∷◌, ◌++◌, length, take}

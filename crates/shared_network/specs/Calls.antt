@@ -1,6 +1,6 @@
 -- What a setup and a teardown add to the own entries of a pass, and when they may be called. The entries are exactly the asks of
 -- the protocol, each after the replies of those before it. A setup's verdict is that of its replies; a teardown answers the
--- count that the first hop has told.
+-- count that the first hop has reported.
 use Rattle.std.specs.Prelude.{◌≡◌, ◌≢◌, ℕ, nat_eq, Bool, Option, Some, List, [], ◌∷◌, ◌++◌, length, map}
 use Rattle.std.specs.List.{slice_get}
 use Rattle.net_units.specs.Numbers.{channel_number}

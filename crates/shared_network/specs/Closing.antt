@@ -1,7 +1,7 @@
--- What is told once a network is closed. The journals are those of its links, in their order. Each is legal, its stamps rise,
--- and no stamp stands twice in all of them. Each own entry of each pass stands in its journal at its place, with its stamp,
--- ask and reply. Each entry of each journal is the own entry of exactly one pass, and has that pass's actor. The own entries
--- of a pass are in order of stamp.
+-- What is known once a network is closed. The journals are those of its links, in their order. Each is legal, its stamps
+-- rise, and no stamp stands twice in all of them. Each own entry of each pass stands in its journal at its place, with its
+-- stamp, ask and reply. Each entry of each journal is the own entry of exactly one pass, and has that pass's actor. The own
+-- entries of a pass are in order of stamp.
 use Rattle.std.specs.Prelude.{◌≡◌, ◌≢◌, ℕ, ◌+◌, ◌-◌, ◌≤◌, false, Some, List, length, map}
 use Rattle.std.specs.List.{slice_get}
 use Rattle.net_units.specs.Numbers.{link_number}

@@ -1,5 +1,5 @@
 -- How a network is closed: the seats of all passes are joined into one, which then has all actors and all that was drawn, and
--- knows of each link what any pass knew. Then each link's seat is joined into that one, which tells that each mark of the
+-- knows of each link what any pass knew. Then each link's seat is joined into that one, which shows that each mark of the
 -- link's list was drawn, and that no two seats are of one link.
 use Rattle.std.specs.Prelude.{◌≡◌, ℕ, ◌<◌, ◌≤◌, List, [], ◌∷◌, ◌++◌, length, map}
 use Rattle.std.specs.List.Sorted.{IsPermutation}

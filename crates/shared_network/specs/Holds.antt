@@ -1,6 +1,6 @@
--- What a link holds of a channel, told by the owner's own entries there. Nobody else asks for the channel, so these entries tell it:
--- an offer is held until it is denied, and a relax commits it. Once the channel is released, or where the entries don't tell, nothing
--- is said.
+-- What a link holds of a channel, as the owner's own entries there show. Nobody else asks for the channel, so these entries
+-- determine it: an offer is held until it is denied, and a relax commits it. Once the channel is released, or where the entries
+-- don't determine it, nothing is said.
 use Rattle.std.specs.Prelude.{◌≡◌, ◌==◌, ℕ, false, Option, Some, None, if◌then◌else◌, List, [], ◌∷◌}
 use Rattle.net_units.specs.Numbers.{channel_number}
 use Rattle.net_units.specs.declared.numbers.Level.{Level}

@@ -1,6 +1,6 @@
 -- When a pass may step the links of a network: it has its seat, of the network's stamps, and no step of it has run out of memory.
--- Then its own entries are exact, and their stamps rise. What it knows of each link tells a legal journal, in which each channel was
--- asked for by its owner and the entries of its actor are its own. So its own entries tell what the link holds of its channels.
+-- Then its own entries are exact, and their stamps rise. What it knows of each link is a legal journal, in which each channel was
+-- asked for by its owner and the entries of its actor are its own. So its own entries show what the link holds of its channels.
 use Rattle.std.specs.Prelude.{◌≡◌, ℕ, ◌<◌, ◌≤◌, true, false, List, [], ◌∷◌, length, map}
 use mathlib.Core.List.{IsPrefix}
 use Rattle.atomic_table.specs.Seated.{TableId}

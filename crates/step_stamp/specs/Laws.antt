@@ -1,5 +1,5 @@
--- What the rule on the word comes to, told of all views together. Each stamp from 1 to the word was drawn once: it stands in the
--- drawn list of exactly one view, and no drawn list has a stamp twice. Each link's list stands in exactly one view, and each
+-- What the rule on the word comes to, stated of all views together. Each stamp from 1 to the word was drawn once: it stands in
+-- the drawn list of exactly one view, and no drawn list has a stamp twice. Each link's list stands in exactly one view, and each
 -- actor is in exactly one.
 use Rattle.std.specs.Prelude.{◌≡◌, ℕ, ◌<◌, ◌≤◌, List, slice_index}
 use mathlib.Core.Option.{some}

@@ -1,7 +1,7 @@
--- What a call of a seat changes, told of the views before and after it. A meeting tells a pass the whole list of a link.
--- What it knew before begins that list, and its own marks there are those that it has drawn for the link, in that order.
--- A draw gives a mark whose stamp is above all that the pass has seen, and so above the stamps of all marks that it knows of any
--- link and of all that it has drawn.
+-- What a call of a seat changes, stated of the views before and after it. A meeting shows a pass the whole list of a link. What
+-- it knew before begins that list, and its own marks there are those that it has drawn for the link, in that order. A draw gives
+-- a mark whose stamp is above all that the pass has seen, and so above the stamps of all marks that it knows of any link and of
+-- all that it has drawn.
 use Rattle.std.specs.Prelude.{◌≡◌, ℕ, ◌*◌, ◌^◌, ◌<◌, ◌≤◌, ◌⊎◌, max, List, [], ◌∷◌, ◌++◌, length}
 use mathlib.Core.List.{IsPrefix}
 use Rattle.atomic_table.specs.Seated.{TableId}

@@ -1,7 +1,8 @@
 -- What the word `audit` answers. The bytes of the source determine what is due: what is found in the table of packets, audited
--- against the plan and the accepted levels that the bytes read as; one line, where a line is refused; or nothing, where there are too
--- many bytes. The schedule isn't played. The status says how far that came. A fault of reading or writing is answered only where the
--- count of faults of the source or the sink rose. What is said of bytes is said where the source and the sink tell them.
+-- against the plan and the accepted levels that the bytes read as; one line, where a line is refused; or nothing, where there are
+-- too many bytes. The schedule isn't played. The status says how far that came. A fault of reading or writing is answered only
+-- where the count of faults of the source or the sink rose. What is said of bytes holds where the source and the sink make them
+-- known.
 use Rattle.std.specs.Prelude.{◌≡◌, ℕ, Bool, false, ◌⊎◌, Option, Some, None, List, [], ◌∷◌, ◌++◌, codes}
 use Rattle.std.specs.Io.KnownBytes.{Appends, Keeps, IsAtEnd}
 use Rattle.byte_ends.specs.Faults.{FaultsRise}

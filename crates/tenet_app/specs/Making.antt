@@ -1,6 +1,6 @@
--- What the word `make` answers. A number and a size determine a plan, the plan has one run by turns, and the text that is due is the summary
--- of that run. Nothing is read. A fault of writing is answered only where the count of faults of the sink rose, and then a prefix of the text was
--- written. What is said of bytes is said where the sink tells them.
+-- What the word `make` answers. A number and a size determine a plan, the plan has one run by turns, and the text that is due is
+-- the summary of that run. Nothing is read. A fault of writing is answered only where the count of faults of the sink rose, and
+-- then a prefix of the text was written. What is said of bytes holds where the sink makes them known.
 use Rattle.std.specs.Prelude.{◌≡◌, ℕ, nat_le, ◌&&◌, if◌then◌else◌, ◌⊎◌, Option, Some, None, Result, Ok, Err, List, [], ◌∷◌, reverse, codes}
 use Rattle.std.specs.Io.KnownBytes.{Appends, Keeps}
 use Rattle.byte_ends.specs.Faults.{FaultsRise}

@@ -1,7 +1,7 @@
 -- What the word `play` answers. The bytes of the source determine what is due: the report of a run of the plan and the schedule
--- that they read as; one line, where a line is refused or asks for a step that isn't left; or nothing, where there are too
--- many bytes. The status says how far that came. A fault of reading or writing is answered only where the count of faults of
--- the source or the sink rose. What is said of bytes is said where the source and the sink tell them.
+-- that they read as; one line, where a line is refused or asks for a step that isn't left; or nothing, where there are too many
+-- bytes. The status says how far that came. A fault of reading or writing is answered only where the count of faults of the
+-- source or the sink rose. What is said of bytes holds where the source and the sink make them known.
 use Rattle.std.specs.Prelude.{◌≡◌, ℕ, ◌≤◌, Bool, true, false, ◌&&◌, ◌||◌, nat_eq, if◌then◌else◌, ◌⊎◌, Option, Some, None, IfSome, List, [], ◌∷◌, reverse, codes}
 use Rattle.std.specs.Cmp.Lexicographic.{pointwise}
 use Rattle.std.specs.Fmt.{decimal}

@@ -1,9 +1,9 @@
 -- What the word `race` answers. The bytes of the source determine a plan, or that there is none. A race of the plan leaves journals
 -- and passes that are whole for it. All entries of the journals, in order of stamp, are one run of the plan, in which every actor
--- makes all its steps; its schedule lists their actors in maximal runs. The text that is due is that schedule and the report of that
--- run. Which race happens isn't determined, so the bytes determine the status, and the journals the text. A schedule that is written in
--- the scenario is read for its form and not used. A fault of reading or writing is answered only where the count of faults of the
--- source or the sink rose. What is said of bytes is said where the source and the sink tell them.
+-- makes all its steps; its schedule lists their actors in maximal runs. The text that is due is that schedule and the report of
+-- that run. Which race happens isn't determined, so the bytes determine the status, and the journals the text. A schedule that is
+-- written in the scenario is read for its form and not used. A fault of reading or writing is answered only where the count of
+-- faults of the source or the sink rose. What is said of bytes holds where the source and the sink make them known.
 use Rattle.std.specs.Prelude.{◌≡◌, ℕ, Bool, true, false, ◌&&◌, ◌||◌, if◌then◌else◌, ◌⊎◌, Option, Some, None, Result, Ok, Err, List, [], ◌∷◌, ◌++◌, length, reverse, codes}
 use Rattle.std.specs.Io.KnownBytes.{Appends, Keeps, IsAtEnd}
 use Rattle.byte_ends.specs.Faults.{FaultsRise}

@@ -1,6 +1,6 @@
--- A text that is told to a sink in pieces, some of which are gathered before they are written. `written` is what the sink told before
--- and after, `gathered` what was gathered before and after, and `faults` the sink's count. A text is told whole, or a prefix of what
--- is due was written; a write failed only where the count of faults rose.
+-- A text that is written to a sink in pieces, some of which are gathered first. `written` is what had been written to the sink
+-- before and after, `gathered` what was gathered before and after, and `faults` the sink's count. The text was written whole, or a
+-- prefix of it was; a write failed only where the count of faults rose.
 use Rattle.std.specs.Prelude.{ℕ, ◌≤◌, Option, Result, Ok, Err, List, ◌++◌}
 use Rattle.std.specs.Io.KnownBytes.{Appends}
 use Rattle.byte_ends.specs.Faults.{FaultsRise}

@@ -1,9 +1,9 @@
--- What a sound table tells of its packets. Each leaves each of its hops after its eligible tick there, and within the bound of its
+-- What a sound table says of its packets. Each leaves each of its hops after its eligible tick there, and within the bound of its
 -- level. It is eligible at a hop within the delays of the hops before, from its eligible tick at the first hop on, and under
--- delay-jitter control exactly then. What has left its last hop reaches its destination within the delay of its whole route,
--- which is within what its request asks for. Where the ticks at which a channel's packets arrived at its first hop keep its
--- contract, each was eligible as it arrived; and under delay-jitter control two delays differ by less than the bound of the last
--- hop, which is within the jitter that was asked for.
+-- delay-jitter control exactly then. What has left its last hop reaches its destination within the delay of its whole route, which
+-- is within what its request asks for. Where the ticks at which a channel's packets arrived at its first hop keep its contract,
+-- each was eligible as it arrived; and under delay-jitter control two delays differ by less than the bound of the last hop, which
+-- is within the jitter that was asked for.
 use Rattle.std.specs.Prelude.{◌≡◌, ℕ, suc, ◌+◌, ◌<◌, ◌≤◌, Some, Option, List, length, map, slice_index, take}
 use Rattle.std.specs.List.{slice_get}
 use Rattle.net_units.specs.Allotted.{levels_of}

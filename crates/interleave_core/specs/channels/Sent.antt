@@ -1,5 +1,5 @@
--- What the replies of a run tell of its packets. A packet that a tick tells as sent is one that has left the link: the link has its
--- start, and the tick tells the packet, its departure and its next link.
+-- What the replies of a run say of its packets. A packet that a tick reports as sent is one that has left the link: the link has
+-- its start, and the tick reports the packet, its departure and its next link.
 use Rattle.std.specs.Prelude.{◌≡◌, ℕ, ◌≤◌, Bool, Some, List}
 use Rattle.std.specs.List.{slice_get}
 use Rattle.net_units.specs.Numbers.{link_number}

@@ -1,9 +1,9 @@
--- The steps of a move, told by what the links have answered and not by what its caller keeps in mind. First the first hop of the channel
--- that is left is released. Where that has cancelled some packets, one submit at the first hop of the other channel plans as many,
--- with the gap and the size of the last that were planned on the channel that is left. Then the further hops of that channel are
--- released, each with the count of packets that the first one has taken. What a channel's submits planned is therefore what its
--- source has offered at its first hop, dropped packets included, what is left there, what a release without a move has cancelled,
--- and what a move has given to another channel.
+-- The steps of a move, as they follow from what the links have answered and not from what its caller keeps in mind. First the first
+-- hop of the channel that is left is released. Where that has cancelled some packets, one submit at the first hop of the other
+-- channel plans as many, with the gap and the size of the last that were planned on the channel that is left. Then the further hops
+-- of that channel are released, each with the count of packets that the first one has taken. What a channel's submits planned is
+-- therefore what its source has offered at its first hop, dropped packets included, what is left there, what a release without a
+-- move has cancelled, and what a move has given to another channel.
 use Rattle.std.specs.Prelude.{◌≡◌, ◌≢◌, ℕ, suc, ◌+◌, ◌≤◌, nat_eq, Option, Some, None, List, [], ◌∷◌, if◌then◌else◌}
 use Rattle.std.specs.List.{slice_get}
 use Rattle.net_units.specs.Numbers.{link_number, actor_number, channel_number}

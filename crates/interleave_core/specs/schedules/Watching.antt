@@ -1,5 +1,5 @@
 -- A watcher of a run sees each of its entries as the run is made. An engine and its watcher stand for one run where each of them
--- does. `saw` tells which runs of a plan the watcher has seen.
+-- does. `saw` says which runs of a plan the watcher has seen.
 use Rattle.std.specs.Prelude.{◌≡◌, ℕ, Some, List, ◌∷◌}
 use Rattle.net_units.specs.Numbers.{actor_number}
 use Rattle.net_units.specs.declared.numbers.ActorNo.{ActorNo}
