@@ -12,7 +12,7 @@ invariant-loop-pass g l = record {
   done : List Token;
   split : done ++ into_iter_items l.pass-iterator ≡ l.fn.passes.items;
   gathered : AreGathered (length l.fn.passes.items) done (pass_view l.seat);
-  given-up : HaveGivenUp done l.closed.items;
+  given_up : HaveGivenUp done l.closed.items;
   table : pass_table l.seat ≡ g.H.Home.table;
   room : length l.closed.items + length (into_iter_items l.pass-iterator) ≤ vec_capacity l.closed;
 }
