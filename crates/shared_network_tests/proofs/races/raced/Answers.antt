@@ -5,7 +5,7 @@ use Rattle.net_units.specs.declared.numbers.ActorNo.{ActorNo}
 use Rattle.link_steps.specs.Lists.{Each}
 use Rattle.link_steps.specs.Split.{Link}
 use Rattle.shared_network.specs.Worked.{IsJob}
-use Rattle.shared_network_tests.specs.declared.calls.Job.{Job}
+use Rattle.shared_network_tests.specs.declared.races.Job.{Job}
 use Rattle.shared_network.proofs.WorkedNetworks.{new-job}
 use Rattle.shared_network_tests.proofs.races.raced.Goals as goal
 
