@@ -214,27 +214,27 @@ caller-keeps parts name group keep may =
     let unclosed = unclosed-in parts keep.unclosed in
     let moves = moves-in parts keep.moves in
     record {
-      version = version-from (with_caller name group parts) (record { links = version.links; requests = version.requests; ops = calm (list_all (op_has_version parts.version)) refl version.ops });
+      version = version-from (with_caller name group parts) (record { links = version.links; requests = version.requests; ops = stays (list_all (op_has_version parts.version)) refl version.ops });
       names = names-from (with_caller name group parts) (record {
         links = names.links;
         callers = ap are_distinct (map-append (λ (c : CallerEntry). c.name) parts.callers (new_caller name group ∷ [])) ∙ names-more (caller_names parts.callers) name names.callers may.new;
         requests = names.requests;
       });
-      there = used-from (with_caller name group parts) (record { routes = used.routes; pours = calm (list_all (pour_is_there parts.links)) refl used.pours; opened = calm (each_after (is_after role.Uses role.Opens) []) refl used.opened; onto_opened = calm (each_after (is_after role.Joins role.Opens) []) refl used.onto_opened });
-      range = ranges-from (with_caller name group parts) (record { requests = ranges.requests; ops = calm (list_all op_in_range) refl ranges.ops; rounds = ranges.rounds; tail = ranges.tail });
+      there = used-from (with_caller name group parts) (record { routes = used.routes; pours = stays (list_all (pour_is_there parts.links)) refl used.pours; opened = stays (each_after (is_after role.Uses role.Opens) []) refl used.opened; onto_opened = stays (each_after (is_after role.Joins role.Opens) []) refl used.onto_opened });
+      range = ranges-from (with_caller name group parts) (record { requests = ranges.requests; ops = stays (list_all op_in_range) refl ranges.ops; rounds = ranges.rounds; tail = ranges.tail });
       few = few-from (with_caller name group parts) (record { links = few.links; callers = omega (arith, may.few, longer); requests = few.requests });
       joined = keep.joined;
-      unclosed = unclosed-from (with_caller name group parts) (record { closed = calm (each_after (is_apart role.Uses role.Closes) []) refl unclosed.closed; left = calm (each_after (is_apart role.Keeps role.Leaves) []) refl unclosed.left });
+      unclosed = unclosed-from (with_caller name group parts) (record { closed = stays (each_after (is_apart role.Uses role.Closes) []) refl unclosed.closed; left = stays (each_after (is_apart role.Keeps role.Leaves) []) refl unclosed.left });
       load = omega (arith, keep.load, load);
-      pours = calm (list_all (pour_is_taken parts.links)) refl keep.pours;
-      moves = moves-from (with_caller name group parts) (record { fit = calm (list_all (move_is_fit parts.links parts.requests)) refl moves.fit; unused = calm (each_after (is_apart role.Joins role.Uses) []) refl moves.unused; unjoined = calm (each_after (is_apart role.Joins role.Joins) []) refl moves.unjoined });
+      pours = stays (list_all (pour_is_taken parts.links)) refl keep.pours;
+      moves = moves-from (with_caller name group parts) (record { fit = stays (list_all (move_is_fit parts.links parts.requests)) refl moves.fit; unused = stays (each_after (is_apart role.Joins role.Uses) []) refl moves.unused; unjoined = stays (each_after (is_apart role.Joins role.Joins) []) refl moves.unjoined });
       groups = groups-with-caller parts.version parts.groups parts.links parts.callers name group may.version may.there keep.groups;
       planned = record { links = keep.planned.links; requests = keep.planned.requests; openings = new-opens-none 0 name group parts.callers ∙ keep.planned.openings; hops = keep.planned.hops; unused = keep.planned.unused };
       terms = keep.terms;
     } where
       -- a caller without operations passes what no operations pass
-      calm : (test : List Op → Bool) → test [] ≡ true → list_all (λ (c : CallerEntry). test c.ops) parts.callers ≡ true → list_all (λ (c : CallerEntry). test c.ops) (parts.callers ++ new_caller name group ∷ []) ≡ true
-      calm test none all = all-more (λ (c : CallerEntry). test c.ops) parts.callers (new_caller name group) all none
+      stays : (test : List Op → Bool) → test [] ≡ true → list_all (λ (c : CallerEntry). test c.ops) parts.callers ≡ true → list_all (λ (c : CallerEntry). test c.ops) (parts.callers ++ new_caller name group ∷ []) ≡ true
+      stays test none all = all-more (λ (c : CallerEntry). test c.ops) parts.callers (new_caller name group) all none
 
 -- ---- an operation
 

@@ -182,7 +182,7 @@ module _ (parts : PlanParts) (tally : Tally) (past : List Done) (first n : ℕ) 
       let all = next.seen.links.all in
       let small = are-small (part_of k past) (get_or tally.links.items k d) (next.seen.links.tells k d (omega (arith, within, all))) (let short = run-short parts past next.plan next.run in let part = part-short k past in omega (arith, short, part)) in
       let clock = small.clock in
-      let left = next.rests.calm.left in
+      let left = next.rests.plane.left in
       let few = (plan-fits parts next.plan).rounds in
       omega (arith, clock, left, few)
 

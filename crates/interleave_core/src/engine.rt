@@ -126,11 +126,11 @@ impl Engine {
     pub fn rounds_at_rest(&self) -> u64
         ensures { 1 ≤ result → EngineRests self.now result }
     {
-        let calm = self.actors.plane.calm_rounds();
-        if calm == 0 {
+        let quiet = self.actors.plane.quiet_rounds();
+        if quiet == 0 {
             return 0;
         }
-        ticks_at_rest(&self.links, calm)
+        ticks_at_rest(&self.links, quiet)
     }
 
     /// Makes this many rounds, for which it rests, in one stride: it then stands for its runs continued by as many quiet rounds, in

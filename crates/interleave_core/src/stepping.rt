@@ -1,11 +1,10 @@
 //! The links and the actors of a plan, and the steps that they have made.
-ghost use Rattle.std.specs.Prelude.{◌≡◌, ◌≤◌, ◌↔◌, [], ℕ, List, Some, IfOk, IfErr, OnErr, IsSome, IsTrue, length, reverse};
+ghost use Rattle.std.specs.Prelude.{◌≡◌, ◌≤◌, ◌↔◌, [], ℕ, Some, IfOk, IfErr, OnErr, IsSome, IsTrue, length, reverse};
 ghost use Rattle.net_units.specs.Numbers.{actor_number};
 ghost use Rattle.call_script.specs.Parts.{PlanParts};
 ghost use Rattle.call_script.specs.Tasks.{network_of};
 ghost use Rattle.interleave_core.specs.runs.Runs.{next_for};
 ghost use Rattle.interleave_core.specs.schedules.Standing.{IsGuaranteedRun, IsLeft, IsRightRefusal, CoreStands, StepsTo, run_in};
-ghost use Rattle.run_record.specs.Runs.{replies_to};
 
 use crate::engine::Engine;
 use crate::refusal::CoreRefusal;

@@ -95,17 +95,17 @@ module _ (n until : ℕ) (plane : Plane) (early : plane.round < until) where
 
   -- none is due: the next link ticks
   module _ (links : ℕ) (new : List Flight) (some : plane.ticked < links) (inside : n < links) (none : next_due plane ≡ None) (late : Each (λ f. until ≤ f.round) new) where
-    calm : arrivals_at n plane.round plane.flights ≡ []
-    calm = ap (map arrive_of) (none-left (is_due plane.round) (is_bound n plane.round) plane.flights (λ g off. unbound-round n plane.round g off) none)
+    none-arrive : arrivals_at n plane.round plane.flights ≡ []
+    none-arrive = ap (map arrive_of) (none-left (is_due plane.round) (is_bound n plane.round) plane.flights (λ g off. unbound-round n plane.round g off) none)
 
-    calm-new : arrivals_at n plane.round (plane.flights ++ new) ≡ []
-    calm-new = ap (map arrive_of) (more-same (is_bound n plane.round) plane.flights new (unbound-late n plane.round until new early late)) ∙ calm
+    none-arrive-new : arrivals_at n plane.round (plane.flights ++ new) ≡ []
+    none-arrive-new = ap (map arrive_of) (more-same (is_bound n plane.round) plane.flights new (unbound-late n plane.round until new early late)) ∙ none-arrive
 
     rounds-new : (round count : ℕ) → round + count ≤ until → rounds_at n round count plane.flights ≡ rounds_at n round count (plane.flights ++ new)
     rounds-new round count within = rounds-same n round count plane.flights (plane.flights ++ new) (λ k from below. sym (more-same (is_bound n k) plane.flights new (unbound-late n k until new (omega (arith, below, within)) late)))
 
     still : window_at n until plane ≡ tick_left n plane ++ rounds_at n (suc plane.round) (until - suc plane.round) plane.flights
-    still = open-window ∙ ap (λ asks. asks ++ (tick_left n plane ++ rounds_at n (suc plane.round) (until - suc plane.round) plane.flights)) calm
+    still = open-window ∙ ap (λ asks. asks ++ (tick_left n plane ++ rounds_at n (suc plane.round) (until - suc plane.round) plane.flights)) none-arrive
 
     -- in the middle of a round
     abbrev on : Plane
@@ -113,7 +113,7 @@ module _ (n until : ℕ) (plane : Plane) (early : plane.round < until) where
 
     on-window : window_at n until on ≡ tick_left n on ++ rounds_at n (suc plane.round) (until - suc plane.round) plane.flights
     on-window =
-        rw (lt-ltb plane.round until early) (ap (λ asks. asks ++ (tick_left n on ++ rounds_at n (suc plane.round) (until - suc plane.round) (plane.flights ++ new))) calm-new)
+        rw (lt-ltb plane.round until early) (ap (λ asks. asks ++ (tick_left n on ++ rounds_at n (suc plane.round) (until - suc plane.round) (plane.flights ++ new))) none-arrive-new)
         ∙ ap (λ asks. tick_left n on ++ asks) (sym (rounds-new (suc plane.round) (until - suc plane.round) (omega (arith, early))))
 
     -- at the end of a round

@@ -1,4 +1,4 @@
-pub mod CalmRounds
+pub mod QuietRounds
 mod FlightPerKey
 mod ComingInOrder
 mod FirstDueFlight

@@ -1,16 +1,15 @@
 -- What is left of a round is what the plane asks in it, one ask after the other.
-use Rattle.std.proofs.Common.{◌≡◌, ◌≢◌, ℕ, zero, suc, ◌+◌, ◌-◌, ◌<◌, ◌≤◌, Bool, true, false, List, [], ◌∷◌, ◌++◌, map, filter, length, Option, Some, None, refl, sym, ap, ◌∙◌, subst, inl, inr, arith}
-use Rattle.std.proofs.lemmas.Bool.{cases_Bool, cases_lt, eq-eqb, ne_eqb, lt-ltb}
+use Rattle.std.proofs.Common.{◌≡◌, ◌≢◌, ℕ, zero, suc, ◌+◌, ◌-◌, ◌<◌, ◌≤◌, false, List, [], ◌∷◌, ◌++◌, map, filter, length, Option, Some, None, refl, sym, ap, ◌∙◌, subst, inl, inr, arith}
+use Rattle.std.proofs.lemmas.Bool.{cases_lt, eq-eqb, ne_eqb, lt-ltb}
 use Rattle.std.proofs.lemmas.List.{length-append}
-use Rattle.std.specs.Prelude.{nat_eq, nat_lt}
 use Rattle.net_units.specs.Numbers.{link_at}
 use Rattle.net_units.specs.declared.numbers.LinkNo.{LinkNo}
 use Rattle.link_steps.specs.declared.asks.Ask.{Ask}
-use Rattle.link_steps.specs.declared.asks.Ask.TheVariants.{Arrive, Tick}
+use Rattle.link_steps.specs.declared.asks.Ask.TheVariants.{Tick}
 use Rattle.link_steps.specs.declared.replies.Reply.{Reply}
-use Rattle.link_steps.specs.Lists.{Each, without_first}
+use Rattle.link_steps.specs.Lists.{Each}
 use Rattle.tick_plane.specs.declared.flight.Flight.{Flight}
-use Rattle.tick_plane.specs.Planes.{Plane, is_due, next_due, ask_due, flight_in, tick_made, plane_with, plane_after, plane_ask}
+use Rattle.tick_plane.specs.Planes.{Plane, is_due, next_due, ask_due, flight_in, plane_with, plane_after, plane_ask}
 use Rattle.tick_plane.specs.Rounds.{arrival_of, ticks_from, rest_of, AskedInTurn, RoundsAreAskedInTurn}
 use Rattle.tick_plane.proofs.WithoutFirst.{left-own, none-left, more-same, found-passes}
 
@@ -39,15 +38,15 @@ left-with links plane (Some f) reply some due late =
     SameRound refl some
     (ap (λ fs. map arrival_of fs ++ ticks_from plane.ticked (links - plane.ticked)) (left-own (is_due plane.round) (is_due plane.round) f plane.flights (λ g off. off) due (found-passes (is_due plane.round) f plane.flights due)))
 left-with links plane None reply some none late =
-    let calm : filter (is_due plane.round) plane.flights ≡ [] = none-left (is_due plane.round) (is_due plane.round) plane.flights (λ g off. off) none in
-    let calm-new : filter (is_due plane.round) (plane.flights ++ flight_in reply) ≡ [] = more-same (is_due plane.round) plane.flights (flight_in reply) (not-due plane.round (flight_in reply) late) ∙ calm in
+    let none-due : filter (is_due plane.round) plane.flights ≡ [] = none-left (is_due plane.round) (is_due plane.round) plane.flights (λ g off. off) none in
+    let none-due-new : filter (is_due plane.round) (plane.flights ++ flight_in reply) ≡ [] = more-same (is_due plane.round) plane.flights (flight_in reply) (not-due plane.round (flight_in reply) late) ∙ none-due in
     let count : links - plane.ticked ≡ suc (links - suc plane.ticked) = omega (arith, some) in
     let first : left_in links plane ≡ (link_at plane.ticked, Tick) ∷ ticks_from (suc plane.ticked) (links - suc plane.ticked) =
-    ap (λ fs. map arrival_of fs ++ ticks_from plane.ticked (links - plane.ticked)) calm ∙ ap (ticks_from plane.ticked) count ∙ ticks-first plane.ticked (links - suc plane.ticked) in
+    ap (λ fs. map arrival_of fs ++ ticks_from plane.ticked (links - plane.ticked)) none-due ∙ ap (ticks_from plane.ticked) count ∙ ticks-first plane.ticked (links - suc plane.ticked) in
     elim (cases_lt (suc plane.ticked) links) [
       | inl more ↦
           rw (ne_eqb (suc plane.ticked) links (λ same. absurd (omega (arith, same, more))))
-          (SameRound refl more (first ∙ ap (λ fs. (link_at plane.ticked, Tick) ∷ (map arrival_of fs ++ ticks_from (suc plane.ticked) (links - suc plane.ticked))) (sym calm-new)))
+          (SameRound refl more (first ∙ ap (λ fs. (link_at plane.ticked, Tick) ∷ (map arrival_of fs ++ ticks_from (suc plane.ticked) (links - suc plane.ticked))) (sym none-due-new)))
       | inr last ↦
           rw (eq-eqb (suc plane.ticked) links (omega (arith, some, last)))
           (NextRound refl refl (first ∙ ap (λ n. (link_at plane.ticked, Tick) ∷ ticks_from (suc plane.ticked) n) (let none : links - suc plane.ticked ≡ 0 = omega (arith, last) in none) ∙ ap (λ asks. (link_at plane.ticked, Tick) ∷ asks) (ticks-none (suc plane.ticked))))

@@ -4,4 +4,4 @@ pub mod Carried
 pub mod Rounds
 pub mod Windows
 pub mod Coming
-pub mod Calm
+pub mod QuietRounds

@@ -1,9 +1,9 @@
 //! The rounds of arrivals and ticks.
-ghost use Rattle.std.specs.Prelude.{◌≡◌, ◌+◌, ◌-◌, ◌^◌, ◌<◌, ◌≤◌, ◌↔◌, ◌⊎◌, ◌++◌, [], true, None, Some, IsTrue, IsOk, IsSome, IsNone, OnOk, OnErr, IfOk, IfErr, IfNone, IfSome, length, option_map};
+ghost use Rattle.std.specs.Prelude.{◌≡◌, ◌+◌, ◌-◌, ◌^◌, ◌<◌, ◌≤◌, ◌↔◌, ◌⊎◌, ◌++◌, [], true, None, Some, IsTrue, IsOk, IsSome, IsNone, OnOk, OnErr, IfOk, IfErr, IfSome, length, option_map};
 ghost use Rattle.net_units.specs.Numbers.{link_at};
 ghost use Rattle.link_steps.specs.declared.asks.Ask.TheVariants.{Tick as AskTick};
 ghost use Rattle.link_steps.specs.Lists.{Each};
-ghost use Rattle.tick_plane.specs.Calm.{IsCalm, rounds_later};
+ghost use Rattle.tick_plane.specs.QuietRounds.{HasQuietRounds, rounds_later};
 ghost use Rattle.tick_plane.specs.Rounds.{rest_of};
 ghost use Rattle.tick_plane.specs.Planes.{flight_of, next_due, tick_made, plane_ask, plane_after, plane_expects, plane_start, IsDueLater};
 
@@ -206,8 +206,8 @@ impl Plane {
 
     /// At least how many rounds it makes from here before a packet reaches a link: none where the round has begun, or all are
     /// made.
-    pub fn calm_rounds(&self) -> u64
-        ensures { 1 ≤ result → IsCalm self.now.rounds result self.now.at }
+    pub fn quiet_rounds(&self) -> u64
+        ensures { 1 ≤ result → HasQuietRounds self.now.rounds result self.now.at }
     {
         if self.ticked != 0 {
             return 0;
@@ -218,9 +218,9 @@ impl Plane {
 
     /// Makes this many rounds in one stride, in which no packet reaches a link and none leaves for another one. In them it
     /// would ask for the ticks of the links alone, and come to stand here
-    /// ([`calm_rounds_are_ticks_alone`](crate::laws::calm_rounds_are_ticks_alone)).
+    /// ([`quiet_rounds_are_ticks_alone`](crate::laws::quiet_rounds_are_ticks_alone)).
     pub fn stride(&mut self, rounds: u64)
-        requires { IsCalm self.old.rounds rounds self.old.at }
+        requires { HasQuietRounds self.old.rounds rounds self.old.at }
         ensures { self.new ≡ record self.old { at = rounds_later rounds self.old.at } }
     {
         self.flights.pass_rounds(rounds);

@@ -224,7 +224,7 @@ due-told network past done packet at (Some flight) stands flights inside due ask
     let arrives : Arrive flight.packet ≡ Arrive packet = ap (λ pair. pair.1) asks ∙ is in
     let passes : is_due (plane_at network past).round flight ≡ true = flight-passes (is_due (plane_at network past).round) flight (plane_at network past).flights due in
     let round : flight.round ≡ (plane_at network past).round = eqb-true flight.round (plane_at network past).round passes in
-    let first : (plane_at network past).ticked ≡ 0 = none-ticked (plane_at network past).ticked (λ some. (let clash : Some flight ≡ None = sym due ∙ flights.calm some in cc)) in
+    let first : (plane_at network past).ticked ≡ 0 = none-ticked (plane_at network past).ticked (λ some. (let clash : Some flight ≡ None = sym due ∙ flights.none some in cc)) in
     let clock = stands.clocks (link_number done.link) inside in
     let same : clock_at (plane_at network past) (link_number done.link) ≡ (plane_at network past).round = ap (λ b. (plane_at network past).round + cond b 1 0) (le-ltb (link_number done.link) (plane_at network past).ticked (omega (arith, first))) ∙ omega arith in
     let told = Each-find (FlightTold past) (is_due (plane_at network past).round) (plane_at network past).flights flight (flights-told network past) due in

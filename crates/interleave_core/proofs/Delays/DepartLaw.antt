@@ -1,7 +1,7 @@
 -- In every run: once the clock of a hop has reached a packet's bound there, counted from the first hop on, the packet has
 -- departed from it.
 use Rattle.std.proofs.Common.{◌≡◌, ◌≢◌, ℕ, zero, suc, ◌+◌, ◌<◌, ◌≤◌, Bool, true, false, cond, List, [], ◌∷◌, length, map, get_or, Some, None, refl, sym, ap, ◌∙◌, subst, inl, inr, arith}
-use Rattle.std.proofs.lemmas.Bool.{cases_Bool, cases_lt, eqb-true, eqb-false, eq-eqb, ne_eqb, and_parts, and_from, lt-ltb}
+use Rattle.std.proofs.lemmas.Bool.{cases_Bool, cases_lt, eqb-true, eqb-false, eq-eqb, and_parts, and_from, lt-ltb}
 use Rattle.std.proofs.lemmas.List.{length-map}
 use Rattle.std.proofs.lemmas.Option.{same_Some, slice_get_within}
 use Rattle.std.specs.List.{slice_get}
@@ -158,7 +158,7 @@ not-arrived network run flight m fits is among inside =
     elim (cases_Bool (nat_lt m (plane_at network run).ticked)) [
       | inl ticked ↦
           (let some = cases-ticked m (plane_at network run).ticked ticked in
-          let apart = none-due (plane_at network run).round (plane_at network run).flights flight ((run-flights network run fits is).calm some) among in
+          let apart = none-due (plane_at network run).round (plane_at network run).flights flight ((run-flights network run fits is).none some) among in
           let now : clock_of (part_of m run) ≡ (plane_at network run).round + 1 = clock ∙ rw ticked refl in
           elim (cases_lt (plane_at network run).round flight.round) [
             | inl more ↦ omega (arith, now, more)

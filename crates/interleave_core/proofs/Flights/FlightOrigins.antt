@@ -132,8 +132,8 @@ none-found test (x ∷ xs) each = rw each.0 (none-found test xs each.1)
 
 -- ---- one entry more
 
-calm-made : (links : ℕ) (plane : Plane) (new : List Flight) → next_due plane ≡ None → Each (λ flight. is_due plane.round flight ≡ false) new → 1 ≤ (tick_made links plane new).ticked → next_due (tick_made links plane new) ≡ None
-calm-made links plane new none later some =
+none-due-made : (links : ℕ) (plane : Plane) (new : List Flight) → next_due plane ≡ None → Each (λ flight. is_due plane.round flight ≡ false) new → 1 ≤ (tick_made links plane new).ticked → next_due (tick_made links plane new) ≡ None
+none-due-made links plane new none later some =
     elim (cases_Bool (nat_eq (suc plane.ticked) links)) [
       | inl last ↦ absurd (let h : 1 ≤ 0 = rw last at some in omega (arith, h))
       | inr more ↦ rw more (find-append (is_due plane.round) plane.flights new ∙ rw none (none-found (is_due plane.round) new later))
@@ -141,11 +141,11 @@ calm-made links plane new none later some =
 
 flights-with : (network : Network) (plane : Plane) (found : Option Flight) (done : Done) (past : List Done) → NetworkFits network → RunStands network past → (next : IsNext network past done) → plane ≡ plane_at network past → next_due plane ≡ found → ask_due plane.ticked found ≡ (done.link, done.ask) → Each (ComesFrom network past) plane.flights → (1 ≤ plane.ticked → next_due plane ≡ None)
     → Each (ComesFrom network (done ∷ past)) (plane_with (length network.links) plane found done.reply).flights × (1 ≤ (plane_with (length network.links) plane found done.reply).ticked → next_due (plane_with (length network.links) plane found done.reply) ≡ None)
-flights-with network plane (Some flight) done past fits stands next is due asks from calm = (
+flights-with network plane (Some flight) done past fits stands next is due asks from no-due = (
   Each-without_first (ComesFrom network (done ∷ past)) (is_due plane.round) plane.flights (Each-if (ComesFrom network past) (ComesFrom network (done ∷ past)) plane.flights (comes-later network done past) from),
-  λ some. absurd (let clash : Some flight ≡ None = sym due ∙ calm some in cc),
+  λ some. absurd (let clash : Some flight ≡ None = sym due ∙ no-due some in cc),
 )
-flights-with network plane None done past fits stands next is due asks from calm =
+flights-with network plane None done past fits stands next is due asks from no-due =
     let tick : Tick ≡ done.ask = ap (λ pair. pair.1) asks in
     let at : link_at plane.ticked ≡ done.link = ap (λ pair. pair.0) asks in
     let inside : link_number done.link < length network.links = slice_get_within network.links (link_number done.link) next.link next.linked in
@@ -158,7 +158,7 @@ flights-with network plane None done past fits stands next is due asks from calm
     let part : part_of (link_number done.link) (done ∷ past) ≡ ticked next.link.shape (part_of (link_number done.link) past) = part-on (link_number done.link) done past refl ∙ ap (λ e. e ∷ part_of (link_number done.link) past) entry in (
       made-flights (ComesFrom network (done ∷ past)) (length network.links) plane (flight_in done.reply) (Each-if (ComesFrom network past) (ComesFrom network (done ∷ past)) plane.flights (comes-later network done past) from)
           (new-comes network (done ∷ past) (link_number done.link) next.link (part_of (link_number done.link) past) done.reply next.linked part legal (more-legal next.link.shape (part_of (link_number done.link) past) legal) answered),
-      calm-made (length network.links) plane (flight_in done.reply) due (new-later next.link.shape (part_of (link_number done.link) past) done.reply plane.round (omega (arith, clock)) legal answered),
+      none-due-made (length network.links) plane (flight_in done.reply) due (new-later next.link.shape (part_of (link_number done.link) past) done.reply plane.round (omega (arith, clock)) legal answered),
     ) where
       entry-is : (ask : Ask) (reply given : Reply) → ask ≡ Tick → reply ≡ given → ◌≡◌ {A = Entry} (record { ask = ask; reply = reply }) (record { ask = Tick; reply = given })
       entry-is ask reply given a r = ap (λ x. record { ask = x; reply = reply }) a ∙ ap (λ y. record { ask = Tick; reply = y }) r
@@ -166,11 +166,11 @@ flights-with network plane None done past fits stands next is due asks from calm
 flights-next : (network : Network) (past : List Done) (done : Done) → NetworkFits network → RunStands network past → FlightsStand network past → (next : IsNext network past done) → FlightsStand network (done ∷ past)
 flights-next network past done fits stands flights next =
     let both = by-actor (λ p. Each (ComesFrom network (done ∷ past)) p.flights × (1 ≤ p.ticked → next_due p ≡ None)) network done past next
-    (λ asks. flights-with network (plane_at network past) (next_due (plane_at network past)) done past fits stands next refl refl asks.asks flights.from flights.calm)
-    (λ asks. (Each-if (ComesFrom network past) (ComesFrom network (done ∷ past)) (plane_at network past).flights (comes-later network done past) flights.from, flights.calm)) in
-    record { from = both.0; calm = both.1 }
+    (λ asks. flights-with network (plane_at network past) (next_due (plane_at network past)) done past fits stands next refl refl asks.asks flights.from flights.none)
+    (λ asks. (Each-if (ComesFrom network past) (ComesFrom network (done ∷ past)) (plane_at network past).flights (comes-later network done past) flights.from, flights.none)) in
+    record { from = both.0; none = both.1 }
 
 pub run-flights : (network : Network) (run : List Done) → NetworkFits network → IsRun network run → FlightsStand network run
 unfolding IsRun plane_of replies_to
-run-flights network [] fits is = record { from = tt; calm = λ some. absurd (omega arith) }
+run-flights network [] fits is = record { from = tt; none = λ some. absurd (omega arith) }
 run-flights network (done ∷ past) fits is = flights-next network past done fits (run-stands network past fits is.0) (run-flights network past fits is.0) is.1

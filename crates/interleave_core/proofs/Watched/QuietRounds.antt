@@ -12,7 +12,7 @@ use Rattle.link_steps.specs.Replies.{reply_to}
 use Rattle.call_script.specs.Fits.{NetworkFits}
 use Rattle.call_script.specs.Tasks.{Network}
 use Rattle.tick_plane.specs.Planes.{Plane, plane_ask, plane_after, next_due}
-use Rattle.tick_plane.proofs.CalmRounds.{none-yet, after-still, asks-tick}
+use Rattle.tick_plane.proofs.QuietRounds.{none-yet, after-still, asks-tick}
 use Rattle.run_record.specs.Runs.{entry_of, replies_to, part_of}
 use Rattle.run_record.specs.declared.done.Done.{Done}
 use Rattle.interleave_core.specs.schedules.Quiet.{quiet_step, quiet_round, quiet_rounds, the_plane, rested, RestsFor, GoesOnAtRest, QuietRoundsGoOn}
@@ -98,7 +98,7 @@ module _ (network : Network) (n : ℕ) (base : List Done) (fits : NetworkFits ne
     begins : plane_at network base ≡ stood links at 0 0
     begins =
         let same : at.round ≡ at.round + 0 = omega arith in
-        ap (λ t. record { round = at.round; ticked = t; flights = at.flights }) rests.calm.starts
+        ap (λ t. record { round = at.round; ticked = t; flights = at.flights }) rests.plane.starts
         ∙ ap (λ r. record { round = r; ticked = 0; flights = at.flights }) same ∙ sym (stood-first 0)
 
   -- the next link makes its tick
@@ -109,8 +109,8 @@ module _ (network : Network) (n : ℕ) (base : List Done) (fits : NetworkFits ne
       let there = held network.links j inside in
       let now : Plane = record { round = at.round + m; ticked = j; flights = at.flights } in
       let stands : plane_at network run ≡ now = midway.stands ∙ rw (ne_eqb j links (λ same. absurd (omega (arith, same, inside)))) refl in
-      let within = rests.calm.left in
-      let none : next_due now ≡ _ = none-yet (at.round + m) (at.round + n) at.flights rests.calm.none (omega (arith, early)) in
+      let within = rests.plane.left in
+      let none : next_due now ≡ _ = none-yet (at.round + m) (at.round + n) at.flights rests.plane.none (omega (arith, early)) in
       record {
         link = there.item;
         linked = ap (slice_get network.links) number ∙ there.found;
@@ -129,7 +129,7 @@ module _ (network : Network) (n : ℕ) (base : List Done) (fits : NetworkFits ne
       let number : link_number (link_at j) ≡ j = link_at-number j (omega (arith, inside, most)) in
       let now : Plane = record { round = at.round + m; ticked = j; flights = at.flights } in
       let stands : plane_at network run ≡ now = midway.stands ∙ rw (ne_eqb j links (λ same. absurd (omega (arith, same, inside)))) refl in
-      let none : next_due now ≡ _ = none-yet (at.round + m) (at.round + n) at.flights rests.calm.none (omega (arith, early)) in
+      let none : next_due now ≡ _ = none-yet (at.round + m) (at.round + n) at.flights rests.plane.none (omega (arith, early)) in
       record {
         is_run = run-more network run done midway.is_run next;
         follows = subst (λ count. FollowsTurns network base (repeated count plane) (done ∷ run)) (omega arith) (follows-again network base run (done ∷ run) plane (m * links + j) midway.follows (turn-of network run done next));
@@ -173,7 +173,7 @@ module _ (network : Network) (n : ℕ) (base : List Done) (fits : NetworkFits ne
       record {
         is_run = all.is_run;
         follows = subst (λ count. FollowsTurns network base (repeated count plane) (rested network n base)) (omega arith) all.follows;
-        plane = all.stands ∙ stood-first n ∙ ap (λ t. record { round = at.round + n; ticked = t; flights = at.flights }) (sym rests.calm.starts);
+        plane = all.stands ∙ stood-first n ∙ ap (λ t. record { round = at.round + n; ticked = t; flights = at.flights }) (sym rests.plane.starts);
         callers = all.callers;
         parts = λ k within. all.left k (omega arith) within;
       }

@@ -19,7 +19,7 @@ use Rattle.call_script.specs.Fits.{NetworkFits}
 use Rattle.call_script.specs.Parts.{PlanParts}
 use Rattle.call_script.specs.Standing.{CallerStands}
 use Rattle.call_script.specs.Tasks.{Network, network_of}
-use Rattle.tick_plane.specs.Calm.{IsCalm, rounds_later}
+use Rattle.tick_plane.specs.QuietRounds.{HasQuietRounds, rounds_later}
 use Rattle.tick_plane.specs.Coming.{IsDueFrom}
 use Rattle.tick_plane.specs.Kept.{KeptPlane}
 use Rattle.tick_plane.specs.Planes.{Plane}
@@ -39,18 +39,18 @@ use Rattle.interleave_core.proofs.Keeping.CoreStep.{callers-few}
 
 -- ---- fewer rounds
 
-pub fewer-calm : (rounds n more : ℕ) (plane : Plane) → n ≤ more → IsCalm rounds more plane → IsCalm rounds n plane
-fewer-calm rounds n more plane few calm = record {
-  starts = calm.starts;
-  left = (let all = calm.left in omega (arith, all, few));
-  none = Each-if (IsDueFrom (plane.round + more)) (IsDueFrom (plane.round + n)) plane.flights (λ flight from. omega (arith, from, few)) calm.none;
+pub fewer-rounds : (rounds n more : ℕ) (plane : Plane) → n ≤ more → HasQuietRounds rounds more plane → HasQuietRounds rounds n plane
+fewer-rounds rounds n more plane few ahead = record {
+  starts = ahead.starts;
+  left = (let all = ahead.left in omega (arith, all, few));
+  none = Each-if (IsDueFrom (plane.round + more)) (IsDueFrom (plane.round + n)) plane.flights (λ flight from. omega (arith, from, few)) ahead.none;
 }
 
 pub fewer-rests : (n more : ℕ) (links : List AnyLink) → n ≤ more → Each (RestsBy more) links → Each (RestsBy n) links
 fewer-rests n more links few each = Each-if (RestsBy more) (RestsBy n) links (λ link rests. (rests.0, (rests.1.0, (let all = rests.1.1 in omega (arith, all, few))))) each
 
 pub fewer-engine : (engine : Engine) (n more : ℕ) → n ≤ more → EngineRests engine more → EngineRests engine n
-fewer-engine engine n more few rests = record { calm = fewer-calm engine.actors.plane.rounds n more engine.actors.plane.at few rests.calm; links = fewer-rests n more engine.links.items few rests.links }
+fewer-engine engine n more few rests = record { plane = fewer-rounds engine.actors.plane.rounds n more engine.actors.plane.at few rests.plane; links = fewer-rests n more engine.links.items few rests.links }
 
 -- ---- at the start of a round
 
@@ -120,20 +120,20 @@ all-rested n old new i all to = record {
 
 -- ---- an engine that rests
 
-module _ (parts : PlanParts) (engine : Engine) (run : List Done) (n : ℕ) (stands : EngineStands parts engine run) (calm : IsCalm engine.actors.plane.rounds n engine.actors.plane.at) where
+module _ (parts : PlanParts) (engine : Engine) (run : List Done) (n : ℕ) (stands : EngineStands parts engine run) (ahead : HasQuietRounds engine.actors.plane.rounds n engine.actors.plane.at) where
   fits-parts : NetworkFits (network_of parts)
   fits-parts = plan-fits parts stands.plan
 
-  calm-in : IsCalm (network_of parts).rounds n (plane_at (network_of parts) run)
-  calm-in = subst (IsCalm (network_of parts).rounds n) stands.actors.plane.at (subst (λ rounds. IsCalm rounds n engine.actors.plane.at) stands.actors.plane.rounds calm)
+  ahead-in : HasQuietRounds (network_of parts).rounds n (plane_at (network_of parts) run)
+  ahead-in = subst (HasQuietRounds (network_of parts).rounds n) stands.actors.plane.at (subst (λ rounds. HasQuietRounds rounds n engine.actors.plane.at) stands.actors.plane.rounds ahead)
 
   clock-in : (k : ℕ) (link : AnyLink) → slice_get engine.links.items k ≡ Some link → any_clock link ≡ (plane_at (network_of parts) run).round
-  clock-in k link found = clock-starts (network_of parts) engine.links.items run k link fits-parts stands.run stands.links calm-in.starts found
+  clock-in k link found = clock-starts (network_of parts) engine.links.items run k link fits-parts stands.run stands.links ahead-in.starts found
 
   pub all-early : Each (λ link. any_clock link + n ≤ 2 ^ 61) engine.links.items
-  all-early = each-held (λ link. any_clock link + n ≤ 2 ^ 61) engine.links.items (λ k link found. (let clock = clock-in k link found in let left = calm-in.left in let few = fits-parts.rounds in omega (arith, clock, left, few)))
+  all-early = each-held (λ link. any_clock link + n ≤ 2 ^ 61) engine.links.items (λ k link found. (let clock = clock-in k link found in let left = ahead-in.left in let few = fits-parts.rounds in omega (arith, clock, left, few)))
 
-module _ (parts : PlanParts) (engine : Engine) (news : List AnyLink) (run : List Done) (n : ℕ) (stands : EngineStands parts engine run) (calm : IsCalm engine.actors.plane.rounds n engine.actors.plane.at) (have : HaveRested n engine.links.items news) where
+module _ (parts : PlanParts) (engine : Engine) (news : List AnyLink) (run : List Done) (n : ℕ) (stands : EngineStands parts engine run) (ahead : HasQuietRounds engine.actors.plane.rounds n engine.actors.plane.at) (have : HaveRested n engine.links.items news) where
   abbrev network : Network
   network = network_of parts
 
@@ -144,10 +144,10 @@ module _ (parts : PlanParts) (engine : Engine) (news : List AnyLink) (run : List
   fits = plan-fits parts stands.plan
 
   clock : (k : ℕ) (link : AnyLink) → slice_get engine.links.items k ≡ Some link → any_clock link ≡ at.round
-  clock = clock-in parts engine run n stands calm
+  clock = clock-in parts engine run n stands ahead
 
   rests : RestsFor network n run
-  rests = record { calm = calm-in parts engine run n stands calm; quiet = quiet } where
+  rests = record { plane = ahead-in parts engine run n stands ahead; quiet = quiet } where
     quiet : (k : ℕ) (link : Link) → slice_get network.links k ≡ Some link → (m : ℕ) → m < n → quiet_reply (at.round + m) ≡ reply_to link (quiet_ticks m at.round (part_of k run)) Tick
     quiet k link found m less =
         let within = slice_get_within network.links k link found in

@@ -14,4 +14,4 @@ IsPunctual plane = Each (λ flight. plane.round ≤ flight.round) plane.flights
 -- each flight is of a packet that left a link in time; and no flight is due while the links tick
 pub record FlightsStand (network : Network) (run : List Done) : Type 0 where
   pub from : Each (ComesFrom network run) (plane_at network run).flights
-  pub calm : 1 ≤ (plane_at network run).ticked → next_due (plane_at network run) ≡ None
+  pub none : 1 ≤ (plane_at network run).ticked → next_due (plane_at network run) ≡ None

@@ -12,7 +12,7 @@ use Rattle.link_steps.specs.Replies.{reply_to}
 use Rattle.link_steps.specs.Split.{Link}
 use Rattle.call_script.specs.Fits.{NetworkFits}
 use Rattle.call_script.specs.Tasks.{Network}
-use Rattle.tick_plane.specs.Calm.{IsCalm, rounds_later}
+use Rattle.tick_plane.specs.QuietRounds.{HasQuietRounds, rounds_later}
 use Rattle.run_record.specs.Runs.{replies_to, part_of}
 use Rattle.run_record.specs.declared.done.Done.{Done}
 use Rattle.interleave_core.specs.runs.Runs.{plane_no, plane_at, IsRun}
@@ -49,7 +49,7 @@ IsQuietFor t n link h = (m : ℕ) → m < n → quiet_reply (t + m) ≡ reply_to
 
 -- no packet reaches a link in the next n rounds, and no link has anything to tell in them
 pub record RestsFor (network : Network) (n : ℕ) (run : List Done) : Type 0 where
-  pub calm : IsCalm network.rounds n (plane_at network run)
+  pub plane : HasQuietRounds network.rounds n (plane_at network run)
   pub quiet : (k : ℕ) (link : Link) → slice_get network.links k ≡ Some link → IsQuietFor (plane_at network run).round n link (part_of k run)
 
 -- ---- the law

@@ -13,7 +13,7 @@ use Rattle.link_steps.specs.Quiet.{RestsUntil, quiet_reply, quiet_ticks}
 use Rattle.link_steps.specs.Replies.{reply_to}
 use Rattle.call_script.specs.Parts.{PlanParts}
 use Rattle.call_script.specs.Tasks.{network_of}
-use Rattle.tick_plane.specs.Calm.{IsCalm}
+use Rattle.tick_plane.specs.QuietRounds.{HasQuietRounds}
 use Rattle.interleave_core.specs.schedules.Quiet.{rested, RestsFor, GoesOnAtRest}
 use Rattle.interleave_core.specs.schedules.Standing.{EngineStands}
 use Rattle.interleave_core.specs.declared.engine.Engine.{Engine}
@@ -44,7 +44,7 @@ RestsAt engine to = (link : AnyLink) → slice_get engine.links.items (link_numb
 
 -- its plane and its links rest for n rounds
 pub record EngineRests (engine : Engine) (n : ℕ) : Type 0 where
-  pub calm : IsCalm engine.actors.plane.rounds n engine.actors.plane.at
+  pub plane : HasQuietRounds engine.actors.plane.rounds n engine.actors.plane.at
   pub links : Each (RestsBy n) engine.links.items
 
 -- the run rests for n rounds and goes on by as many quiet ones, and it stands for the run with them

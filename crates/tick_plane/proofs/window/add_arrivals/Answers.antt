@@ -1,7 +1,6 @@
 -- Where the next flight is due later, none of the round is left.
 use Rattle.std.proofs.Common.{◌≡◌, suc, drop}
-use Rattle.link_steps.specs.Lists.{Each}
-use Rattle.tick_plane.specs.Coming.{IsDueFrom, arrivals_in}
+use Rattle.tick_plane.specs.Coming.{arrivals_in}
 use Rattle.tick_plane.proofs.ComingInOrder.{later-drop, none-more}
 use Rattle.tick_plane.proofs.window.add_arrivals.Goals as goal
 

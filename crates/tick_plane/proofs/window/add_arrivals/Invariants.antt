@@ -1,4 +1,4 @@
-use Rattle.std.proofs.Common.{◌≡◌, ◌++◌, ◌≤◌, ℕ, suc, drop, filter, length}
+use Rattle.std.proofs.Common.{◌≡◌, ◌++◌, ◌≤◌, ℕ, suc, drop, filter}
 use Rattle.link_steps.specs.Lists.{Each}
 use Rattle.tick_plane.specs.Coming.{IsDueFrom, Rise, arrivals_in}
 use Rattle.tick_plane.specs.Planes.{is_due}

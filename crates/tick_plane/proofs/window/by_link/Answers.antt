@@ -1,11 +1,9 @@
 -- One flight more is listed.
-use Rattle.std.proofs.Common.{◌≡◌, ◌+◌, ◌++◌, ◌∷◌, [], suc, length, take, List, refl, sym, ap, subst, arith, ◌∙◌}
+use Rattle.std.proofs.Common.{◌≡◌, ◌+◌, ◌++◌, ◌∷◌, [], suc, length, take, refl, sym, ap, subst, arith, ◌∙◌}
 use Rattle.std.proofs.lemmas.List.{with_items_is}
 use Rattle.std.proofs.Math.Seq.{take-suc}
-use Rattle.net_units.specs.Numbers.{link_number}
 use Rattle.tick_plane.specs.Coming.{AreByLink}
-use Rattle.tick_plane.specs.declared.flight.Flight.{Flight}
-use Rattle.tick_plane.proofs.ComingInOrder.{none-listed, one-listed}
+use Rattle.tick_plane.proofs.ComingInOrder.{one-listed}
 use Rattle.tick_plane.proofs.window.by_link.Goals as goal
 
 pub loop-flight-preserved : goal.loop-flight-preserved

@@ -14,7 +14,7 @@ record_rounds-requires-clause-links c = (let few = links-few c.args.plan.now c.l
 pub record_rounds-requires-clause-rounds : goal.record_rounds-requires-clause-rounds
 record_rounds-requires-clause-rounds c =
     let next = c.requires.1 in
-    let left = next.rests.calm.left in
+    let left = next.rests.plane.left in
     let at = next.at in
     let few = (plan-fits c.args.plan.now next.plan).rounds in
     omega (arith, left, at, few)

@@ -1,15 +1,14 @@
 -- The entries that are kept are those of the flights that are due before the round.
-use Rattle.std.proofs.Common.{◌≡◌, [], List, ap, sym, subst, ◌∙◌, rules, tests}
+use Rattle.std.proofs.Common.{◌≡◌, [], ap, sym, subst, ◌∙◌, rules, tests}
 use Rattle.std.proofs.lemmas.Fn.{filter_same}
 use Rattle.std.specs.List.{filter}
 use Rattle.std.specs.Prelude.{nat_lt}
 use Rattle.link_steps.proofs.SearchAndFilter.{Each-filter}
 use Rattle.link_steps.specs.Lists.{Each}
 use Rattle.tick_calendar.specs.Calendar.{Entry}
-use Rattle.tick_plane.specs.Carried.{AreFlights, IsCarried, IsFrom, flights_at}
+use Rattle.tick_plane.specs.Carried.{AreFlights, IsCarried, IsFrom}
 use Rattle.tick_plane.specs.Coming.{IsDueFrom, is_before}
-use Rattle.tick_plane.specs.declared.flight.Flight.{Flight}
-use Rattle.tick_plane.proofs.CalmRounds.{from-entries}
+use Rattle.tick_plane.proofs.QuietRounds.{from-entries}
 use Rattle.tick_plane.proofs.FlightPerKey.{each-carried}
 use Rattle.tick_plane.proofs.ComingInOrder.{flights-before, if-ok}
 use Rattle.tick_plane.proofs.flights.Flights.due_before.Goals as goal

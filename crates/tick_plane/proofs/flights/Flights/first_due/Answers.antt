@@ -1,10 +1,9 @@
 -- The key of the first flight that is due tells it.
-use Rattle.std.proofs.Common.{◌≡◌, List, Option, Some, None, sym, ap, ◌∙◌, subst, arith}
+use Rattle.std.proofs.Common.{◌≡◌, Option, Some, None, sym, ap, ◌∙◌, subst}
 use Rattle.std.specs.List.{find}
-use Rattle.tick_calendar.specs.Calendar.{Entry}
 use Rattle.tick_plane.specs.declared.flight.Flight.{Flight}
 use Rattle.tick_plane.specs.Planes.{is_due}
-use Rattle.tick_plane.specs.Carried.{AreFlights, AreKeyed, IsFirst, flight_told, in_round}
+use Rattle.tick_plane.specs.Carried.{AreFlights, AreKeyed, flight_told, in_round}
 use Rattle.tick_plane.proofs.FlightPerKey.{is-held}
 use Rattle.tick_plane.proofs.FirstDueFlight.{none-due, one-due, found-due}
 use Rattle.tick_plane.proofs.flights.Flights.first_due.Goals as goal

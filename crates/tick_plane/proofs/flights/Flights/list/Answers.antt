@@ -1,7 +1,6 @@
 -- The key of each entry has a flight.
-use Rattle.std.proofs.Common.{[], List, sym, subst, ◌∙◌}
+use Rattle.std.proofs.Common.{[], sym, subst, ◌∙◌}
 use Rattle.link_steps.specs.Lists.{Each}
-use Rattle.tick_calendar.specs.Calendar.{Entry}
 use Rattle.tick_plane.specs.Carried.{IsCarried}
 use Rattle.tick_plane.proofs.FlightPerKey.{each-carried}
 use Rattle.tick_plane.proofs.flights.Flights.list.Goals as goal

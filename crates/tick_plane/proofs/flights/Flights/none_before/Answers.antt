@@ -3,7 +3,7 @@ use Rattle.std.proofs.Common.{◌≤◌, ap, subst}
 use Rattle.link_steps.specs.Lists.{Each}
 use Rattle.tick_plane.specs.Carried.{AreFlights}
 use Rattle.tick_plane.specs.Coming.{IsDueFrom}
-use Rattle.tick_plane.proofs.CalmRounds.{from-entries}
+use Rattle.tick_plane.proofs.QuietRounds.{from-entries}
 use Rattle.tick_plane.proofs.FirstDueFlight.{each-all}
 use Rattle.tick_plane.proofs.flights.Flights.none_before.Goals as goal
 

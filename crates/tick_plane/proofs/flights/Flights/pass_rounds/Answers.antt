@@ -4,7 +4,7 @@ use Rattle.link_steps.specs.Lists.{Each}
 use Rattle.tick_calendar.specs.Calendar.{Entry, Schedule}
 use Rattle.tick_plane.specs.Carried.{AreFlights, AreKeyed, IsFrom, IsDue, flights_at}
 use Rattle.tick_plane.specs.Coming.{IsDueFrom}
-use Rattle.tick_plane.proofs.CalmRounds.{of-flights}
+use Rattle.tick_plane.proofs.QuietRounds.{of-flights}
 use Rattle.tick_plane.proofs.FirstDueFlight.{is-due}
 use Rattle.tick_plane.proofs.flights.Flights.pass_rounds.Goals as goal
 

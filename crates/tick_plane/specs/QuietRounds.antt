@@ -11,7 +11,7 @@ use Rattle.tick_plane.specs.Planes.{Plane, flight_in}
 use Rattle.tick_plane.specs.Rounds.{AskedInTurn, ticks_from}
 
 -- it is at the start of a round, has n rounds left, and none of its flights is due in them
-pub record IsCalm (rounds n : ℕ) (plane : Plane) : Type 0 where
+pub record HasQuietRounds (rounds n : ℕ) (plane : Plane) : Type 0 where
   pub starts : plane.ticked ≡ 0
   pub left : plane.round + n ≤ rounds
   pub none : Each (IsDueFrom (plane.round + n)) plane.flights
@@ -31,6 +31,6 @@ unfoldable pub ticks_in : ℕ → ℕ → List (LinkNo × Ask)
 ticks_in zero links = []
 ticks_in (suc n) links = ticks_from 0 links ++ ticks_in n links
 
--- in n calm rounds the plane asks for their ticks in turn; and where no packet leaves with a reply, it stands n rounds later
-abbrev pub CalmRoundsAreTicksAlone : Type 0
-CalmRoundsAreTicksAlone = (links rounds n : ℕ) (plane : Plane) (replies : List Reply) → 1 ≤ links → IsCalm rounds n plane → length replies ≡ n * links → Each IsStill replies → AskedInTurn links rounds plane (ticks_in n links) replies (rounds_later n plane)
+-- in n quiet rounds the plane asks for their ticks in turn; and where no packet leaves with a reply, it stands n rounds later
+abbrev pub QuietRoundsAreTicksAlone : Type 0
+QuietRoundsAreTicksAlone = (links rounds n : ℕ) (plane : Plane) (replies : List Reply) → 1 ≤ links → HasQuietRounds rounds n plane → length replies ≡ n * links → Each IsStill replies → AskedInTurn links rounds plane (ticks_in n links) replies (rounds_later n plane)

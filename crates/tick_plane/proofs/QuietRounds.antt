@@ -1,4 +1,4 @@
--- In calm rounds the plane asks for ticks alone, and where nothing leaves with them it comes to stand that many rounds later.
+-- In quiet rounds the plane asks for ticks alone, and where nothing leaves with them it comes to stand that many rounds later.
 use Rattle.std.proofs.Common.{◌≡◌, ℕ, zero, suc, ◌+◌, ◌*◌, ◌<◌, ◌≤◌, List, [], ◌∷◌, ◌++◌, length, append-nil, Option, Some, None, refl, sym, ap, ◌∙◌, subst, arith}
 use Rattle.std.proofs.lemmas.Bool.{eq-eqb, ne_eqb, lt-ltb}
 use Rattle.std.specs.Prelude.{find, nat_eq, if◌then◌else◌}
@@ -10,7 +10,7 @@ use Rattle.link_steps.specs.declared.replies.Reply.{Reply}
 use Rattle.link_steps.specs.Lists.{Each}
 use Rattle.tick_calendar.specs.Calendar.{Entry}
 use Rattle.tick_plane.specs.declared.flight.Flight.{Flight}
-use Rattle.tick_plane.specs.Calm.{rounds_later, IsStill, ticks_in, CalmRoundsAreTicksAlone}
+use Rattle.tick_plane.specs.QuietRounds.{rounds_later, IsStill, ticks_in, QuietRoundsAreTicksAlone}
 use Rattle.tick_plane.specs.Carried.{IsFrom, flights_at}
 use Rattle.tick_plane.specs.Coming.{IsDueFrom}
 use Rattle.tick_plane.specs.Planes.{Plane, is_due, next_due, tick_made, plane_with, plane_after, plane_ask}
@@ -74,21 +74,21 @@ ticks-left links rounds (suc count) plane more after left (reply ∷ replies) al
 abbrev at_start : ℕ → List Flight → Plane
 at_start round flights = record { round = round; ticked = 0; flights = flights }
 
-rounds-calm : (links rounds n round until : ℕ) (flights : List Flight) (replies : List Reply) → 1 ≤ links → round + n ≡ until → until ≤ rounds → Each (IsDueFrom until) flights → length replies ≡ n * links → Each IsStill replies
+rounds-quiet : (links rounds n round until : ℕ) (flights : List Flight) (replies : List Reply) → 1 ≤ links → round + n ≡ until → until ≤ rounds → Each (IsDueFrom until) flights → length replies ≡ n * links → Each IsStill replies
     → AskedInTurn links rounds (at_start round flights) (ticks_in n links) replies (at_start until flights)
 unfolding ticks_in
-rounds-calm links rounds zero round until flights [] some at within none long still = ap (λ r. at_start r flights) (omega (arith, at))
-rounds-calm links rounds zero round until flights (reply ∷ replies) some at within none long still = absurd (omega (arith, long))
-rounds-calm zero rounds (suc n) round until flights replies some at within none long still = absurd (omega (arith, some))
-rounds-calm (suc links) rounds (suc n) round until flights replies some at within none long still =
+rounds-quiet links rounds zero round until flights [] some at within none long still = ap (λ r. at_start r flights) (omega (arith, at))
+rounds-quiet links rounds zero round until flights (reply ∷ replies) some at within none long still = absurd (omega (arith, long))
+rounds-quiet zero rounds (suc n) round until flights replies some at within none long still = absurd (omega (arith, some))
+rounds-quiet (suc links) rounds (suc n) round until flights replies some at within none long still =
     ticks-left (suc links) rounds links (at_start round flights) (ticks_in n (suc links)) (at_start until flights) (n * suc links) replies (omega arith) (omega (arith, at, within)) (none-yet round until flights none (omega (arith, at)))
-    (λ rest left each. rounds-calm (suc links) rounds n (suc round) until flights rest some (omega (arith, at)) within none left each)
+    (λ rest left each. rounds-quiet (suc links) rounds n (suc round) until flights rest some (omega (arith, at)) within none left each)
     (omega (arith, long)) still
 
-pub calm-rounds : CalmRoundsAreTicksAlone
-calm-rounds links rounds n plane replies some calm long still =
-    let start : at_start plane.round plane.flights ≡ plane = ap (λ t. record { round = plane.round; ticked = t; flights = plane.flights }) (sym calm.starts) in
-    let end : at_start (plane.round + n) plane.flights ≡ rounds_later n plane = ap (λ t. record { round = plane.round + n; ticked = t; flights = plane.flights }) (sym calm.starts) in
+pub quiet-rounds : QuietRoundsAreTicksAlone
+quiet-rounds links rounds n plane replies some quiet long still =
+    let start : at_start plane.round plane.flights ≡ plane = ap (λ t. record { round = plane.round; ticked = t; flights = plane.flights }) (sym quiet.starts) in
+    let end : at_start (plane.round + n) plane.flights ≡ rounds_later n plane = ap (λ t. record { round = plane.round + n; ticked = t; flights = plane.flights }) (sym quiet.starts) in
     subst (λ p. AskedInTurn links rounds p (ticks_in n links) replies (rounds_later n plane)) start
     (subst (AskedInTurn links rounds (at_start plane.round plane.flights) (ticks_in n links) replies) end
-    (rounds-calm links rounds n plane.round (plane.round + n) plane.flights replies some refl calm.left calm.none long still))
+    (rounds-quiet links rounds n plane.round (plane.round + n) plane.flights replies some refl quiet.left quiet.none long still))
