@@ -1,5 +1,4 @@
 //! The last line of a report.
-ghost use Rattle.std.specs.Prelude.{length, string_bytes};
 ghost use Rattle.channel_report.specs.Report.{end_line};
 ghost use Rattle.text_writer.specs.Telling.{Tells};
 

@@ -1,7 +1,5 @@
 //! The lines of the links.
-ghost use Rattle.std.specs.Prelude.{◌≡◌, ◌++◌, ◌<◌, ◌≤◌, ◌^◌, List, IfOk, OnOk, Some, length, reverse, string_bytes};
-ghost use Rattle.std.specs.List.{slice_get};
-ghost use Rattle.net_units.specs.Numbers.{link_number};
+ghost use Rattle.std.specs.Prelude.{◌≡◌, ◌++◌, ◌<◌, ◌≤◌, ◌^◌, List, OnOk, Some, length, string_bytes};
 ghost use Rattle.link_steps.specs.declared.replies.Entry.{Entry};
 ghost use Rattle.run_record.specs.declared.done.Done.{Done as Step};
 ghost use Rattle.channel_report.specs.Links.{takes_best, told_link};

@@ -1,6 +1,6 @@
 //! The lines of the moves that were made.
 ghost use Rattle.std.specs.Prelude.{◌≡◌, ◌++◌, List, OnOk, string_bytes};
-ghost use Rattle.std.specs.List.{flat_map, slice_get};
+ghost use Rattle.std.specs.List.{slice_get};
 ghost use Rattle.net_units.specs.Numbers.{channel_number};
 ghost use Rattle.interleave_core.specs.schedules.Standing.{CallersStand};
 ghost use Rattle.run_record.specs.declared.done.Done.{Done as Step};

@@ -1,5 +1,5 @@
 //! The lines of the requests.
-ghost use Rattle.std.specs.Prelude.{◌≡◌, ◌++◌, ◌∷◌, [], ℕ, List, Some, OnOk, IfOk, codes, flat_map, length, map, option_map, reverse, string_bytes};
+ghost use Rattle.std.specs.Prelude.{◌≡◌, ◌++◌, ◌∷◌, [], ℕ, List, Some, OnOk, flat_map, option_map, string_bytes};
 ghost use Rattle.std.specs.Fmt.{decimal};
 ghost use Rattle.net_units.specs.Allotted.{levels_of};
 ghost use Rattle.setup_protocol.specs.Setup.{Accepts, Denies};

@@ -1,5 +1,5 @@
 //! The lines of the routes that were found.
-ghost use Rattle.std.specs.Prelude.{◌≡◌, ◌++◌, ◌∷◌, ◌+◌, ◌*◌, ◌^◌, ◌≤◌, OnOk, length, string_bytes};
+ghost use Rattle.std.specs.Prelude.{◌≡◌, ◌++◌, ◌∷◌, ◌+◌, ◌*◌, ◌^◌, ◌≤◌, OnOk, string_bytes};
 ghost use Rattle.std.specs.List.{flat_map, slice_get};
 ghost use Rattle.net_units.specs.Numbers.{link_number};
 ghost use Rattle.channel_report.specs.Routes.{found_line, hop_word, prop_over, route_line, route_lines};

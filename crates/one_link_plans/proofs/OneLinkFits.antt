@@ -1,5 +1,5 @@
 -- The parts of one link, one request or two, and one caller may be planned; and the one request may be accepted at the first level.
-use Rattle.std.proofs.Common.{◌≡◌, ℕ, zero, suc, ◌+◌, ◌≤◌, Option, Some, None, List, [], ◌∷◌, ◌++◌, length, map, slice_index, refl, sym, ap, ◌∙◌, subst, arith}
+use Rattle.std.proofs.Common.{◌≡◌, ℕ, zero, suc, ◌+◌, ◌≤◌, Some, None, List, [], ◌∷◌, ◌++◌, length, slice_index, refl, sym, ap, ◌∙◌, subst, arith}
 use Rattle.std.proofs.lemmas.Option.{same_Some}
 use Rattle.std.specs.List.{All, slice_get}
 use Rattle.net_units.specs.Allotted.{levels_of}
@@ -10,13 +10,12 @@ use Rattle.hop_reservation.specs.Offers.{AreLevels, delay_over}
 use Rattle.hop_reservation.specs.declared.route.Hop.{Hop}
 use Rattle.setup_protocol.specs.Laws.{KeepsRequest}
 use Rattle.setup_protocol.specs.State.{HaveLevels}
-use Rattle.setup_protocol.specs.declared.request.Request.{Request}
 use Rattle.link_steps.proofs.SearchAndFilter.{Each-if}
 use Rattle.link_steps.specs.Lists.{Each}
 use Rattle.link_steps.specs.declared.quota.Quota.{Quota}
 use Rattle.call_script.specs.Accepted.{AreAccepted}
 use Rattle.one_link_plans.specs.OneLink.{IsThatLink, IsOverIt, IsThatRequest, IsNextRequest, IsThatScript, OpensBoth, AsksForOne, HasThatRequest}
-use Rattle.call_script.specs.Parts.{PlanParts, Opening, parts_of, parts_with, openings_in, openings_of, opening_of, FollowsLink, LeavesUnused, ArePlanned}
+use Rattle.call_script.specs.Parts.{PlanParts, Opening, parts_with, openings_of, opening_of, FollowsLink, LeavesUnused, ArePlanned}
 use Rattle.call_script.specs.declared.entries.LinkEntry.{LinkEntry}
 use Rattle.call_script.specs.declared.entries.RequestEntry.{RequestEntry}
 use Rattle.call_script.specs.declared.entries.CallerEntry.{CallerEntry}

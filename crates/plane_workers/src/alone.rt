@@ -1,5 +1,5 @@
 //! Rounds that one thread makes, as a play without workers does.
-ghost use Rattle.std.specs.Prelude.{◌≡◌, ◌+◌, ◌<◌, ◌≤◌, List, OnOk, length};
+ghost use Rattle.std.specs.Prelude.{◌≡◌, ◌+◌, ◌<◌, ◌≤◌, List, OnOk};
 ghost use Rattle.call_script.specs.Tasks.{network_of};
 ghost use Rattle.interleave_core.specs.schedules.Quiet.{the_plane};
 ghost use Rattle.interleave_core.specs.schedules.Watching.{WatchStands};

@@ -1,5 +1,5 @@
 //! What a caller does over a shared network: its operations, one at a time.
-ghost use Rattle.std.specs.Prelude.{◌≡◌, ◌+◌, ◌*◌, ◌<◌, ◌≤◌, ◌^◌, ◌-◌, OnOk, length};
+ghost use Rattle.std.specs.Prelude.{◌≡◌, ◌+◌, ◌*◌, ◌<◌, ◌≤◌, ◌^◌, ◌-◌, OnOk};
 ghost use Rattle.call_script.specs.declared.operations.Op.TheVariants.{Open, Send, Close, Pour, Move};
 ghost use Rattle.race_run.specs.Callers.{CallerIsAt, HasLeft, HasOp, IsNetworkOf};
 ghost use Rattle.link_ledger.specs.Tokens.{stamps_drawn};

@@ -4,7 +4,6 @@ ghost use Rattle.link_steps.specs.Lists.{Each};
 ghost use Rattle.race_run.specs.Callers.{IsNetworkOf};
 ghost use Rattle.race_run.specs.declared.pieces.Piece.TheVariants.{Script, Rounds};
 ghost use Rattle.race_run.specs.Pieces.{AreInOrder, IsMade, IsOfScript, MayBegin, Pairwise};
-ghost use Rattle.shared_network.specs.Ready.{MayStep, PassGoesOn};
 
 use crate::rounds::make_rounds;
 use crate::scripts::make_script;

@@ -1,6 +1,6 @@
 //! Races of plans over links with the levels 10, 20 and 40 and a propagation of 2, worked by hand.
 ghost use Rattle.std.specs.Prelude.{◌≡◌, ◌<◌, [], ◌∷◌, IfOk, length};
-ghost use Rattle.net_units.specs.Numbers.{actor_number, channel_number, link_number};
+ghost use Rattle.net_units.specs.Numbers.{link_number};
 ghost use Rattle.link_steps.specs.Legal.{AskFits};
 ghost use Rattle.link_steps.specs.Lists.{Each};
 ghost use Rattle.call_script.specs.Tasks.{network_of};

@@ -1,6 +1,6 @@
 -- The check of what was found, a part at a time: rows, bounds and hops that are the same, the edge by a hop, how the hops
 -- lead on, and what a yes tells.
-use Rattle.std.proofs.Common.{◌≡◌, ◌≢◌, ◌↔◌, ◌==◌, ℕ, zero, suc, ◌+◌, ◌-◌, ◌<◌, ◌≤◌, Bool, true, false, IsTrue, Option, Some, None, List, [], ◌∷◌, ◌++◌, length, drop, get_or, map, nat_eq, ◌⊎◌, inl, inr, ap, sym, subst, refl, ◌∙◌, arith}
+use Rattle.std.proofs.Common.{◌≡◌, ◌≢◌, ◌↔◌, ◌==◌, ℕ, zero, suc, ◌+◌, ◌-◌, ◌<◌, ◌≤◌, IsTrue, Option, Some, None, List, [], ◌∷◌, ◌++◌, length, drop, get_or, map, nat_eq, ◌⊎◌, inl, inr, ap, sym, subst, refl, ◌∙◌, arith}
 use Rattle.std.proofs.Math.Seq.{drop-cons}
 use Rattle.std.specs.List.{slice_get}
 use Rattle.std.proofs.lemmas.Option.{same_Some, slice_get_within, get_or_from_slice_get}
@@ -14,11 +14,9 @@ use Rattle.route_finder.specs.declared.edge.Edge.{Edge}
 use Rattle.route_finder.specs.Checking.{HasRows, Checks, IsLeastSum, IsBy, Follows}
 use Rattle.route_finder.specs.Rows.{in_row, entry}
 use Rattle.route_finder.specs.Table.{by_none, by_one_more, least_prop}
-use Rattle.route_finder.specs.Trace.{are_same}
-use Rattle.route_finder.specs.Walks.{hop_of, link_of, prop_over, IsAmong, AreAmong, IsNetwork, IsEdge, Leads, IsWay, IsWalk}
-use Rattle.route_finder.proofs.LeastPropagations.{IsFoundWithin, least_prop-within}
+use Rattle.route_finder.specs.Walks.{hop_of, prop_over, IsAmong, AreAmong, IsNetwork, Leads}
+use Rattle.route_finder.proofs.LeastPropagations.{least_prop-within}
 use Rattle.route_finder.proofs.FirstStep.{are_same-true, are_same-equal, same-edge}
-use Rattle.route_finder.proofs.RowEntries.{edge-at}
 
 -- ---- rows
 

@@ -3,7 +3,7 @@ use Rattle.std.proofs.Common.{◌≡◌, ℕ, zero, suc, ◌+◌, ◌-◌, ◌<�
 use Rattle.std.proofs.Math.Seq.{drop-cons}
 use Rattle.std.proofs.lemmas.List.{drop_all}
 use Rattle.route_finder.specs.declared.edge.Edge.{Edge}
-use Rattle.route_finder.specs.Walks.{link_of, AreAbove, IsEdge, IsNetwork}
+use Rattle.route_finder.specs.Walks.{link_of, AreAbove, IsNetwork}
 
 -- edges that are a network, and have link numbers from this one on
 pub record IsNetworkFrom (edges : List Edge) (low : ℕ) : Type 0 where

@@ -1,11 +1,10 @@
 -- Rows: one entry set, and what a row has after one more edge.
-use Rattle.std.proofs.Common.{◌≡◌, ◌==◌, ℕ, zero, suc, ◌+◌, ◌-◌, ◌*◌, ◌^◌, ◌<◌, ◌≤◌, Bool, true, false, Option, Some, None, List, [], ◌∷◌, length, drop, get_or, set, replicate, inl, inr, ap, sym, subst, refl, ◌∙◌, arith}
+use Rattle.std.proofs.Common.{◌≡◌, ◌==◌, ℕ, zero, suc, ◌+◌, ◌-◌, ◌*◌, ◌^◌, ◌<◌, ◌≤◌, Option, Some, None, List, [], ◌∷◌, length, drop, get_or, set, replicate, inl, inr, ap, sym, subst, refl, ◌∙◌, arith}
 use Rattle.std.proofs.Math.Seq.{drop-cons}
 use Rattle.std.proofs.lemmas.Bool.{cases_Bool, eqb-true, eqb-false}
 use Rattle.std.proofs.lemmas.List.{get_or-set_same, get_or-set_other, drop_all}
-use Rattle.std.proofs.lemmas.Option.{same_Some}
 use Rattle.route_finder.specs.declared.edge.Edge.{Edge}
-use Rattle.route_finder.specs.Table.{by_none, lesser, beyond, by_edge, by_one_more}
+use Rattle.route_finder.specs.Table.{by_none, lesser, beyond, by_one_more}
 use Rattle.route_finder.specs.Rows.{in_row, IsUpTo}
 use Rattle.route_finder.specs.Walks.{IsEdge, IsNetwork}
 use Rattle.route_finder.proofs.LeastPropagations.{lesser-either, beyond-is}

@@ -2,9 +2,8 @@
 use Rattle.std.proofs.Common.{◌≡◌, ℕ, zero, suc, ◌+◌, ◌*◌, ◌^◌, ◌<◌, ◌≤◌, Option, Some, None, List, [], ◌∷◌, ◌++◌, length, get_or, ◌⊎◌, inl, inr, ap, sym, subst, refl, ◌∙◌, arith}
 use Rattle.std.proofs.Math.Seq.{get_or-append_seam}
 use Rattle.std.proofs.lemmas.List.{get_or_append_left}
-use Rattle.std.proofs.lemmas.Option.{same_Some}
 use Rattle.route_finder.specs.declared.edge.Edge.{Edge}
-use Rattle.route_finder.specs.Table.{by_none, by_edge, by_one_more, beyond, lesser, least_prop}
+use Rattle.route_finder.specs.Table.{by_none, by_one_more, least_prop}
 use Rattle.route_finder.specs.Rows.{in_row, entry, IsUpTo, AreRows}
 use Rattle.route_finder.proofs.LeastPropagations.{none-is}
 

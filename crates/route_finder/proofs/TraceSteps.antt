@@ -1,13 +1,12 @@
 -- How the trace is made: the number of links from above, the first step edge by edge, and the hops one by one.
-use Rattle.std.proofs.Common.{◌≡◌, ◌≢◌, ◌==◌, ℕ, zero, suc, ◌+◌, ◌-◌, ◌<◌, ◌≤◌, Bool, true, false, Option, Some, None, List, [], ◌∷◌, ◌++◌, length, drop, get_or, map, ◌⊎◌, inl, inr, ap, sym, subst, refl, ◌∙◌, arith}
+use Rattle.std.proofs.Common.{◌≡◌, ◌≢◌, ◌==◌, ℕ, zero, suc, ◌+◌, ◌-◌, ◌<◌, ◌≤◌, true, false, Option, Some, None, List, [], ◌∷◌, ◌++◌, length, drop, get_or, map, ◌⊎◌, inl, inr, ap, sym, subst, refl, ◌∙◌, arith}
 use Rattle.std.proofs.Math.Seq.{drop-cons}
 use Rattle.std.proofs.lemmas.Bool.{cases_Bool}
 use Rattle.std.proofs.lemmas.List.{append_assoc, append-nil, drop_all}
 use Rattle.hop_reservation.specs.declared.route.Hop.{Hop}
 use Rattle.route_finder.specs.declared.edge.Edge.{Edge}
-use Rattle.route_finder.specs.Table.{beyond, least_prop}
 use Rattle.route_finder.specs.Trace.{are_same, goes_on, fewest, first_step, traced, traced_from, with_step}
-use Rattle.route_finder.specs.Walks.{hop_of, IsAmong, IsEdge, IsNetwork}
+use Rattle.route_finder.specs.Walks.{hop_of, IsEdge, IsNetwork}
 use Rattle.route_finder.proofs.FirstStep.{are_same-true, are_same-refl}
 use Rattle.route_finder.proofs.TracedWalk.{fewest-is}
 

@@ -3,10 +3,10 @@ use Rattle.std.proofs.Common.{◌≡◌, ℕ, zero, suc, ◌+◌, ◌<◌, ◌�
 use Rattle.std.proofs.lemmas.Option.{same_Some}
 use Rattle.std.proofs.lemmas.Bool.{cases_Bool}
 use Rattle.route_finder.specs.declared.edge.Edge.{Edge}
-use Rattle.route_finder.specs.Table.{by_edge, by_one_more, by_none, least_prop, IsReached}
-use Rattle.route_finder.specs.Trace.{are_same, goes_on, fewest, first_step, traced, with_step}
+use Rattle.route_finder.specs.Table.{by_one_more, least_prop}
+use Rattle.route_finder.specs.Trace.{are_same, fewest, first_step, traced, with_step}
 use Rattle.route_finder.specs.Walks.{link_of, links_of, prop_over, IsAmong, AreAmong, IsNetwork, Leads, IsWay, IsNotAbove}
-use Rattle.route_finder.proofs.LeastPropagations.{IsFoundWithin, IsByEdge, IsAfter, none-is, after-way, way-after, one_more-edge, least_prop-within, least_prop-reached}
+use Rattle.route_finder.proofs.LeastPropagations.{IsFoundWithin, IsByEdge, none-is, after-way, way-after, one_more-edge, least_prop-within, least_prop-reached}
 use Rattle.route_finder.proofs.FirstStep.{are_same-true, are_same-refl, goes_on-is, is-goes_on, IsFirst, first_step-is, first_step-some}
 
 -- each way of this propagation by at most so many links has that many

@@ -1,7 +1,5 @@
 -- What is read off the code's table is the least walk, and its hops are a route.
 use Rattle.std.proofs.Common.{◌≡◌, ◌≢◌, ℕ, zero, suc, ◌<◌, ◌≤◌, Option, Some, None, List, [], ◌∷◌, length, get_or, map, ap, sym, subst, refl, ◌∙◌, arith}
-use Rattle.std.proofs.lemmas.Option.{same_Some}
-use Rattle.std.specs.List.{AllPairs}
 use Rattle.hop_reservation.specs.declared.route.Hop.{Hop}
 use Rattle.hop_reservation.specs.Routes.{IsRoute}
 use Rattle.hop_reservation.specs.Routes as routes
@@ -10,7 +8,7 @@ use Rattle.route_finder.specs.Finding.{IsTable, IsUnreachable}
 use Rattle.route_finder.specs.Rows.{entry}
 use Rattle.route_finder.specs.Table.{least_prop, IsLeastProp}
 use Rattle.route_finder.specs.Trace.{traced_from, walk_by, least_walk}
-use Rattle.route_finder.specs.Walks.{hop_of, link_of, prop_over, IsNetwork, IsWay, IsWalk, IsLeastWalk}
+use Rattle.route_finder.specs.Walks.{hop_of, link_of, prop_over, IsNetwork, IsLeastWalk}
 use Rattle.route_finder.proofs.LeastPropagations.{least_prop-within, least_prop-is}
 use Rattle.route_finder.proofs.TraceSteps.{traced_from-same}
 use Rattle.route_finder.proofs.LeastWalk.{traced-least, traced-prop}

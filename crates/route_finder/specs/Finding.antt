@@ -1,7 +1,6 @@
 -- What the search for a least route answers: the least walk as a route, with its propagation and its table; or, with a table that
 -- shows it, that there is no walk.
 use Rattle.std.specs.Prelude.{◌≡◌, ℕ, ◌≤◌, Option, Some, None, List, map}
-use Rattle.hop_reservation.specs.declared.route.Hop.{Hop}
 use Rattle.route_finder.specs.declared.edge.Edge.{Edge}
 use Rattle.route_finder.specs.declared.find.Found.{Found}
 use Rattle.route_finder.specs.declared.find.RouteFault.{RouteFault}

@@ -1,5 +1,5 @@
 //! Rows of the table. A row has the least propagation from each node by at most a given number of links.
-ghost use Rattle.std.specs.Prelude.{◌≡◌, ◌+◌, ◌*◌, ◌^◌, ◌<◌, ◌≤◌, ℕ, List, Option, Some};
+ghost use Rattle.std.specs.Prelude.{◌≡◌, ◌+◌, ◌*◌, ◌^◌, ◌<◌, ◌≤◌, ℕ, Option, Some};
 ghost use Rattle.route_finder.specs.Rows.{in_row, IsUpTo};
 ghost use Rattle.route_finder.specs.Table.{beyond, by_none, by_one_more, lesser};
 ghost use Rattle.route_finder.specs.Walks.{IsNetwork};

@@ -1,6 +1,6 @@
 //! The least walk, read off the table.
 ghost use Rattle.std.specs.Prelude.{◌≡◌, ◌+◌, ◌<◌, ◌≤◌, IfOk, map};
-ghost use Rattle.route_finder.specs.Rows.{entry, AreRows};
+ghost use Rattle.route_finder.specs.Rows.{entry};
 ghost use Rattle.route_finder.specs.Trace as trace;
 ghost use Rattle.route_finder.specs.Trace.{fewest, goes_on, traced_from};
 ghost use Rattle.route_finder.specs.Walks.{hop_of, IsEdge, IsNetwork};

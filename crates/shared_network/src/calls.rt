@@ -1,6 +1,5 @@
 //! Setups and teardowns over a network.
-ghost use Rattle.std.specs.Prelude.{◌≡◌, ℕ, ◌^◌, ◌+◌, ◌<◌, ◌≤◌, ◌-◌, length, IfOk, OnOk, OnErr, true};
-ghost use Rattle.net_units.specs.Numbers.{channel_number};
+ghost use Rattle.std.specs.Prelude.{◌≡◌, ℕ, ◌^◌, ◌+◌, ◌<◌, ◌≤◌, ◌-◌, IfOk, OnOk, OnErr, true};
 ghost use Rattle.link_steps.specs.Lists.{Each};
 ghost use Rattle.setup_protocol.specs.Hops.{IsHopOf};
 ghost use Rattle.setup_protocol.specs.Laws.{is_accepted};

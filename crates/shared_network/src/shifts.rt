@@ -1,5 +1,5 @@
 //! Moves of planned packets over a network.
-ghost use Rattle.std.specs.Prelude.{◌≡◌, ◌≢◌, ℕ, ◌^◌, ◌+◌, ◌<◌, ◌≤◌, ◌-◌, [], length, IfOk, OnOk, OnErr};
+ghost use Rattle.std.specs.Prelude.{◌≡◌, ◌≢◌, ℕ, ◌^◌, ◌+◌, ◌<◌, ◌≤◌, ◌-◌, [], IfOk, OnOk, OnErr};
 ghost use Rattle.net_units.specs.Numbers.{channel_number};
 ghost use Rattle.link_steps.specs.Legal.{SubmitFits};
 ghost use Rattle.link_steps.specs.Lists.{Each};

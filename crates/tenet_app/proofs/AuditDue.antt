@@ -1,9 +1,7 @@
 -- What is due for the bytes of an audit is one status and one text, and what is written for a table or a refused line is due.
-use Rattle.std.proofs.Common.{◌≡◌, ◌⊎◌, inl, inr, refl, ℕ, zero, suc, ◌-◌, List, [], ◌∷◌, Option, Some, None, length, map, option_map, slice_index_or, subst, sym, ◌∙◌, ap}
+use Rattle.std.proofs.Common.{◌≡◌, ◌⊎◌, inl, inr, refl, ℕ, zero, suc, ◌-◌, List, [], ◌∷◌, Option, Some, None, length, option_map, slice_index_or, subst, sym, ◌∙◌, ap}
 use Rattle.std.specs.Io.KnownBytes.{Appends, IsAtEnd}
 use Rattle.std.specs.List.{slice_get}
-use Rattle.byte_ends.specs.Faults.{FaultsRise}
-use Rattle.byte_ends.specs.Gathering.{WritesPart}
 use Rattle.net_units.specs.Allotted.{levels_of}
 use Rattle.net_units.specs.Numbers.{channel_number}
 use Rattle.net_units.specs.declared.levels.Levels.{Levels}

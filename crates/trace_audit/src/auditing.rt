@@ -1,6 +1,5 @@
 //! An audit of a table.
 ghost use Rattle.std.specs.Prelude.{◌≡◌, ℕ, length, IfOk};
-ghost use Rattle.call_script.specs.Plans.{IsPlan};
 ghost use Rattle.call_script.specs.Accepted.{AreAccepted};
 ghost use Rattle.run_record.specs.SmallRows.{AreSmall};
 ghost use Rattle.trace_audit.specs.Bounds.{TableKept};

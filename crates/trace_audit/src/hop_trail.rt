@@ -1,6 +1,5 @@
 //! What an audit keeps of the rows of a channel at a hop.
-ghost use Rattle.std.specs.Prelude.{◌≡◌, ◌+◌, ◌^◌, ◌<◌, ◌≤◌, None, IfOk, IfSome, OnSome};
-ghost use Rattle.traffic_contract.specs.Contract.{IsContract};
+ghost use Rattle.std.specs.Prelude.{◌≡◌, ◌+◌, ◌^◌, ◌<◌, ◌≤◌, None, IfOk, IfSome};
 ghost use Rattle.traffic_contract.specs.Eligible.{newest};
 ghost use Rattle.run_record.specs.SmallRows.{IsSmall};
 ghost use Rattle.trace_audit.specs.Checks.{is_within_bound};

@@ -2,7 +2,6 @@
 ghost use Rattle.std.specs.Prelude.{◌≡◌, ◌-◌, ◌≤◌, IfSome, Some, length, map, slice_index};
 ghost use Rattle.std.specs.List.{slice_get};
 ghost use Rattle.net_units.specs.Allotted.{levels_of};
-ghost use Rattle.net_units.specs.Limits.{most_bound, most_propagation};
 ghost use Rattle.net_units.specs.Numbers.{channel_number};
 ghost use Rattle.call_script.specs.Plans.{IsPlan};
 ghost use Rattle.call_script.specs.Splits.{entry_link, groups_in};

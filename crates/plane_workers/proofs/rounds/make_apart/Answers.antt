@@ -1,13 +1,8 @@
 -- The links go to desks, and come back from them.
-use Rattle.std.proofs.Common.{◌≡◌, ◌≤◌, List, length, map, sym, ap, ◌∙◌, arith}
+use Rattle.std.proofs.Common.{◌≡◌, ◌≤◌, length, map, ap, ◌∙◌, arith}
 use Rattle.std.proofs.lemmas.List.{with_items_is}
-use Rattle.net_units.specs.Numbers.{actor_number}
-use Rattle.call_script.specs.Tasks.{network_of}
 use Rattle.link_quota.specs.declared.any_link.AnyLink.{AnyLink}
 use Rattle.tick_plane.specs.Kept.{KeptPlane}
-use Rattle.interleave_core.proofs.Keeping.KeptActors.{plane-number}
-use Rattle.interleave_core.proofs.Keeping.CoreStep.{callers-few}
-use Rattle.interleave_core.proofs.Watched.QuietRounds.{plane-is}
 use Rattle.plane_workers.specs.declared.desk.Desk.{Desk}
 use Rattle.plane_workers.proofs.LinksAtDesks.{engine-again, plane-actor, seen-first}
 use Rattle.plane_workers.proofs.rounds.make_apart.Goals as goal

@@ -1,10 +1,9 @@
 -- No round yet, and then a part more.
-use Rattle.std.proofs.Common.{◌≡◌, length, refl, sym, ap, ◌∙◌, arith}
-use Rattle.net_units.specs.Numbers.{actor_number, actor_at}
+use Rattle.std.proofs.Common.{◌≡◌, length, refl, ap, ◌∙◌, arith}
+use Rattle.net_units.specs.Numbers.{actor_at}
 use Rattle.call_script.proofs.PlansFit.{plan-fits}
 use Rattle.call_script.specs.Tasks.{network_of}
 use Rattle.interleave_core.specs.schedules.Quiet.{the_plane}
-use Rattle.interleave_core.proofs.Keeping.KeptActors.{plane-number}
 use Rattle.interleave_core.proofs.Keeping.CoreStep.{callers-few, has-few}
 use Rattle.plane_workers.proofs.GapLaw.{packets-take}
 use Rattle.plane_workers.proofs.StepsAddUp.{none-more, more-again, more-out}
