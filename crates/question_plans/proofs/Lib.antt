@@ -1,0 +1,4 @@
+mod ListsMade
+mod OpensMade
+mod RequestsAlone
+mod Copies
