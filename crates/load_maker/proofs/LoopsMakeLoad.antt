@@ -2,7 +2,7 @@
 use Rattle.std.proofs.Common.{◌≡◌, ℕ, suc, ◌+◌, ◌*◌, ◌-◌, ◌<◌, ◌≤◌, true, false, List, [], ◌∷◌, ◌++◌, length, take, drop, decimal, sym, ap, ◌∙◌, subst, append_assoc, arith}
 use Rattle.std.proofs.lemmas.Bool.{eq-eqb, ne_eqb}
 use Rattle.std.proofs.lemmas.List.{append-nil, length-append}
-use Rattle.std.specs.Prelude.{◌%◌, ◌≢◌, Some, None}
+use Rattle.std.specs.Prelude.{◌%◌, ◌≢◌}
 use Rattle.net_units.specs.Text.{is_name}
 use Rattle.hop_reservation.specs.Routes.{IsRoute}
 use Rattle.hop_reservation.specs.declared.route.Hop.{Hop}
@@ -13,7 +13,6 @@ use Rattle.call_script.specs.declared.entries.RequestEntry.{RequestEntry}
 use Rattle.call_script.specs.declared.operations.Op.{Op}
 use Rattle.call_script.specs.Parts.{PlanParts, parts_of}
 use Rattle.call_script.specs.Plans.{IsPlan}
-use Rattle.call_script.specs.Broken.{rule_broken}
 use Rattle.call_script.specs.declared.entries.LinkEntry.{LinkEntry}
 use Rattle.call_script.specs.declared.version.Version.TheVariants.{One}
 use Rattle.load_maker.proofs.Growth.{made-is-plan}
@@ -195,6 +194,3 @@ parts-are number size n links requests callers links_are requests_are callers_ar
 
 pub plan-of : (number size : ℕ) (parts : PlanParts) → size ≤ 1024 → parts ≡ made_parts number size → IsPlan parts
 plan-of number size parts few is = subst IsPlan (sym is) (made-is-plan number size few)
-
-pub unbroken : (parts : PlanParts) (rule : ℕ) → IsPlan parts → rule_broken parts ≡ Some rule → ⊥
-unbroken parts rule plan broken = (let none : None ≡ Some rule = sym plan.kept ∙ broken in cc)

@@ -6,7 +6,7 @@ ghost use Rattle.load_maker.specs.Made.{made_parts};
 
 use crate::links::{links, short_name};
 use crate::script::script;
-use call_script::{BadPlan, CallerEntry, Ops, Plan, Version};
+use call_script::{CallerEntry, Ops, Plan, Version};
 use net_units::OutOfMemory;
 use std::alloc::Global;
 
@@ -41,18 +41,5 @@ pub fn made(alloc: Global, number: u32, size: u32) -> Result<Plan, OutOfMemory>
         })?;
     }
     let groups = Vec::new(alloc);
-    match Plan::new(
-        alloc,
-        Version::One,
-        links,
-        groups,
-        requests,
-        callers,
-        ROUNDS,
-        TAIL,
-    ) {
-        Ok(plan) => Ok(plan),
-        Err(BadPlan::Memory) => Err(OutOfMemory),
-        Err(BadPlan::Broken { .. }) => unreachable!(),
-    }
+    Ok(Plan::of_kept(Version::One, links, groups, requests, callers, ROUNDS, TAIL))
 }

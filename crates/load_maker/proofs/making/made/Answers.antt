@@ -1,6 +1,6 @@
 -- One more caller; and the parts are those of a plan.
 use Rattle.std.proofs.Common.{◌∙◌}
-use Rattle.load_maker.proofs.LoopsMakeLoad.{nobody-yet, no-callers, caller-requests, caller-entries, requests-few, parts-are, plan-of, unbroken}
+use Rattle.load_maker.proofs.LoopsMakeLoad.{nobody-yet, no-callers, caller-requests, caller-entries, requests-few, parts-are, plan-of}
 use Rattle.load_maker.proofs.making.made.Goals as goal
 
 pub loop-caller-init : goal.loop-caller-init
@@ -17,10 +17,5 @@ loop-caller-preserved c = record {
 pub script-requires-clause-few : goal.script-requires-clause-few
 script-requires-clause-few c = requests-few c.args.number c.args.size c.loop-caller.caller c.loop-caller.requests.items c.loop-caller.invariant.requests c.loop-caller-test.true c.requires.most
 
-pub new-requires-2 : goal.new-requires-2
-new-requires-2 c = rw c.new-groups.ensures.items (plan-of c.args.number c.args.size _ c.requires.most (parts-are c.args.number c.args.size c.loop-caller.caller c.in_ok-links.links.items c.loop-caller.requests.items c.loop-caller.callers.items c.in_ok-links.ensures c.loop-caller.invariant.requests c.loop-caller.invariant.callers c.loop-caller-test.false c.loop-caller.auto.caller-end)).planned
-
-pub unreachable-requires : goal.unreachable-requires
-unreachable-requires c =
-    unbroken _ c.in-Err-Broken.field-0-0 (plan-of c.args.number c.args.size _ c.requires.most (parts-are c.args.number c.args.size c.loop-caller.caller c.in_ok-links.links.items c.loop-caller.requests.items c.loop-caller.callers.items c.in_ok-links.ensures c.loop-caller.invariant.requests c.loop-caller.invariant.callers c.loop-caller-test.false c.loop-caller.auto.caller-end))
-    (rw c.new-groups.ensures.items at (c.in-Err-Broken.ensures.refusal c.in-Err-Broken.field-0-0 c.in-Err-Broken.field-0-is))
+pub of_kept-requires : goal.of_kept-requires
+of_kept-requires c = rw c.new-groups.ensures.items (plan-of c.args.number c.args.size _ c.requires.most (parts-are c.args.number c.args.size c.loop-caller.caller c.in_ok-links.links.items c.loop-caller.requests.items c.loop-caller.callers.items c.in_ok-links.ensures c.loop-caller.invariant.requests c.loop-caller.invariant.callers c.loop-caller-test.false c.loop-caller.auto.caller-end))
