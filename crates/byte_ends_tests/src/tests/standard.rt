@@ -1,8 +1,9 @@
 //! What the adapters ask of a reader and a writer, over one that notes it and whose first calls fail.
-use byte_ends::{Put, Sink, Source, StdSink, StdSource, Took, WriteFault, put_all};
+use super::{are_due, is_due, puts};
+use byte_ends::{Put, Sink, Source, StdSink, StdSource, Took, WriteFault};
 use std::alloc::Global;
 use std::io::{self, Error, ErrorKind, Read, Write};
-use std::test::Fail;
+use std::process::Abort;
 
 // This many calls fail in this way before one succeeds.
 #[derive(Clone, Copy)]
@@ -18,12 +19,20 @@ const NONE: Trouble = Trouble {
 
 const ONE_FAILURE: Trouble = Trouble { times: 1, ..NONE };
 
-const fn interrupted(times: u32) -> Trouble {
-    Trouble {
-        times,
-        kind: ErrorKind::Interrupted,
-    }
-}
+const INTERRUPTED_ONCE: Trouble = Trouble {
+    times: 1,
+    kind: ErrorKind::Interrupted,
+};
+
+const INTERRUPTED_OFTEN: Trouble = Trouble {
+    times: 64,
+    kind: ErrorKind::Interrupted,
+};
+
+const INTERRUPTED_TOO_OFTEN: Trouble = Trouble {
+    times: 65,
+    kind: ErrorKind::Interrupted,
+};
 
 impl Trouble {
     fn meet(&mut self) -> io::Result<()> {
@@ -89,62 +98,90 @@ impl Write for Fake {
     }
 }
 
+// How many bytes a call moves at most and how the first calls fail; then what a read of four bytes answers, the bytes after it, and the faults.
+type Reading = (usize, Trouble, Took, [u8; 4], u64);
+
+const READINGS: [Reading; 5] = [
+    (2, NONE, Took::Taken(2), *b"aa..", 0),
+    (2, INTERRUPTED_OFTEN, Took::Taken(2), *b"aa..", 0),
+    (2, INTERRUPTED_TOO_OFTEN, Took::Failed, *b"....", 1),
+    (2, ONE_FAILURE, Took::Failed, *b"....", 1),
+    (0, INTERRUPTED_ONCE, Took::End, *b"....", 0),
+];
+
+fn reads_so(rt: &impl Abort, alloc: Global, (most, calls, took, room_after, faults): &Reading) {
+    let mut room = *b"....";
+    let mut source = StdSource::new(Fake::new(alloc, *most, *calls, NONE));
+    is_due(rt, &source.read(&mut room), took);
+    is_due(rt, &room, room_after);
+    is_due(rt, &source.faults(), faults);
+}
+
 #[test]
 fn an_interrupted_read_is_tried_again_64_times(rt: HostRuntime) {
-    for (most, calls, took, room_after, faults) in [
-        (2, NONE, Took::Taken(2), *b"aa..", 0),
-        (2, interrupted(64), Took::Taken(2), *b"aa..", 0),
-        (2, interrupted(65), Took::Failed, *b"....", 1),
-        (2, ONE_FAILURE, Took::Failed, *b"....", 1),
-        (0, interrupted(1), Took::End, *b"....", 0),
-    ] {
-        let mut room = *b"....";
-        let mut source = StdSource::new(Fake::new(rt.alloc(), most, calls, NONE));
-        assert_eq!(rt; source.read(&mut room), took);
-        assert_eq!(rt; room, room_after);
-        assert_eq!(rt; source.faults(), faults);
+    for reading in &READINGS {
+        reads_so(&rt, rt.alloc(), reading);
     }
+}
+
+const WRITTEN: [Call; 2] = [Call::Write, Call::Flush];
+
+// How many bytes a call moves at most, and how the first writes and the first flushes fail; then what a write of three bytes answers, the
+// bytes written, and the calls that succeed.
+type Writing = (usize, Trouble, Trouble, Put, &'static str, &'static [Call]);
+
+const WRITINGS: [Writing; 8] = [
+    (2, NONE, NONE, Put::Wrote(2), "ab", &WRITTEN),
+    (2, INTERRUPTED_OFTEN, NONE, Put::Wrote(2), "ab", &WRITTEN),
+    (2, INTERRUPTED_TOO_OFTEN, NONE, Put::Failed, "", &[]),
+    (2, ONE_FAILURE, NONE, Put::Failed, "", &[]),
+    (2, NONE, INTERRUPTED_OFTEN, Put::Wrote(2), "ab", &WRITTEN),
+    (
+        2,
+        NONE,
+        INTERRUPTED_TOO_OFTEN,
+        Put::Failed,
+        "ab",
+        &[Call::Write],
+    ),
+    (2, NONE, ONE_FAILURE, Put::Failed, "ab", &[Call::Write]),
+    (0, INTERRUPTED_ONCE, NONE, Put::Failed, "", &[Call::Write]),
+];
+
+// The fake has these bytes, after these calls.
+fn has_met(rt: &impl Abort, fake: &Fake, bytes: &str, order: &[Call]) {
+    are_due(rt, fake.bytes.as_slice(), bytes.as_bytes());
+    are_due(rt, fake.order.as_slice(), order);
+}
+
+fn writes_so(rt: &impl Abort, alloc: Global, (most, calls, flushes, put, bytes, order): &Writing) {
+    let mut fake = Fake::new(alloc, *most, *calls, *flushes);
+    let mut sink = StdSink::new(&mut fake);
+    is_due(rt, &sink.write(b"abc"), put);
+    let faults = if *put == Put::Failed { 1 } else { 0 };
+    is_due(rt, &sink.faults(), &faults);
+    has_met(rt, &fake, bytes, order);
 }
 
 #[test]
 fn a_write_is_flushed_and_both_are_tried_again_64_times(rt: HostRuntime) {
-    let written = [Call::Write, Call::Flush];
-    for (most, calls, flushes, put, bytes, order) in [
-        (2, NONE, NONE, Put::Wrote(2), "ab", written.as_slice()),
-        (2, interrupted(64), NONE, Put::Wrote(2), "ab", &written),
-        (2, interrupted(65), NONE, Put::Failed, "", &[]),
-        (2, ONE_FAILURE, NONE, Put::Failed, "", &[]),
-        (2, NONE, interrupted(64), Put::Wrote(2), "ab", &written),
-        (2, NONE, interrupted(65), Put::Failed, "ab", &written[..1]),
-        (2, NONE, ONE_FAILURE, Put::Failed, "ab", &written[..1]),
-        (0, interrupted(1), NONE, Put::Failed, "", &written[..1]),
-    ] {
-        let mut fake = Fake::new(rt.alloc(), most, calls, flushes);
-        let mut sink = StdSink::new(&mut fake);
-        assert_eq!(rt; sink.write(b"abc"), put);
-        let faults = if put == Put::Failed { 1 } else { 0 };
-        assert_eq!(rt; sink.faults(), faults);
-        assert_eq!(rt; fake.bytes.as_slice(), bytes.as_bytes());
-        assert_eq!(rt; fake.order.as_slice(), order);
+    for writing in &WRITINGS {
+        writes_so(&rt, rt.alloc(), writing);
     }
 }
 
 #[test]
-fn the_call_after_a_fault_goes_on(rt: HostRuntime) -> Result<(), Fail> {
+fn the_call_after_a_fault_goes_on(rt: HostRuntime) {
     let mut source = StdSource::new(Fake::new(rt.alloc(), 1, ONE_FAILURE, NONE));
     let mut room = [0];
-    assert_eq!(rt; source.read(&mut room), Took::Failed);
-    assert_eq!(rt; source.read(&mut room), Took::Taken(1));
-    assert_eq!(rt; source.faults(), 1);
+    is_due(&rt, &source.read(&mut room), &Took::Failed);
+    is_due(&rt, &source.read(&mut room), &Took::Taken(1));
+    is_due(&rt, &source.faults(), &1);
     let mut fake = Fake::new(rt.alloc(), 2, ONE_FAILURE, NONE);
     let mut sink = StdSink::new(&mut fake);
-    assert_eq!(rt; put_all(&mut sink, b"abc"), Err(WriteFault));
-    assert_eq!(rt; put_all(&mut sink, b"abc"), Ok(()));
-    assert_eq!(rt; sink.faults(), 1);
-    assert_eq!(rt; fake.bytes.as_slice(), b"abc".as_slice());
-    assert_eq!(rt;
-        fake.order.as_slice(),
-        [Call::Write, Call::Flush, Call::Write, Call::Flush].as_slice()
-    );
-    Ok(())
+    puts(&rt, &mut sink, b"abc", Err(WriteFault));
+    puts(&rt, &mut sink, b"abc", Ok(()));
+    is_due(&rt, &sink.faults(), &1);
+    let order = [Call::Write, Call::Flush, Call::Write, Call::Flush];
+    has_met(&rt, &fake, "abc", &order);
 }
