@@ -17,7 +17,7 @@ use Rattle.interleave_core.specs.runs.Runs.{IsNext}
 use Rattle.interleave_core.specs.runs.Turns.{plane_most}
 use Rattle.interleave_core.specs.schedules.Watching.{IsNextSeen}
 use Rattle.interleave_core.proofs.Keeping.Lookups.{held}
-use Rattle.interleave_core.proofs.Keeping.CoreStep.{run-more}
+use Rattle.interleave_core.proofs.Runs.RunFronts.{run-more}
 use Rattle.plane_workers.specs.Desks.{rules_at, stands_at, left_at}
 use Rattle.plane_workers.specs.Windows.{GoesOnBy, IsInWindow}
 use Rattle.plane_workers.specs.declared.desk.Desk.{Desk}
@@ -81,7 +81,7 @@ module _ {X : Type 0} (rules : X → Link) (stands : X → List Entry → Type 0
 
     -- and links and plane stand for it with that
     pub hand-within : IsInWindow rules stands left parts from until new plane' (done ∷ run)
-    hand-within = one-within rules stands left parts from until old plane run is early link ask hands.asked actor by reply new hands.before hands.after hands.found hands.told plane' after same-links same-rounds (run-more parts run done is.run_is hand-next) hands.long hands.others hands.there hands.same hands.stay
+    hand-within = one-within rules stands left parts from until old plane run is early link ask hands.asked actor by reply new hands.before hands.after hands.found hands.told plane' after same-links same-rounds (run-more (network_of parts) run done is.run_is hand-next) hands.long hands.others hands.there hands.same hands.stay
 
   pub hand-goes : GoesOnBy (network_of parts) actor run (done ∷ run)
   hand-goes = one-goes rules stands left parts from until old plane run is early link ask hands.asked actor by reply new hands.before hands.after hands.found hands.told

@@ -40,7 +40,7 @@ use Rattle.interleave_core.proofs.Runs.RunLegal.{part-admissible, by-part}
 use Rattle.channel_laws.specs.Asks.{IsMild}
 use Rattle.channel_laws.specs.Reservations.{held_by, ComesOf, Stays, Closed}
 use Rattle.interleave_core.specs.channels.Paths.{HopAt, packets_at, count_at}
-use Rattle.interleave_core.proofs.Tasks.EachSetup.{is-run}
+use Rattle.interleave_core.proofs.Runs.RunFronts.{run-more}
 
 -- ---- one hop
 
@@ -89,7 +89,7 @@ hop-fate network request i at done past least fits sound asked run next some tel
     (λ row chan test found. sym (own-count row.ticks _ (hop-tells network request i at past row test fits run (asked past run) found chan).eligible)) grows
     (no-second at.link.shape request (part_of (link_number at.hop.link) past) done.ask done.reply least legal once some fate) (tells e) fate)
     (λ off once grows. fate)
-    ((asked (done ∷ past) (is-run network past done run next)).once (link_number at.hop.link)) (count-grows network request i at done past)
+    ((asked (done ∷ past) (run-more network past done run next)).once (link_number at.hop.link)) (count-grows network request i at done past)
 
 -- the first hop takes no packet but by a tick while it is committed
 pub first-same : (network : Network) (request : Request) (first : HopAt network request 0) (done : Done) (past : List Done) → NetworkFits network → ChannelAsked request past → IsRun network past → (next : IsNext network past done) → (done.ask ≡ Tick → NotCommitted (held_at_hop network request 0 first past)) → count_at network request 0 first (done ∷ past) ≡ count_at network request 0 first past

@@ -173,7 +173,7 @@ unnamed-packet network n link p run fits is linked among own unnamed =
       any-terms = record { contract = record { xmin = 0; xave = 0; interval = 0; smax = 0 }; kind = Jitter; first = true; next = None }
 
 -- a numbered packet is of its channel
-own-channel : (p : Arrival) → 1 ≤ p.number → is_of_channel (channel_number p.chan) p ≡ true
+pub own-channel : (p : Arrival) → 1 ≤ p.number → is_of_channel (channel_number p.chan) p ≡ true
 own-channel p numbered = and_from (nat_eq (channel_number p.chan) (channel_number p.chan)) (nat_lt 0 p.number) (eq-eqb (channel_number p.chan) (channel_number p.chan) refl) (lt-ltb 0 p.number numbered)
 
 unnamed-arrive : (network : Network) (done : Done) (past : List Done) (packet : Packet) → NetworkFits network → IsRun network past → (next : IsNext network past done) → done.ask ≡ Arrive packet → IsUnnamed network (channel_number packet.chan) → ⊥
@@ -185,7 +185,7 @@ unnamed-arrive network done past packet fits run next arrives unnamed =
 
 -- ---- only accepted channels have packets
 
-some-there : (p : Arrival) (ps : List Arrival) → Among p ps → 1 ≤ length ps
+pub some-there : (p : Arrival) (ps : List Arrival) → Among p ps → 1 ≤ length ps
 some-there p [] among = absurd among
 some-there p (q ∷ ps) among = omega arith
 

@@ -29,8 +29,8 @@ use Rattle.call_script.specs.Owners.{OwnedFully}
 use Rattle.interleave_core.proofs.Replies.RunGoes.{HopLevels, levels-settled, levels-later, after-later, owned-asked}
 use Rattle.channel_laws.specs.Asks.{IsOff, IsMild}
 use Rattle.interleave_core.specs.channels.Paths.{HopAt, count_at}
-use Rattle.interleave_core.proofs.Tasks.EachSetup.{is-run}
 use Rattle.interleave_core.proofs.Channels.OwnerEntries.{EntryIs, MildOne, SetupOne, entry-is}
+use Rattle.interleave_core.proofs.Runs.RunFronts.{run-more}
 
 -- ---- the levels
 
@@ -84,7 +84,7 @@ off-tick c ask is = subst (IsOff c) (sym is) tt
 next-levelled : (network : Network) (request : Request) (owner : ℕ) (first : HopAt network request 0) (done : Done) (past : List Done) → NetworkFits network → RequestFits network.links request → OwnedFully network request owner → IsRun network past → (next : IsNext network past done) → 1 ≤ count_at network request 0 first (done ∷ past) → (1 ≤ count_at network request 0 first past → Levelled network request past) → Levelled network request (done ∷ past)
 next-levelled network request owner first done past fits sound full run next some was =
     let asked = owned-asked network request owner fits sound (owned-once network request owner full) in
-    let is = is-run network past done run next in
+    let is = run-more network past done run next in
     let kept : count_at network request 0 first (done ∷ past) ≡ count_at network request 0 first past → Levelled network request (done ∷ past) = λ same.
     entry-levelled network request owner first done past (count_at network request 0 first (done ∷ past)) (count_at network request 0 first (done ∷ past)) fits run is (asked (done ∷ past) is)
     ((run-chain network request owner first (done ∷ past) fits sound full is).fates some 0 first) (entry-is network request owner past done fits sound full run next) (was (omega (arith, some, same))) in

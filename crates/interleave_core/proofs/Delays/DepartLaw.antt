@@ -61,9 +61,6 @@ front-gone test (p ∷ own) (suc k) within all =
     let rest = front-gone test own k (omega (arith, within)) (λ j q upto found. all (suc j) q (omega (arith, upto)) found) in
     rw first (omega (arith, rest))
 
-within-list : (own : List Arrival) (j : ℕ) (p : Arrival) → slice_get own j ≡ Some p → j < length own
-within-list own j p found = slice_get_within own j p found
-
 rises : (least : ℕ) (ticks : List ℕ) (j k : ℕ) → Spaced 1 least ticks → j ≤ k → k < length ticks → get_or ticks j 0 ≤ get_or ticks k 0
 rises least ticks zero zero spaced upto within = omega arith
 rises least ticks (suc j) zero spaced upto within = absurd (omega (arith, upto))
@@ -98,7 +95,7 @@ pub hop-departed : (network : Network) (request : Request) (levels : List ℕ) (
 hop-departed network request levels run first i at k fits sound asked is have taken due j p upto found =
     let path = path-law network request levels run fits sound asked is have first i at in
     let own = length-map (packets_at network request i at run) tick_of_packet in
-    let within = within-list (packets_at network request i at run) j p found in
+    let within = slice_get_within (packets_at network request i at run) j p found in
     let after = path.after j (omega (arith, within, own)) in
     let fewer = path.fewer in
     let rising = first-rises network request first run j k fits is (asked run is) upto (omega (arith, fewer, own, taken)) in

@@ -69,8 +69,12 @@ pub record ArriveComes (network : Network) (past : List Done) (done : Done) (pac
   pub flight : Flight
   pub to : flight.to ≡ done.link
   pub same : flight.packet ≡ packet
+  pub due : next_due (plane_at network past) ≡ Some flight
   pub from : ComesFrom network past flight
   pub now : flight.round ≡ clock_of (part_of (link_number done.link) past)
+
+pub same-packet : (a b : Packet) → Arrive a ≡ Arrive b → a ≡ b
+same-packet a b same = cc
 
 pub flight-passes : (test : Flight → Bool) (flight : Flight) (flights : List Flight) → find test flights ≡ Some flight → test flight ≡ true
 flight-passes test flight [] found = cc
@@ -92,16 +96,14 @@ due-comes network past done packet (Some flight) stands flights inside due asks 
     record {
       flight = flight;
       to = ap (λ pair. pair.0) asks;
-      same = arrived flight.packet packet arrives;
+      same = same-packet flight.packet packet arrives;
+      due = due;
       from = Each-find (ComesFrom network past) (is_due (plane_at network past).round) (plane_at network past).flights flight flights.from due;
       now = omega (arith, round, clock, same);
     } where
       none-ticked : (n : ℕ) → (1 ≤ n → ⊥) → n ≡ 0
       none-ticked zero none = refl
       none-ticked (suc n) none = absurd (none (omega arith))
-
-      arrived : (a b : Packet) → Arrive a ≡ Arrive b → a ≡ b
-      arrived a b same = cc
 
 pub arrive-comes : (network : Network) (past : List Done) (done : Done) (packet : Packet) → NetworkFits network → IsRun network past → (next : IsNext network past done) → done.ask ≡ Arrive packet → ArriveComes network past done packet
 arrive-comes network past done packet fits run next is =

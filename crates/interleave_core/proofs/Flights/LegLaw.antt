@@ -5,7 +5,7 @@ use Rattle.std.proofs.lemmas.Option.{same_Some}
 use Rattle.std.specs.List.{slice_get}
 use Rattle.std.specs.Option.{option_map}
 use Rattle.std.specs.Prelude.{nat_eq, find}
-use Rattle.net_units.specs.Numbers.{link_number, actor_number, channel_number}
+use Rattle.net_units.specs.Numbers.{link_number, channel_number}
 use Rattle.net_units.specs.declared.numbers.LinkNo.{LinkNo}
 use Rattle.hop_reservation.specs.Routes.{link_of}
 use Rattle.link_steps.specs.declared.asks.Ask.{Ask}
@@ -34,13 +34,12 @@ use Rattle.call_script.specs.Tasks.{Network}
 use Rattle.tick_plane.specs.declared.flight.Flight.{Flight}
 use Rattle.tick_plane.specs.Planes.{Plane, is_due, next_due, ask_due, flight_to, flight_in, tick_made, plane_with, plane_of}
 use Rattle.run_record.specs.Runs.{entry_of, part_of, replies_to}
-use Rattle.interleave_core.specs.runs.Runs.{plane_no, plane_at, IsNext, IsRun}
-use Rattle.call_script.specs.Scripts.{standing}
+use Rattle.interleave_core.specs.runs.Runs.{plane_at, IsNext, IsRun}
 use Rattle.channel_laws.proofs.ChannelRows.{packets-off, row-of, find-passes}
-use Rattle.interleave_core.proofs.Tasks.CallerAsksFit.{IsCallers, standing-asks}
+use Rattle.interleave_core.proofs.Tasks.CallerAsksFit.{IsCallers}
 use Rattle.interleave_core.proofs.Flights.FlightQueue.{IsQueue, queue-head, queue-skips, queue-other}
 use Rattle.channel_laws.proofs.SizeLaw.{legal-within}
-use Rattle.interleave_core.proofs.Delays.HopLaw.{TwoHops, arrive-comes, from-near, next-link, far-ticks}
+use Rattle.interleave_core.proofs.Delays.HopLaw.{TwoHops, arrive-comes, from-near, next-link, far-ticks, same-packet}
 use Rattle.interleave_core.proofs.Channels.ChannelsAt.{packet-offered}
 use Rattle.link_steps.proofs.PacketRows.{Among-passes}
 use Rattle.hop_reservation.proofs.DistinctLinks.{index-apart}
@@ -49,11 +48,10 @@ use Rattle.channel_laws.proofs.NumberedPackets.{HasNumber, packets-have_numbers}
 use Rattle.interleave_core.specs.channels.Flights.{IsPunctual}
 use Rattle.interleave_core.proofs.Flights.Punctual.{run-punctual}
 use Rattle.interleave_core.proofs.Flights.QueueTicks.{leg, QueueOf, SendsTo, queue-ticks}
-use Rattle.interleave_core.proofs.Runs.RunLegal.{plane-next, caller-next, plane-off, plane-by, part-on, part-off, run-stands, part-admissible, by-part, arrive-due}
+use Rattle.interleave_core.proofs.Runs.RunLegal.{part-on, part-off, run-stands, part-admissible, by-part, arrive-due, by-actor, caller-asks}
 use Rattle.channel_laws.specs.Departing.{ticked, gone_of}
 use Rattle.channel_laws.proofs.SentInTime.{sent-facts, tick-answer}
 use Rattle.link_steps.proofs.EntryEffects.{packets-by}
-use Rattle.interleave_core.proofs.Tasks.EachSetup.{is-run}
 
 -- how many packets of the channel the far hop has taken
 abbrev pub far_count : (network : Network) (request : Request) (i : ℕ) → TwoHops network request i → List Done → ℕ
@@ -238,30 +236,18 @@ pub leg-step : (network : Network) (request : Request) (i : ℕ) (two : TwoHops 
 unfolding IsRun
 leg-step network request i two done past fits sound asked run counts is =
     let stands = run-stands network past fits run.0 in
-    elim (cases_Bool (nat_eq (actor_number done.actor) (plane_no network))) [
-      | inl plane ↦
-          (let same = eqb-true (actor_number done.actor) (plane_no network) plane in
-          let asks = plane-next network past done run.1 same in
-          subst (λ p. QueueOf two.near.shape (channel_number request.chan) (link_number two.after.link) (far_count network request i two (done ∷ past)) (part_of (link_number two.hop.link) (done ∷ past)) p.flights) (sym (plane-by network done past same))
-          (leg-with network request i two (plane_at network past) (next_due (plane_at network past)) done past fits sound run.0 run (asked past run.0) (asked (done ∷ past) run) run.1 counts (run-punctual network past fits run.0) refl asks.asks is))
-      | inr caller ↦
-          (let off = eqb-false (actor_number done.actor) (plane_no network) caller in
-          let asks = caller-next network past done run.1 off in
-          let callers = (standing-asks network.links (standing asks.tasks (replies_to (actor_number done.actor) past)) done.link done.ask (stands.callers (actor_number done.actor) asks.tasks asks.found) asks.asks).callers in
-          let legal = part-admissible network (done ∷ past) (link_number two.hop.link) two.near fits run two.linked in
-          subst (λ p. QueueOf two.near.shape (channel_number request.chan) (link_number two.after.link) (far_count network request i two (done ∷ past)) (part_of (link_number two.hop.link) (done ∷ past)) p.flights) (sym (plane-off network done past off))
-          (near-quiet network two.near.shape (channel_number request.chan) (link_number two.after.link) (far_count network request i two (done ∷ past)) (link_number two.hop.link) done past (plane_at network past).flights legal (no-tick-callers done.ask callers)
-          (subst (λ n. QueueOf two.near.shape (channel_number request.chan) (link_number two.after.link) n (part_of (link_number two.hop.link) past) (plane_at network past).flights) (sym (far-kept network request i two past done fits run.0 (asked past run.0) (λ at. other-callers (channel_number request.chan) done.ask callers))) is)))
-    ]
+    by-actor (λ p. QueueOf two.near.shape (channel_number request.chan) (link_number two.after.link) (far_count network request i two (done ∷ past)) (part_of (link_number two.hop.link) (done ∷ past)) p.flights) network done past run.1
+    (λ asks. leg-with network request i two (plane_at network past) (next_due (plane_at network past)) done past fits sound run.0 run (asked past run.0) (asked (done ∷ past) run) run.1 counts (run-punctual network past fits run.0) refl asks.asks is)
+    (λ asks.
+    let callers = (caller-asks network past done stands asks).callers in
+    near-quiet network two.near.shape (channel_number request.chan) (link_number two.after.link) (far_count network request i two (done ∷ past)) (link_number two.hop.link) done past (plane_at network past).flights (part-admissible network (done ∷ past) (link_number two.hop.link) two.near fits run two.linked) (no-tick-callers done.ask callers)
+    (subst (λ n. QueueOf two.near.shape (channel_number request.chan) (link_number two.after.link) n (part_of (link_number two.hop.link) past) (plane_at network past).flights) (sym (far-kept network request i two past done fits run.0 (asked past run.0) (λ at. other-callers (channel_number request.chan) done.ask callers))) is))
 
 -- ---- the first entry, and the number of an arrive
 
 pub leg-start : (network : Network) (request : Request) (i : ℕ) (two : TwoHops network request i) → LegStands network request i two []
 unfolding part_of scan_of clock_of replies_to plane_of
 leg-start network request i two = (refl, omega arith)
-
-same-packet : (a b : Packet) → Arrive a ≡ Arrive b → a ≡ b
-same-packet a b same = cc
 
 due-number : (network : Network) (request : Request) (i : ℕ) (two : TwoHops network request i) (plane : Plane) (found : Option Flight) (done : Done) (past : List Done) (packet : Packet) → IsPunctual plane → next_due plane ≡ found → ask_due plane.ticked found ≡ (done.link, done.ask) → done.ask ≡ Arrive packet → channel_number packet.chan ≡ channel_number request.chan → link_number done.link ≡ link_number two.after.link
     → QueueOf two.near.shape (channel_number request.chan) (link_number two.after.link) (far_count network request i two past) (part_of (link_number two.hop.link) past) plane.flights → packet.number ≡ suc (far_count network request i two past)

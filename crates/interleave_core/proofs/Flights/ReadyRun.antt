@@ -41,7 +41,7 @@ use Rattle.interleave_core.proofs.Delays.BufferLaw.{slot-free}
 use Rattle.interleave_core.proofs.Channels.ChainLaw.{run-chain, same-count}
 use Rattle.interleave_core.proofs.Channels.FarHolds.{hop-tells}
 use Rattle.channel_laws.proofs.HoldFates.{Fate, FateOpen, FateClosing, FateGone}
-use Rattle.interleave_core.proofs.Delays.HopLaw.{TwoHops, arrive-comes, from-near, next-link, far-row-at, hop-law}
+use Rattle.interleave_core.proofs.Delays.HopLaw.{TwoHops, arrive-comes, from-near, next-link, far-row-at, hop-law, same-packet}
 use Rattle.channel_laws.proofs.Places.{place-of}
 use Rattle.interleave_core.proofs.Channels.ChannelsAt.{packet-offered, stands-at}
 use Rattle.link_steps.proofs.PacketRows.{Among-passes}
@@ -176,9 +176,7 @@ run-legs network request owner i near far (done ∷ past) fits sound full is =
     let level = one-level network request i near past fits is.0 (names past is.0) in
     leg-step network request i (two_of network request i near far) done past fits sound names is
     (λ packet arrives chan at. (let ready = run-ready network request owner i near far done past packet fits sound full is.0 is.1 leg arrives chan at in
-    ready-counts network request i (two_of network request i near far) done past ready.level fits sound names is.0 is.1 leg ready.levels (λ p arrives' chan' at'. subst (λ q. FarReady network request i (two_of network request i near far) past q ready.level) (same-packet packet p (sym arrives ∙ arrives')) ready.ready) packet arrives chan at)) leg where
-      same-packet : (a b : Packet) → Arrive a ≡ Arrive b → a ≡ b
-      same-packet a b same = cc
+    ready-counts network request i (two_of network request i near far) done past ready.level fits sound names is.0 is.1 leg ready.levels (λ p arrives' chan' at'. subst (λ q. FarReady network request i (two_of network request i near far) past q ready.level) (same-packet packet p (sym arrives ∙ arrives')) ready.ready) packet arrives chan at)) leg
 
 -- ---- so it is taken
 

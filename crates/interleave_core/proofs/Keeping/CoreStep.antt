@@ -108,11 +108,6 @@ pub fresh-run : (parts : PlanParts) → IsRun (network_of parts) []
 unfolding IsRun
 fresh-run parts = tt
 
--- with one step more
-pub run-more : (parts : PlanParts) (past : List Done) (done : Done) → IsRun (network_of parts) past → IsNext (network_of parts) past done → IsRun (network_of parts) (done ∷ past)
-unfolding IsRun
-run-more parts past done run next = (run, next)
-
 pub recorded : (old ready new : Entries) (done : Done) (spare left : ℕ) → ready ≡ record old { spare = spare } → new ≡ record { entries = ready.entries ++ done ∷ []; spare = left } → reverse new.entries ≡ done ∷ reverse old.entries
 recorded old ready new done spare left kept pushed =
     ap (λ (e : Entries). reverse e.entries) pushed ∙ ap (λ (e : Entries). reverse (e.entries ++ done ∷ [])) kept ∙ reverse-append old.entries (done ∷ [])

@@ -1,7 +1,9 @@
--- The element at an index: after a write, and with one more element. Another fact may follow from what an answer's value has.
-use Rattle.std.proofs.Common.{◌≡◌, ◌≢◌, ◌⊎◌, ℕ, zero, suc, ◌<◌, Some, List, [], ◌∷◌, ◌++◌, length, get_or, set, refl, sym, ap, ◌∙◌, inl, inr, Result, Ok, Err, IfOk, IfErr, OnOk, arith}
+-- The element at an index, after a write and with one more element; the first one, and the rest; the images of a list turned round. Another
+-- fact may follow from what an answer's value has.
+use Rattle.std.proofs.Common.{◌≡◌, ◌≢◌, ◌⊎◌, ℕ, zero, suc, ◌<◌, Some, List, [], ◌∷◌, ◌++◌, length, get_or, set, refl, sym, ap, ◌∙◌, inl, inr, Result, Ok, Err, IfErr, OnOk, arith, map, reverse, IfOk}
 use Rattle.std.proofs.lemmas.Option.{same_Some, slice_get_cases, slice_get_read}
 use Rattle.std.specs.List.{slice_get}
+use Rattle.std.proofs.lemmas.List.{map-append, reverse-append}
 
 pub get-set-same : {X : Type 0} (xs : List X) (i : ℕ) (x y : X) → slice_get (set xs i x) i ≡ Some y → y ≡ x
 get-set-same [] i x y is = cc
@@ -36,6 +38,17 @@ held xs n within =
       | inl at ↦ record { item = at.0; found = at.2 }
       | inr past ↦ absurd (omega (arith, past.0, within))
     ]
+
+-- the first element and the rest
+pub head-same : {X : Type 0} (x : X) (xs : List X) (y : X) (ys : List X) → x ∷ xs ≡ y ∷ ys → x ≡ y
+head-same x xs y ys same = cc
+
+pub tail-same : {X : Type 0} (x : X) (xs : List X) (y : X) (ys : List X) → x ∷ xs ≡ y ∷ ys → xs ≡ ys
+tail-same x xs y ys same = cc
+
+pub map-reverse : {X Y : Type 0} (f : X → Y) (xs : List X) → map f (reverse xs) ≡ reverse (map f xs)
+map-reverse f [] = refl
+map-reverse f (x ∷ xs) = ap (map f) (reverse-append (x ∷ []) xs) ∙ map-append f (reverse xs) (x ∷ []) ∙ ap (λ ys. ys ++ f x ∷ []) (map-reverse f xs) ∙ sym (reverse-append (f x ∷ []) (map f xs))
 
 -- ---- answers
 

@@ -16,11 +16,12 @@ use Rattle.interleave_core.specs.schedules.Standing.{ActorsStand, LinksStand, Ma
 use Rattle.interleave_core.specs.declared.actors.Actors.{Actors}
 use Rattle.interleave_core.specs.declared.engine.Engine.{Engine}
 use Rattle.interleave_core.proofs.Keeping.KeptActors.{plane-asks, plane-expected, plane-number}
-use Rattle.interleave_core.proofs.Keeping.CoreStep.{callers-few, run-more}
+use Rattle.interleave_core.proofs.Keeping.CoreStep.{callers-few}
 use Rattle.interleave_core.proofs.Watched.QuietRounds.{plane-is}
 use Rattle.run_record.specs.declared.done.Done.{Done}
 use Rattle.tick_plane.specs.Planes.{Plane, next_due, plane_after, plane_ask, plane_expects, plane_with, tick_made}
 use Rattle.tick_plane.specs.declared.flight.Flight.{Flight}
+use Rattle.interleave_core.proofs.Runs.RunFronts.{run-more}
 
 -- the plane's number is that after the callers'
 pub own-number : (parts : PlanParts) → IsPlan parts → actor_number (the_plane (network_of parts)) ≡ length parts.callers
@@ -74,7 +75,7 @@ makes-step parts mid new past done answered links actors = record {
   by = refl;
   stands = record {
     plan = answered.due.plan;
-    run = run-more parts past done answered.due.run answered.due.next;
+    run = run-more (network_of parts) past done answered.due.run answered.due.next;
     links = subst (λ ls. LinksStand (network_of parts).links ls (done ∷ past)) (sym links) answered.links;
     actors = actors;
   };

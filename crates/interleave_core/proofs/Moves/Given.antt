@@ -38,10 +38,11 @@ use Rattle.interleave_core.proofs.Moves.MoveTotal.{begins-not, run-shifted}
 use Rattle.interleave_core.proofs.Moves.TotalLaw.{none-lost}
 use Rattle.interleave_core.proofs.Replies.Replying.{moves-plan}
 use Rattle.interleave_core.proofs.Runs.RunLegal.{part-admissible}
-use Rattle.interleave_core.proofs.Runs.EachRun.{head-same, each-run-resumed, OwnStep}
+use Rattle.interleave_core.proofs.Runs.EachRun.{each-run-resumed, OwnStep}
 use Rattle.interleave_core.proofs.Tasks.TaskAsks.{off-standing}
 use Rattle.interleave_core.proofs.Tasks.OwnTasks.{own-task}
 use Rattle.interleave_core.proofs.Replies.RunCloses.{step-kind}
+use Rattle.interleave_core.proofs.Keeping.Lookups.{head-same}
 
 -- ---- what the move under way has given
 

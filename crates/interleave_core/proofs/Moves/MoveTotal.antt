@@ -46,9 +46,10 @@ use Rattle.interleave_core.proofs.Replies.RunCloses.{owned-once, others-off, ste
 use Rattle.interleave_core.proofs.Replies.RunGoes.{owned-asked}
 use Rattle.interleave_core.proofs.Runs.RunLegal.{part-on, part-admissible, by-part}
 use Rattle.interleave_core.proofs.Moves.TotalLaw.{none-lost, release-cancels}
-use Rattle.interleave_core.proofs.Runs.EachRun.{head-same, KeptBySteps, KeptByOthers, each-run, OwnStep}
+use Rattle.interleave_core.proofs.Runs.EachRun.{KeptBySteps, KeptByOthers, each-run, OwnStep}
 use Rattle.interleave_core.proofs.Tasks.OwnTasks.{own-task}
 use Rattle.interleave_core.proofs.Replies.OwnerKinds.{NoRelease, IsLeaving, OwnKind, OwnOff, OwnAside, OwnSetup, OwnSend, OwnClose}
+use Rattle.interleave_core.proofs.Keeping.Lookups.{head-same}
 
 -- ---- what an entry cancels
 
@@ -141,14 +142,10 @@ later-cancels network request first done past task (reply ∷ replies) fits run 
 way-now : (network : Network) (request : Request) (first : HopAt network request 0) (done : Done) (past : List Done) (task : Task) (rest : List Task) (replies : List Reply) (outcomes : List Learnt) → NetworkFits network → ChannelAsked request past → IsRun network past → (next : IsNext network past done) → OwnKind network request done past task replies
     → ShiftedAt request (cancelled_at network request first past) (record { tasks = task ∷ rest; replies = replies; outcomes = outcomes }) → IsLeaving request task → (reply : Reply) (more : List Reply) → replies ++ done.reply ∷ [] ≡ reply ∷ more → cancelled_at network request first (done ∷ past) ≡ shifted_in reply
 way-now network request first done past task rest [] outcomes fits asked run next kind was leaving reply more same =
-    first-cancels network request first done past task [] fits asked run next leaving refl kind ∙ ap shifted_in (head done.reply [] reply more same) where
-      head : (a : Reply) (xs : List Reply) (b : Reply) (ys : List Reply) → a ∷ xs ≡ b ∷ ys → a ≡ b
-      head a xs b ys is = cc
+    first-cancels network request first done past task [] fits asked run next leaving refl kind ∙ ap shifted_in (head-same done.reply [] reply more same)
 way-now network request first done past task rest (one ∷ replies) outcomes fits asked run next kind was leaving reply more same =
     later-cancels network request first done past task (one ∷ replies) fits run next (λ own none. (let clash : one ∷ replies ≡ [] = none in cc)) kind
-    ∙ was.way task rest one replies refl leaving refl ∙ ap shifted_in (head one (replies ++ done.reply ∷ []) reply more same) where
-      head : (a : Reply) (xs : List Reply) (b : Reply) (ys : List Reply) → a ∷ xs ≡ b ∷ ys → a ≡ b
-      head a xs b ys is = cc
+    ∙ was.way task rest one replies refl leaving refl ∙ ap shifted_in (head-same one (replies ++ done.reply ∷ []) reply more same)
 
 -- what is held of the channel on a link
 abbrev held_on : ChanNo → LinkShape → ℕ → List Done → Option Reservation

@@ -37,6 +37,7 @@ use Rattle.interleave_core.specs.channels.Moves.{planned_with, planned_in, cance
 use Rattle.channel_laws.proofs.PlanLaw.{On}
 use Rattle.channel_laws.proofs.UnsentPlans.{LaterEmpty, later-empty}
 use Rattle.channel_laws.proofs.FewLeft.{planned-count}
+use Rattle.std.proofs.lemmas.Option.{same_Some}
 
 -- the whole plan of a row, if it is of the channel
 plan_of : ℕ → Row → ℕ
@@ -61,22 +62,18 @@ unfolding change_first
 total-some f test change [] row found = cc
 total-some f test change (r ∷ rows) row found =
     elim (cases_Bool (test r)) [
-      | inl yes_it ↦ (let same : r ≡ row = some-row r row (rw yes_it at found) in rw yes_it (subst (λ x. f (change r) + total f rows + f x ≡ f r + total f rows + f (change x)) same (omega arith)))
+      | inl yes_it ↦ (let same : r ≡ row = same_Some r row (rw yes_it at found) in rw yes_it (subst (λ x. f (change r) + total f rows + f x ≡ f r + total f rows + f (change x)) same (omega arith)))
       | inr other ↦ (let rest = total-some f test change rows row (rw other at found) in rw other (omega (arith, rest)))
-    ] where
-      some-row : (a b : Row) → Some a ≡ Some b → a ≡ b
-      some-row a b same = cc
+    ]
 
 total-without : (f : Row → ℕ) (test : Row → Bool) (rows : List Row) (row : Row) → find test rows ≡ Some row → f row ≡ 0 → total f (without_first test rows) ≡ total f rows
 unfolding without_first
 total-without f test [] row found zeroth = cc
 total-without f test (r ∷ rows) row found zeroth =
     elim (cases_Bool (test r)) [
-      | inl yes_it ↦ (let same : r ≡ row = some-row r row (rw yes_it at found) in let none : f r ≡ 0 = ap f same ∙ zeroth in rw yes_it (omega (arith, none)))
+      | inl yes_it ↦ (let same : r ≡ row = same_Some r row (rw yes_it at found) in let none : f r ≡ 0 = ap f same ∙ zeroth in rw yes_it (omega (arith, none)))
       | inr other ↦ (let rest = total-without f test rows row (rw other at found) zeroth in rw other (omega (arith, rest)))
-    ] where
-      some-row : (a b : Row) → Some a ≡ Some b → a ≡ b
-      some-row a b same = cc
+    ]
 
 total-without-none : (f : Row → ℕ) (test : Row → Bool) (rows : List Row) → find test rows ≡ None → total f (without_first test rows) ≡ total f rows
 unfolding without_first

@@ -1,4 +1,4 @@
--- A prefix of a run's entries, in the order of time, is a run, and the entry after it is its next step.
+-- A prefix of a run's entries, in the order of time, is a run, and the entry after it is its next step; with that step it is a run again.
 use Rattle.std.proofs.Common.{◌≡◌, ℕ, ◌+◌, ◌<◌, List, [], ◌∷◌, ◌++◌, length, get_or, take, drop, reverse, sym, ap, ◌∙◌, subst}
 use Rattle.std.proofs.lemmas.List.{reverse-append, take-append-drop, take_more}
 use Rattle.call_script.specs.Tasks.{Network}
@@ -10,6 +10,11 @@ later-run : (network : Network) (later past : List Done) → IsRun network (late
 unfolding IsRun
 later-run network [] past run = run
 later-run network (done ∷ later) past run = later-run network later past run.0
+
+-- and with the next step more
+pub run-more : (network : Network) (past : List Done) (done : Done) → IsRun network past → IsNext network past done → IsRun network (done ∷ past)
+unfolding IsRun
+run-more network past done run next = (run, next)
 
 -- ---- fronts
 

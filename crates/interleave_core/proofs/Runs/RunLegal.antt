@@ -1,6 +1,6 @@
 -- The part of a run on each link is a legal history of that link.
 use Rattle.channel_laws.proofs.FewLeft.{few-cancelled}
-use Rattle.interleave_core.proofs.Tasks.CallerAsksFit.{IfRelease, FewShifted, few-told, IsCallers, StandingFits, standing-asks, begun-fits, replied-fits}
+use Rattle.interleave_core.proofs.Tasks.CallerAsksFit.{IfRelease, FewShifted, few-told, IsCallers, StandingFits, standing-asks, begun-fits, replied-fits, AsksLink}
 use Rattle.std.proofs.Common.{◌≡◌, ◌≢◌, ℕ, suc, ◌+◌, ◌<◌, ◌≤◌, cond, List, [], ◌∷◌, length, Option, Some, None, refl, sym, ap, ◌∙◌, subst, inl, inr, arith, lit<}
 use Rattle.std.proofs.Math.Nat.{lt_of_le_of_lt}
 use Rattle.std.proofs.lemmas.Bool.{cases_Bool, cond_both, eqb-true, eqb-false, eq-eqb, ne_eqb, le-ltb}
@@ -154,15 +154,18 @@ due-fits network plane shape None to ask flights is same = subst (AskFits shape)
 due-fits network plane shape (Some flight) to ask flights is same =
     subst (AskFits shape) (ap (λ pair. pair.1) same) (Each-find FlightFits (is_due plane.round) plane.flights flight flights is)
 
+-- what a caller asks is a caller's to ask, and meets its conditions
+pub caller-asks : (network : Network) (past : List Done) (done : Done) → RunStands network past → AsksOf network past (actor_number done.actor) done.link done.ask → AsksLink network.links done.link done.ask
+caller-asks network past done stands asks =
+    standing-asks network.links (standing asks.tasks (replies_to (actor_number done.actor) past)) done.link done.ask (stands.callers (actor_number done.actor) asks.tasks asks.found) asks.asks
+
 next-fits : (network : Network) (past : List Done) (done : Done) → RunStands network past → (next : IsNext network past done) → AskFits next.link.shape done.ask
 next-fits network past done stands next =
     elim (cases_Bool (nat_eq (actor_number done.actor) (plane_no network))) [
       | inl plane ↦
           (let asks = plane-next network past done next (eqb-true (actor_number done.actor) (plane_no network) plane) in
           due-fits network (plane_at network past) next.link.shape (next_due (plane_at network past)) done.link done.ask stands.flights refl asks.asks)
-      | inr caller ↦
-          (let asks = caller-next network past done next (eqb-false (actor_number done.actor) (plane_no network) caller) in
-          (standing-asks network.links (standing asks.tasks (replies_to (actor_number done.actor) past)) done.link done.ask (stands.callers (actor_number done.actor) asks.tasks asks.found) asks.asks).fits next.link next.linked)
+      | inr caller ↦ (caller-asks network past done stands (caller-next network past done next (eqb-false (actor_number done.actor) (plane_no network) caller))).fits next.link next.linked
     ]
 
 legal-next : (network : Network) (past : List Done) (done : Done) → RunStands network past → (next : IsNext network past done) → (n : ℕ) (link : Link) → slice_get network.links n ≡ Some link → IsLegal link (part_of n (done ∷ past))
@@ -214,9 +217,7 @@ clocks-next : (network : Network) (past : List Done) (done : Done) → NetworkFi
 clocks-next network past done fits stands next n inside =
     by-actor (λ p. clock_of (part_of n (done ∷ past)) ≡ clock_at p n) network done past next
     (λ asks. plane-clocks network (plane_at network past) (next_due (plane_at network past)) n done past fits.few stands.ticked inside asks.asks (stands.clocks n inside))
-    (λ asks.
-    let is = (standing-asks network.links (standing asks.tasks (replies_to (actor_number done.actor) past)) done.link done.ask (stands.callers (actor_number done.actor) asks.tasks asks.found) asks.asks).callers in
-    clock-still n done past (λ t. callers-clock done.ask t is) ∙ stands.clocks n inside)
+    (λ asks. clock-still n done past (λ t. callers-clock done.ask t (caller-asks network past done stands asks).callers) ∙ stands.clocks n inside)
 
 -- ---- the flights
 
@@ -281,15 +282,16 @@ unfolding IsRun
 run-stands network [] fits is = stands-none network fits
 run-stands network (done ∷ past) fits is = stands-next network past done fits (run-stands network past fits is.0) is.1
 
--- the plane alone has packets arrive
-pub arrive-due : (network : Network) (past : List Done) (done : Done) (packet : Packet) → NetworkFits network → IsRun network past → IsNext network past done → done.ask ≡ Arrive packet → AsksDue network.rounds (plane_at network past) done.link done.ask
-arrive-due network past done packet fits run next is =
+-- the plane alone asks what is no caller's to ask: that packets arrive, say
+pub plane-due : (network : Network) (past : List Done) (done : Done) → NetworkFits network → IsRun network past → IsNext network past done → (IsCallers done.ask → ⊥) → AsksDue network.rounds (plane_at network past) done.link done.ask
+plane-due network past done fits run next none =
     elim (cases_Bool (nat_eq (actor_number done.actor) (plane_no network))) [
       | inl plane ↦ plane-next network past done next (eqb-true (actor_number done.actor) (plane_no network) plane)
-      | inr caller ↦
-          (let asks = caller-next network past done next (eqb-false (actor_number done.actor) (plane_no network) caller) in
-          absurd (subst IsCallers is (standing-asks network.links (standing asks.tasks (replies_to (actor_number done.actor) past)) done.link done.ask ((run-stands network past fits run).callers (actor_number done.actor) asks.tasks asks.found) asks.asks).callers))
+      | inr caller ↦ absurd (none (caller-asks network past done (run-stands network past fits run) (caller-next network past done next (eqb-false (actor_number done.actor) (plane_no network) caller))).callers)
     ]
+
+pub arrive-due : (network : Network) (past : List Done) (done : Done) (packet : Packet) → NetworkFits network → IsRun network past → IsNext network past done → done.ask ≡ Arrive packet → AsksDue network.rounds (plane_at network past) done.link done.ask
+arrive-due network past done packet fits run next is = plane-due network past done fits run next (λ callers. subst IsCallers is callers)
 
 -- the part on each link is legal there
 pub part-legal : (network : Network) (run : List Done) (n : ℕ) (link : Link) → NetworkFits network → IsRun network run → slice_get network.links n ≡ Some link → IsLegal link (part_of n run)

@@ -1,5 +1,5 @@
 -- A schedule comes to a run, or asks too much: to exactly one of these, and to one run or one line. What it comes to is a run.
-use Rattle.std.proofs.Common.{◌≡◌, ℕ, zero, suc, ◌+◌, ◌-◌, ◌<◌, ◌≤◌, Bool, true, false, Option, Some, None, IsSome, List, [], ◌∷◌, ◌++◌, length, map, drop, refl, sym, ap, ◌∙◌, subst, arith}
+use Rattle.std.proofs.Common.{◌≡◌, ℕ, zero, suc, ◌+◌, ◌-◌, ◌<◌, ◌≤◌, Bool, true, false, Option, Some, None, IsSome, List, [], ◌∷◌, ◌++◌, length, map, refl, sym, ap, ◌∙◌, subst, arith}
 use Rattle.std.proofs.lemmas.List.{append_assoc, append-nil, map-append}
 use Rattle.net_units.specs.Numbers.{actor_number, actor_at}
 use Rattle.net_units.specs.declared.numbers.ActorNo.{ActorNo}
@@ -17,6 +17,7 @@ use Rattle.interleave_core.proofs.Tasks.StepsRunOut.{makes-one}
 use Rattle.run_record.specs.Runs.{replies_to}
 use Rattle.run_record.specs.declared.done.Done.{Done}
 use Rattle.run_record.proofs.OneSortedList.{head-of}
+use Rattle.interleave_core.proofs.Keeping.Lookups.{tail-same}
 
 -- ---- turns one after the other
 
@@ -157,9 +158,6 @@ follows-or-stops : (network : Network) (past run : List Done) (turns : List Turn
 follows-or-stops network past run turns line made one stop =
     not-left _ stop.over (left-at network past stop.before stop.turn stop.after (subst (λ ts. HaveSteps network past (map actor_in ts)) stop.are one.served))
 
-tails : {X : Type 0} (x y : X) (xs ys : List X) → x ∷ xs ≡ y ∷ ys → xs ≡ ys
-tails x y xs ys same = ap (λ zs. drop 1 zs) same
-
 -- the first turn that stops is one
 record SameStop (before other : List Turn) (turn turn_other : Turn) : Type 0 where
   pub befores : before ≡ other
@@ -177,7 +175,7 @@ same-stop network past (first ∷ before) (second ∷ other) turn turn_other aft
     let head : second ≡ first = sym (head-of first second (before ++ turn ∷ after) (other ++ turn_other ∷ after_other) same) in
     let mine : HaveSteps network (step network first.actor past) (map actor_in other) = subst (λ (t : Turn). HaveSteps network (step network t.actor past) (map actor_in other)) head have_other.1 in
     let ends : next_for network (actor_number turn_other.actor) (run_from network (step network first.actor past) (map actor_in other)) ≡ None = subst (λ (t : Turn). next_for network (actor_number turn_other.actor) (run_from network (step network t.actor past) (map actor_in other)) ≡ None) head over_other in
-    let rest = same-stop network (step network first.actor past) before other turn turn_other after after_other (tails first second (before ++ turn ∷ after) (other ++ turn_other ∷ after_other) same) have.1 mine over ends in
+    let rest = same-stop network (step network first.actor past) before other turn turn_other after after_other (tail-same first (before ++ turn ∷ after) second (other ++ turn_other ∷ after_other) same) have.1 mine over ends in
     record { befores = ap (λ (t : Turn). t ∷ before) (sym head) ∙ ap (λ ts. second ∷ ts) rest.befores; turns = rest.turns }
 
 stops-once : (network : Network) (past : List Done) (turns : List Turn) (line made line_other made_other : ℕ) → Stops network past turns line made → Stops network past turns line_other made_other → (line ≡ line_other) × (made ≡ made_other)

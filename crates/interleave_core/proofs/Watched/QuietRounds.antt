@@ -23,6 +23,7 @@ use Rattle.interleave_core.proofs.Keeping.Lookups.{held}
 use Rattle.interleave_core.proofs.Schedules.CorePlaysSchedule.{step-follows, follows-start, follows-again}
 use Rattle.interleave_core.proofs.Runs.RunLegal.{asked-plane, link_at-number, part-on, part-off, plane-by, replies-off}
 use Rattle.interleave_core.proofs.Runs.RunOf.{step-is}
+use Rattle.interleave_core.proofs.Runs.RunFronts.{run-more}
 
 -- ---- numbers
 
@@ -41,12 +42,6 @@ none-made t h = refl
 one-made : (m t : ℕ) (h : List Entry) → record { ask = Tick; reply = quiet_reply (t + m) } ∷ quiet_ticks m t h ≡ quiet_ticks (suc m) t h
 unfolding quiet_ticks
 one-made m t h = refl
-
--- ---- runs with one step more
-
-run-more : (network : Network) (past : List Done) (done : Done) → IsRun network past → IsNext network past done → IsRun network (done ∷ past)
-unfolding IsRun
-run-more network past done run next = (run, next)
 
 turn-of : (network : Network) (past : List Done) (done : Done) → IsNext network past done → FollowsTurns network past (done.actor ∷ []) (done ∷ past)
 turn-of network past done next =
