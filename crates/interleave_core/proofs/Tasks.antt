@@ -1,5 +1,6 @@
 -- What the actors ask: the tasks of a caller, and how many steps an actor has.
 pub mod SingleAskTask
+pub mod TaskNotes
 pub mod CallerAsksFit
 pub mod TaskAsks
 pub mod OwnTasks

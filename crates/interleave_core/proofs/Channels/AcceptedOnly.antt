@@ -31,7 +31,7 @@ use Rattle.interleave_core.proofs.Replies.RunCloses.{owned-once}
 use Rattle.interleave_core.proofs.Replies.RunGoes.{GoesAt, IsAfter, run-goes, owned-asked}
 use Rattle.interleave_core.proofs.Runs.EachRun.{each-resumed, entry-kept}
 use Rattle.interleave_core.proofs.Tasks.EachSetup.{Before, Under, After, other-outcome}
-use Rattle.interleave_core.proofs.Tasks.TaskAsks.{IsNoOpeningOf, other-alike}
+use Rattle.interleave_core.proofs.Tasks.TaskAsks.{IsNoOpeningOf, ready-other}
 
 -- ---- once accepted it stays so
 
@@ -57,7 +57,7 @@ accepted-later network request owner done past fits sound full run next was task
     let before = was tasks found in
     let others = goes-others network request past _ _ _ (Accepts before.levels before.delay) ((run-goes network request owner past fits sound (owned-once network request owner full) run).at tasks found) before.is in
     let now : IsOver request (Some (Accepts before.levels before.delay)) (done ∷ past) (standing tasks (replies_to owner (done ∷ past))) = entry-kept network owner tasks found (IsOver request (Some (Accepts before.levels before.delay))) (λ past' done' at run' next' other over. over)
-    (λ past' done' task rest replies outcomes step over. (resumed-kept request outcomes task rest (replies ++ done'.reply ∷ []) over.1.0 ∙ over.0, each-resumed (IsNoOpeningOf (channel_number request.chan)) (other-alike (channel_number request.chan)) outcomes (task ∷ rest) (replies ++ done'.reply ∷ []) over.1))
+    (λ past' done' task rest replies outcomes step over. (resumed-kept request outcomes task rest (replies ++ done'.reply ∷ []) over.1.0 ∙ over.0, each-resumed (IsNoOpeningOf (channel_number request.chan)) (ready-other (channel_number request.chan)) outcomes (task ∷ rest) (replies ++ done'.reply ∷ []) over.1))
     past done run next (before.is, others) in
     record { levels = before.levels; delay = before.delay; is = now.0 }
 

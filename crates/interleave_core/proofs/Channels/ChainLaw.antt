@@ -24,7 +24,6 @@ use Rattle.channel_laws.specs.Channels.{channel_packets, channel_of}
 use Rattle.call_script.specs.Fits.{NetworkFits}
 use Rattle.interleave_core.specs.channels.Hops.{packets_on, ChannelAsked}
 use Rattle.call_script.specs.declared.tasks.Task.{Task}
-use Rattle.call_script.specs.declared.tasks.Task.TheVariants.{Opens, Closes, Moves}
 use Rattle.call_script.specs.Tasks.{Network}
 use Rattle.run_record.specs.Runs.{part_of, replies_to}
 use Rattle.interleave_core.specs.runs.Runs.{IsNext, IsRun}
@@ -38,15 +37,15 @@ use Rattle.call_script.specs.Owners.{OwnedFully}
 use Rattle.interleave_core.proofs.Replies.ClosingStands.{AllComm, comm-later, send-later}
 use Rattle.interleave_core.proofs.Replies.RunCloses.{owned-once, others-off, step-kind}
 use Rattle.interleave_core.proofs.Replies.RunGoes.{owned-asked, hop-comes}
-use Rattle.interleave_core.proofs.Runs.EachRun.{head-same, OwnStep, KeptByOthers, KeptBySteps, each-run}
-use Rattle.interleave_core.proofs.Keeping.Lookups.{held}
+use Rattle.interleave_core.proofs.Runs.EachRun.{OwnStep, KeptByOthers, KeptBySteps, each-run}
+use Rattle.interleave_core.proofs.Keeping.Lookups.{held, head-same}
 use Rattle.channel_laws.specs.Reservations.{IsReleased, held_by}
 use Rattle.channel_laws.proofs.SendReplies.{release-committed}
 use Rattle.channel_laws.specs.Asks.{IsOff, IsMild}
 use Rattle.interleave_core.proofs.Channels.FarHolds.{hop-tells, hop-fate, first-same, committed-comes, Frozen, frozen-later}
 use Rattle.interleave_core.specs.channels.Paths.{HopAt, count_at}
 use Rattle.interleave_core.proofs.Tasks.TaskAsks.{off-mild}
-use Rattle.interleave_core.proofs.Replies.OwnerKinds.{NoRelease, IsLeaving, OwnKind, OwnOff, OwnAside, OwnSetup, OwnSend, OwnClose}
+use Rattle.interleave_core.proofs.Replies.OwnerKinds.{NoRelease, IsLeaving, OwnKind, OwnOff, OwnAside, OwnSetup, OwnSend, OwnClose, opens-stay}
 
 pub record Chain (network : Network) (request : Request) (first : HopAt network request 0) (run : List Done) : Type 0 where
   pub fates : 1 ≤ count_at network request 0 first run → (i : ℕ) (at : HopAt network request i) → Fate (count_at network request 0 first run) (count_at network request i at run) (held_at_hop network request i at run)
@@ -214,10 +213,6 @@ record OwnLeaves (network : Network) (request : Request) (first : HopAt network 
   tells : (i : ℕ) (at : HopAt network request i) → link_number done.link ≡ link_number at.hop.link → TellsAll (channel_number request.chan) (count_at network request 0 first past) (count_at network request i at past) done.ask
   told : (given : ℕ) → IsLeaving request task → first_count (replies ++ done.reply ∷ []) ≡ Some given → Frozen network request first run given
   whole : (terms : Reservation) → held_at_hop network request 0 first run ≡ Some terms → terms.phase ≡ Ph.Committed → (levels : List ℕ) × AllComm network request levels 0 run
-
-opens-stay : (request : Request) (task : Task) → task ≡ Opens request → IsLeaving request task → ⊥
-opens-stay request task own (inl closes) = (let clash : Opens request ≡ Closes request = sym own ∙ closes in cc)
-opens-stay request task own (inr moves) = (let clash : Opens request ≡ Moves request moves.new moves.gap moves.size = sym own ∙ moves.is in cc)
 
 own-leaves : (network : Network) (request : Request) (first : HopAt network request 0) (done : Done) (past : List Done) (task : Task) (replies : List Reply) → NetworkFits network → RequestFits network.links request → ((run : List Done) → IsRun network run → ChannelAsked request run) → IsRun network past → (next : IsNext network past done) → Chain network request first past → ((given : ℕ) → IsLeaving request task → first_count replies ≡ Some given → Frozen network request first past given) → OwnKind network request done past task replies → OwnLeaves network request first (done ∷ past) done past task replies
 own-leaves network request first done past task replies fits sound asked run next was frozen (OwnOff other off) = record {

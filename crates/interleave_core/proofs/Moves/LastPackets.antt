@@ -38,12 +38,13 @@ use Rattle.interleave_core.specs.channels.Paths.{HopAt}
 use Rattle.interleave_core.specs.runs.Runs.{IsRun}
 use Rattle.interleave_core.proofs.Tasks.SingleAskTask.{once-asked}
 use Rattle.interleave_core.proofs.Replies.Replying.{moves-plan}
-use Rattle.interleave_core.proofs.Replies.ClosingStands.{off-unsent}
-use Rattle.interleave_core.proofs.Replies.RunCloses.{setup-unsent, others-off}
+use Rattle.interleave_core.proofs.Replies.ClosingStands.{off-unsent, setup-unsent}
+use Rattle.interleave_core.proofs.Replies.RunCloses.{others-off}
 use Rattle.interleave_core.proofs.Runs.RunLegal.{run-stands, part-on, by-part}
 use Rattle.interleave_core.proofs.Runs.EachRun.{from-step-by, KeptBySteps, each-run, OwnStep}
-use Rattle.interleave_core.proofs.Tasks.OwnTasks.{send-is, move-is, OwnTask, own-task}
+use Rattle.interleave_core.proofs.Tasks.OwnTasks.{OwnTask, own-task}
 use Rattle.interleave_core.proofs.Replies.RunGoes.{step-stands}
+use Rattle.interleave_core.proofs.Moves.SizesKept.{packets_if}
 
 -- ---- what an entry plans
 
@@ -69,9 +70,6 @@ unsent-same : (network : Network) (request : Request) (first : HopAt network req
 unsent-same network request first done past other = still-last network request first done past (λ was. unsent-last (channel_number request.chan) was done.ask done.reply other)
 
 -- ---- what a task has learnt of packets, before it tells
-
-abbrev packets_if : Bool → ℕ → ℕ → Option Packets
-packets_if b gap size = if b then Some (record { gap = gap; size = size }) else None
 
 abbrev learnt_by : ChanNo → List Task → List Reply → Option Packets
 learnt_by chan (Sends link (Some own) count gap size ∷ tasks) (Is.Planned clock ∷ replies) = packets_if (is_that chan own) gap size
@@ -188,7 +186,7 @@ module _ (network : Network) (request : Request) (owner : ℕ) (first : HopAt ne
   send-goes past done link chan count gap size tasks outcomes names asks known =
       elim (cases_Bool (is_that request.chan chan)) [
         | inr off ↦ by-other off done.reply refl
-        | inl own ↦ by-own own (send-is request link chan count gap size names (eqb-true (channel_number chan) (channel_number request.chan) own)) done.reply refl
+        | inl own ↦ by-own own (names (eqb-true (channel_number chan) (channel_number request.chan) own)) done.reply refl
       ] where
         once : done.ask ≡ Submit chan count gap size
         once = sym (once-asked link (Submit chan count gap size) [] done.link done.ask asks).is
@@ -223,7 +221,7 @@ module _ (network : Network) (request : Request) (owner : ℕ) (first : HopAt ne
   join-goes past done old new gap size tasks outcomes reply some names at is planned known =
       elim (cases_Bool (is_that request.chan new.chan)) [
         | inl own ↦
-            (let same : new ≡ request = (move-is request old new gap size names).joins (eqb-true (channel_number new.chan) (channel_number request.chan) own) in
+            (let same : new ≡ request = names.joins (eqb-true (channel_number new.chan) (channel_number request.chan) own) in
             let hop : at.hop ≡ first.hop = same_Some at.hop first.hop (sym at.stands ∙ ap (λ (r : Request). slice_get r.route 0) same ∙ first.stands) in
             let on : link_number done.link ≡ link_number first.hop.link = ap link_number at.at ∙ ap link_of hop in
             rw (own, some) (sym (sent-last past done new.chan (shifted_in reply) gap size on is own planned.0 planned.1)))

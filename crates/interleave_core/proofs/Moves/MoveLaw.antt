@@ -11,15 +11,15 @@ use Rattle.channel_move.specs.declared.shifted.Shifted.{Shifted}
 use Rattle.link_steps.specs.declared.replies.Reply.{Reply}
 use Rattle.link_steps.specs.declared.replies.Reply.TheVariants as Is
 use Rattle.setup_protocol.specs.Hops.{RequestFits}
-use Rattle.setup_protocol.specs.Setup.{Outcome, verdict_of}
+use Rattle.setup_protocol.specs.Setup.{Outcome}
 use Rattle.setup_protocol.specs.Teardown.{first_count}
 use Rattle.setup_protocol.specs.declared.request.Request.{Request}
 use Rattle.call_script.specs.Fits.{NetworkFits}
 use Rattle.call_script.specs.Owners.{OwnedFully}
-use Rattle.call_script.specs.Scripts.{Learnt, Settles, PlannedOn, MovedTo, Standing, is_that, newest, is_established, outcome_in, takes_step, ready, from_step, begun, settled_as, planned_as, moved_as, outcome_by, standing, first_ask, moved_by, moved_off}
+use Rattle.call_script.specs.Scripts.{Learnt, Settles, PlannedOn, MovedTo, Standing, is_that, newest, is_established, outcome_in, takes_step, ready, from_step, begun, outcome_by, standing, first_ask, moved_by, moved_off}
 use Rattle.call_script.specs.Tasks.{Network}
 use Rattle.call_script.specs.declared.tasks.Task.{Task}
-use Rattle.call_script.specs.declared.tasks.Task.TheVariants.{Opens, Sends, Closes, Moves}
+use Rattle.call_script.specs.declared.tasks.Task.TheVariants.{Opens, Moves}
 use Rattle.run_record.specs.Runs.{replies_to}
 use Rattle.run_record.specs.declared.done.Done.{Done}
 use Rattle.channel_laws.specs.Asks.{IsMild}
@@ -31,12 +31,14 @@ use Rattle.interleave_core.proofs.Channels.ChannelsAt.{packets-numbered}
 use Rattle.interleave_core.proofs.Channels.FarHolds.{Frozen, frozen-later}
 use Rattle.interleave_core.proofs.Replies.RunCloses.{owned-once, others-off}
 use Rattle.interleave_core.proofs.Replies.RunGoes.{GoesAt, owned-asked, step-goes}
-use Rattle.interleave_core.proofs.Runs.EachRun.{head-same, KeptBySteps, each-run, OwnStep, from-step-by}
+use Rattle.interleave_core.proofs.Runs.EachRun.{KeptBySteps, each-run, OwnStep, from-step-by}
 use Rattle.interleave_core.proofs.Tasks.EachSetup.{Before, Under, After}
 use Rattle.interleave_core.proofs.Tasks.TaskAsks.{off-mild, mild-tasks}
 use Rattle.interleave_core.specs.channels.Hops.{ChannelAsked}
-use Rattle.interleave_core.proofs.Tasks.OwnTasks.{move-is, OwnTask, own-task}
+use Rattle.interleave_core.proofs.Tasks.OwnTasks.{OwnTask, own-task}
 use Rattle.interleave_core.proofs.Replies.OwnerKinds.{IsLeaving, told-kept}
+use Rattle.interleave_core.proofs.Keeping.Lookups.{head-same}
+use Rattle.interleave_core.proofs.Tasks.TaskNotes.{once-over}
 
 -- ---- notes: a channel that was left was accepted
 
@@ -108,20 +110,12 @@ moved-sound old new own gap size outcomes established sound chan told moved =
     ]
 
 told-sound : (task : Task) (replies : List Reply) (outcomes : List Learnt) → takes_step outcomes task ≡ true → NotesSound outcomes → NotesSound (outcome_by task replies ++ outcomes)
-told-sound (Opens r) replies outcomes takes sound = by (verdict_of r replies) where
-  by : (verdict : Option Outcome) → NotesSound (settled_as r verdict ++ outcomes)
-  by None = sound
-  by (Some outcome) = settled-sound r.chan outcome outcomes sound
-told-sound (Sends link None count gap size) replies outcomes takes sound = sound
-told-sound (Sends link (Some chan) count gap size) replies outcomes takes sound = by replies where
-  by : (rs : List Reply) → NotesSound (planned_as (Some chan) gap size rs ++ outcomes)
-  by (Is.Planned clock ∷ rs) = planned-sound chan gap size outcomes sound
-  by _ = sound
-told-sound (Closes r) replies outcomes takes sound = sound
-told-sound (Moves old new gap size) replies outcomes takes sound = by (first_told replies) where
-  by : (told : Option Shifted) → NotesSound (moved_as old new gap size told ++ outcomes)
-  by None = sound
-  by (Some told) = moved-sound old.chan new.chan told gap size outcomes (and_parts (is_established old.chan outcomes) (is_established new.chan outcomes) takes).0 sound
+told-sound task replies outcomes takes sound =
+    once-over NotesSound task replies outcomes
+    (λ r outcome is told. settled-sound r.chan outcome outcomes sound)
+    (λ link chan count gap size clock rest is told. planned-sound chan gap size outcomes sound)
+    (λ old new gap size told is first. moved-sound old.chan new.chan told gap size outcomes (and_parts (is_established old.chan outcomes) (is_established new.chan outcomes) (ap (takes_step outcomes) (sym is) ∙ takes)).0 sound)
+    sound
 
 begun-sound : (outcomes : List Learnt) (tasks : List Task) → NotesSound outcomes → IsSound (begun outcomes tasks)
 begun-sound outcomes tasks sound = record { notes = sound; takes = λ task rest same. from-takes outcomes tasks task rest same }
@@ -147,7 +141,7 @@ standing-sound network owner script run found is = each-run network owner script
 -- a move from the channel is the request's
 pub move-own : (request old new : Request) (gap size : ℕ) (task : Task) → OwnTask request task → task ≡ Moves old new gap size → channel_number old.chan ≡ channel_number request.chan → IsLeaving request task
 move-own request old new gap size task own same chan =
-    let both = (move-is request old new gap size (subst (OwnTask request) same own)).leaves chan in
+    let both = (subst (OwnTask request) same own).leaves chan in
     inr (record { new = new; gap = gap; size = size; is = same ∙ ap (λ r. Moves r new gap size) both.0; other = both.1 })
 
 -- ---- what a task's notes tell of moves from the channel
@@ -158,24 +152,15 @@ pub data MoveTold (request : Request) (task : Task) (replies : List Reply) (outc
 
 pub move-told : (request : Request) (task : Task) (replies : List Reply) (outcomes : List Learnt) (told : Shifted) → moved_off request.chan (outcome_by task replies ++ outcomes) ≡ Some told → MoveTold request task replies outcomes told
 unfolding moved_off newest
-move-told request (Opens r) replies outcomes told moved = by (verdict_of r replies) moved where
-  by : (verdict : Option Outcome) → newest (moved_by request.chan) (settled_as r verdict ++ outcomes) ≡ Some told → MoveTold request (Opens r) replies outcomes told
-  by None is = Was is
-  by (Some outcome) is = Was is
-move-told request (Sends link None count gap size) replies outcomes told moved = Was moved
-move-told request (Sends link (Some chan) count gap size) replies outcomes told moved = Was (by replies moved) where
-  by : (rs : List Reply) → newest (moved_by request.chan) (planned_as (Some chan) gap size rs ++ outcomes) ≡ Some told → newest (moved_by request.chan) outcomes ≡ Some told
-  by (Is.Planned clock ∷ rs) is = is
-  by _ is = is
-move-told request (Closes r) replies outcomes told moved = Was moved
-move-told request (Moves old new gap size) replies outcomes told moved = by (first_told replies) refl moved where
-  by : (found : Option Shifted) → first_told replies ≡ found → newest (moved_by request.chan) (moved_as old new gap size found ++ outcomes) ≡ Some told → MoveTold request (Moves old new gap size) replies outcomes told
-  by None none is = Was is
-  by (Some own) some is =
-      elim (cases_Bool (is_that request.chan old.chan)) [
-        | inl on ↦ Now old new gap size refl (eqb-true (channel_number old.chan) (channel_number request.chan) on) (some ∙ rw on at is)
-        | inr off ↦ Was (rw off at is)
-      ]
+move-told request task replies outcomes told moved =
+    once-over (λ notes. newest (moved_by request.chan) notes ≡ Some told → MoveTold request task replies outcomes told) task replies outcomes
+    (λ r outcome is settled was. Was was)
+    (λ link chan count gap size clock rest is planned was. Was was)
+    (λ old new gap size own is first now. elim (cases_Bool (is_that request.chan old.chan)) [
+      | inl on ↦ Now old new gap size is (eqb-true (channel_number old.chan) (channel_number request.chan) on) (first ∙ rw on at now)
+      | inr off ↦ Was (rw off at now)
+    ])
+    (λ was. Was was) moved
 
 told-count : (replies : List Reply) (told : Shifted) → first_told replies ≡ Some told → first_count replies ≡ Some told.kept
 told-count [] told is = cc

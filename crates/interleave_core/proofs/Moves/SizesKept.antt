@@ -1,14 +1,12 @@
 -- In every run whose channels each have one owner, the packets that a move shifts are no larger than the contracts of both its
 -- channels allow.
 use Rattle.std.proofs.Common.{◌≡◌, ◌⊎◌, ℕ, ◌≤◌, Bool, true, false, List, [], ◌∷◌, ◌++◌, length, Option, Some, None, refl, sym, ap, ◌∙◌, subst, inl, inr, arith}
-use Rattle.std.proofs.lemmas.Bool.{cases_Bool, eqb-true, eqb-false, and_parts}
+use Rattle.std.proofs.lemmas.Bool.{eqb-true, and_parts}
 use Rattle.std.proofs.lemmas.Option.{same_Some, slice_get_within}
 use Rattle.std.specs.List.{slice_get}
 use Rattle.std.specs.Prelude.{find, nat_eq, not, ◌&&◌, if◌then◌else◌}
 use Rattle.net_units.specs.Numbers.{link_number, channel_number}
 use Rattle.hop_reservation.specs.Routes.{link_of}
-use Rattle.channel_move.specs.Moving.{first_told}
-use Rattle.channel_move.specs.declared.shifted.Shifted.{Shifted}
 use Rattle.link_steps.specs.declared.asks.Ask.TheVariants.{Submit}
 use Rattle.link_steps.specs.declared.replies.Reply.{Reply}
 use Rattle.link_steps.specs.declared.replies.Reply.TheVariants as Is
@@ -22,14 +20,13 @@ use Rattle.link_steps.proofs.ListParts.{Each-at}
 use Rattle.link_steps.proofs.ReservationFound.{submit-tells}
 use Rattle.channel_laws.proofs.SizeLaw.{NamesContract, legal-sizes}
 use Rattle.setup_protocol.specs.Hops.{RequestFits}
-use Rattle.setup_protocol.specs.Setup.{Outcome, verdict_of}
 use Rattle.setup_protocol.specs.declared.request.Request.{Request}
 use Rattle.call_script.specs.Fits.{NetworkFits, TaskFits}
-use Rattle.call_script.specs.Owners.{IsSendOn, TaskOff, OwnedFully, IsOwned, IsUnnamed, AllOwned}
-use Rattle.call_script.specs.Scripts.{Learnt, Settles, PlannedOn, MovedTo, Packets, Standing, is_that, newest, or_before, packets_by, packets_in, last_packets, task_ask, ready, from_step, begun, settled_as, planned_as, moved_as, outcome_by, standing}
+use Rattle.call_script.specs.Owners.{IsSendOn, TaskOff, OwnedFully, AllOwned}
+use Rattle.call_script.specs.Scripts.{Learnt, Settles, PlannedOn, MovedTo, Packets, Standing, is_that, newest, or_before, packets_by, packets_in, last_packets, task_ask, ready, from_step, begun, outcome_by, standing, once_next}
 use Rattle.call_script.specs.Tasks.{Network}
 use Rattle.call_script.specs.declared.tasks.Task.{Task}
-use Rattle.call_script.specs.declared.tasks.Task.TheVariants.{Opens, Sends, Closes, Moves}
+use Rattle.call_script.specs.declared.tasks.Task.TheVariants.{Sends, Moves}
 use Rattle.run_record.specs.Runs.{part_of, replies_to}
 use Rattle.run_record.specs.declared.done.Done.{Done}
 use Rattle.interleave_core.specs.channels.Hops.{terms_at, ChannelAsked}
@@ -42,7 +39,12 @@ use Rattle.interleave_core.proofs.Replies.RunCloses.{owned-once}
 use Rattle.interleave_core.proofs.Replies.RunGoes.{owned-asked, step-stands}
 use Rattle.interleave_core.proofs.Runs.RunLegal.{run-stands, part-admissible}
 use Rattle.interleave_core.proofs.Runs.EachRun.{each-left, from-step-by, KeptBySteps, each-run}
-use Rattle.interleave_core.proofs.Tasks.OwnTasks.{standing-is, send-is, script-own, move-is, OwnTask, own-task}
+use Rattle.interleave_core.proofs.Tasks.OwnTasks.{standing-is, script-own, OwnTask, own-task, owner-is}
+use Rattle.call_script.proofs.TaskBegins.{ready-keeps}
+use Rattle.interleave_core.proofs.Tasks.TaskNotes.{once-over}
+use Rattle.interleave_core.proofs.Keeping.Lookups.{head-same}
+use Rattle.net_units.specs.declared.numbers.ChanNo.{ChanNo}
+use Rattle.net_units.specs.declared.numbers.LinkNo.{LinkNo}
 
 -- ---- whom a script names
 
@@ -52,14 +54,10 @@ TaskOwned network actor (Moves old new gap size) = OwnedFully network old actor 
 TaskOwned network actor _ = Unit {0}
 
 owns : (network : Network) (actor : ℕ) (tasks : List Task) (r : Request) → AllOwned network → slice_get network.scripts actor ≡ Some tasks → (Each (TaskOff (channel_number r.chan)) tasks → ⊥) → ((request : Request) → OwnedFully network request actor → channel_number r.chan ≡ channel_number request.chan → r ≡ request) → OwnedFully network r actor
-owns network actor tasks r all found named same = by (all (channel_number r.chan)) where
-  by : IsOwned network (channel_number r.chan) ⊎ IsUnnamed network (channel_number r.chan) → OwnedFully network r actor
-  by (inr none) = absurd (named (none actor tasks found))
-  by (inl own) =
-      elim (cases_Bool (nat_eq actor own.owner)) [
-        | inl is ↦ (let full = subst (OwnedFully network own.request) (sym (eqb-true actor own.owner is)) own.full in subst (λ q. OwnedFully network q actor) (sym (same own.request full (sym own.chan))) full)
-        | inr other ↦ absurd (named (subst (λ n. Each (TaskOff n) tasks) own.chan (own.full.others actor tasks (eqb-false actor own.owner other) found)))
-      ]
+owns network actor tasks r all found named same =
+    let is = owner-is network (channel_number r.chan) actor tasks all found named in
+    let full = subst (OwnedFully network is.own.request) (sym is.same) is.own.full in
+    subst (λ q. OwnedFully network q actor) (sym (same is.own.request full (sym is.own.chan))) full
 
 script-owned : (network : Network) (actor : ℕ) (tasks : List Task) → AllOwned network → slice_get network.scripts actor ≡ Some tasks → Each (TaskOwned network actor) tasks
 script-owned network actor tasks all found = Each-from_among (TaskOwned network actor) tasks one where
@@ -68,8 +66,8 @@ script-owned network actor tasks all found = Each-from_among (TaskOwned network 
 
   one : (task : Task) → Among task tasks → TaskOwned network actor task
   one (Moves old new gap size) among = (
-    owns network actor tasks old all found (λ off. (Each-among (TaskOff (channel_number old.chan)) (Moves old new gap size) tasks off among).0 refl) (λ request full same. ((move-is request old new gap size (own (Moves old new gap size) among request full)).leaves same).0),
-    owns network actor tasks new all found (λ off. (Each-among (TaskOff (channel_number new.chan)) (Moves old new gap size) tasks off among).1 refl) (λ request full. (move-is request old new gap size (own (Moves old new gap size) among request full)).joins),
+    owns network actor tasks old all found (λ off. (Each-among (TaskOff (channel_number old.chan)) (Moves old new gap size) tasks off among).0 refl) (λ request full same. ((own (Moves old new gap size) among request full).leaves same).0),
+    owns network actor tasks new all found (λ off. (Each-among (TaskOff (channel_number new.chan)) (Moves old new gap size) tasks off among).1 refl) (λ request full. (own (Moves old new gap size) among request full).joins),
   )
   one _ among = tt
 
@@ -95,7 +93,7 @@ unfolding last_packets newest
 one-small request least = least
 
 -- a note of packets of this size on a channel
-abbrev packets_if : Bool → ℕ → ℕ → Option Packets
+abbrev pub packets_if : Bool → ℕ → ℕ → Option Packets
 packets_if b gap size = if b then Some (record { gap = gap; size = size }) else None
 
 on-small : (request : Request) (b : Bool) (gap size : ℕ) → (b ≡ true → size ≤ request.contract.smax) → (packets_if b gap size ≡ None) ⊎ SmallIf request (packets_if b gap size)
@@ -122,7 +120,7 @@ first-from network actor outcomes tasks owned fits notes =
 
 sized-begun : (network : Network) (actor : ℕ) (outcomes : List Learnt) (tasks : List Task) → Each (TaskFits network.links) tasks → Each (TaskOwned network actor) tasks → ((request : Request) → RequestFits network.links request → OwnedFully network request actor → IsSmall request outcomes) → SizedAt network actor (begun outcomes tasks)
 sized-begun network actor outcomes tasks fits owned notes = record {
-  owned = each-left (TaskOwned network actor) (λ old new gap size other_gap other_size own. own) outcomes tasks owned;
+  owned = each-left (TaskOwned network actor) (ready-keeps (TaskOwned network actor) (λ old new gap size other_gap other_size own. own)) outcomes tasks owned;
   notes = notes;
   first = first-from network actor outcomes tasks owned fits notes;
 }
@@ -154,28 +152,30 @@ sent-small network r task send done past fits sound asked run next asks clock pl
 
 -- what is told of an owned channel is small
 told-small : (network : Network) (actor : ℕ) (task : Task) (tasks : List Task) (replies : List Reply) (outcomes : List Learnt) (done : Done) (past : List Done) (request : Request) → NetworkFits network → TaskFits network.links task → IsRun network past → (next : IsNext network past done) → RequestFits network.links request → OwnedFully network request actor → FirstSmall (task ∷ tasks) → OwnTask request task → task_ask task replies ≡ Some (done.link, done.ask) → IsSmall request outcomes → IsSmall request (outcome_by task (replies ++ done.reply ∷ []) ++ outcomes)
-told-small network actor (Opens r) tasks replies outcomes done past request fits fit run next sound full first names asks small = by (verdict_of r (replies ++ done.reply ∷ [])) where
-  by : (verdict : Option Outcome) → IsSmall request (settled_as r verdict ++ outcomes)
-  by None = small
-  by (Some outcome) = note-small request (Settles r.chan outcome) outcomes (inl refl) small
-told-small network actor (Sends link None count gap size) tasks replies outcomes done past request fits fit run next sound full first names asks small = small
-told-small network actor (Sends link (Some chan) count gap size) tasks (first-reply ∷ replies) outcomes done past request fits fit run next sound full first names asks small = cc
-told-small network actor (Sends link (Some chan) count gap size) tasks [] outcomes done past request fits fit run next sound full first names asks small = by done.reply refl where
-  sent : (send : IsSendOn request (Sends link (Some chan) count gap size)) → (clock : ℕ) → done.reply ≡ Is.Planned clock → size ≤ request.contract.smax
-  sent send clock is = (let within = sent-small network request (Sends link (Some chan) count gap size) send done past fits sound (owned-asked network request actor fits sound (owned-once network request actor full) past run) run next asks clock is in let same : size ≡ send.size = ap size_of send.is in omega (arith, within, same))
+told-small network actor task tasks replies outcomes done past request fits fit run next sound full first names asks small =
+    once-over (IsSmall request) task (replies ++ done.reply ∷ []) outcomes
+    (λ r outcome is told. note-small request (Settles r.chan outcome) outcomes (inl refl) small)
+    (λ link chan count gap size clock rest is told. note-small request (PlannedOn chan gap size) outcomes
+    (on-small request (is_that request.chan chan) gap size (λ on. sent link chan count gap size clock rest is told (eqb-true (channel_number chan) (channel_number request.chan) on))) small)
+    (λ old new gap size told is moved. note-small request (MovedTo old.chan new.chan told gap size) outcomes
+    (on-small request (is_that request.chan new.chan && not (nat_eq told.shifted 0)) gap size (λ on. joined old new gap size is (eqb-true (channel_number new.chan) (channel_number request.chan) (and_parts (is_that request.chan new.chan) (not (nat_eq told.shifted 0)) on).0))) small)
+    small where
+      sent : (link : LinkNo) (chan : ChanNo) (count gap size clock : ℕ) (rest : List Reply) → task ≡ Sends link (Some chan) count gap size → replies ++ done.reply ∷ [] ≡ Is.Planned clock ∷ rest → channel_number chan ≡ channel_number request.chan → size ≤ request.contract.smax
+      sent link chan count gap size clock rest is told on =
+          let send = (subst (OwnTask request) is names) on in
+          let own : once_next link (Submit chan count gap size) replies ≡ Some (done.link, done.ask) = subst (λ t. task_ask t replies ≡ Some (done.link, done.ask)) is asks in
+          let once = once-asked link (Submit chan count gap size) replies done.link done.ask own in
+          let planned : done.reply ≡ Is.Planned clock = head-same done.reply [] (Is.Planned clock) rest (ap (λ rs. rs ++ done.reply ∷ []) (sym once.fresh) ∙ told) in
+          let within = sent-small network request (Sends link (Some chan) count gap size) send done past fits sound (owned-asked network request actor fits sound (owned-once network request actor full) past run) run next (subst (λ rs. once_next link (Submit chan count gap size) rs ≡ Some (done.link, done.ask)) once.fresh own) clock planned in
+          let same : size ≡ send.size = ap size_of send.is in
+          omega (arith, within, same)
 
-  by : (reply : Reply) → done.reply ≡ reply → IsSmall request (planned_as (Some chan) gap size (reply ∷ []) ++ outcomes)
-  by (Is.Planned clock) is = note-small request (PlannedOn chan gap size) outcomes (on-small request (is_that request.chan chan) gap size (λ on. sent (send-is request link chan count gap size names (eqb-true (channel_number chan) (channel_number request.chan) on)) clock is)) small
-  by _ is = small
-told-small network actor (Closes r) tasks replies outcomes done past request fits fit run next sound full first names asks small = small
-told-small network actor (Moves old new gap size) tasks replies outcomes done past request fits fit run next sound full first names asks small = by (first_told (replies ++ done.reply ∷ [])) where
-  joined : new ≡ request → size ≤ request.contract.smax
-  joined e = (let same : old.contract.smax ≡ request.contract.smax = ap (λ k. k.smax) fit.same ∙ ap (λ q. q.contract.smax) e in omega (arith, first, same))
-
-  by : (told : Option Shifted) → IsSmall request (moved_as old new gap size told ++ outcomes)
-  by None = small
-  by (Some told) = note-small request (MovedTo old.chan new.chan told gap size) outcomes
-      (on-small request (is_that request.chan new.chan && not (nat_eq told.shifted 0)) gap size (λ on. joined ((move-is request old new gap size names).joins (eqb-true (channel_number new.chan) (channel_number request.chan) (and_parts (is_that request.chan new.chan) (not (nat_eq told.shifted 0)) on).0)))) small
+      joined : (old new : Request) (gap size : ℕ) → task ≡ Moves old new gap size → channel_number new.chan ≡ channel_number request.chan → size ≤ request.contract.smax
+      joined old new gap size is on =
+          let is-new : new ≡ request = (subst (OwnTask request) is names).joins on in
+          let same : old.contract.smax ≡ request.contract.smax = ap (λ k. k.smax) (subst (TaskFits network.links) is fit).same ∙ ap (λ q. q.contract.smax) is-new in
+          let within : size ≤ old.contract.smax = subst (λ t. FirstSmall (t ∷ tasks)) is first in
+          omega (arith, within, same)
 
 -- ---- every run
 
@@ -220,6 +220,6 @@ first-small network run actor tasks old new gap size rest request fits all is fo
     let fit : Each (TaskFits network.links) (Moves old new gap size ∷ rest) = subst (Each (TaskFits network.links)) first stands.tasks in
     let small : size ≤ old.contract.smax = subst FirstSmall first at.first in
     let own : Each (OwnTask request) (Moves old new gap size ∷ rest) = subst (Each (OwnTask request)) first (standing-is network request actor tasks (replies_to actor run) full found) in
-    let e : new ≡ request = (move-is request old new gap size own.0).joins chan in
+    let e : new ≡ request = own.0.joins chan in
     let same : old.contract.smax ≡ request.contract.smax = ap (λ k. k.smax) fit.0.same ∙ ap (λ q. q.contract.smax) e in
     omega (arith, small, same)

@@ -1,5 +1,5 @@
 -- What kinds of entry the owner of a channel makes: one of another channel, one of its setup, a submit on it, or a release of it.
-use Rattle.std.proofs.Common.{◌≡◌, ◌≢◌, ◌⊎◌, ℕ, suc, List, [], ◌∷◌, ◌++◌, length, Some, refl, ap, ◌∙◌, subst, inl, inr}
+use Rattle.std.proofs.Common.{◌≡◌, ◌≢◌, ◌⊎◌, ℕ, suc, List, [], ◌∷◌, ◌++◌, length, Some, refl, ap, ◌∙◌, subst, inl, inr, sym}
 use Rattle.std.proofs.lemmas.Bool.{cases_Bool}
 use Rattle.std.specs.Prelude.{nat_eq}
 use Rattle.net_units.specs.Numbers.{link_number, channel_number}
@@ -49,7 +49,11 @@ pub data OwnKind (network : Network) (request : Request) (done : Done) (past : L
   OwnSend : (count gap size : ℕ) → (IsLeaving request task → ⊥) → done.ask ≡ Submit request.chan count gap size → OwnKind network request done past task replies
   OwnClose : (levels : List ℕ) → IsLeaving request task → (k : ℕ) → (here : HopAt network request k) → link_number done.link ≡ link_number here.hop.link → done.ask ≡ Release request.chan (first_count replies) → (replies ≡ [] → k ≡ 0) → IsComm Some request levels k (held_at_hop network request k here past) → OwnKind network request done past task replies
 
--- a send doesn't leave it, nor does a move onto it
+-- an opening doesn't leave it, nor does a send, nor a move onto it
+pub opens-stay : (request : Request) (task : Task) → task ≡ Opens request → IsLeaving request task → ⊥
+opens-stay request task own (inl closes) = (let clash : Opens request ≡ Closes request = sym own ∙ closes in cc)
+opens-stay request task own (inr moves) = (let clash : Opens request ≡ Moves request moves.new moves.gap moves.size = sym own ∙ moves.is in cc)
+
 pub send-stays : (request : Request) (link : LinkNo) (chan : ChanNo) (count gap size : ℕ) → IsLeaving request (Sends link (Some chan) count gap size) → ⊥
 send-stays request link chan count gap size (inl closes) = (let clash : Sends link (Some chan) count gap size ≡ Closes request = closes in cc)
 send-stays request link chan count gap size (inr own) = (let clash : Sends link (Some chan) count gap size ≡ Moves request own.new own.gap own.size = own.is in cc)

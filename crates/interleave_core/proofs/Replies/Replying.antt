@@ -1,5 +1,5 @@
 -- In every run of a network whose channels each have one owner, each reply is one that its actor expects.
-use Rattle.std.proofs.Common.{◌++◌, Bool, arith, ◌≡◌, ℕ, ◌⊎◌, true, List, [], ◌∷◌, length, Option, Some, None, refl, sym, ap, ◌∙◌, subst, inl, inr}
+use Rattle.std.proofs.Common.{◌++◌, Bool, arith, ◌≡◌, ℕ, true, List, [], ◌∷◌, length, Option, Some, None, refl, sym, ap, ◌∙◌, subst, inl, inr}
 use Rattle.std.proofs.lemmas.Option.{slice_get_within, same_Some}
 use Rattle.std.specs.Prelude.{find, nat_le, ◌≤◌, nat_eq}
 use Rattle.hop_reservation.specs.Routes.{link_of}
@@ -20,12 +20,12 @@ use Rattle.interleave_core.specs.channels.Moves.{plan_in, plan_at}
 use Rattle.interleave_core.proofs.Channels.HopsAt.{hop-at}
 use Rattle.channel_laws.specs.Unsent.{IsPlanned}
 use Rattle.channel_laws.proofs.UnsentPlans.{unsent-left}
-use Rattle.interleave_core.proofs.Replies.ClosingStands.{AllComm, Unsent, IsUnjoined, ClosesAt, Early, Denied, Fresh, Open, Closing, MovingFrom, MovingOnto, Over, FirstOff}
+use Rattle.interleave_core.proofs.Replies.ClosingStands.{AllComm, Unsent, IsUnjoined, Denied, Closing, MovingFrom, MovingOnto, UnderWay, Aside, Opening, Sending}
 use Rattle.interleave_core.proofs.Runs.RunLegal.{part-on, plane-next, caller-next}
 use Rattle.net_units.specs.declared.numbers.ChanNo.{ChanNo}
 use Rattle.channel_move.specs.Moving.{answers, answers_next, next_of_move}
-use Rattle.call_script.specs.Owners.{UsedOnce, OwnedFully, TaskOff, SendsOnce, FullScript, IsOwned, IsUnnamed, AllOwned}
-use Rattle.call_script.specs.Scripts.{move_between, Standing, packets_ask, once_next, standing, answers_submit, first_expects, Learnt}
+use Rattle.call_script.specs.Owners.{OwnedFully, TaskOff, AllOwned}
+use Rattle.call_script.specs.Scripts.{move_between, Standing, packets_ask, once_next, standing, answers_submit, first_expects, Learnt, is_established}
 use Rattle.interleave_core.proofs.Moves.SizesKept.{first-small}
 use Rattle.std.proofs.lemmas.Bool.{cases_Bool, eqb-true, eqb-false}
 use Rattle.std.specs.List.{slice_get}
@@ -56,14 +56,14 @@ use Rattle.run_record.specs.declared.done.Done.{Done}
 use Rattle.tick_plane.specs.Planes.{next_due, ask_due, answers_arrive, answers_tick, plane_expects}
 use Rattle.tick_plane.specs.declared.flight.Flight.{Flight}
 use Rattle.interleave_core.proofs.Replies.ClosingSteps.{IsUsualReply, IfReleased, IfPlanned}
-use Rattle.interleave_core.proofs.Replies.RunCloses.{owned-once, step-usual, step-closes}
-use Rattle.interleave_core.proofs.Replies.RunGoes.{setup-expected}
+use Rattle.interleave_core.proofs.Replies.RunCloses.{owned-once, step-usual, step-under}
+use Rattle.interleave_core.proofs.Replies.RunGoes.{step-setup}
 use Rattle.setup_protocol.proofs.HopAsks.{of-hop}
 use Rattle.channel_laws.proofs.SentInTime.{tick-answer}
 use Rattle.interleave_core.proofs.Tasks.SingleAskTask.{once-asked, packets-hold}
-use Rattle.interleave_core.proofs.Runs.EachRun.{head-same, OwnStep, at-step}
+use Rattle.interleave_core.proofs.Runs.EachRun.{OwnStep, at-step}
 use Rattle.interleave_core.proofs.Tasks.TaskAsks.{off-standing}
-use Rattle.interleave_core.proofs.Tasks.OwnTasks.{opens-own, own-task}
+use Rattle.interleave_core.proofs.Tasks.OwnTasks.{own-task, OwnerIs, owner-is}
 
 -- ---- the tests and the facts say the same
 
@@ -130,22 +130,6 @@ moves-expected old new gap size rest replies to ask reply same released planned 
   answered = move-ask-is (λ a. IfReleased a reply → IfPlanned a reply → IsReplyOf a reply) (move_between old new gap size) replies to ask (λ upstream is none. is) (λ count none is. planned-send reply is) same released planned;
 }
 
--- ---- the owner of a channel
-
-record OwnerIs (network : Network) (c actor : ℕ) : Type 0 where
-  own : IsOwned network c
-  same : actor ≡ own.owner
-
-owner-is : (network : Network) (c actor : ℕ) (tasks : List Task) → AllOwned network → slice_get network.scripts actor ≡ Some tasks → (Each (TaskOff c) tasks → ⊥) → OwnerIs network c actor
-owner-is network c actor tasks all found named = by-owner (all c) where
-  by-owner : IsOwned network c ⊎ IsUnnamed network c → OwnerIs network c actor
-  by-owner (inr none) = absurd (named (none actor tasks found))
-  by-owner (inl own) =
-      elim (cases_Bool (nat_eq actor own.owner)) [
-        | inl same ↦ record { own = own; same = eqb-true actor own.owner same }
-        | inr other ↦ absurd (named (subst (λ n. Each (TaskOff n) tasks) own.chan (own.full.others actor tasks (eqb-false actor own.owner other) found)))
-      ]
-
 -- ---- each reply to a caller
 
 module _ (network : Network) (owner : ℕ) (script : List Task) (past : List Done) (done : Done) (task : Task) (rest : List Task) (replies : List Reply) (outcomes : List Learnt) (fits : NetworkFits network) (all : AllOwned network) (step : OwnStep network owner script past done task rest replies outcomes) where
@@ -165,9 +149,9 @@ open-reply : (network : Network) (owner : ℕ) (script : List Task) (past : List
 open-reply network owner script past done request rest replies outcomes fits all step =
     let is = named-own network owner script past done (Opens request) rest replies outcomes fits all step (channel_number request.chan) (λ off. off refl) in
     let own = own-step network owner script past done (Opens request) rest replies outcomes fits all step (channel_number request.chan) is in
-    let same : request ≡ is.own.request = opens-own is.own.request request (own-task network is.own.request is.own.owner script past done (Opens request) rest replies outcomes is.own.full own) (sym is.own.chan) in
+    let same : request ≡ is.own.request = (own-task network is.own.request is.own.owner script past done (Opens request) rest replies outcomes is.own.full own) (sym is.own.chan) in
     subst (λ r. is_expected r (progress_of r replies) done.reply ≡ true) (sym same)
-    (setup-expected network is.own.request is.own.owner script past done rest replies outcomes fits is.own.sound (owned-once network is.own.request is.own.owner is.own.full) (subst (λ r. OwnStep network is.own.owner script past done (Opens r) rest replies outcomes) same own))
+    (step-setup network is.own.request is.own.owner script past done rest replies outcomes fits is.own.sound (owned-once network is.own.request is.own.owner is.own.full) (subst (λ r. OwnStep network is.own.owner script past done (Opens r) rest replies outcomes) same own)).expected
 
 -- the packets of a move are no larger than the contract of the channel that it joins
 moved-small : (network : Network) (owner : ℕ) (script : List Task) (past : List Done) (done : Done) (old new : Request) (gap size : ℕ) (rest : List Task) (replies : List Reply) (outcomes : List Learnt) → NetworkFits network → AllOwned network → OwnStep network owner script past done (Moves old new gap size) rest replies outcomes → (own : OwnerIs network (channel_number new.chan) owner) → size ≤ own.own.request.contract.smax
@@ -244,38 +228,22 @@ record IsJoined (network : Network) (new request : Request) (run : List Done) : 
   comm : AllComm network request levels 0 run
   unsent : Unsent request run
 
-onto-facts : (network : Network) (request old new : Request) (gap size : ℕ) (rest : List Task) (run : List Done) (at : Standing) → at.tasks ≡ Moves old new gap size ∷ rest → channel_number new.chan ≡ channel_number request.chan → IsUnjoined at.replies → ClosesAt network request run at → IsJoined network new request run
-onto-facts network request old new gap size rest run at first chan early closes = by-state closes where
-  new-same : (a b c d : Request) (g s h t : ℕ) → Moves a b g s ≡ Moves c d h t → b ≡ d
-  new-same a b c d g s h t is = cc
+moved-onto : (a b c d : Request) (g s h t : ℕ) → Moves a b g s ≡ Moves c d h t → b ≡ d
+moved-onto a b c d g s h t is = cc
 
-  by-full : FullScript request (Moves old new gap size ∷ rest) → ⊥
-  by-full (inl off) = off.0.1 chan
-  by-full (inr own) = (let clash : Moves old new gap size ≡ Opens request = own.0 in cc)
-
-  by-sends : SendsOnce request (Moves old new gap size ∷ rest) → ⊥
-  by-sends (inl off) = off.0.1 chan
-  by-sends (inr (inl send)) = (let clash : Moves old new gap size ≡ Sends send.0.hop.link (Some request.chan) send.0.count send.0.gap send.0.size = send.0.is in cc)
-  by-sends (inr (inr (inl close))) = (let clash : Moves old new gap size ≡ Closes request = close.0 in cc)
-  by-sends (inr (inr (inr move))) = move.0.other (ap (λ r. channel_number r.chan) (sym (new-same old new request move.0.new gap size move.0.gap move.0.size move.0.is)) ∙ chan)
-
-  by-used : (levels : List ℕ) → UsedOnce request (Moves old new gap size ∷ rest) → AllComm network request levels 0 run → Unsent request run → IsJoined network new request run
-  by-used levels (inl off) comm unsent = absurd (off.0.1 chan)
-  by-used levels (inr (inl onto)) comm unsent = record { same = new-same old new onto.0.old request gap size onto.0.gap onto.0.size onto.0.is; levels = levels; comm = comm; unsent = unsent }
-  by-used levels (inr (inr used)) comm unsent = absurd (by-sends (inr used))
-
-  first-off : Each (TaskOff (channel_number request.chan)) (Moves old new gap size ∷ rest) → ⊥
-  first-off each = each.0.1 chan
-
-  by-state : ClosesAt network request run at → IsJoined network new request run
-  by-state (Early script none unsent) = absurd (by-full (subst (FullScript request) first script))
-  by-state (Denied used off none) = absurd (let one : FirstOff (channel_number request.chan) (Moves old new gap size ∷ rest) = subst (FirstOff (channel_number request.chan)) first off in one.1 chan)
-  by-state (Fresh levels used fresh comm unsent) = by-used levels (subst (UsedOnce request) first used) comm unsent
-  by-state (Open levels sends fresh comm) = absurd (by-sends (subst (SendsOnce request) first sends))
-  by-state (Closing levels more is others comm) = absurd (let clash : Moves old new gap size ≡ Closes request = head-same (Moves old new gap size) rest (Closes request) more (sym first ∙ is) in cc)
-  by-state (MovingFrom levels own-new own-gap own-size more is other sends comm) = absurd (other (ap (λ r. channel_number r.chan) (sym (new-same old new request own-new gap size own-gap own-size (head-same (Moves old new gap size) rest (Moves request own-new own-gap own-size) more (sym first ∙ is)))) ∙ chan))
-  by-state (MovingOnto levels own-old own-gap own-size more is other sends comm unsent) = record { same = new-same old new own-old request gap size own-gap own-size (head-same (Moves old new gap size) rest (Moves own-old request own-gap own-size) more (sym first ∙ is)); levels = levels; comm = comm; unsent = unsent early }
-  by-state (Over others) = absurd (first-off (subst (Each (TaskOff (channel_number request.chan))) first others))
+move-joins-unsent : (network : Network) (request old new : Request) (gap size : ℕ) (rest : List Task) (run : List Done) (replies : List Reply) (established : Bool) → channel_number new.chan ≡ channel_number request.chan → IsUnjoined replies → UnderWay network request run (Moves old new gap size) rest replies established → IsJoined network new request run
+move-joins-unsent network request old new gap size rest run replies established chan early (Aside other left) = absurd (other.1 chan)
+move-joins-unsent network request old new gap size rest run replies established chan early (Opening own used none unsent) = absurd (let clash : Moves old new gap size ≡ Opens request = own in cc)
+move-joins-unsent network request old new gap size rest run replies established chan early (Sending levels own sends comm) = absurd (let clash : Moves old new gap size ≡ Sends own.hop.link (Some request.chan) own.count own.gap own.size = own.is in cc)
+move-joins-unsent network request old new gap size rest run replies established chan early (Closing levels own others comm) = absurd (let clash : Moves old new gap size ≡ Closes request = own in cc)
+move-joins-unsent network request old new gap size rest run replies established chan early (MovingFrom levels own closes comm) =
+    absurd (own.other (ap (λ r. channel_number r.chan) (sym (moved-onto old new request own.new gap size own.gap own.size own.is)) ∙ chan))
+move-joins-unsent network request old new gap size rest run replies established chan early (MovingOnto levels own sends comm unsent) = record {
+  same = moved-onto old new own.old request gap size own.gap own.size own.is;
+  levels = levels;
+  comm = comm;
+  unsent = unsent early;
+}
 
 -- a submit that is planned appends its packets to the plan
 find-changed : (test : Row → Bool) (change : Row → Row) (rows : List Row) (row : Row) → test (change row) ≡ true → find test rows ≡ Some row → find test (change_first test change rows) ≡ Some (change row)
@@ -335,13 +303,13 @@ pub moves-plan : (network : Network) (owner : ℕ) (script : List Task) (past : 
 moves-plan network owner script past done old new gap size rest replies outcomes count fits all step asked =
     let task : Task = Moves old new gap size in
     let own = named-own network owner script past done task rest replies outcomes fits all step (channel_number new.chan) (λ off. off.1 refl) in
-    let closes = step-closes network own.own.request own.own.owner script past done task rest replies outcomes fits own.own.sound own.own.full (own-step network owner script past done task rest replies outcomes fits all step (channel_number new.chan) own) in
+    let under = step-under network own.own.request own.own.owner script past done task rest replies outcomes fits own.own.sound own.own.full (own-step network owner script past done task rest replies outcomes fits all step (channel_number new.chan) own) in
     let planned : IfPlanned done.ask done.reply = (usual-reply network owner script past done task rest replies outcomes fits all step (channel_number new.chan) own).1 (sym own.own.chan) (moved-small network owner script past done old new gap size rest replies outcomes fits all step own) in
-    by own closes (subst (λ a. IfPlanned a done.reply) asked planned) (move-asks (move_between old new gap size) replies done.link done.ask step.asks) where
-      by : (own : OwnerIs network (channel_number new.chan) owner) → ClosesAt network own.own.request past (record { tasks = Moves old new gap size ∷ rest; replies = replies; outcomes = outcomes }) → IsPlanned done.reply → MoveAsks (move_between old new gap size) replies done.link done.ask
+    by own under (subst (λ a. IfPlanned a done.reply) asked planned) (move-asks (move_between old new gap size) replies done.link done.ask step.asks) where
+      by : (own : OwnerIs network (channel_number new.chan) owner) → UnderWay network own.own.request past (Moves old new gap size) rest replies (is_established own.own.request.chan outcomes) → IsPlanned done.reply → MoveAsks (move_between old new gap size) replies done.link done.ask
           → (done.reply ≡ Is.Planned (clock_of (part_of (link_number done.link) past))) × (plan_at new.chan step.next.link.shape (part_of (link_number done.link) (done ∷ past)) ≡ planned_from (clock_of (part_of (link_number done.link) past)) gap size count)
-      by own closes planned (AsksFirst none at is) = absurd (let clash : Release old.chan None ≡ Submit new.chan count gap size = sym is ∙ asked in cc)
-      by own closes planned (AsksRest told made stage at is) = absurd (let clash : Release old.chan (Some told.kept) ≡ Submit new.chan count gap size = sym is ∙ asked in cc)
-      by own closes planned (AsksSubmit reply one some at is) =
-          (let joined = onto-facts network own.own.request old new gap size rest past (record { tasks = Moves old new gap size ∷ rest; replies = replies; outcomes = outcomes }) refl (sym own.own.chan) (inr (reply, one)) closes in
+      by own under planned (AsksFirst none at is) = absurd (let clash : Release old.chan None ≡ Submit new.chan count gap size = sym is ∙ asked in cc)
+      by own under planned (AsksRest told made stage at is) = absurd (let clash : Release old.chan (Some told.kept) ≡ Submit new.chan count gap size = sym is ∙ asked in cc)
+      by own under planned (AsksSubmit reply one some at is) =
+          (let joined = move-joins-unsent network own.own.request old new gap size rest past replies (is_established own.own.request.chan outcomes) (sym own.own.chan) (inr (reply, one)) under in
           joined-plans network past done new own.own.request gap size count fits own.own.sound step.run step.next joined (subst (λ r. HopAsked r.route 0 done.link) joined.same at) asked planned)

@@ -1,9 +1,8 @@
 -- In every run each reply to a setup is one of its ask's.
 use Rattle.std.proofs.Common.{◌≡◌, ◌≢◌, ℕ, ◌<◌, ◌≤◌, Bool, true, false, List, [], ◌∷◌, length, get_or, Option, Some, None, refl, sym, ap, ◌∙◌, subst, inl, inr, arith}
-use Rattle.std.proofs.lemmas.Bool.{cases_Bool, cases_lt, eqb-true, eqb-false}
+use Rattle.std.proofs.lemmas.Bool.{cases_lt}
 use Rattle.std.proofs.lemmas.Option.{same_Some}
 use Rattle.std.specs.List.{slice_get}
-use Rattle.std.specs.Prelude.{nat_eq}
 use Rattle.net_units.specs.Numbers.{link_number, actor_number, channel_number}
 use Rattle.hop_reservation.specs.Offers.{AreLevels}
 use Rattle.link_steps.specs.declared.replies.Phase.TheVariants.{Tentative, Closing}
@@ -14,7 +13,7 @@ use Rattle.link_steps.specs.Scan.{clock_of, scan_of}
 use Rattle.link_steps.proofs.LegalChannels.{legal-channels}
 use Rattle.link_steps.proofs.SearchAndFilter.{Each-if}
 use Rattle.setup_protocol.specs.Hops.{RequestFits}
-use Rattle.setup_protocol.specs.Setup.{Outcome, Accepts, Denies, Progress, Reserving, Undoing, Relaxing, Settled, offers_in, reach_after, next_ask, progress_of, verdict_of, is_expected}
+use Rattle.setup_protocol.specs.Setup.{Outcome, Accepts, Denies, Progress, Reserving, Undoing, Relaxing, Settled, offers_in, reach_after, next_ask, progress_of, verdict_of}
 use Rattle.setup_protocol.specs.declared.request.Request.{Request}
 use Rattle.setup_protocol.proofs.HopHolds.{IsTent, IsComm, HopStands, reserved_of, IsTail}
 use Rattle.setup_protocol.proofs.SetupAdvances.{progress-none}
@@ -35,13 +34,14 @@ use Rattle.interleave_core.specs.channels.Paths.{HopAt, packets_at}
 use Rattle.interleave_core.specs.runs.Runs.{IsNext, IsRun}
 use Rattle.interleave_core.proofs.Channels.HopsAt.{HaveLevelsAt}
 use Rattle.interleave_core.proofs.Channels.RowLevels.{levels-held, none-comes}
-use Rattle.interleave_core.proofs.Channels.RowsFollow.{held_at_hop, SetupRows, setup-goes, KeptTerms, AfterRows, Settles, setup-settles, held-here}
+use Rattle.interleave_core.proofs.Channels.RowsFollow.{held_at_hop, SetupRows, SetupGoes, setup-goes, KeptTerms, AfterRows, Settles, setup-settles, held-here}
 use Rattle.interleave_core.proofs.Runs.EachRun.{OwnStep}
-use Rattle.interleave_core.proofs.Runs.RunLegal.{part-on, part-off, run-stands, part-admissible, by-part}
+use Rattle.interleave_core.proofs.Runs.RunLegal.{run-stands, part-admissible, by-part}
 use Rattle.interleave_core.proofs.Tasks.CallerAsksFit.{StandingFits}
-use Rattle.interleave_core.proofs.Tasks.EachSetup.{OpenedOnce, OpensOnce, SetupAt, Before, Under, After, KeptBySetup, is-run, each-setup}
+use Rattle.interleave_core.proofs.Tasks.EachSetup.{OpenedOnce, OpensOnce, SetupAt, Before, Under, After, KeptBySetup, each-setup}
 use Rattle.interleave_core.proofs.Tasks.SetupOnce.{channel-asked}
 use Rattle.interleave_core.proofs.Tasks.TaskAsks.{IsNoOpeningOf, off-other, entry-off}
+use Rattle.interleave_core.proofs.Runs.RunFronts.{run-more}
 
 -- ---- scripts
 
@@ -152,11 +152,9 @@ levels-later network request levels done past fits is asked rows before i at = b
   by-held : (held : Option Reservation) → held_at_hop network request i at (done ∷ past) ≡ held → Each (λ p. p.level ≡ get_or levels i 0) (packets_at network request i at (done ∷ past))
   by-held (Some terms) held = subst (λ l. Each (λ p. p.level ≡ l) (packets_at network request i at (done ∷ past))) (rows.kept i at terms held).level (levels-held network request i at (done ∷ past) terms fits is asked held)
   by-held None none =
-      elim (cases_Bool (nat_eq (link_number done.link) (link_number at.hop.link))) [
-        | inl on ↦ (let e = eqb-true (link_number done.link) (link_number at.hop.link) on in
-            subst (Each (λ p. p.level ≡ get_or levels i 0)) (sym (ap (λ h. channel_packets (channel_number request.chan) (scan_of at.link.shape h).packets) (part-on (link_number at.hop.link) done past e) ∙ none-comes at.link.shape request.chan (clock_of (part_of (link_number at.hop.link) past)) (scan_of at.link.shape (part_of (link_number at.hop.link) past)) done.ask done.reply (sym (held-here network request i at done past e) ∙ none))) (before i at))
-        | inr away ↦ subst (Each (λ p. p.level ≡ get_or levels i 0)) (sym (ap (λ h. channel_packets (channel_number request.chan) (scan_of at.link.shape h).packets) (part-off (link_number at.hop.link) done past (eqb-false (link_number done.link) (link_number at.hop.link) away)))) (before i at)
-      ]
+      by-part (λ h. Each (λ p. p.level ≡ get_or levels i 0) (channel_packets (channel_number request.chan) (scan_of at.link.shape h).packets)) (link_number at.hop.link) done past
+      (λ on. subst (Each (λ p. p.level ≡ get_or levels i 0)) (sym (none-comes at.link.shape request.chan (clock_of (part_of (link_number at.hop.link) past)) (scan_of at.link.shape (part_of (link_number at.hop.link) past)) done.ask done.reply (sym (held-here network request i at done past on) ∙ none))) (before i at))
+      (λ off. before i at)
 
 -- ---- where the owner stands
 
@@ -227,7 +225,7 @@ module _ (network : Network) (request : Request) (owner : ℕ) (fits : NetworkFi
   later : (past : List Done) (done : Done) (outcome : Option Outcome) → IsRun network past → IsNext network past done → IsMild (channel_number request.chan) done.ask → IsAfter network request past outcome → IsAfter network request (done ∷ past) outcome
   later past done outcome run next mild was =
       let rows = after-later network request was.levels done past fits run mild was.rows in
-      let is = is-run network past done run next in
+      let is = run-more network past done run next in
       record {
         levels = was.levels;
         accepted = was.accepted;
@@ -260,11 +258,11 @@ pub step-goes : (network : Network) (request : Request) (owner : ℕ) (script : 
 step-goes network request owner script past done task rest replies outcomes fits sound once step =
     subst (λ (s : Standing). GoesAt network request past s.tasks s.replies s.outcomes) step.stands ((run-goes network request owner past fits sound once step.run).at script step.found)
 
--- a reply to a setup is one of its ask's
-pub setup-expected : (network : Network) (request : Request) (owner : ℕ) (script : List Task) (past : List Done) (done : Done) (rest : List Task) (replies : List Reply) (outcomes : List Learnt) → NetworkFits network → RequestFits network.links request → OwnedOnce network request owner → OwnStep network owner script past done (Opens request) rest replies outcomes → is_expected request (progress_of request replies) done.reply ≡ true
-setup-expected network request owner script past done rest replies outcomes fits sound once step =
+-- one more reply to a setup
+pub step-setup : (network : Network) (request : Request) (owner : ℕ) (script : List Task) (past : List Done) (done : Done) (rest : List Task) (replies : List Reply) (outcomes : List Learnt) → NetworkFits network → RequestFits network.links request → OwnedOnce network request owner → OwnStep network owner script past done (Opens request) rest replies outcomes → SetupGoes network request replies done past
+step-setup network request owner script past done rest replies outcomes fits sound once step =
     let rows = goes-rows network request past rest replies outcomes sound.route.least (step-goes network request owner script past done (Opens request) rest replies outcomes fits sound once step) in
-    (setup-goes network request replies done past fits sound step.run step.next (setup-offers network request owner fits sound once script past done rest replies outcomes step) rows step.asks).expected
+    setup-goes network request replies done past fits sound step.run step.next (setup-offers network request owner fits sound once script past done rest replies outcomes step) rows step.asks
 
 -- the levels of an accepted request are those of its packets at each hop
 pub accepted-levels : (network : Network) (request : Request) (owner : ℕ) (run : List Done) (tasks : List Task) (levels : List ℕ) (delay : ℕ) → NetworkFits network → RequestFits network.links request → OwnedOnce network request owner → IsRun network run → slice_get network.scripts owner ≡ Some tasks

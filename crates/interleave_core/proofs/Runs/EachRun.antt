@@ -11,12 +11,9 @@ use Rattle.link_steps.specs.declared.asks.Ask.TheVariants.{Arrive, Tick}
 use Rattle.link_steps.specs.declared.asks.Packet.{Packet}
 use Rattle.link_steps.specs.declared.replies.Reply.{Reply}
 use Rattle.link_steps.specs.Lists.{Each}
-use Rattle.setup_protocol.specs.declared.request.Request.{Request}
 use Rattle.call_script.specs.Scripts.{Learnt, Standing, task_ask, takes_step, ready, from_step, begun, outcome_by, continued, resumed, standing, first_ask}
 use Rattle.call_script.specs.Tasks.{Network}
 use Rattle.call_script.specs.declared.tasks.Task.{Task}
-use Rattle.call_script.specs.declared.tasks.Task.TheVariants.{Moves}
-use Rattle.call_script.proofs.TaskBegins.{ready-keeps}
 use Rattle.tick_plane.specs.declared.flight.Flight.{Flight}
 use Rattle.tick_plane.specs.Planes.{next_due, ask_due}
 use Rattle.run_record.specs.Runs.{replies_to}
@@ -26,12 +23,6 @@ use Rattle.interleave_core.proofs.Runs.RunLegal.{plane-next, caller-next, replie
 use Rattle.interleave_core.proofs.Tasks.CallerAsksFit.{standing-more}
 
 -- ---- the tasks that are left
-
-pub head-same : (a : Task) (xs : List Task) (b : Task) (ys : List Task) → a ∷ xs ≡ b ∷ ys → a ≡ b
-head-same a xs b ys same = cc
-
-pub tail-same : (a : Task) (xs : List Task) (b : Task) (ys : List Task) → a ∷ xs ≡ b ∷ ys → xs ≡ ys
-tail-same a xs b ys same = cc
 
 -- what is so of the tasks that are left, as one of them begins and as those before it are passed over
 pub from-step-by : (Q P : List Task → Type 0) (outcomes : List Learnt) → (Q [] → P [])
@@ -44,29 +35,29 @@ from-step-by Q P outcomes none begins passes (task ∷ tasks) left =
     cond_both (takes_step outcomes task) (ready outcomes task ∷ tasks) (from_step outcomes tasks) P
     (λ takes. begins task tasks takes left) (λ over. from-step-by Q P outcomes none begins passes tasks (passes task tasks over left))
 
--- what doesn't depend on the packets of a move
-abbrev pub MovesAlike : (Task → Type 0) → Type 0
-MovesAlike T = (old new : Request) (gap size other_gap other_size : ℕ) → T (Moves old new gap size) → T (Moves old new other_gap other_size)
+-- what is so of a task is so of it as it begins
+abbrev pub KeptAsBegun : (Task → Type 0) → Type 0
+KeptAsBegun T = (outcomes : List Learnt) (task : Task) → T task → T (ready outcomes task)
 
 -- what is so of each task of a script is so of each that is left
-pub each-left : (T : Task → Type 0) → MovesAlike T → (outcomes : List Learnt) (tasks : List Task) → Each T tasks → Each T (from_step outcomes tasks)
-each-left T alike outcomes tasks each =
-    from-step-by (Each T) (Each T) outcomes (λ none. none) (λ task rest takes all. (ready-keeps T alike outcomes task all.0, all.1)) (λ task rest over all. all.1) tasks each
+pub each-left : (T : Task → Type 0) → KeptAsBegun T → (outcomes : List Learnt) (tasks : List Task) → Each T tasks → Each T (from_step outcomes tasks)
+each-left T begins outcomes tasks each =
+    from-step-by (Each T) (Each T) outcomes (λ none. none) (λ task rest takes all. (begins outcomes task all.0, all.1)) (λ task rest over all. all.1) tasks each
 
-each-continued : (T : Task → Type 0) → MovesAlike T → (outcomes : List Learnt) (task : Task) (tasks : List Task) (replies : List Reply) (next : Option (LinkNo × Ask)) → Each T (task ∷ tasks) → Each T (continued outcomes task tasks replies next).tasks
-each-continued T alike outcomes task tasks replies (Some to) each = each
-each-continued T alike outcomes task tasks replies None each = each-left T alike (outcome_by task replies ++ outcomes) tasks each.1
+each-continued : (T : Task → Type 0) → KeptAsBegun T → (outcomes : List Learnt) (task : Task) (tasks : List Task) (replies : List Reply) (next : Option (LinkNo × Ask)) → Each T (task ∷ tasks) → Each T (continued outcomes task tasks replies next).tasks
+each-continued T begins outcomes task tasks replies (Some to) each = each
+each-continued T begins outcomes task tasks replies None each = each-left T begins (outcome_by task replies ++ outcomes) tasks each.1
 
-pub each-resumed : (T : Task → Type 0) → MovesAlike T → (outcomes : List Learnt) (tasks : List Task) (replies : List Reply) → Each T tasks → Each T (resumed outcomes tasks replies).tasks
+pub each-resumed : (T : Task → Type 0) → KeptAsBegun T → (outcomes : List Learnt) (tasks : List Task) (replies : List Reply) → Each T tasks → Each T (resumed outcomes tasks replies).tasks
 unfolding resumed
-each-resumed T alike outcomes [] replies each = tt
-each-resumed T alike outcomes (task ∷ tasks) replies each = each-continued T alike outcomes task tasks replies (task_ask task replies) each
+each-resumed T begins outcomes [] replies each = tt
+each-resumed T begins outcomes (task ∷ tasks) replies each = each-continued T begins outcomes task tasks replies (task_ask task replies) each
 
-pub each-standing : (T : Task → Type 0) → MovesAlike T → (tasks : List Task) (replies : List Reply) → Each T tasks → Each T (standing tasks replies).tasks
+pub each-standing : (T : Task → Type 0) → KeptAsBegun T → (tasks : List Task) (replies : List Reply) → Each T tasks → Each T (standing tasks replies).tasks
 unfolding standing
-each-standing T alike tasks [] each = each-left T alike [] tasks each
-each-standing T alike tasks (reply ∷ before) each =
-    each-resumed T alike (standing tasks before).outcomes (standing tasks before).tasks ((standing tasks before).replies ++ reply ∷ []) (each-standing T alike tasks before each)
+each-standing T begins tasks [] each = each-left T begins [] tasks each
+each-standing T begins tasks (reply ∷ before) each =
+    each-resumed T begins (standing tasks before).outcomes (standing tasks before).tasks ((standing tasks before).replies ++ reply ∷ []) (each-standing T begins tasks before each)
 
 -- ---- what an entry asks
 
@@ -77,7 +68,7 @@ first-asks K T asks [] replies to ask each same = cc
 first-asks K T asks (task ∷ tasks) replies to ask each same = asks task replies to ask each.0 same
 
 -- what each ask of the tasks of an actor's script is, and each of the plane's, so is the ask of the actor's entry
-module _ (K : Ask → Type 0) (T : Task → Type 0) (alike : MovesAlike T) (tick : K Tick) (arrive : (packet : Packet) → K (Arrive packet)) (asks : (task : Task) (replies : List Reply) (to : LinkNo) (ask : Ask) → T task → task_ask task replies ≡ Some (to, ask) → K ask) where
+module _ (K : Ask → Type 0) (T : Task → Type 0) (begins : KeptAsBegun T) (tick : K Tick) (arrive : (packet : Packet) → K (Arrive packet)) (asks : (task : Task) (replies : List Reply) (to : LinkNo) (ask : Ask) → T task → task_ask task replies ≡ Some (to, ask) → K ask) where
   plane-asks : (found : Option Flight) (ticked : ℕ) (to : LinkNo) (ask : Ask) → ask_due ticked found ≡ (to, ask) → K ask
   plane-asks None ticked to ask same = subst K (ap (λ pair. pair.1) same) tick
   plane-asks (Some flight) ticked to ask same = subst K (ap (λ pair. pair.1) same) (arrive flight.packet)
@@ -90,7 +81,7 @@ module _ (K : Ask → Type 0) (T : Task → Type 0) (alike : MovesAlike T) (tick
             plane-asks (next_due (plane_at network past)) (plane_at network past).ticked done.link done.ask due.asks)
         | inr caller ↦
             (let own = caller-next network past done next (eqb-false (actor_number done.actor) (plane_no network) caller) in
-            first-asks K T asks _ _ done.link done.ask (each-standing T alike own.tasks (replies_to (actor_number done.actor) past) (each own.tasks own.found)) own.asks)
+            first-asks K T asks _ _ done.link done.ask (each-standing T begins own.tasks (replies_to (actor_number done.actor) past) (each own.tasks own.found)) own.asks)
       ]
 
 -- ---- the steps of one caller

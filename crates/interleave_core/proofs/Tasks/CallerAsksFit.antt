@@ -1,9 +1,7 @@
 -- Where a caller stands, its tasks and the offers of its setup fit, and what it asks meets the conditions on an ask.
 use Rattle.channel_move.proofs.AskByStage.{hop-asked, MoveAsks, AsksFirst, AsksSubmit, AsksRest, move-asks}
-use Rattle.channel_move.specs.Moving.{shifted_in, first_told}
-use Rattle.channel_move.specs.declared.shifted.Shifted.{Shifted}
+use Rattle.channel_move.specs.Moving.{shifted_in}
 use Rattle.net_units.specs.Limits.{most_packets}
-use Rattle.link_steps.proofs.SearchAndFilter.{Each-append}
 use Rattle.net_units.specs.declared.numbers.ChanNo.{ChanNo}
 use Rattle.std.specs.Prelude.{nat_eq, not, ◌&&◌}
 use Rattle.std.proofs.Common.{arith, ◌≡◌, ℕ, zero, suc, ◌-◌, ◌≤◌, true, List, [], ◌∷◌, ◌++◌, length, Option, Some, None, refl, sym, ap, ◌∙◌, subst, inl, inr}
@@ -26,7 +24,7 @@ use Rattle.link_steps.specs.Split.{Link}
 use Rattle.link_steps.specs.Legal.{AskFits, SubmitFits}
 use Rattle.link_steps.specs.Lists.{Each}
 use Rattle.relaxation.specs.declared.EndDenial.{EndDenial}
-use Rattle.setup_protocol.specs.Setup.{Progress, Reserving, Settled, is_offer, level_in, offers_in, after_offers, reach_after, undoing, relaxing, on_the_way, after_test, at_destination, asked, asked_of, reserve_of, next_ask, progress_of, verdict_of, Outcome}
+use Rattle.setup_protocol.specs.Setup.{Progress, Reserving, Settled, is_offer, level_in, offers_in, after_offers, reach_after, undoing, relaxing, on_the_way, after_test, at_destination, asked, asked_of, reserve_of, next_ask, progress_of}
 use Rattle.setup_protocol.specs.Teardown.{first_count}
 use Rattle.setup_protocol.specs.declared.request.Request.{Request}
 use Rattle.setup_protocol.specs.declared.verdict.Deny.{Deny as Denial}
@@ -36,12 +34,13 @@ use Rattle.call_script.specs.Fits.{TaskFits}
 use Rattle.setup_protocol.specs.Hops.{IsHopOf, RequestFits}
 use Rattle.call_script.specs.declared.tasks.Task.{Task}
 use Rattle.call_script.specs.declared.tasks.Task.TheVariants.{Opens, Sends, Closes, Moves}
-use Rattle.call_script.specs.Scripts.{Learnt, Settles, PlannedOn, MovedTo, Standing, Packets, packets_ask, task_ask, takes_step, ready, from_step, begun, is_that, newest, or_before, packets_by, packets_in, last_packets, settled_as, planned_as, moved_as, move_between, outcome_by, continued, resumed, replied, standing, first_ask, ask_at}
+use Rattle.call_script.specs.Scripts.{Learnt, Settles, PlannedOn, MovedTo, Standing, Packets, packets_ask, task_ask, takes_step, ready, from_step, begun, is_that, newest, or_before, packets_by, packets_in, last_packets, move_between, outcome_by, continued, resumed, replied, standing, first_ask, ask_at}
 use Rattle.channel_laws.specs.Unsent.{FewCancelled}
 use Rattle.channel_laws.specs.Asks.{MayReplyTo, IsReserve}
 use Rattle.link_steps.proofs.ListParts.{Each-at}
 use Rattle.channel_laws.proofs.OfferAnswers.{offer-answers}
 use Rattle.interleave_core.proofs.Tasks.SingleAskTask.{once-asked, packets-hold}
+use Rattle.interleave_core.proofs.Tasks.TaskNotes.{once-over}
 
 -- ---- what callers ask
 
@@ -172,22 +171,13 @@ ready-fits links outcomes _ notes fits = fits
 one-of : (count gap size : ℕ) → SubmitFits count gap size → SubmitFits 1 gap size
 one-of count gap size fits = record { count_least = omega arith; count_most = omega arith; gap_least = fits.gap_least; gap_most = fits.gap_most; size_least = fits.size_least; size_most = fits.size_most }
 
-notes-by : (links : List Link) (task : Task) (replies : List Reply) → TaskFits links task → Each NoteFits (outcome_by task replies)
-notes-by links (Opens request) replies fits = by (verdict_of request replies) where
-  by : (verdict : Option Outcome) → Each NoteFits (settled_as request verdict)
-  by None = tt
-  by (Some outcome) = (tt, tt)
-notes-by links (Sends link None count gap size) replies fits = tt
-notes-by links (Sends link (Some chan) count gap size) replies fits = by replies where
-  by : (rs : List Reply) → Each NoteFits (planned_as (Some chan) gap size rs)
-  by [] = tt
-  by (Is.Planned clock ∷ rs) = (one-of count gap size fits.packets, tt)
-  by _ = tt
-notes-by links (Closes request) replies fits = tt
-notes-by links (Moves old new gap size) replies fits = by (first_told replies) where
-  by : (told : Option Shifted) → Each NoteFits (moved_as old new gap size told)
-  by None = tt
-  by (Some told) = (fits.packets, tt)
+notes-by : (links : List Link) (task : Task) (replies : List Reply) (outcomes : List Learnt) → TaskFits links task → Each NoteFits outcomes → Each NoteFits (outcome_by task replies ++ outcomes)
+notes-by links task replies outcomes fits notes =
+    once-over (Each NoteFits) task replies outcomes
+    (λ request outcome is told. (tt, notes))
+    (λ link chan count gap size clock rest is told. (one-of count gap size (subst (TaskFits links) is fits).packets, notes))
+    (λ old new gap size told is first. ((subst (TaskFits links) is fits).packets, notes))
+    notes
 
 pub record StandingFits (links : List Link) (at : Standing) : Type 0 where
   pub tasks : Each (TaskFits links) at.tasks
@@ -314,7 +304,7 @@ task-goes-on links (Moves old new gap size) (first ∷ replies) reply to ask lin
 
 continued-fits : (links : List Link) (outcomes : List Learnt) (task : Task) (tasks : List Task) (replies : List Reply) (next : Option (LinkNo × Ask)) → Each NoteFits outcomes → Each (TaskFits links) (task ∷ tasks) → OffersFit (task ∷ []) replies → StandingFits links (continued outcomes task tasks replies next)
 continued-fits links outcomes task tasks replies (Some to) notes each are = record { tasks = each; offers = with-rest task tasks replies are; notes = notes }
-continued-fits links outcomes task tasks replies None notes each are = begun-fits links (outcome_by task replies ++ outcomes) tasks (Each-append NoteFits (outcome_by task replies) outcomes (notes-by links task replies each.0) notes) each.1
+continued-fits links outcomes task tasks replies None notes each are = begun-fits links (outcome_by task replies ++ outcomes) tasks (notes-by links task replies outcomes each.0 notes) each.1
 
 resumed-fits : (links : List Link) (outcomes : List Learnt) (tasks : List Task) (replies : List Reply) (reply : Reply) (to : LinkNo) (ask : Ask) (link : Link) (h : List Entry) → Each NoteFits outcomes → Each (TaskFits links) tasks → OffersFit tasks replies → first_ask tasks replies ≡ Some (to, ask) → slice_get links (link_number to) ≡ Some link → MayReplyTo link.shape h ask reply → IfRelease ask (FewShifted reply)
     → StandingFits links (resumed outcomes tasks (replies ++ reply ∷ []))

@@ -7,24 +7,22 @@ use Rattle.net_units.specs.Numbers.{actor_number, channel_number}
 use Rattle.net_units.specs.declared.numbers.LinkNo.{LinkNo}
 use Rattle.link_steps.specs.declared.asks.Ask.{Ask}
 use Rattle.link_steps.specs.declared.replies.Reply.{Reply}
-use Rattle.link_steps.specs.declared.replies.Reply.TheVariants.{Planned}
 use Rattle.link_steps.specs.Lists.{Each}
 use Rattle.channel_laws.specs.Asks.{IsMild}
-use Rattle.channel_move.specs.Moving.{first_told}
-use Rattle.channel_move.specs.declared.shifted.Shifted.{Shifted}
 use Rattle.setup_protocol.specs.Setup.{Outcome, next_ask, verdict_of}
 use Rattle.setup_protocol.specs.declared.request.Request.{Request}
-use Rattle.net_units.specs.declared.numbers.ChanNo.{ChanNo}
-use Rattle.call_script.specs.Scripts.{Learnt, Settles, Standing, newest, settled_as, planned_as, moved_as, task_ask, takes_step, ready, begun, outcome_by, outcome_in, standing}
+use Rattle.call_script.specs.Scripts.{Learnt, Settles, Standing, newest, settled_as, task_ask, takes_step, ready, begun, outcome_by, outcome_in, standing}
 use Rattle.call_script.specs.Tasks.{Network}
 use Rattle.call_script.specs.declared.tasks.Task.{Task}
-use Rattle.call_script.specs.declared.tasks.Task.TheVariants.{Opens, Sends, Closes, Moves}
-use Rattle.call_script.proofs.TaskBegins.{ready-keeps}
+use Rattle.call_script.specs.declared.tasks.Task.TheVariants.{Opens}
 use Rattle.run_record.specs.Runs.{replies_to}
 use Rattle.run_record.specs.declared.done.Done.{Done}
 use Rattle.interleave_core.specs.runs.Runs.{IsNext, IsRun}
-use Rattle.interleave_core.proofs.Runs.EachRun.{head-same, tail-same, from-step-by, OwnStep, KeptBySteps, each-run}
-use Rattle.interleave_core.proofs.Tasks.TaskAsks.{IsNoOpeningOf, other-alike, task-mild, others-from, entry-mild}
+use Rattle.interleave_core.proofs.Runs.EachRun.{from-step-by, OwnStep, KeptBySteps, each-run}
+use Rattle.interleave_core.proofs.Tasks.TaskAsks.{IsNoOpeningOf, ready-other, task-mild, others-from, entry-mild}
+use Rattle.interleave_core.proofs.Runs.RunFronts.{run-more}
+use Rattle.interleave_core.proofs.Keeping.Lookups.{head-same, tail-same}
+use Rattle.interleave_core.proofs.Tasks.TaskNotes.{once-over}
 
 -- ---- scripts
 
@@ -52,26 +50,15 @@ none-recorded : (request : Request) → outcome_in request.chan [] ≡ None
 unfolding outcome_in newest
 none-recorded request = refl
 
--- notes of packets say nothing of a request
-planned-outcome : (chan : ChanNo) (own : Option ChanNo) (gap size : ℕ) (replies : List Reply) (outcomes : List Learnt) → outcome_in chan (planned_as own gap size replies ++ outcomes) ≡ outcome_in chan outcomes
-unfolding outcome_in newest
-planned-outcome chan None gap size replies outcomes = refl
-planned-outcome chan (Some own) gap size (Planned clock ∷ replies) outcomes = refl
-planned-outcome chan (Some own) gap size _ outcomes = refl
-
-moved-outcome : (chan : ChanNo) (old new : Request) (gap size : ℕ) (told : Option Shifted) (outcomes : List Learnt) → outcome_in chan (moved_as old new gap size told ++ outcomes) ≡ outcome_in chan outcomes
-unfolding outcome_in newest
-moved-outcome chan old new gap size None outcomes = refl
-moved-outcome chan old new gap size (Some told) outcomes = refl
-
+-- another task's note says nothing of it
 pub other-outcome : (request : Request) (task : Task) (replies : List Reply) (outcomes : List Learnt) → IsNoOpeningOf (channel_number request.chan) task → outcome_in request.chan (outcome_by task replies ++ outcomes) ≡ outcome_in request.chan outcomes
-other-outcome request (Opens r) replies outcomes other = by-verdict (verdict_of r replies) where
-  by-verdict : (verdict : Option Outcome) → outcome_in request.chan (settled_as r verdict ++ outcomes) ≡ outcome_in request.chan outcomes
-  by-verdict None = refl
-  by-verdict (Some outcome) = outcome-skip request r outcome outcomes other
-other-outcome request (Sends link chan count gap size) replies outcomes other = planned-outcome request.chan chan gap size replies outcomes
-other-outcome request (Closes r) replies outcomes other = refl
-other-outcome request (Moves old new gap size) replies outcomes other = moved-outcome request.chan old new gap size (first_told replies) outcomes
+unfolding outcome_in newest
+other-outcome request task replies outcomes other =
+    once-over (λ notes. outcome_in request.chan notes ≡ outcome_in request.chan outcomes) task replies outcomes
+    (λ r outcome is told. outcome-skip request r outcome outcomes (subst (IsNoOpeningOf (channel_number request.chan)) is other))
+    (λ link chan count gap size clock rest is told. refl)
+    (λ old new gap size told is first. refl)
+    refl
 
 -- what its setup puts there, once it is over
 pub settled-outcome : (request : Request) (replies : List Reply) (outcomes : List Learnt) → outcome_in request.chan outcomes ≡ None → outcome_in request.chan (outcome_by (Opens request) replies ++ outcomes) ≡ verdict_of request replies
@@ -103,10 +90,6 @@ pub record KeptBySetup (network : Network) (request : Request) (owner : ℕ) (sc
   pub settles : (run : List Done) (replies : List Reply) → IsRun network run → next_ask request replies ≡ None → U run replies → A run (verdict_of request replies)
   pub after : (past : List Done) (done : Done) (outcome : Option Outcome) → IsRun network past → IsNext network past done → IsMild (channel_number request.chan) done.ask → A past outcome → A (done ∷ past) outcome
 
-pub is-run : (network : Network) (past : List Done) (done : Done) → IsRun network past → IsNext network past done → IsRun network (done ∷ past)
-unfolding IsRun
-is-run network past done run next = (run, next)
-
 module _ (network : Network) (request : Request) (owner : ℕ) (script : List Task) (found : slice_get network.scripts owner ≡ Some script) (once : OpensOnce network request owner) (B : List Done → Type 0) (U : List Done → List Reply → Type 0) (A : List Done → Option Outcome → Type 0) (kept : KeptBySetup network request owner script B U A) where
   -- before the next task begins
   abbrev Left : List Done → List Learnt → List Task → Type 0
@@ -117,7 +100,7 @@ module _ (network : Network) (request : Request) (owner : ℕ) (script : List Ta
   begins run outcomes tasks (inl early) =
       from-step-by (OpenedOnce request) (λ ts. SetupAt request B U A run (record { tasks = ts; replies = []; outcomes = outcomes })) outcomes (λ none. Before tt tt early.1 early.2) first passed tasks early.0 where
         first : (task : Task) (rest : List Task) → takes_step outcomes task ≡ true → OpenedOnce request (task ∷ rest) → SetupAt request B U A run (record { tasks = ready outcomes task ∷ rest; replies = []; outcomes = outcomes })
-        first task rest takes (inl other) = Before (inl (ready-keeps (IsNoOpeningOf (channel_number request.chan)) (other-alike (channel_number request.chan)) outcomes task other.0, other.1)) (λ is. refl) early.1 early.2
+        first task rest takes (inl other) = Before (inl (ready-other (channel_number request.chan) outcomes task other.0, other.1)) (λ is. refl) early.1 early.2
         first task rest takes (inr own) = Before (inr (ap (ready outcomes) own.0, own.1)) (λ is. refl) early.1 early.2
 
         passed : (task : Task) (rest : List Task) → takes_step outcomes task ≡ false → OpenedOnce request (task ∷ rest) → OpenedOnce request rest
@@ -163,7 +146,7 @@ module _ (network : Network) (request : Request) (owner : ℕ) (script : List Ta
   settled past done task rest replies outcomes step none own quiet is =
       subst (λ t. A (done ∷ past) (outcome_in request.chan (outcome_by t (replies ++ done.reply ∷ []) ++ outcomes))) (sym own)
       (subst (A (done ∷ past)) (sym (settled-outcome request (replies ++ done.reply ∷ []) outcomes quiet))
-      (kept.settles (done ∷ past) (replies ++ done.reply ∷ []) (is-run network past done step.run step.next) (subst (λ t. task_ask t (replies ++ done.reply ∷ []) ≡ None) own none) is))
+      (kept.settles (done ∷ past) (replies ++ done.reply ∷ []) (run-more network past done step.run step.next) (subst (λ t. task_ask t (replies ++ done.reply ∷ []) ≡ None) own none) is))
 
   over : (past : List Done) (done : Done) (task : Task) (rest : List Task) (replies : List Reply) (outcomes : List Learnt) → OwnStep network owner script past done task rest replies outcomes → task_ask task (replies ++ done.reply ∷ []) ≡ None
       → SetupAt request B U A past (record { tasks = task ∷ rest; replies = replies; outcomes = outcomes }) → Left (done ∷ past) (outcome_by task (replies ++ done.reply ∷ []) ++ outcomes) rest

@@ -20,13 +20,10 @@ use Rattle.call_script.specs.declared.tasks.Task.TheVariants.{Opens, Sends, Clos
 use Rattle.call_script.proofs.TaskBegins.{ready-keeps}
 use Rattle.run_record.specs.declared.done.Done.{Done}
 use Rattle.interleave_core.specs.runs.Runs.{IsNext}
-use Rattle.interleave_core.proofs.Runs.EachRun.{MovesAlike, each-left, each-standing, first-asks, entry-asks}
+use Rattle.interleave_core.proofs.Runs.EachRun.{each-left, each-standing, first-asks, entry-asks}
 use Rattle.interleave_core.proofs.Tasks.SingleAskTask.{once-asked, packets-hold, packets-off}
 
 -- ---- tasks that name another channel
-
-pub off-alike : (c : ℕ) → MovesAlike (TaskOff c)
-off-alike c old new gap size other_gap other_size off = off
 
 pub task-off : (c : ℕ) (task : Task) (replies : List Reply) (to : LinkNo) (ask : Ask) → TaskOff c task → task_ask task replies ≡ Some (to, ask) → IsOff c ask
 task-off c (Opens request) replies to ask off same = of-setup (IsOff c) request (progress_of request replies) to ask (λ offers reach. off) off (λ levels place. off) same
@@ -35,17 +32,17 @@ task-off c (Moves old new gap size) replies to ask off same = move-ask-is (IsOff
 task-off c (Closes request) replies to ask off same = of-hop (IsOff c) (slice_get request.route (length replies)) (λ hop. Release request.chan _) to ask (λ hop. off) same
 
 pub ready-off : (c : ℕ) (outcomes : List Learnt) (task : Task) → TaskOff c task → TaskOff c (ready outcomes task)
-ready-off c outcomes task off = ready-keeps (TaskOff c) (off-alike c) outcomes task off
+ready-off c outcomes task off = ready-keeps (TaskOff c) (λ old new gap size other_gap other_size same. same) outcomes task off
 
 pub off-from : (c : ℕ) (outcomes : List Learnt) (tasks : List Task) → Each (TaskOff c) tasks → Each (TaskOff c) (from_step outcomes tasks)
-off-from c outcomes tasks each = each-left (TaskOff c) (off-alike c) outcomes tasks each
+off-from c outcomes tasks each = each-left (TaskOff c) (ready-off c) outcomes tasks each
 
 pub off-standing : (c : ℕ) (tasks : List Task) (replies : List Reply) → Each (TaskOff c) tasks → Each (TaskOff c) (standing tasks replies).tasks
-off-standing c tasks replies each = each-standing (TaskOff c) (off-alike c) tasks replies each
+off-standing c tasks replies each = each-standing (TaskOff c) (ready-off c) tasks replies each
 
 -- an entry of the plane, or of an actor whose tasks all do
 pub entry-off : (network : Network) (c : ℕ) (past : List Done) (done : Done) → IsNext network past done → ((tasks : List Task) → slice_get network.scripts (actor_number done.actor) ≡ Some tasks → Each (TaskOff c) tasks) → IsOff c done.ask
-entry-off network c past done next each = entry-asks (IsOff c) (TaskOff c) (off-alike c) tt (λ packet. tt) (task-off c) network past done next each
+entry-off network c past done next each = entry-asks (IsOff c) (TaskOff c) (ready-off c) tt (λ packet. tt) (task-off c) network past done next each
 
 -- ---- tasks that don't open the channel
 
@@ -53,8 +50,8 @@ abbrev pub IsNoOpeningOf : ℕ → Task → Type 0
 IsNoOpeningOf c (Opens request) = channel_number request.chan ≢ c
 IsNoOpeningOf c _ = Unit {0}
 
-pub other-alike : (c : ℕ) → MovesAlike (IsNoOpeningOf c)
-other-alike c old new gap size other_gap other_size other = tt
+pub ready-other : (c : ℕ) (outcomes : List Learnt) (task : Task) → IsNoOpeningOf c task → IsNoOpeningOf c (ready outcomes task)
+ready-other c outcomes task other = ready-keeps (IsNoOpeningOf c) (λ old new gap size other_gap other_size same. same) outcomes task other
 
 -- those that name another one don't
 pub off-other : (c : ℕ) (task : Task) → TaskOff c task → IsNoOpeningOf c task
@@ -78,7 +75,7 @@ pub mild-tasks : (c : ℕ) (tasks : List Task) (replies : List Reply) (to : Link
 mild-tasks c tasks replies to ask others same = first-asks (IsMild c) (IsNoOpeningOf c) (task-mild c) tasks replies to ask others same
 
 pub others-from : (c : ℕ) (outcomes : List Learnt) (tasks : List Task) → Each (IsNoOpeningOf c) tasks → Each (IsNoOpeningOf c) (from_step outcomes tasks)
-others-from c outcomes tasks each = each-left (IsNoOpeningOf c) (other-alike c) outcomes tasks each
+others-from c outcomes tasks each = each-left (IsNoOpeningOf c) (ready-other c) outcomes tasks each
 
 pub entry-mild : (network : Network) (c : ℕ) (past : List Done) (done : Done) → IsNext network past done → ((tasks : List Task) → slice_get network.scripts (actor_number done.actor) ≡ Some tasks → Each (IsNoOpeningOf c) tasks) → IsMild c done.ask
-entry-mild network c past done next each = entry-asks (IsMild c) (IsNoOpeningOf c) (other-alike c) tt (λ packet. tt) (task-mild c) network past done next each
+entry-mild network c past done next each = entry-asks (IsMild c) (IsNoOpeningOf c) (ready-other c) tt (λ packet. tt) (task-mild c) network past done next each
