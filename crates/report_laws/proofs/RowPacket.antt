@@ -37,11 +37,12 @@ use Rattle.interleave_core.proofs.Channels.HopsAt.{hop-at}
 use Rattle.interleave_core.proofs.Replies.RunCloses.{owned-once}
 use Rattle.interleave_core.proofs.Replies.RunGoes.{owned-asked}
 use Rattle.trace_audit.proofs.HopOrder.{offers-in-order, hop-number}
-use Rattle.trace_audit.proofs.PacketOf.{own-channel, fits-network}
+use Rattle.trace_audit.proofs.PacketOf.{fits-network}
 use Rattle.trace_audit.proofs.RunRows.{departure-told, sent-at, run-split}
 use Rattle.trace_audit.proofs.RunSound.{departures_of}
 use Rattle.trace_audit.proofs.SortedRows.{order-among}
 use Rattle.report_laws.specs.Rows.{TellsDeparture, RowsTellDepartures}
+use Rattle.interleave_core.proofs.Channels.GuaranteeLaw.{own-channel}
 
 -- every hop has offered
 abbrev pub AllOffered : List Done → Request → Type 0

@@ -1,9 +1,7 @@
 -- In the run of a plan each packet of a channel is of one of the plan's requests, which was accepted, at a hop of its route.
-use Rattle.std.proofs.Common.{◌≡◌, ◌≢◌, ℕ, ◌≤◌, true, List, [], ◌∷◌, length, map, Option, Some, None, refl, sym, ap, ◌∙◌, subst, arith}
-use Rattle.std.proofs.lemmas.Bool.{eq-eqb, lt-ltb, and_from}
+use Rattle.std.proofs.Common.{◌≡◌, ◌≢◌, ℕ, ◌≤◌, true, List, length, map, Option, Some, None, refl, sym, ap, ◌∙◌, subst, arith}
 use Rattle.std.proofs.lemmas.Option.{same_Some, slice_get_within}
 use Rattle.std.specs.List.{slice_get}
-use Rattle.std.specs.Prelude.{nat_eq, nat_lt}
 use Rattle.net_units.specs.Allotted.{levels_of}
 use Rattle.net_units.specs.Numbers.{link_number, actor_number, channel_number}
 use Rattle.net_units.specs.declared.levels.Levels.{Levels}
@@ -35,7 +33,7 @@ use Rattle.interleave_core.specs.runs.Runs.{IsRun}
 use Rattle.interleave_core.specs.replies.Verdicts.{setup_replies}
 use Rattle.interleave_core.proofs.Channels.AcceptedOnly.{taken-accepted}
 use Rattle.interleave_core.proofs.Channels.ChannelsAt.{packet-offered}
-use Rattle.interleave_core.proofs.Channels.GuaranteeLaw.{unnamed-packet}
+use Rattle.interleave_core.proofs.Channels.GuaranteeLaw.{unnamed-packet, own-channel, some-there}
 use Rattle.interleave_core.proofs.Channels.HopsAt.{hop-at, HaveLevelsAt}
 use Rattle.interleave_core.proofs.Flights.ReadyRun.{counts-first}
 use Rattle.interleave_core.proofs.Replies.RunCloses.{owned-once}
@@ -89,13 +87,6 @@ pub record PacketOf (plan : PlanParts) (run : List Done) (levels : List (Option 
   pub have : HaveLevelsAt (network_of plan) entry.request (levels_of given) run
   pub offered : length entry.request.route ≤ length (offers_in (setup_replies (channel_number entry.request.chan) run))
   pub mine : is_of_channel (channel_number entry.request.chan) p ≡ true
-
-pub own-channel : (p : Arrival) → 1 ≤ p.number → is_of_channel (channel_number p.chan) p ≡ true
-own-channel p numbered = and_from (nat_eq (channel_number p.chan) (channel_number p.chan)) (nat_lt 0 p.number) (eq-eqb (channel_number p.chan) (channel_number p.chan) refl) (lt-ltb 0 p.number numbered)
-
-some-there : (p : Arrival) (ps : List Arrival) → Among p ps → 1 ≤ length ps
-some-there p [] among = absurd among
-some-there p (q ∷ ps) among = omega arith
 
 levels-for : (outcome : Option Outcome) (found : Option Levels) (ls : List ℕ) (delay : ℕ) → AreLevelsFor outcome found → outcome ≡ Some (Accepts ls delay) → (given : Levels) × (found ≡ Some given) × (levels_of given ≡ ls)
 levels-for (Some (Accepts levels delay)) (Some given) ls own are is = (given, refl, are ∙ same-levels levels ls delay own is) where

@@ -52,12 +52,12 @@ use Rattle.trace_audit.specs.Departures.{HasNear, ticks_before, IsDeparture, Are
 use Rattle.trace_audit.specs.RunLevels.{AreLevelsOf}
 use Rattle.trace_audit.specs.Terms.{hop_terms, prop_of, prop_before, bound_of, bound_before}
 use Rattle.trace_audit.proofs.TableInOrder.{at-parts}
-use Rattle.trace_audit.proofs.PacketOf.{own-channel}
 use Rattle.trace_audit.proofs.RunDeparts.{HasPacket, numbers-above, ticks-front, counted-le, turn-at, same-entry, hop-link, asked-past, counted}
 use Rattle.trace_audit.proofs.RunRows.{part-among, arrival-told, told-departs, sent-at, run-split}
 use Rattle.trace_audit.proofs.RunSound.{RowIs, row-is, told-is, departures_of, row-terms, row-size, row-bound}
 use Rattle.trace_audit.proofs.TableSound.{departures-sound}
 use Rattle.trace_audit.proofs.Turns.{CameFrom, FromSource, FromLink, IsInTurn, AreInTurn, legal-turns}
+use Rattle.interleave_core.proofs.Channels.GuaranteeLaw.{own-channel}
 
 -- ---- the packets at the hop of a departure
 

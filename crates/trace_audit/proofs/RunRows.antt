@@ -1,8 +1,8 @@
 -- What a run tells of its departures: each flight was told by a tick, and each packet that arrives and is taken came from such a
 -- flight, in the round in which it was due.
-use Rattle.std.proofs.Common.{◌≡◌, ◌≢◌, ℕ, zero, suc, ◌+◌, ◌<◌, ◌≤◌, Bool, true, false, cond, ◌&&◌, ◌⊎◌, List, [], ◌∷◌, ◌++◌, length, Option, Some, None, refl, sym, ap, ◌∙◌, subst, inl, inr, arith}
-use Rattle.std.proofs.lemmas.Bool.{cases_Bool, eqb-true, eqb-false, le-ltb, eq-eqb, ne_eqb, and_right}
-use Rattle.std.proofs.lemmas.Option.{same_Some, slice_get_within}
+use Rattle.std.proofs.Common.{◌≡◌, ◌≢◌, ℕ, suc, ◌+◌, ◌≤◌, Bool, true, false, cond, ◌&&◌, ◌⊎◌, List, [], ◌∷◌, ◌++◌, length, Option, Some, None, refl, sym, ap, ◌∙◌, subst, inl, inr, arith}
+use Rattle.std.proofs.lemmas.Bool.{cases_Bool, eqb-true, eqb-false, eq-eqb, ne_eqb, and_right}
+use Rattle.std.proofs.lemmas.Option.{same_Some}
 use Rattle.std.specs.List.{slice_get}
 use Rattle.std.specs.Prelude.{nat_eq, find, filter, reverse}
 use Rattle.std.proofs.lemmas.List.{append-nil, append_assoc, reverse-append, length_push}
@@ -31,26 +31,22 @@ use Rattle.run_record.specs.Runs.{is_on, entry_of, part_of, replies_to}
 use Rattle.run_record.specs.declared.done.Done.{Done}
 use Rattle.run_record.specs.declared.rows.HopRow.{HopRow}
 use Rattle.tick_plane.specs.declared.flight.Flight.{Flight}
-use Rattle.tick_plane.specs.Planes.{Plane, is_due, next_due, ask_due, flight_to, flight_in, plane_with, plane_of}
+use Rattle.tick_plane.specs.Planes.{Plane, is_due, next_due, flight_to, flight_in, plane_with, plane_of}
 use Rattle.tick_plane.proofs.PlaneFlights.{made-flights}
 use Rattle.interleave_core.specs.runs.Runs.{plane_no, plane_at, IsNext, IsRun}
-use Rattle.interleave_core.proofs.Delays.HopLaw.{flight-passes}
-use Rattle.interleave_core.proofs.Tasks.CallerAsksFit.{IsCallers, standing-asks}
-use Rattle.interleave_core.proofs.Flights.FlightOrigins.{run-flights}
+use Rattle.interleave_core.proofs.Delays.HopLaw.{arrive-comes}
 use Rattle.interleave_core.proofs.Replies.Replying.{asks-answered}
 use Rattle.interleave_core.proofs.Channels.SentRows.{sent-by}
 use Rattle.channel_laws.proofs.NumberedPackets.{HasNumber, packets-have_numbers}
 use Rattle.channel_laws.proofs.DepartedCount.{more-legal, start-among, gone-quiet, offered-sends}
 use Rattle.interleave_core.specs.replies.Answers.{IsReplyOf}
-use Rattle.interleave_core.specs.channels.Flights.{FlightsStand}
 use Rattle.call_script.specs.Owners.{AllOwned}
-use Rattle.call_script.specs.Scripts.{standing}
 use Rattle.channel_laws.specs.Departing.{ticked, gone_of, TickSends, SendsOwn, SendsOther}
 use Rattle.channel_laws.proofs.SentInTime.{sent-facts, tick-answer}
 use Rattle.link_steps.specs.Replies.{sent_of, tick_reply}
 use Rattle.link_steps.specs.Scan.{starts_of}
 use Rattle.link_steps.specs.Service.{Start, leaves_at}
-use Rattle.interleave_core.proofs.Runs.RunLegal.{RunStands, clock_at, run-stands, part-admissible, caller-next, plane-next, plane-off, plane-by, part-on, part-off}
+use Rattle.interleave_core.proofs.Runs.RunLegal.{part-admissible, plane-off, plane-by, part-on, part-off}
 use Rattle.interleave_core.proofs.Channels.ChainLaw.{is-tick}
 use Rattle.interleave_core.proofs.Flights.LegLaw.{quiet-clock, entry-tick}
 use Rattle.channel_laws.specs.Channels.{HopTerms, AllOfferTerms, offers_to}
@@ -115,14 +111,7 @@ told-among x (y ∷ xs) ys (inr among) = elim (told-among x xs ys among) [ inl t
 row-told : (whole : List Done) (done : Done) (reply : Reply) (row : HopRow) → done.reply ≡ reply → Among row (rows_by whole done.link reply) → IsTold (done ∷ []) whole row
 row-told whole done (Is.Ticked clock full (Some sent) best_sent best_lost) row is (inl same) = record { done = done; among = inl refl; clock = clock; full = full; sent = sent; best_sent = best_sent; best_lost = best_lost; reply = is; is = same }
 row-told whole done (Is.Ticked clock full (Some sent) best_sent best_lost) row is (inr none) = absurd none
-row-told whole done (Is.Ticked clock full None best_sent best_lost) row is among = absurd among
-row-told whole done (Is.Offer level reach) row is among = absurd among
-row-told whole done (Is.Relaxed clock) row is among = absurd among
-row-told whole done Is.Denied row is among = absurd among
-row-told whole done (Is.Planned clock) row is among = absurd among
-row-told whole done (Is.Closing count cancelled) row is among = absurd among
-row-told whole done (Is.Taken clock eligible) row is among = absurd among
-row-told whole done (Is.Refused refusal) row is among = absurd among
+row-told whole done _ row is among = absurd among
 
 pub departure-told : (whole later : List Done) (row : HopRow) → Among row (departures_in whole later) → IsTold later whole row
 unfolding departures_in
@@ -172,13 +161,7 @@ sent-told done past clock full sent best_sent best_lost (Some to) reply is = (re
 new-told : (done : Done) (past : List Done) (reply : Reply) → done.reply ≡ reply → Each (FlightTold (done ∷ past)) (flight_in reply)
 new-told done past (Is.Ticked clock full None best_sent best_lost) is = tt
 new-told done past (Is.Ticked clock full (Some sent) best_sent best_lost) is = sent-told done past clock full sent best_sent best_lost sent.next is refl
-new-told done past (Is.Offer level reach) is = tt
-new-told done past (Is.Relaxed clock) is = tt
-new-told done past Is.Denied is = tt
-new-told done past (Is.Planned clock) is = tt
-new-told done past (Is.Closing count cancelled) is = tt
-new-told done past (Is.Taken clock eligible) is = tt
-new-told done past (Is.Refused refusal) is = tt
+new-told done past _ is = tt
 
 flights-after : (links : ℕ) (plane : Plane) (found : Option Flight) (done : Done) (past : List Done) → Each (FlightTold past) plane.flights → Each (FlightTold (done ∷ past)) (plane_with links plane found done.reply).flights
 flights-after links plane (Some flight) done past each = Each-without_first (FlightTold (done ∷ past)) (is_due plane.round) plane.flights (Each-if (FlightTold past) (FlightTold (done ∷ past)) plane.flights (told-later done past) each)
@@ -218,52 +201,26 @@ arrive-clock link h packet at tick same = by-found (find (is_row_of packet.chan)
   by-found None same = cc
   by-found (Some row) same = (arrive-answer link.shape.bounds (clock_of h) packet row.terms (length row.ticks) _ _ at tick same).0
 
-due-told : (network : Network) (past : List Done) (done : Done) (packet : Packet) (at : ℕ) (found : Option Flight) → RunStands network past → FlightsStand network past → link_number done.link < length network.links → next_due (plane_at network past) ≡ found → ask_due (plane_at network past).ticked found ≡ (done.link, done.ask) → done.ask ≡ Arrive packet → at ≡ clock_of (part_of (link_number done.link) past) → ArrivalTold past packet done.link at
-due-told network past done packet at None stands flights inside due asks is now = absurd (let clash : Tick ≡ Arrive packet = ap (λ pair. pair.1) asks ∙ is in cc)
-due-told network past done packet at (Some flight) stands flights inside due asks is now =
-    let arrives : Arrive flight.packet ≡ Arrive packet = ap (λ pair. pair.1) asks ∙ is in
-    let passes : is_due (plane_at network past).round flight ≡ true = flight-passes (is_due (plane_at network past).round) flight (plane_at network past).flights due in
-    let round : flight.round ≡ (plane_at network past).round = eqb-true flight.round (plane_at network past).round passes in
-    let first : (plane_at network past).ticked ≡ 0 = none-ticked (plane_at network past).ticked (λ some. (let clash : Some flight ≡ None = sym due ∙ flights.none some in cc)) in
-    let clock = stands.clocks (link_number done.link) inside in
-    let same : clock_at (plane_at network past) (link_number done.link) ≡ (plane_at network past).round = ap (λ b. (plane_at network past).round + cond b 1 0) (le-ltb (link_number done.link) (plane_at network past).ticked (omega (arith, first))) ∙ omega arith in
-    let told = Each-find (FlightTold past) (is_due (plane_at network past).round) (plane_at network past).flights flight (flights-told network past) due in
+pub arrival-told : (network : Network) (run : List Done) (done : Done) (packet : Packet) (at tick : ℕ) → NetworkFits network → IsRun network run → Among done run → done.ask ≡ Arrive packet → done.reply ≡ Is.Taken at tick → ArrivalTold run packet done.link at
+arrival-told network run done packet at tick fits is among asks reply =
+    let split = run-split network run done is among in
+    let answered : Is.Taken at tick ≡ reply_to split.next.link (part_of (link_number done.link) split.past) (Arrive packet) = sym reply ∙ split.next.answered ∙ ap (reply_to split.next.link (part_of (link_number done.link) split.past)) asks in
+    let now = arrive-clock split.next.link (part_of (link_number done.link) split.past) packet at tick answered in
+    let comes = arrive-comes network split.past done packet fits split.is split.next asks in
+    let told = Each-find (FlightTold split.past) (is_due (plane_at network split.past).round) (plane_at network split.past).flights comes.flight (flights-told network split.past) comes.due in
     record {
       done = told.done;
-      among = told.among;
+      among = split.before told.done told.among;
       clock = told.clock;
       full = told.full;
       sent = told.sent;
       best_sent = told.best_sent;
       best_lost = told.best_lost;
       reply = told.reply;
-      packet_is = told.packet ∙ arrived flight.packet packet arrives;
-      arrives = (let a = told.arrives in omega (arith, a, round, clock, same, now));
-      next = told.next ∙ ap (λ (l : LinkNo). Some l) (ap (λ pair. pair.0) asks);
-    } where
-      none-ticked : (n : ℕ) → (1 ≤ n → ⊥) → n ≡ 0
-      none-ticked zero none = refl
-      none-ticked (suc n) none = absurd (none (omega arith))
-
-      arrived : (a b : Packet) → Arrive a ≡ Arrive b → a ≡ b
-      arrived a b same = cc
-
-pub arrival-told : (network : Network) (run : List Done) (done : Done) (packet : Packet) (at tick : ℕ) → NetworkFits network → IsRun network run → Among done run → done.ask ≡ Arrive packet → done.reply ≡ Is.Taken at tick → ArrivalTold run packet done.link at
-arrival-told network run done packet at tick fits is among asks reply =
-    let split = run-split network run done is among in
-    let past : List Done = split.past in
-    let stands = run-stands network split.past fits split.is in
-    let answered : Is.Taken at tick ≡ reply_to split.next.link (part_of (link_number done.link) split.past) (Arrive packet) = sym reply ∙ split.next.answered ∙ ap (reply_to split.next.link (part_of (link_number done.link) split.past)) asks in
-    let now = arrive-clock split.next.link (part_of (link_number done.link) split.past) packet at tick answered in
-    let own : ArrivalTold split.past packet done.link at = elim (cases_Bool (nat_eq (actor_number done.actor) (plane_no network))) [
-      | inl plane ↦
-          (let next = plane-next network split.past done split.next (eqb-true (actor_number done.actor) (plane_no network) plane) in
-          due-told network split.past done packet at (next_due (plane_at network split.past)) stands (run-flights network split.past fits split.is) (slice_get_within network.links (link_number done.link) split.next.link split.next.linked) refl next.asks asks now)
-      | inr caller ↦
-          (let next = caller-next network split.past done split.next (eqb-false (actor_number done.actor) (plane_no network) caller) in
-          absurd (subst IsCallers asks (standing-asks network.links (standing next.tasks (replies_to (actor_number done.actor) split.past)) done.link done.ask (stands.callers (actor_number done.actor) next.tasks next.found) next.asks).callers))
-    ] in
-    record { done = own.done; among = split.before own.done own.among; clock = own.clock; full = own.full; sent = own.sent; best_sent = own.best_sent; best_lost = own.best_lost; reply = own.reply; packet_is = own.packet_is; arrives = own.arrives; next = own.next }
+      packet_is = told.packet ∙ comes.same;
+      arrives = told.arrives ∙ comes.now ∙ sym now;
+      next = told.next ∙ ap (λ (l : LinkNo). Some l) comes.to;
+    }
 
 -- ---- departures
 
@@ -362,28 +319,14 @@ off-link c n whole done (Is.Ticked clock full (Some sent) best_sent best_lost) o
     let link = ne_eqb (link_number done.link) n other in
     let off = and_right (nat_eq (channel_number sent.packet.chan) c) (nat_eq (link_number done.link) n) link in
     rw off refl
-off-link c n whole done (Is.Ticked clock full None best_sent best_lost) other = refl
-off-link c n whole done (Is.Offer level reach) other = refl
-off-link c n whole done (Is.Relaxed clock) other = refl
-off-link c n whole done Is.Denied other = refl
-off-link c n whole done (Is.Planned clock) other = refl
-off-link c n whole done (Is.Closing count cancelled) other = refl
-off-link c n whole done (Is.Taken clock eligible) other = refl
-off-link c n whole done (Is.Refused refusal) other = refl
+off-link c n whole done _ other = refl
 
 -- of another channel
 off-channel : (c n : ℕ) (whole : List Done) (done : Done) (reply : Reply) → ((sent : Sent) (clock full : ℕ) (best_sent best_lost : Bool) → reply ≡ Is.Ticked clock full (Some sent) best_sent best_lost → channel_number sent.packet.chan ≢ c) → filter (is_over c n) (rows_by whole done.link reply) ≡ []
 off-channel c n whole done (Is.Ticked clock full (Some sent) best_sent best_lost) other =
     let chan = ne_eqb (channel_number sent.packet.chan) c (other sent clock full best_sent best_lost refl) in
     rw chan refl
-off-channel c n whole done (Is.Ticked clock full None best_sent best_lost) other = refl
-off-channel c n whole done (Is.Offer level reach) other = refl
-off-channel c n whole done (Is.Relaxed clock) other = refl
-off-channel c n whole done Is.Denied other = refl
-off-channel c n whole done (Is.Planned clock) other = refl
-off-channel c n whole done (Is.Closing count cancelled) other = refl
-off-channel c n whole done (Is.Taken clock eligible) other = refl
-off-channel c n whole done (Is.Refused refusal) other = refl
+off-channel c n whole done _ other = refl
 
 -- an ask that is no tick is answered by none
 pub no-tick : (c n : ℕ) (whole : List Done) (done : Done) → done.ask ≢ Tick → IsReplyOf done.ask done.reply → filter (is_over c n) (rows_by whole done.link done.reply) ≡ []

@@ -1,10 +1,10 @@
 -- The rows of a run are small: a link makes no more ticks than the plane has rounds, and in a tick at most one packet leaves it.
-use Rattle.std.proofs.Common.{◌≡◌, ℕ, ◌+◌, ◌≤◌, Bool, List, [], ◌∷◌, length, filter, Option, Some, None, refl, sym, ap, ◌∙◌, subst, inl, inr, arith}
+use Rattle.std.proofs.Common.{◌≡◌, ℕ, ◌+◌, ◌≤◌, Bool, List, [], ◌∷◌, length, filter, Option, Some, refl, sym, ap, ◌∙◌, subst, inl, inr, arith}
 use Rattle.std.proofs.lemmas.Bool.{cases_Bool, eqb-true, eqb-false, eq-eqb, and_from}
 use Rattle.std.proofs.lemmas.List.{length-append}
 use Rattle.std.proofs.lemmas.Option.{slice_get_within}
 use Rattle.std.specs.Prelude.{nat_eq, nat_lt, reverse}
-use Rattle.net_units.specs.Numbers.{link_number, actor_number, channel_number}
+use Rattle.net_units.specs.Numbers.{link_number, channel_number}
 use Rattle.net_units.specs.declared.levels.Levels.{Levels}
 use Rattle.link_steps.specs.declared.asks.Ask.TheVariants.{Tick}
 use Rattle.link_steps.specs.declared.replies.Reply.{Reply}
@@ -24,23 +24,22 @@ use Rattle.call_script.specs.Fits.{NetworkFits}
 use Rattle.call_script.specs.Owners.{AllOwned}
 use Rattle.call_script.specs.Parts.{PlanParts}
 use Rattle.call_script.specs.Plans.{IsPlan}
-use Rattle.call_script.specs.Scripts.{standing}
 use Rattle.call_script.specs.Tasks.{Network, network_of}
 use Rattle.call_script.proofs.PlansFit.{plan-fits}
 use Rattle.call_script.proofs.OneOwner.{all-owned}
 use Rattle.run_record.specs.Rows.{IsEarly, departures_in, in_order, rows_by}
-use Rattle.run_record.specs.Runs.{part_of, replies_to}
+use Rattle.run_record.specs.Runs.{part_of}
 use Rattle.run_record.specs.SmallRows.{IsSmall}
 use Rattle.run_record.specs.declared.done.Done.{Done}
 use Rattle.run_record.specs.declared.rows.HopRow.{HopRow}
 use Rattle.interleave_core.specs.replies.Answers.{IsReplyOf}
-use Rattle.interleave_core.specs.runs.Runs.{plane_no, plane_at, IsNext, IsRun}
+use Rattle.interleave_core.specs.runs.Runs.{plane_at, IsNext, IsRun}
 use Rattle.interleave_core.proofs.Channels.ChainLaw.{is-tick}
 use Rattle.interleave_core.proofs.Flights.LegLaw.{quiet-clock}
 use Rattle.interleave_core.proofs.Replies.Replying.{asks-answered}
 use Rattle.interleave_core.proofs.Runs.PartLaws.{clocks-follow}
-use Rattle.interleave_core.proofs.Runs.RunLegal.{caller-next, part-off, part-on, plane-next, run-stands}
-use Rattle.interleave_core.proofs.Tasks.CallerAsksFit.{IsCallers, standing-asks}
+use Rattle.interleave_core.proofs.Runs.RunLegal.{part-off, part-on, plane-due, by-part}
+use Rattle.interleave_core.proofs.Tasks.CallerAsksFit.{IsCallers}
 use Rattle.trace_audit.specs.Above.{is_at, rows_at}
 use Rattle.trace_audit.specs.RunLevels.{AreLevelsOf, EveryTickIsEarly, RowsOfRunsAreSmall}
 use Rattle.trace_audit.proofs.WholeRoute.{filter-append}
@@ -55,18 +54,11 @@ use Rattle.trace_audit.proofs.SortedRows.{order-among}
 clock-before : (network : Network) (past : List Done) (done : Done) → NetworkFits network → IsRun network past → (next : IsNext network past done) → done.ask ≡ Tick → clock_of (part_of (link_number done.link) past) ≤ network.rounds
 clock-before network past done fits is next tick =
     let within = slice_get_within network.links (link_number done.link) next.link next.linked in
-    let stands = run-stands network past fits is in
-    elim (cases_Bool (nat_eq (actor_number done.actor) (plane_no network))) [
-      | inl plane ↦
-          (let early = (plane-next network past done next (eqb-true (actor_number done.actor) (plane_no network) plane)).early in
-          let follows = clocks-follow network past (link_number done.link) fits is within in
-          elim (cases_Bool (nat_lt (link_number done.link) (plane_at network past).ticked)) [
-            | inl made ↦ (let at : clock_of (part_of (link_number done.link) past) ≡ (plane_at network past).round + 1 = rw made at follows in omega (arith, at, early))
-            | inr left ↦ (let at : clock_of (part_of (link_number done.link) past) ≡ (plane_at network past).round + 0 = rw left at follows in omega (arith, at, early))
-          ])
-      | inr caller ↦
-          (let asks = caller-next network past done next (eqb-false (actor_number done.actor) (plane_no network) caller) in
-          absurd (subst IsCallers tick (standing-asks network.links (standing asks.tasks (replies_to (actor_number done.actor) past)) done.link done.ask (stands.callers (actor_number done.actor) asks.tasks asks.found) asks.asks).callers))
+    let early = (plane-due network past done fits is next (λ callers. subst IsCallers tick callers)).early in
+    let follows = clocks-follow network past (link_number done.link) fits is within in
+    elim (cases_Bool (nat_lt (link_number done.link) (plane_at network past).ticked)) [
+      | inl made ↦ (let at : clock_of (part_of (link_number done.link) past) ≡ (plane_at network past).round + 1 = rw made at follows in omega (arith, at, early))
+      | inr left ↦ (let at : clock_of (part_of (link_number done.link) past) ≡ (plane_at network past).round + 0 = rw left at follows in omega (arith, at, early))
     ]
 
 -- so the clock of each link is at most one more
@@ -75,17 +67,13 @@ unfolding IsRun part_of clock_of
 clock-most network n [] fits is = omega arith
 clock-most network n (done ∷ past) fits is =
     let was = clock-most network n past fits is.0 in
-    elim (cases_Bool (nat_eq (link_number done.link) n)) [
-      | inr off ↦ subst (λ h. clock_of h ≤ network.rounds + 1) (sym (part-off n done past (eqb-false (link_number done.link) n off))) was
-      | inl on ↦ at-link (eqb-true (link_number done.link) n on) was
-    ] where
-      at-link : link_number done.link ≡ n → clock_of (part_of n past) ≤ network.rounds + 1 → clock_of (part_of n (done ∷ past)) ≤ network.rounds + 1
+    by-part (λ h. clock_of h ≤ network.rounds + 1) n done past (λ on. at-link on was) (λ off. was) where
+      at-link : link_number done.link ≡ n → clock_of (part_of n past) ≤ network.rounds + 1 → clock_with done.ask (clock_of (part_of n past)) ≤ network.rounds + 1
       at-link on was =
-          let before : done.ask ≡ Tick → clock_of (part_of n past) ≤ network.rounds = λ tick. subst (λ m. clock_of (part_of m past) ≤ network.rounds) on (clock-before network past done fits is.0 is.1 tick) in
-          subst (λ h. clock_of h ≤ network.rounds + 1) (sym (part-on n done past on)) (elim (is-tick done.ask) [
-            | inl tick ↦ subst (λ a. clock_with a (clock_of (part_of n past)) ≤ network.rounds + 1) (sym tick) (let b = before tick in omega (arith, b))
+          elim (is-tick done.ask) [
+            | inl tick ↦ subst (λ a. clock_with a (clock_of (part_of n past)) ≤ network.rounds + 1) (sym tick) (let before : clock_of (part_of n past) ≤ network.rounds = subst (λ m. clock_of (part_of m past) ≤ network.rounds) on (clock-before network past done fits is.0 is.1 tick) in omega (arith, before))
             | inr other ↦ subst (λ t. t ≤ network.rounds + 1) (sym (quiet-clock done.ask (clock_of (part_of n past)) other)) was
-          ])
+          ]
 
 -- ---- the number of rows
 
@@ -94,14 +82,7 @@ one-row : (test : HopRow → Bool) (whole : List Done) (done : Done) (reply : Re
 one-row test whole done (Is.Ticked clock full (Some sent) best_sent best_lost) = one _ where
   one : (row : HopRow) → length (filter test (row ∷ [])) ≤ 1
   one row = elim (cases_Bool (test row)) [ inl passes ↦ rw passes (omega arith) | inr fails ↦ rw fails (omega arith) ]
-one-row test whole done (Is.Ticked clock full None best_sent best_lost) = omega arith
-one-row test whole done (Is.Offer level reach) = omega arith
-one-row test whole done (Is.Relaxed clock) = omega arith
-one-row test whole done Is.Denied = omega arith
-one-row test whole done (Is.Planned clock) = omega arith
-one-row test whole done (Is.Closing count cancelled) = omega arith
-one-row test whole done (Is.Taken clock eligible) = omega arith
-one-row test whole done (Is.Refused refusal) = omega arith
+one-row test whole done _ = omega arith
 
 -- how many rows of a channel over a link the entries tell
 abbrev rows-told : ℕ → ℕ → List Done → List Done → ℕ

@@ -221,7 +221,7 @@ counted-rise n (row ∷ rows) are = (Each-if (λ x. suc n < x.number) (λ x. row
 abbrev pub AllRise : List HopRow → Type 0
 AllRise rows = (c hop : ℕ) → Rise (rows_at c hop rows)
 
-is-own : (row : HopRow) → is_at (channel_number row.chan) row.hop row ≡ true
+pub is-own : (row : HopRow) → is_at (channel_number row.chan) row.hop row ≡ true
 is-own row = (let a = eq-eqb (channel_number row.chan) (channel_number row.chan) refl in let b = eq-eqb row.hop row.hop refl in rw (a, b) refl)
 
 rise-rest : (row : HopRow) (rows : List HopRow) → AllRise (row ∷ rows) → AllRise rows

@@ -35,9 +35,10 @@ use Rattle.trace_audit.specs.declared.terms.Terms.{Terms}
 use Rattle.trace_audit.specs.Terms.{hop_terms, rate_of}
 use Rattle.trace_audit.proofs.HopToHop.{row-at, ticks_in, ticks-count}
 use Rattle.trace_audit.proofs.TableInOrder.{numbered, at-parts}
-use Rattle.trace_audit.proofs.WholeRoute.{IsSettled, path, place-of, row-of-place, terms-given, delay-more, arrivals, at-once, filter-reverse, map-reverse}
+use Rattle.trace_audit.proofs.WholeRoute.{IsSettled, path, place-of, row-of-place, terms-given, delay-more, arrivals, at-once, filter-reverse}
 use Rattle.trace_audit.proofs.PassingRow.{passes-told}
 use Rattle.trace_audit.proofs.RowTerms.{hop-told, row-known}
+use Rattle.interleave_core.proofs.Keeping.Lookups.{map-reverse}
 
 -- a row of the table with those above it
 pub passing : (plan : PlanParts) (levels : List (Option Levels)) (rows : List HopRow) (row : HopRow) → AllPass plan levels rows → Among row rows → (above : List HopRow) × AllPass plan levels (row ∷ above)
@@ -181,7 +182,7 @@ row-kept plan levels table row plan_is accepted all in_table =
     }
 
 -- the bound of the last hop
-end-bound : (hops : List Hop) (levels : List ℕ) (i : ℕ) (hop : Hop) → length levels ≡ suc i → slice_get hops i ≡ Some hop → bound_at_end hops levels ≡ bound_at hop.bounds (get_or levels i 0)
+pub end-bound : (hops : List Hop) (levels : List ℕ) (i : ℕ) (hop : Hop) → length levels ≡ suc i → slice_get hops i ≡ Some hop → bound_at_end hops levels ≡ bound_at hop.bounds (get_or levels i 0)
 unfolding bound_at_end
 end-bound [] levels i hop count found = absurd (let clash : None ≡ Some hop = found in cc)
 end-bound (first ∷ hops) [] i hop count found = absurd (omega (arith, count))

@@ -18,10 +18,11 @@ use Rattle.trace_audit.specs.Above.{is_at, rows_at, row_at, ticks_above, tick_of
 use Rattle.trace_audit.specs.Checks.{is_there, goes_on, is_next_packet, follows_row, follows, is_in_order, has_size_of, fits_size, is_not_sooner, arrives_from, arrives, may_go_from, is_eligible, fault_with, fault_under, fault_of, AllPass}
 use Rattle.trace_audit.specs.Departures.{AreCounted, HasNear, IsDeparture, AreDepartures}
 use Rattle.trace_audit.proofs.TableInOrder.{IsBelow, RowsAreNumbered, at-parts, near-found, none-before, found-among}
-use Rattle.trace_audit.proofs.WholeRoute.{filter-append, filter-reverse, map-reverse}
-use Rattle.trace_audit.proofs.SortedRows.{Climbs, AllRise, counted-above, counted-rise, rise-apart, order-climbs, order-among, among-order, rows-stay, not-both, one-place}
+use Rattle.trace_audit.proofs.WholeRoute.{filter-append, filter-reverse}
+use Rattle.trace_audit.proofs.SortedRows.{Climbs, AllRise, counted-above, counted-rise, rise-apart, order-climbs, order-among, among-order, rows-stay, not-both, one-place, is-own}
 use Rattle.trace_audit.proofs.KeptMatchesRows.{there-found}
 use Rattle.trace_audit.proofs.RowTerms.{row-known}
+use Rattle.interleave_core.proofs.Keeping.Lookups.{map-reverse}
 
 -- ---- a table cut at a row
 
@@ -350,13 +351,11 @@ counts-up : (plan : PlanParts) (levels : List (Option Levels)) (departures : Lis
 counts-up plan levels departures row are among =
     let departs = Each-among (IsDeparture plan levels departures) row departures are.each among in
     let place = (row-known plan levels row departs.terms departs.known).place in
-    let inside = Among-passes (is_at (channel_number row.chan) row.hop) row departures (own-here row) among in
+    let inside = Among-passes (is_at (channel_number row.chan) row.hop) row departures (is-own row) among in
     record {
       number = Each-among (λ x. 0 < x.number) row (rows_at (channel_number row.chan) row.hop departures) (counted-above 0 (rows_at (channel_number row.chan) row.hop departures) (are.counted (channel_number row.chan) row.hop)) inside;
       hop = omega (arith, place);
-    } where
-      own-here : (row : HopRow) → is_at (channel_number row.chan) row.hop row ≡ true
-      own-here row = (let a = eq-eqb (channel_number row.chan) (channel_number row.chan) refl in let b = eq-eqb row.hop row.hop refl in rw (a, b) refl)
+    }
 
 cut-at : (plan : PlanParts) (levels : List (Option Levels)) (departures above post : List HopRow) (row : HopRow) → AreDepartures plan levels departures → in_order departures ≡ reverse above ++ row ∷ post → Cut plan levels departures above post row
 cut-at plan levels departures above post row are cut =

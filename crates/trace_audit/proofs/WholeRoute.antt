@@ -1,7 +1,7 @@
 -- Over the whole route of a channel: each row against the row of its packet at the first hop.
 use Rattle.std.proofs.Common.{◌≡◌, ℕ, zero, suc, ◌+◌, ◌<◌, ◌≤◌, Bool, true, List, [], ◌∷◌, ◌++◌, length, get_or, map, take, Option, Some, None, refl, sym, ap, ◌∙◌, subst, inl, inr, arith}
 use Rattle.std.proofs.lemmas.Bool.{cases_Bool, cases_eq}
-use Rattle.std.proofs.lemmas.List.{get_or_append_left, get_or_push, length-map, length-reverse, length-take-le, append-nil, map-append, reverse-append}
+use Rattle.std.proofs.lemmas.List.{get_or_append_left, get_or_push, length-map, length-reverse, length-take-le, append-nil, reverse-append}
 use Rattle.std.proofs.lemmas.Option.{get_or_from_slice_get}
 use Rattle.std.proofs.Math.Seq.{take-suc}
 use Rattle.std.specs.List.{slice_get}
@@ -52,10 +52,6 @@ filter-reverse test (x ∷ xs) =
       | inl passed ↦ (let one : filter test (x ∷ []) ≡ x ∷ [] = rw passed refl in parts ∙ ap (λ ys. ys ++ filter test (x ∷ [])) rest ∙ ap (λ ys. reverse (filter test xs) ++ ys) one ∙ sym (reverse-append (x ∷ []) (filter test xs)) ∙ (rw passed refl))
       | inr failed ↦ (let one : filter test (x ∷ []) ≡ [] = rw failed refl in parts ∙ ap (λ ys. ys ++ filter test (x ∷ [])) rest ∙ ap (λ ys. reverse (filter test xs) ++ ys) one ∙ append-nil (reverse (filter test xs)) ∙ (rw failed refl))
     ]
-
-pub map-reverse : {X Y : Type 0} (f : X → Y) (xs : List X) → map f (reverse xs) ≡ reverse (map f xs)
-map-reverse f [] = refl
-map-reverse f (x ∷ xs) = ap (map f) (reverse-append (x ∷ []) xs) ∙ map-append f (reverse xs) (x ∷ []) ∙ ap (λ ys. ys ++ f x ∷ []) (map-reverse f xs) ∙ sym (reverse-append (f x ∷ []) (map f xs))
 
 -- ---- places, which numbers tell
 
