@@ -2,7 +2,7 @@
 use Rattle.std.proofs.Common.{◌≡◌, ◌≢◌, ℕ, ◌+◌, ◌<◌, ◌≤◌, List, [], ◌∷◌, length, map, None, Some, option_map, refl, sym, ap, ◌∙◌, subst, arith}
 use Rattle.std.proofs.lemmas.Bool.{le-ltb, lt-ltb}
 use Rattle.std.proofs.lemmas.List.{length-map}
-use Rattle.std.proofs.lemmas.Option.{slice_get-map, slice_get_within}
+use Rattle.std.proofs.lemmas.Option.{slice_get-map, slice_get_within, none-some}
 use Rattle.std.specs.List.{slice_get}
 use Rattle.net_units.specs.Numbers.{actor_at, actor_number}
 use Rattle.net_units.specs.declared.numbers.ActorNo.{ActorNo}
@@ -75,9 +75,6 @@ rounds-of parts = refl
 pub plane-end : (parts : PlanParts) (plane : KeptPlane) (run : List Done) (actor : ActorNo) → IsPlan parts → PlaneStands (network_of parts) plane run → actor ≡ the_plane (network_of parts) → (network_of parts).rounds ≤ plane.at.round → next_for (network_of parts) (actor_number actor) run ≡ None
 plane-end parts plane run actor plan stands is over = ap (λ n. next_for (network_of parts) n run) (plane-actor parts actor plan is ∙ sym (plane-number parts)) ∙ plane-over (network_of parts) plane run stands over
 
-never-some : {X : Type 0} (x : X) → None ≡ Some x → ⊥
-never-some x same = absurd (let clash : None ≡ Some x = same in cc)
-
 -- before its last round there is a step left
 pub plane-left : (parts : PlanParts) (plane : KeptPlane) (run : List Done) (actor : ActorNo) → IsPlan parts → PlaneStands (network_of parts) plane run → actor ≡ the_plane (network_of parts) → plane.at.round < (network_of parts).rounds → next_for (network_of parts) (actor_number actor) run ≢ None
 plane-left parts plane run actor plan stands is left none =
@@ -86,7 +83,7 @@ plane-left parts plane run actor plan stands is left none =
     let by : actor_number actor ≡ plane_no network = plane-actor parts actor plan is ∙ sym (plane-number parts) in
     let at = plane_at network run in
     let asks : plane_ask network.rounds at ≡ Some (ask_due at.ticked (next_due at)) = rw (lt-ltb at.round network.rounds (omega (arith, left, round))) refl in
-    never-some (ask_due at.ticked (next_due at)) (sym none ∙ asked-plane network (actor_number actor) run by ∙ asks)
+    none-some (ask_due at.ticked (next_due at)) (sym none ∙ asked-plane network (actor_number actor) run by ∙ asks)
 
 -- ---- the links of an engine
 

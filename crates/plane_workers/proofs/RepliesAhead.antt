@@ -24,17 +24,11 @@ use Rattle.interleave_core.specs.runs.Runs.{plane_no, plane_at, IsNext, IsRun}
 use Rattle.interleave_core.proofs.Runs.RunLegal.{asked-plane, part-on, part-off, plane-by, run-stands}
 use Rattle.plane_workers.specs.Answered.{answered, replies_along, IsAnswered}
 use Rattle.plane_workers.specs.Windows.{LinksKept, LinkIsAhead, LinksAhead, KeepsGap}
+use Rattle.interleave_core.proofs.Keeping.Lookups.{head-same, tail-same}
 
 each-late : (until from : ℕ) (flights : List Flight) → until ≤ from + 1 → Each (λ f. from < f.round) flights → Each (λ f. until ≤ f.round) flights
 each-late until from [] within each = tt
 each-late until from (f ∷ fs) within each = ((let first = each.0 in omega (arith, first, within)), each-late until from fs within each.1)
-
--- the first of the replies, and the rest
-heads : (x y : Reply) (xs ys : List Reply) → x ∷ xs ≡ y ∷ ys → x ≡ y
-heads x y xs ys same = cc
-
-tails : (x y : Reply) (xs ys : List Reply) → x ∷ xs ≡ y ∷ ys → xs ≡ ys
-tails x y xs ys same = cc
 
 pub first-reply : (link : Link) (h : List Entry) (ask : Ask) (asks : List Ask) → replies_along link h (ask ∷ asks) ≡ reply_to link h ask ∷ replies_along link (record { ask = ask; reply = reply_to link h ask } ∷ h) asks
 unfolding replies_along
@@ -46,7 +40,7 @@ first-answered link h ask asks = refl
 
 -- the first ask is answered
 pub ahead-head : (link : Link) (stands : List Entry → Type 0) (left rest : List Reply) (h : List Entry) (ask : Ask) (asks asks' : List Ask) (reply : Reply) → LinkIsAhead link stands left h asks → asks ≡ ask ∷ asks' → left ≡ reply ∷ rest → reply ≡ reply_to link h ask
-ahead-head link stands left rest h ask asks asks' reply is first told = heads reply (reply_to link h ask) rest _ (sym told ∙ is.replied ∙ ap (replies_along link h) first ∙ first-reply link h ask asks')
+ahead-head link stands left rest h ask asks asks' reply is first told = head-same reply rest (reply_to link h ask) _ (sym told ∙ is.replied ∙ ap (replies_along link h) first ∙ first-reply link h ask asks')
 
 pub ahead-tail : (link : Link) (stands : List Entry → Type 0) (left rest : List Reply) (h : List Entry) (ask : Ask) (asks asks' : List Ask) (reply : Reply) → LinkIsAhead link stands left h asks → asks ≡ ask ∷ asks' → left ≡ reply ∷ rest → LinkIsAhead link stands rest (record { ask = ask; reply = reply } ∷ h) asks'
 ahead-tail link stands left rest h ask asks asks' reply is first told =
@@ -54,7 +48,7 @@ ahead-tail link stands left rest h ask asks asks' reply is first told =
     subst (λ r. LinkIsAhead link stands rest (record { ask = ask; reply = r } ∷ h) asks') (sym same)
     (record {
       stands_on = subst stands (ap (answered link h) first ∙ first-answered link h ask asks') is.stands_on;
-      replied = tails reply (reply_to link h ask) rest _ (sym told ∙ is.replied ∙ ap (replies_along link h) first ∙ first-reply link h ask asks');
+      replied = tail-same reply rest (reply_to link h ask) _ (sym told ∙ is.replied ∙ ap (replies_along link h) first ∙ first-reply link h ask asks');
     })
 
 module _ {X : Type 0} (rules : X → Link) (stands : X → List Entry → Type 0) (left : X → List Reply) (network : Network) (fits : NetworkFits network) (until : ℕ) where
