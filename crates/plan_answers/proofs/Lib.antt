@@ -1,0 +1,2 @@
+mod OffersKept
+mod RefusedFirst

@@ -1,0 +1,4 @@
+pub mod Delays
+pub mod Offers
+pub mod Rooms
+pub mod Trials
