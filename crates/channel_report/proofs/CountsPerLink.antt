@@ -1,12 +1,20 @@
 -- The counts of a link after one more entry, and how large they are.
-use Rattle.std.proofs.Common.{◌≡◌, ℕ, ◌+◌, ◌^◌, ◌<◌, ◌≤◌, Bool, true, false, Some, List, [], ◌∷◌, length, refl, ap, ◌∙◌, arith}
+use Rattle.std.proofs.Common.{◌≡◌, ℕ, ◌+◌, ◌^◌, ◌<◌, ◌≤◌, Bool, true, false, Option, Some, None, is_some, List, [], ◌∷◌, length, refl, sym, ap, subst, ◌∙◌, arith}
+use Rattle.net_units.specs.declared.numbers.LinkNo.{LinkNo}
 use Rattle.link_steps.specs.declared.asks.Ask.{Ask}
+use Rattle.link_steps.specs.declared.asks.Ask.TheVariants.{Arrive}
+use Rattle.link_steps.specs.declared.asks.Packet.{Packet}
 use Rattle.link_steps.specs.declared.replies.Entry.{Entry}
 use Rattle.link_steps.specs.declared.replies.Reply.{Reply}
 use Rattle.link_steps.specs.declared.replies.Reply.TheVariants as Is
+use Rattle.link_steps.specs.declared.replies.Refusal.{Refusal}
+use Rattle.link_steps.specs.declared.replies.Sent.{Sent}
 use Rattle.link_steps.specs.Scan.{clock_of, clock_with}
-use Rattle.channel_report.specs.Links.{one_if, asks_best, sent_by, dropped_by, best_sent_by, best_lost_by, pours_refused_by, total_in}
+use Rattle.run_record.specs.Rows.{rows_by}
+use Rattle.run_record.specs.declared.done.Done.{Done}
+use Rattle.channel_report.specs.Links.{one_if, one_if_some, asks_best, sent_by, dropped_by, best_sent_by, best_lost_by, pours_refused_by, total_in}
 use Rattle.channel_report.specs.Tallies.{IsTally}
+use Rattle.channel_report.specs.TellsNothing.{TellsNothing}
 use Rattle.channel_report.specs.declared.link_tally.LinkTally.{LinkTally}
 use Rattle.link_steps.proofs.ClockAdvances.{clock_of-most}
 
@@ -72,4 +80,53 @@ tally-more h ask reply old clock sent dropped best_sent best_lost pours is clock
       (omega (arith, losts, ap (λ (t : LinkTally). t.best_lost) is.is))
       (omega (arith, poured, ap (λ (t : LinkTally). t.pours_refused) is.is));
   few = omega (arith, drops, few, is.few);
+}
+
+-- ---- by what is replied
+
+some-one : (sent : Option Sent) → one_if (is_some sent) ≡ one_if_some sent
+some-one None = refl
+some-one (Some sent) = refl
+
+pub tally-ticked : (h : List Entry) (ask : Ask) (reply : Reply) (old : LinkTally) (t full : ℕ) (left : Option Sent) (best lost : Bool) (clock sent dropped best_sent best_lost : ℕ) → IsTally h old → reply ≡ Is.Ticked t full left best lost → clock ≡ clock_with ask old.clock → sent ≡ old.sent + one_if (is_some left) → dropped ≡ old.dropped + full
+    → full < 4294967296 → best_sent ≡ old.best_sent + one_if best → best_lost ≡ old.best_lost + one_if lost → IsTally (record { ask = ask; reply = reply } ∷ h) (tally clock sent dropped best_sent best_lost old.pours_refused)
+tally-ticked h ask reply old t full left best lost clock sent dropped best_sent best_lost is told clocks sents drops few bests losts =
+    subst (λ (r : Reply). IsTally (record { ask = ask; reply = r } ∷ h) (tally clock sent dropped best_sent best_lost old.pours_refused)) (sym told)
+    (tally-more h ask (Is.Ticked t full left best lost) old clock sent dropped best_sent best_lost old.pours_refused is clocks (sents ∙ ap (λ n. old.sent + n) (some-one left)) drops few bests losts (omega arith))
+
+pub tally-refused : (h : List Entry) (ask : Ask) (reply : Reply) (old : LinkTally) (refusal : Refusal) (clock pours : ℕ) → IsTally h old → reply ≡ Is.Refused refusal → clock ≡ clock_with ask old.clock → pours ≡ old.pours_refused + one_if (asks_best ask)
+    → IsTally (record { ask = ask; reply = reply } ∷ h) (tally clock old.sent old.dropped old.best_sent old.best_lost pours)
+tally-refused h ask reply old refusal clock pours is told clocks poured =
+    subst (λ (r : Reply). IsTally (record { ask = ask; reply = r } ∷ h) (tally clock old.sent old.dropped old.best_sent old.best_lost pours)) (sym told)
+    (tally-more h ask (Is.Refused refusal) old clock old.sent old.dropped old.best_sent old.best_lost pours is clocks (omega arith) (omega arith) (omega arith) (omega arith) (omega arith) poured)
+
+pub tally-else : (h : List Entry) (ask : Ask) (reply : Reply) (old : LinkTally) (clock : ℕ) → IsTally h old → ((t full : ℕ) (left : Option Sent) (best lost : Bool) → reply ≡ Is.Ticked t full left best lost → ⊥) → ((refusal : Refusal) → reply ≡ Is.Refused refusal → ⊥) → clock ≡ clock_with ask old.clock
+    → IsTally (record { ask = ask; reply = reply } ∷ h) (tally clock old.sent old.dropped old.best_sent old.best_lost old.pours_refused)
+tally-else h ask (Is.Ticked t full left best lost) old clock is no_tick no_refusal clocks = absurd (no_tick t full left best lost refl)
+tally-else h ask (Is.Refused refusal) old clock is no_tick no_refusal clocks = absurd (no_refusal refusal refl)
+tally-else h ask reply old clock is no_tick no_refusal clocks = tally-more h ask reply old clock old.sent old.dropped old.best_sent old.best_lost old.pours_refused is clocks (omega arith) (omega arith) (omega arith) (omega arith) (omega arith) (omega arith)
+
+-- ---- a step that tells nothing
+
+pub tally-same : (h : List Entry) (ask : Ask) (reply : Reply) (old : LinkTally) → TellsNothing ask reply → IsTally h old → IsTally (record { ask = ask; reply = reply } ∷ h) old
+tally-same h ask reply old nothing is =
+    tally-more h ask reply old old.clock old.sent old.dropped old.best_sent old.best_lost old.pours_refused is (sym (nothing.clock old.clock)) (omega (arith, nothing.sent)) (omega (arith, nothing.dropped)) (omega (arith, nothing.dropped))
+    (omega (arith, nothing.best_sent)) (omega (arith, nothing.best_lost)) (omega (arith, nothing.pours))
+
+no-pour : (packet : Packet) (reply : Reply) → pours_refused_by (Arrive packet) reply ≡ 0
+no-pour packet (Is.Refused refusal) = refl
+no-pour packet _ = refl
+
+-- an arrival is one, whose reply tells no tick
+pub arrival-nothing : (packet : Packet) (reply : Reply) → sent_by reply ≡ 0 → dropped_by reply ≡ 0 → best_sent_by reply ≡ 0 → best_lost_by reply ≡ 0 → ((run : List Done) (link : LinkNo) → rows_by run link reply ≡ []) → TellsNothing (Arrive packet) reply
+arrival-nothing packet reply sent dropped best_sent best_lost rows = record {
+  clock = λ t. refl;
+  sent = sent;
+  dropped = dropped;
+  best_sent = best_sent;
+  best_lost = best_lost;
+  pours = no-pour packet reply;
+  source = refl;
+  offer = refl;
+  rows = rows;
 }

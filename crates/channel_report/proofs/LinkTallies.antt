@@ -5,6 +5,7 @@ use Rattle.std.proofs.lemmas.List.{length-map, length-reverse}
 use Rattle.std.proofs.lemmas.Option.{slice_get_within}
 use Rattle.net_units.specs.Numbers.{link_number}
 use Rattle.link_steps.specs.Scan.{clock_of}
+use Rattle.link_steps.specs.declared.replies.Entry.{Entry}
 use Rattle.call_script.specs.Parts.{PlanParts}
 use Rattle.call_script.specs.Splits.{entry_link, groups_in}
 use Rattle.call_script.specs.Tasks.{network_of}
@@ -57,5 +58,15 @@ tallies-more count past done old at new are same within is = record {
         (let kept : get_or (set old at new) n d ≡ get_or old n d = get_or-set_other old at n new d apart in
         let mine : part_of n (done ∷ past) ≡ part_of n past = part-off n done past (λ e. apart (sym e ∙ same)) in
         rw (kept, mine) (are.tells n d inside))
+  ];
+}
+
+-- and one that changes no counts
+pub tallies-same : (count : ℕ) (past : List Done) (done : Done) (tallies : List LinkTally) → AreLinkTallies count past tallies → ((h : List Entry) (tally : LinkTally) → IsTally h tally → IsTally (entry_of done ∷ h) tally) → AreLinkTallies count (done ∷ past) tallies
+tallies-same count past done tallies are same = record {
+  all = are.all;
+  tells = λ n d inside. elim (cases_eq (link_number done.link) n) [
+    | inl here ↦ rw (part-on n done past here) (same (part_of n past) (get_or tallies n d) (are.tells n d inside))
+    | inr apart ↦ rw (part-off n done past apart) (are.tells n d inside)
   ];
 }

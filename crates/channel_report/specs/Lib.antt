@@ -17,3 +17,4 @@ pub mod Summary
 pub mod Ends
 pub mod StepCounts
 pub mod Tallied
+pub mod TellsNothing

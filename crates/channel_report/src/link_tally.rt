@@ -4,7 +4,7 @@ ghost use Rattle.link_steps.specs.Quiet.{quiet_reply};
 ghost use Rattle.link_steps.specs.Scan.{clock_with};
 ghost use Rattle.link_steps.specs.declared.asks.Ask.TheVariants.{Tick as AskTick};
 ghost use Rattle.link_steps.specs.declared.replies.Entry.{Entry};
-ghost use Rattle.channel_report.specs.Links.{sent_by, dropped_by, best_sent_by, best_lost_by, pours_refused_by};
+ghost use Rattle.channel_report.specs.Links.{asks_best, one_if};
 ghost use Rattle.channel_report.specs.Tallies.{IsTally};
 
 use link_steps::{Ask, Reply};
@@ -43,11 +43,22 @@ impl LinkTally {
         ensures { (h : List Entry) → IsTally h self.old → IsTally (record { ask = ask.now; reply = reply.now } ∷ h) self.new }
     {
         self.clock += ticks(ask);
-        self.sent += sent(reply);
-        self.dropped += u128::from(dropped(reply));
-        self.best_sent += best_sent(reply);
-        self.best_lost += best_lost(reply);
-        self.pours_refused += pours_refused(ask, reply);
+        match reply {
+            Reply::Ticked {
+                full,
+                sent,
+                best_sent,
+                best_lost,
+                ..
+            } => {
+                self.sent += one(sent.is_some());
+                self.dropped += wide(*full);
+                self.best_sent += one(*best_sent);
+                self.best_lost += one(*best_lost);
+            }
+            Reply::Refused(_) => self.pours_refused += pours(ask),
+            _ => {}
+        }
     }
 
     // Counts a tick in which nothing happens.
@@ -71,63 +82,29 @@ fn ticks(ask: &Ask) -> u64
     }
 }
 
-// How many of the channels' packets leave.
-fn sent(reply: &Reply) -> u64
-    ensures value { result ≡ sent_by reply.now }
+// One, if it holds.
+fn one(holds: bool) -> u64
+    ensures value { result ≡ one_if holds }
     ensures most { result ≤ 1 }
 {
-    match reply {
-        Reply::Ticked { sent: Some(_), .. } => 1,
-        _ => 0,
-    }
+    if holds { 1 } else { 0 }
 }
 
-// How many source packets are dropped.
-fn dropped(reply: &Reply) -> u32
-    ensures value { result ≡ dropped_by reply.now }
+// A count of packets, as large as their sum may be.
+fn wide(count: u32) -> u128
+    ensures value { result ≡ count }
     ensures few { result < 4294967296 }
 {
-    match reply {
-        Reply::Ticked { full, .. } => *full,
-        _ => 0,
-    }
+    u128::from(count)
 }
 
-// How many best-effort packets leave.
-fn best_sent(reply: &Reply) -> u64
-    ensures value { result ≡ best_sent_by reply.now }
+// How many pours are refused where this ask is.
+fn pours(ask: &Ask) -> u64
+    ensures value { result ≡ one_if (asks_best ask.now) }
     ensures most { result ≤ 1 }
 {
-    match reply {
-        Reply::Ticked {
-            best_sent: true,
-            ..
-        } => 1,
-        _ => 0,
-    }
-}
-
-// How many best-effort packets are lost.
-fn best_lost(reply: &Reply) -> u64
-    ensures value { result ≡ best_lost_by reply.now }
-    ensures most { result ≤ 1 }
-{
-    match reply {
-        Reply::Ticked {
-            best_lost: true,
-            ..
-        } => 1,
-        _ => 0,
-    }
-}
-
-// How many pours are refused.
-fn pours_refused(ask: &Ask, reply: &Reply) -> u64
-    ensures value { result ≡ pours_refused_by ask.now reply.now }
-    ensures most { result ≤ 1 }
-{
-    match (ask, reply) {
-        (Ask::Pour { .. }, Reply::Refused(_)) => 1,
+    match ask {
+        Ask::Pour { .. } => 1,
         _ => 0,
     }
 }

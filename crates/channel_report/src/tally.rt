@@ -1,17 +1,20 @@
 //! What a report tells of a run, kept while the run is made.
 ghost use Rattle.std.specs.Prelude.{◌≡◌, ℕ, ◌+◌, ◌<◌, ◌^◌, ◌∷◌, ◌++◌, [], true, false, None, List, IfOk, OnOk, length, slice_index_or};
 ghost use Rattle.net_units.specs.Numbers.{actor_number, link_number};
+ghost use Rattle.net_units.specs.declared.numbers.LinkNo.{LinkNo as Link};
 ghost use Rattle.link_steps.specs.Scan.{clock_of};
 ghost use Rattle.run_record.specs.Hops.{AreHops};
 ghost use Rattle.link_steps.specs.declared.replies.Reply.{Reply as Replied};
-ghost use Rattle.run_record.specs.Rows.{IsEarly, offer_by};
+ghost use Rattle.run_record.specs.Rows.{IsEarly, offer_by, rows_by};
 ghost use Rattle.run_record.specs.Runs.{part_of};
 ghost use Rattle.run_record.specs.declared.done.Done.{Done as Step};
 ghost use Rattle.channel_report.specs.Ends.{AreKept, is_end, is_kept};
+ghost use Rattle.channel_report.specs.Links.{best_lost_by, best_sent_by, dropped_by, sent_by};
 ghost use Rattle.channel_report.specs.Sources.{act_of};
 ghost use Rattle.channel_report.specs.StepCounts.{AreStepCounts};
 ghost use Rattle.channel_report.specs.declared.source_act.Act.TheVariants.{Nothing};
 ghost use Rattle.channel_report.specs.Tallied.{IsTallied};
+ghost use Rattle.channel_report.specs.TellsNothing.{TellsNothing};
 ghost use Rattle.channel_report.specs.Tallies.{AreLinkTallies, HaveRested};
 ghost use Rattle.channel_report.specs.declared.link_tally.LinkTally.{LinkTally as Counts};
 
@@ -92,6 +95,7 @@ impl Watch for Tally {
         Ok(())
     }
 
+    #[inline(always)]
     fn see_plane(
         &mut self,
         plan: &Plan,
@@ -100,6 +104,11 @@ impl Watch for Tally {
         reply: &Reply,
     ) -> Result<(), OutOfMemory> {
         let actor = plane_of(plan);
+        if tells_nothing(ask, reply) {
+            count_step(&mut self.made, actor);
+            self.steps += 1;
+            return Ok(());
+        }
         // The plane's asks are all such, and they cost no entry.
         if is_for_no_source(ask) {
             self.links[usize::from(link.get())].add(ask, reply);
@@ -137,6 +146,27 @@ impl Watch for Tally {
     fn steps_of(&self, actor: ActorNo) -> u64 {
         steps_at(self.made.as_slice(), actor)
     }
+}
+
+// Whether a step with this ask and reply tells nothing but that it was made: a packet arrives.
+fn tells_nothing(ask: &Ask, reply: &Reply) -> bool
+    ensures { result ≡ true → TellsNothing ask.now reply.now }
+{
+    match ask {
+        Ask::Arrive { .. } => is_of_arrival(reply),
+        _ => false,
+    }
+}
+
+// Whether this may be the reply to an arrival.
+fn is_of_arrival(reply: &Reply) -> bool
+    ensures sent { result ≡ true → sent_by reply.now ≡ 0 }
+    ensures dropped { result ≡ true → dropped_by reply.now ≡ 0 }
+    ensures best_sent { result ≡ true → best_sent_by reply.now ≡ 0 }
+    ensures best_lost { result ≡ true → best_lost_by reply.now ≡ 0 }
+    ensures rows { result ≡ true → (run : List Step) (link : Link) → rows_by run link reply.now ≡ [] }
+{
+    matches!(reply, Reply::Taken { .. } | Reply::Refused(_))
 }
 
 // Whether a step that asks this is for no source and gets no offer, whatever the reply.

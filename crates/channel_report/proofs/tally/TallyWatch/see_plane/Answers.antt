@@ -21,8 +21,10 @@ use Rattle.channel_report.specs.Tallied.{IsTallied}
 use Rattle.channel_report.specs.Tallies.{IsTally}
 use Rattle.channel_report.specs.declared.tally.Tally.{Tally}
 use Rattle.channel_report.proofs.ChannelTallies.{sources-same}
+use Rattle.channel_report.proofs.CountsPerLink.{tally-same}
 use Rattle.channel_report.proofs.EarlyTicks.{next-early}
-use Rattle.channel_report.proofs.LinkTallies.{link-within, part-short, tallies-more}
+use Rattle.channel_report.proofs.LinkTallies.{link-within, part-short, tallies-more, tallies-same}
+use Rattle.channel_report.proofs.RowsStayKept.{row-none}
 use Rattle.channel_report.proofs.tally.TallyWatch.see_plane.Goals as goal
 
 pub index_mut-requires : goal.index_mut-requires
@@ -41,6 +43,12 @@ count_step-requires c = (c.requires.0, (c.requires.1.seen.made, run-short c.args
 pub overflow_add-self : goal.overflow_add-self
 overflow_add-self c = (let short = run-short c.args.plan.now c.requires.0 c.requires.1.plan c.requires.1.run in omega (arith, short, c.requires.1.seen.steps))
 
+pub count_step-requires-then-is_for_no_source : goal.count_step-requires-then-is_for_no_source
+count_step-requires-then-is_for_no_source c = (c.requires.0, (c.requires.1.seen.made, run-short c.args.plan.now c.requires.0 c.requires.1.plan c.requires.1.run))
+
+pub overflow_add-self-then-is_for_no_source : goal.overflow_add-self-then-is_for_no_source
+overflow_add-self-then-is_for_no_source c = (let short = run-short c.args.plan.now c.requires.0 c.requires.1.plan c.requires.1.run in omega (arith, short, c.requires.1.seen.steps))
+
 pub add-requires : goal.add-requires
 add-requires c =
     let past = c.requires.0 in
@@ -53,6 +61,27 @@ add-requires c =
 -- it is for no source
 for-none : (act : Act) (chan : ChanNo) → act ≡ Nothing → chan_of act ≡ Some chan → ⊥
 for-none act chan nothing of = (let clash : None ≡ Some chan = sym (ap chan_of nothing) ∙ of in cc)
+
+-- ---- a step that tells nothing
+
+pub returns-then-tells_nothing-clause-seen : goal.returns-then-tells_nothing-clause-seen
+returns-then-tells_nothing-clause-seen c = λ past next.
+    let parts = c.args.plan.now in
+    let old = c.args.self.now in
+    let done : Done = plane_step (network_of parts) c.args.link c.args.ask.now c.args.reply.now in
+    let seen = next.seen in
+    let nothing = c.tells_nothing.ensures c.if-tells_nothing.true in
+    let turned : reverse past ++ done ∷ [] ≡ reverse (done ∷ past) = sym (reverse-append (done ∷ []) past) in
+    record {
+      links = tallies-same (length parts.links) past done old.links.items seen.links (λ h tally is. tally-same h c.args.ask.now c.args.reply.now tally nothing is);
+      channels = sources-same parts.requests past done old.channels.items seen.channels (λ n entry chan found on of own. for-none _ chan nothing.source of);
+      hops = subst (λ entries. AreHops entries old.hops.channels.items) turned (hops-kept (reverse past) done old.hops.channels.items nothing.offer seen.hops);
+      rows = subst (λ entries. AreKept (is_kept parts.requests old.packets) entries old.rows.items) turned (row-none (is_kept parts.requests old.packets) (reverse past) done old.rows.items (λ run. nothing.rows run c.args.link) seen.rows);
+      made = c.count_step.ensures past done seen.made (ap actor_number (sym c.plane_of-actor.ensures));
+      steps = omega (arith, seen.steps);
+    }
+
+-- ---- any other of the plane's
 
 pub returns-then-is_for_no_source-clause-seen : goal.returns-then-is_for_no_source-clause-seen
 returns-then-is_for_no_source-clause-seen c = λ past next.
@@ -73,7 +102,7 @@ returns-then-is_for_no_source-clause-seen c = λ past next.
       channels = sources-same parts.requests past done old.channels.items seen.channels (λ n entry chan found on of own. for-none _ chan (c.is_for_no_source.ensures.sources alone c.args.reply.now) of);
       hops = subst (λ entries. AreHops entries old.hops.channels.items) turned noted;
       rows = subst (λ entries. AreKept (is_kept parts.requests old.packets) entries c.keep_row.new.rows.items) turned (c.in_ok-keep_row.ensures (reverse past) done refl refl noted seen.rows);
-      made = c.count_step.ensures past done seen.made (ap actor_number (sym c.plane_of-actor.ensures));
+      made = c.count_step-then-is_for_no_source.ensures past done seen.made (ap actor_number (sym c.plane_of-actor.ensures));
       steps = omega (arith, seen.steps);
     }
 
