@@ -1,5 +1,5 @@
 -- Fields that need no quotes, and the line that `csv` writes of them.
-use Rattle.std.proofs.Common.{◌≡◌, ◌≢◌, ℕ, ◌<◌, ◌^◌, Option, Some, None, Result, Ok, Err, OnOk, true, false, ◌&&◌, not, List, [], ◌∷◌, length, refl, sym, ap, ◌∙◌, append-nil, true≢false, arith, decimal, nat_le}
+use Rattle.std.proofs.Common.{◌≡◌, ◌≢◌, ℕ, ◌<◌, ◌^◌, Option, Result, Ok, Err, OnOk, true, false, ◌&&◌, not, List, [], ◌∷◌, length, refl, sym, ap, ◌∙◌, append-nil, true≢false, arith, decimal, nat_le}
 use Rattle.std.specs.List.{list_all}
 use Rattle.std.specs.Result.{result_ok}
 use Rattle.std.specs.Str.{all_ascii_digits}
@@ -11,6 +11,7 @@ use Rattle.net_units.specs.Text.{is_letter, is_name_byte, begins_as_name, is_kep
 use Rattle.csv.specs.Writing.{needs_byte, row_text, fields_text, is_blank}
 use Rattle.channel_report.specs.Csv.{IsPlain, table_setup}
 use Rattle.channel_report.specs.Table.{row_line}
+use Rattle.std.proofs.lemmas.Option.{none-some}
 
 plain-byte : (b : ℕ) → b ≢ 44 → b ≢ 34 → b ≢ 13 → b ≢ 10 → needs_byte table_setup b ≡ false
 plain-byte b comma quote return feed = rw (ne_eqb b 44 comma, ne_eqb b 34 quote, ne_eqb b 13 return, ne_eqb b 10 feed) refl
@@ -62,12 +63,9 @@ pub plain-row : (a b c d e f g h : List ℕ) → IsPlain a → IsPlain b → IsP
 unfolding fields_text is_blank
 plain-row a b c d e f g h pa pb pc pd pe pf pg ph = rw (pa, pb, pc, pd, pe, pf, pg, ph, append-nil h) refl
 
-none-is-some : {T : Type 0} (x : T) → None ≡ Some x → ⊥
-none-is-some x e = cc e
-
 -- an answer that lost its error says what it said on `Ok`
 pub without-error : {T E F : Type 0} {P Q : Type 0} (answer : Result T E) (value : Option T) (told : Result T F) → OnOk answer P → value ≡ result_ok answer → value ≡ result_ok told → (P → Q) → OnOk told Q
 without-error (Ok x) value (Ok y) own was is more = more own
 without-error (Ok x) value (Err e) own was is more = tt
-without-error (Err x) value (Ok y) own was is more = absurd (none-is-some y (sym was ∙ is))
+without-error (Err x) value (Ok y) own was is more = absurd (none-some y (sym was ∙ is))
 without-error (Err x) value (Err e) own was is more = tt

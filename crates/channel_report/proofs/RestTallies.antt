@@ -1,5 +1,5 @@
 -- What is kept of a run after quiet rounds: the clocks and the step counts go on, and all else stays.
-use Rattle.std.proofs.Common.{◌≡◌, ℕ, zero, suc, ◌+◌, ◌*◌, ◌^◌, ◌<◌, ◌≤◌, Bool, Some, None, List, [], ◌∷◌, length, get_or, set, reverse, refl, sym, ap, ◌∙◌, subst, inl, inr, arith, get_or-set_same, get_or-set_other, length-set}
+use Rattle.std.proofs.Common.{◌≡◌, ℕ, zero, suc, ◌+◌, ◌*◌, ◌^◌, ◌<◌, ◌≤◌, Bool, List, [], ◌∷◌, length, get_or, set, reverse, refl, sym, ap, ◌∙◌, subst, inl, inr, arith, get_or-set_same, get_or-set_other, length-set}
 use Rattle.std.proofs.lemmas.Bool.{cases_eq}
 use Rattle.std.proofs.lemmas.List.{get_or_default, reverse-append}
 use Rattle.net_units.specs.declared.numbers.ActorNo.{ActorNo}
@@ -39,6 +39,7 @@ use Rattle.channel_report.proofs.RowsStayKept.{row-none}
 use Rattle.channel_report.proofs.CountsPerLink.{are-small, tally-more}
 use Rattle.channel_report.proofs.LinkTallies.{part-short}
 use Rattle.channel_report.proofs.StepTallies.{replies-few}
+use Rattle.std.proofs.lemmas.Option.{none-some}
 
 -- ---- what no quiet tick changes
 
@@ -56,9 +57,7 @@ module _ (P : List Done → Type 0) (plane : ActorNo) (more : (t n : ℕ) (past 
 
 -- the sources
 sources-rest : (requests : List RequestEntry) (tallies : List ChannelTally) (plane : ActorNo) (t n : ℕ) (past : List Done) → AreChannelTallies requests past tallies → AreChannelTallies requests (quiet_step plane t n ∷ past) tallies
-sources-rest requests tallies plane t n past are = sources-same requests past (quiet_step plane t n) tallies are (λ k entry chan found on of own. none of) where
-  none : {X : Type 0} {x : X} → None ≡ Some x → ⊥
-  none clash = cc
+sources-rest requests tallies plane t n past are = sources-same requests past (quiet_step plane t n) tallies are (λ k entry chan found on of own. none-some _ of)
 
 -- the hops
 links-rest : (c : ℕ) (plane : ActorNo) (t n : ℕ) (past : List Done) → links_of c (reverse (quiet_step plane t n ∷ past)) ≡ links_of c (reverse past)

@@ -1,5 +1,5 @@
 -- The clock of the link and the counts of steps go on, and all else stays.
-use Rattle.std.proofs.Common.{◌≡◌, ◌<◌, Some, None, [], ◌∷◌, ◌++◌, length, refl, reverse, sym, ap, subst, ◌∙◌, arith}
+use Rattle.std.proofs.Common.{◌≡◌, ◌<◌, [], ◌∷◌, ◌++◌, length, refl, reverse, sym, ap, subst, ◌∙◌, arith}
 use Rattle.std.proofs.lemmas.List.{reverse-append}
 use Rattle.net_units.specs.Numbers.{actor_number}
 use Rattle.link_steps.specs.declared.asks.Ask.TheVariants.{Tick}
@@ -17,6 +17,7 @@ use Rattle.channel_report.proofs.ChannelTallies.{sources-same}
 use Rattle.channel_report.proofs.RowsStayKept.{row-none}
 use Rattle.channel_report.proofs.LinkTallies.{link-within, part-short, tallies-more}
 use Rattle.channel_report.proofs.tally.TallyWatch.passed.Goals as goal
+use Rattle.std.proofs.lemmas.Option.{none-some}
 
 pub index_mut-requires : goal.index_mut-requires
 index_mut-requires c =
@@ -38,10 +39,6 @@ pass-requires c =
     let tally = next.seen.links.tells place c.index_mut.result.now (omega (arith, c.from.ensures, c.get.ensures.value, within)) in
     (part_of place past, (subst (IsTally (part_of place past)) (sym c.index_mut.ensures.value) tally, omega (arith, part-short place past, run-short c.args.plan.now past next.plan next.run)))
 
--- it is for no source
-for-none : {X : Type 0} {x : X} → None ≡ Some x → ⊥
-for-none clash = cc
-
 pub returns-clause-seen : goal.returns-clause-seen
 returns-clause-seen c = λ past next.
     let parts = c.args.plan.now in
@@ -56,7 +53,7 @@ returns-clause-seen c = λ past next.
     let passed = c.pass.ensures (part_of place past) c.args._clock (subst (IsTally (part_of place past)) (sym c.index_mut.ensures.value) tally) in
     record {
       links = tallies-more (length parts.links) past done old.links.items place c.pass.new.self seen.links (sym number) inside passed;
-      channels = sources-same parts.requests past done old.channels.items seen.channels (λ n entry chan found on of own. for-none of);
+      channels = sources-same parts.requests past done old.channels.items seen.channels (λ n entry chan found on of own. none-some _ of);
       hops = subst (λ entries. AreHops entries old.hops.channels.items) turned (hops-kept (reverse past) done old.hops.channels.items refl seen.hops);
       rows = subst (λ entries. AreKept (is_kept parts.requests old.packets) entries old.rows.items) turned (row-none (is_kept parts.requests old.packets) (reverse past) done old.rows.items (λ run. refl) seen.rows);
       made = c.count_step.ensures past done seen.made (ap actor_number (sym c.plane_of-actor.ensures));
