@@ -1,7 +1,7 @@
 //! The links of a plan.
 ghost use Rattle.std.specs.Prelude.{◌≡◌, ◌<◌, IfOk, IfSome, OnOk};
 ghost use Rattle.net_units.specs.Numbers.{link_number};
-ghost use Rattle.design_file.specs.Rounded.{bounds_in, IsLinkOf};
+ghost use Rattle.design_file.specs.Rounded.{bound_of as ticks_of_level, bounds_in, IsLinkOf};
 ghost use Rattle.design_file.specs.Planned.{AddsLink, AreLinksOf};
 
 use crate::refusal::{Key, Refusal, Wrong};
@@ -101,13 +101,21 @@ fn bounds_of(alloc: Global, scale: &Scale, levels: &[Time]) -> Result<Bounds, Re
 {
     let mut ticks = Vec::new(alloc);
     for level in levels {
-        let bound = scale
-            .bound(*level)
-            .map_err(|misfit| at(Key::Levels, misfit))?;
+        let bound = bound_of(scale, *level)?;
         ticks.push(bound)?;
     }
     match Bounds::new(&ticks) {
         Some(bounds) => Ok(bounds),
         None => Err(Refusal::Wrong(Wrong::Bounds)),
     }
+}
+
+// The bound of a level, in ticks.
+fn bound_of(scale: &Scale, level: Time) -> Result<u32, Refusal>
+    ensures { IfOk result (λ bound. bound ≡ ticks_of_level scale.now.tick level) }
+{
+    let bound = scale
+        .bound(level)
+        .map_err(|misfit| at(Key::Levels, misfit))?;
+    Ok(bound)
 }
