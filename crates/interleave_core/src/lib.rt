@@ -25,6 +25,6 @@ pub use links::new_link;
 pub use playing::{PlayFault, play, play_watched};
 pub use quiet::plane_of;
 pub use refusal::CoreRefusal;
-pub use rounds::play_plane;
+pub use rounds::{make_plane_step, play_plane};
 pub use stepping::Core;
 pub use watching::{Watch, make_watched, stride_watched};

@@ -12,10 +12,11 @@ ghost use Rattle.interleave_core.specs.schedules.Watching.{GoesOn, IsAsked, Play
 ghost use Rattle.run_record.specs.declared.done.Done.{Done as Entry};
 
 use crate::engine::Engine;
+use crate::quiet::plane_of;
 use crate::watching::{Watch, stride_watched};
 use call_script::Plan;
 use link_steps::Ask;
-use net_units::{LinkNo, OutOfMemory};
+use net_units::{Gate, LinkNo, NoGate, OutOfMemory};
 
 /// Lets the plane make its steps until it has none left, and shows them to the watcher. An `Err` comes only for want of memory.
 pub fn play_plane<W: Watch>(
@@ -85,7 +86,7 @@ fn make_round<W: Watch>(
     let round = engine.round();
     let mut made = 0;
     while made < most {
-        if !make_next(engine, watch, plan)? {
+        if !make_plane_step(engine, watch, plan, &NoGate)? {
             return Ok(made);
         }
         made += 1;
@@ -96,8 +97,15 @@ fn make_round<W: Watch>(
     Ok(made)
 }
 
-// Makes the plane's next step. Answers whether there is one.
-fn make_next<W: Watch>(engine: &mut Engine, watch: &mut W, plan: &Plan) -> Result<bool, OutOfMemory>
+/// Makes the plane's next step between two calls of the gate, and shows it to the watcher. Answers whether there is one; where there
+/// is none the gate isn't called. An `Err` comes only for want of memory.
+#[inline(always)]
+pub fn make_plane_step<W: Watch, G: Gate>(
+    engine: &mut Engine,
+    watch: &mut W,
+    plan: &Plan,
+    gate: &G,
+) -> Result<bool, OutOfMemory>
     requires { (run : List Entry) × WatchStands W.saw plan.now engine.old watch.old run }
     ensures goes_on { IfOk result (λ more. more ≡ true → (past : List Entry) → WatchStands W.saw plan.now engine.old watch.old past → GoesOn W.saw plan.now engine.new watch.new past (the_plane (network_of plan.now))) }
     ensures over { IfOk result (λ more. more ≡ false → (past : List Entry) → WatchStands W.saw plan.now engine.old watch.old past → IsOver W.saw plan.now engine.new watch.new past (the_plane (network_of plan.now))) }
@@ -105,18 +113,23 @@ fn make_next<W: Watch>(engine: &mut Engine, watch: &mut W, plan: &Plan) -> Resul
 {
     match engine.actors.plane.next_tick() {
         Some(link) => {
+            let actor = plane_of(plan);
+            gate.within(link, actor);
             make_tick(engine, watch, plan, link)?;
+            gate.after(link, actor);
             Ok(true)
         }
-        None => make_asked(engine, watch, plan),
+        None => make_asked(engine, watch, plan, gate),
     }
 }
 
 // The same of any step. Ticks are most of the plane's steps, and their ask needn't be made.
-fn make_asked<W: Watch>(
+#[inline(always)]
+fn make_asked<W: Watch, G: Gate>(
     engine: &mut Engine,
     watch: &mut W,
     plan: &Plan,
+    gate: &G,
 ) -> Result<bool, OutOfMemory>
     requires { (run : List Entry) × WatchStands W.saw plan.now engine.old watch.old run }
     ensures goes_on { IfOk result (λ more. more ≡ true → (past : List Entry) → WatchStands W.saw plan.now engine.old watch.old past → GoesOn W.saw plan.now engine.new watch.new past (the_plane (network_of plan.now))) }
@@ -126,13 +139,17 @@ fn make_asked<W: Watch>(
     match engine.actors.plane.next_ask() {
         None => Ok(false),
         Some((link, ask)) => {
+            let actor = plane_of(plan);
+            gate.within(link, actor);
             step_watched(engine, watch, plan, link, &ask)?;
+            gate.after(link, actor);
             Ok(true)
         }
     }
 }
 
 // Makes the plane's next step, the tick of this link: nothing but its clock changes where the link rests.
+#[inline(always)]
 fn make_tick<W: Watch>(
     engine: &mut Engine,
     watch: &mut W,

@@ -6,6 +6,7 @@ use Rattle.std.proofs.lemmas.Option.{slice_get-map, slice_get_within, none-some}
 use Rattle.std.specs.List.{slice_get}
 use Rattle.net_units.specs.Numbers.{actor_at, actor_number}
 use Rattle.net_units.specs.declared.numbers.ActorNo.{ActorNo}
+use Rattle.net_units.proofs.KnownByNumber.{same-actor}
 use Rattle.link_quota.specs.Any.{any_rules, AnyStands}
 use Rattle.link_quota.specs.declared.any_link.AnyLink.{AnyLink}
 use Rattle.link_steps.specs.Lists.{Each}
@@ -34,6 +35,7 @@ use Rattle.interleave_core.specs.declared.callers.Callers.{Callers}
 use Rattle.interleave_core.specs.declared.engine.Engine.{Engine}
 use Rattle.interleave_core.proofs.Keeping.KeptActors.{plane-number}
 use Rattle.interleave_core.proofs.Keeping.CoreStep.{callers-few}
+use Rattle.interleave_core.proofs.Keeping.NextPlaneStep.{own-number}
 use Rattle.interleave_core.proofs.Watched.QuietRounds.{plane-is}
 use Rattle.interleave_core.proofs.Runs.RunLegal.{asked-plane}
 use Rattle.plane_workers.specs.Gaps.{IsSpaced, TaskSpaced, AreSpaced}
@@ -64,6 +66,10 @@ plane-actor parts actor plan is =
     let place = plane-number parts in
     let few = callers-few parts plan in
     ap actor_number is ∙ plane-is (network_of parts) (omega (arith, place, few)) ∙ place
+
+-- the actor of that number is the plane
+pub plane-of-number : (parts : PlanParts) (actor : ActorNo) → IsPlan parts → actor_number actor ≡ length parts.callers → actor ≡ the_plane (network_of parts)
+plane-of-number parts actor plan by = same-actor actor (the_plane (network_of parts)) (by ∙ sym (own-number parts plan))
 
 pub plane-of-callers : (parts : PlanParts) (count : ℕ) → count ≡ length parts.callers → actor_at count ≡ the_plane (network_of parts)
 plane-of-callers parts count is = ap actor_at (is ∙ sym (plane-number parts))

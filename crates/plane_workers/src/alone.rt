@@ -8,7 +8,7 @@ ghost use Rattle.run_record.specs.declared.done.Done.{Done as Step};
 
 use crate::desk::link_of;
 use call_script::Plan;
-use interleave_core::{Engine, Watch, make_watched, stride_watched};
+use interleave_core::{Engine, Watch, make_plane_step, stride_watched};
 use net_units::{ActorNo, Gate, OutOfMemory};
 
 // Lets the plane make its steps until a round begins: rounds at rest in strides, and the others step by step. Answers how many of the
@@ -63,15 +63,11 @@ fn make_some<W: Watch, G: Gate>(
         stride_watched(engine, watch, plan, rest)?;
         return Ok(rest);
     }
-    match engine.next_ask(plan, actor) {
-        Some((link, ask)) => {
-            gate.within(link, actor);
-            make_watched(engine, watch, plan, actor, link, ask)?;
-            gate.after(link, actor);
-            Ok(0)
-        }
-        None => unreachable!(),
+    let more = make_plane_step(engine, watch, plan, gate)?;
+    if more {
+        return Ok(0);
     }
+    unreachable!()
 }
 
 // Calls the gate for each tick of this many rounds of this many links.

@@ -1,9 +1,9 @@
 //! The steps of a window, shown to the watcher of the run in the order in which the plane asks.
 ghost use Rattle.std.specs.Prelude.{◌≡◌, ◌≢◌, ℕ, ◌+◌, ◌<◌, ◌≤◌, ◌∷◌, List, length, drop, Some, OnOk};
 ghost use Rattle.std.specs.List.{slice_get};
-ghost use Rattle.net_units.specs.Numbers.{actor_number};
 ghost use Rattle.call_script.specs.Tasks.{network_of};
 ghost use Rattle.interleave_core.specs.runs.Turns.{plane_most};
+ghost use Rattle.interleave_core.specs.schedules.Quiet.{the_plane};
 ghost use Rattle.plane_workers.specs.Desks.{rules_at, stands_at, left_at};
 ghost use Rattle.plane_workers.specs.Seen.{GoesTo, SeenWithin};
 ghost use Rattle.run_record.specs.declared.done.Done.{Done as Entry};
@@ -13,8 +13,7 @@ use crate::pace::Busy;
 use call_script::Plan;
 use interleave_core::Watch;
 use link_steps::{LinkStep, Reply};
-use net_units::{ActorNo, OutOfMemory};
-use run_record::Done;
+use net_units::OutOfMemory;
 use tick_plane::Plane;
 
 // The plane's steps from where it stands until round `until` begins, each shown to the watcher of the run. Each link has answered
@@ -24,13 +23,11 @@ pub(crate) fn tell_all<L: LinkStep, W: Watch>(
     plane: &mut Plane,
     desks: &mut [Desk<L>],
     watch: &mut W,
-    actor: ActorNo,
     from: u64,
     until: u64,
 ) -> Result<u64, OutOfMemory>
-    requires actor { actor_number actor ≡ length plan.now.callers }
     requires within { (run : List Entry) × SeenWithin (rules_at L.link_of) (stands_at L.stands_for) left_at W.saw plan.now from until desks.old plane.old watch.old run }
-    ensures goes { OnOk result ((past : List Entry) → SeenWithin (rules_at L.link_of) (stands_at L.stands_for) left_at W.saw plan.now from until desks.old plane.old watch.old past → GoesTo (network_of plan.now) actor past (SeenWithin (rules_at L.link_of) (stands_at L.stands_for) left_at W.saw plan.now from until desks.new plane.new watch.new)) }
+    ensures goes { OnOk result ((past : List Entry) → SeenWithin (rules_at L.link_of) (stands_at L.stands_for) left_at W.saw plan.now from until desks.old plane.old watch.old past → GoesTo (network_of plan.now) (the_plane (network_of plan.now)) past (SeenWithin (rules_at L.link_of) (stands_at L.stands_for) left_at W.saw plan.now from until desks.new plane.new watch.new)) }
     ensures over { OnOk result (until ≤ plane.new.at.round) }
     ensures rounds { OnOk result (plane.new.rounds ≡ plane.old.rounds) }
     ensures table { OnOk result (W.has_table watch.new ≡ W.has_table watch.old) }
@@ -38,7 +35,7 @@ pub(crate) fn tell_all<L: LinkStep, W: Watch>(
     let mut busy = Busy::new();
     while plane.round() < until {
         let round = plane.round();
-        let reply = tell_one(plan, plane, desks, watch, actor, from, until)?;
+        let reply = tell_one(plan, plane, desks, watch, from, until)?;
         busy.note(round, is_quiet(&reply));
     }
     Ok(busy.rounds())
@@ -64,14 +61,12 @@ fn tell_one<L: LinkStep, W: Watch>(
     plane: &mut Plane,
     desks: &mut [Desk<L>],
     watch: &mut W,
-    actor: ActorNo,
     from: u64,
     until: u64,
 ) -> Result<Reply, OutOfMemory>
-    requires actor { actor_number actor ≡ length plan.now.callers }
     requires within { (run : List Entry) × SeenWithin (rules_at L.link_of) (stands_at L.stands_for) left_at W.saw plan.now from until desks.old plane.old watch.old run }
     requires early { plane.old.at.round < until }
-    ensures goes { OnOk result ((past : List Entry) → SeenWithin (rules_at L.link_of) (stands_at L.stands_for) left_at W.saw plan.now from until desks.old plane.old watch.old past → GoesTo (network_of plan.now) actor past (SeenWithin (rules_at L.link_of) (stands_at L.stands_for) left_at W.saw plan.now from until desks.new plane.new watch.new)) }
+    ensures goes { OnOk result ((past : List Entry) → SeenWithin (rules_at L.link_of) (stands_at L.stands_for) left_at W.saw plan.now from until desks.old plane.old watch.old past → GoesTo (network_of plan.now) (the_plane (network_of plan.now)) past (SeenWithin (rules_at L.link_of) (stands_at L.stands_for) left_at W.saw plan.now from until desks.new plane.new watch.new)) }
     ensures fewer { OnOk result (plane_most plane.new.links plane.new.rounds plane.new.at < plane_most plane.old.links plane.old.rounds plane.old.at) }
     ensures rounds { OnOk result (plane.new.rounds ≡ plane.old.rounds) }
     ensures table { OnOk result (W.has_table watch.new ≡ W.has_table watch.old) }
@@ -81,14 +76,8 @@ fn tell_one<L: LinkStep, W: Watch>(
         unreachable!()
     };
     let reply = next_reply(desks, usize::from(link.get()));
-    plane.take(reply).unwrap();
-    let done = Done {
-        actor,
-        link,
-        ask,
-        reply,
-    };
-    watch.see(plan, &done)?;
+    plane.take_expected(&reply);
+    watch.see_plane(plan, link, &ask, &reply)?;
     Ok(reply)
 }
 

@@ -108,7 +108,7 @@ pub(crate) fn make_window<R: Threads + Sync, L: LinkStep + Send, W: Watch, G: Ga
     let from = plane.round();
     tell_time(desks);
     answer_until(rt, alloc, plane, desks, until, workers, gate, actor)?;
-    tell_all(plan, plane, desks, watch, actor, from, until)
+    tell_all(plan, plane, desks, watch, from, until)
 }
 
 // The clock of each link is that of every history that it stands for.

@@ -1,6 +1,6 @@
 -- The plane makes the tick that it asks for next, in each run that both stand for.
 use Rattle.interleave_core.proofs.Keeping.NextPlaneStep.{tick-asked}
-use Rattle.interleave_core.proofs.rounds.make_next.Goals as goal
+use Rattle.interleave_core.proofs.rounds.make_plane_step.Goals as goal
 
 pub make_tick-requires : goal.make_tick-requires
 make_tick-requires g c =

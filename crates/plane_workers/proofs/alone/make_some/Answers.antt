@@ -1,7 +1,8 @@
 -- A stride is a number of steps of the plane, and a step is one.
-use Rattle.std.proofs.Common.{length, refl, sym, ap, ◌∙◌, arith}
+use Rattle.std.proofs.Common.{length, sym, ap, subst, arith}
 use Rattle.call_script.specs.Tasks.{network_of}
 use Rattle.interleave_core.specs.schedules.Quiet.{the_plane}
+use Rattle.interleave_core.specs.schedules.Watching.{GoesOn}
 use Rattle.interleave_core.proofs.Watched.RestedRounds.{fewer-engine}
 use Rattle.interleave_core.proofs.Watched.WatchedStrides.{links-few, links-some}
 use Rattle.plane_workers.proofs.StepsAddUp.{step-more, stride-more}
@@ -25,13 +26,11 @@ returns-then-rest-gt0-clause-plays g c = λ past stand.
 
 pub unreachable-requires : goal.unreachable-requires
 unreachable-requires g c =
+    let over = c.in_ok-more.ensures.over c.if-more.false c.requires.stand.0 c.requires.stand.1 in
     plane-left c.args.plan.now c.args.engine.now.actors.plane c.requires.stand.0 c.args.actor c.requires.stand.1.stands.plan c.requires.stand.1.stands.actors.plane c.requires.actor c.requires.left
-    (sym (c.next_ask.ensures c.requires.stand.0 c.requires.stand.1.stands) ∙ c.in-None.is)
+    (rw c.requires.actor over.none)
 
-pub make_watched-requires : goal.make_watched-requires
-make_watched-requires g c = (c.requires.stand.0, record { stand = c.requires.stand.1; asks = sym (c.next_ask.ensures c.requires.stand.0 c.requires.stand.1.stands) ∙ c.in-Some.is })
-
-pub returns-clause-plays : goal.returns-clause-plays
-returns-clause-plays g c = λ past stand.
-    step-more g.W.Watch.saw c.args.plan.now c.make_watched.new.engine c.make_watched.new.watch past c.args.actor
-    (c.in_ok-make_watched-in-Some.ensures.goes_on past (record { stand = stand; asks = sym (c.next_ask.ensures past stand.stands) ∙ c.in-Some.is }))
+pub returns-then-more-clause-plays : goal.returns-then-more-clause-plays
+returns-then-more-clause-plays g c = λ past stand.
+    step-more g.W.Watch.saw c.args.plan.now c.make_plane_step.new.engine c.make_plane_step.new.watch past c.args.actor
+    (subst (GoesOn g.W.Watch.saw c.args.plan.now c.make_plane_step.new.engine c.make_plane_step.new.watch past) (sym c.requires.actor) (c.in_ok-more.ensures.goes_on c.if-more.true past stand))

@@ -1,26 +1,27 @@
 -- No step yet, and then one more.
 use Rattle.std.proofs.Common.{refl, ◌∙◌}
 use Rattle.call_script.specs.Tasks.{network_of}
+use Rattle.interleave_core.specs.schedules.Quiet.{the_plane}
 use Rattle.plane_workers.specs.Desks.{rules_at, stands_at, left_at}
 use Rattle.plane_workers.specs.Seen.{SeenWithin}
 use Rattle.plane_workers.proofs.NextWindowStep.{comes-none, comes-both}
 use Rattle.plane_workers.proofs.telling.tell_all.Goals as goal
 
-pub loop-actor-init : goal.loop-actor-init
-loop-actor-init g c = record {
-  goes = λ past stand. comes-none (network_of c.args.plan.now) c.args.actor past (SeenWithin (rules_at g.L.LinkStep.link_of) (stands_at g.L.LinkStep.stands_for) left_at g.W.Watch.saw c.args.plan.now c.args.from c.args.until c.args.desks.now c.args.plane.now c.args.watch.now) stand;
+pub loop-plane-init : goal.loop-plane-init
+loop-plane-init g c = record {
+  goes = λ past stand. comes-none (network_of c.args.plan.now) (the_plane (network_of c.args.plan.now)) past (SeenWithin (rules_at g.L.LinkStep.link_of) (stands_at g.L.LinkStep.stands_for) left_at g.W.Watch.saw c.args.plan.now c.args.from c.args.until c.args.desks.now c.args.plane.now c.args.watch.now) stand;
   rounds = refl;
   table = refl;
 }
 
 pub tell_one-requires-clause-within : goal.tell_one-requires-clause-within
-tell_one-requires-clause-within g c = (let goes = c.loop-actor.invariant.goes c.requires.within.0 c.requires.within.1 in (goes.run, goes.comes))
+tell_one-requires-clause-within g c = (let goes = c.loop-plane.invariant.goes c.requires.within.0 c.requires.within.1 in (goes.run, goes.comes))
 
-pub loop-actor-preserved : goal.loop-actor-preserved
-loop-actor-preserved g c = record {
+pub loop-plane-preserved : goal.loop-plane-preserved
+loop-plane-preserved g c = record {
   goes = λ past stand.
-      comes-both (network_of c.args.plan.now) c.args.actor past (SeenWithin (rules_at g.L.LinkStep.link_of) (stands_at g.L.LinkStep.stands_for) left_at g.W.Watch.saw c.args.plan.now c.args.from c.args.until c.loop-actor.desks c.loop-actor.plane c.loop-actor.watch)
-      (SeenWithin (rules_at g.L.LinkStep.link_of) (stands_at g.L.LinkStep.stands_for) left_at g.W.Watch.saw c.args.plan.now c.args.from c.args.until c.tell_one.new.desks c.tell_one.new.plane c.tell_one.new.watch) (c.loop-actor.invariant.goes past stand) c.in_ok-reply.ensures.goes;
-  rounds = c.in_ok-reply.ensures.rounds ∙ c.loop-actor.invariant.rounds;
-  table = c.in_ok-reply.ensures.table ∙ c.loop-actor.invariant.table;
+      comes-both (network_of c.args.plan.now) (the_plane (network_of c.args.plan.now)) past (SeenWithin (rules_at g.L.LinkStep.link_of) (stands_at g.L.LinkStep.stands_for) left_at g.W.Watch.saw c.args.plan.now c.args.from c.args.until c.loop-plane.desks c.loop-plane.plane c.loop-plane.watch)
+      (SeenWithin (rules_at g.L.LinkStep.link_of) (stands_at g.L.LinkStep.stands_for) left_at g.W.Watch.saw c.args.plan.now c.args.from c.args.until c.tell_one.new.desks c.tell_one.new.plane c.tell_one.new.watch) (c.loop-plane.invariant.goes past stand) c.in_ok-reply.ensures.goes;
+  rounds = c.in_ok-reply.ensures.rounds ∙ c.loop-plane.invariant.rounds;
+  table = c.in_ok-reply.ensures.table ∙ c.loop-plane.invariant.table;
 }

@@ -1,20 +1,21 @@
 use Rattle.std.proofs.Common.{◌≡◌, List}
 use Rattle.call_script.specs.Tasks.{network_of}
 use Rattle.interleave_core.specs.runs.Turns.{plane_most}
+use Rattle.interleave_core.specs.schedules.Quiet.{the_plane}
 use Rattle.plane_workers.specs.Desks.{rules_at, stands_at, left_at}
 use Rattle.plane_workers.specs.Seen.{GoesTo, SeenWithin}
 use Rattle.run_record.specs.declared.done.Done.{Done}
 use Rattle.plane_workers.proofs.telling.tell_all.Given as goal
 
 -- the steps so far
-abbrev pub invariant-loop-actor : goal.invariant-loop-actor
-invariant-loop-actor g l = record {
+abbrev pub invariant-loop-plane : goal.invariant-loop-plane
+invariant-loop-plane g l = record {
   goes : (past : List Done) → SeenWithin (rules_at g.L.LinkStep.link_of) (stands_at g.L.LinkStep.stands_for) left_at g.W.Watch.saw l.plan l.from l.until l.initial.desks l.initial.plane l.initial.watch past
-      → GoesTo (network_of l.plan) l.actor past (SeenWithin (rules_at g.L.LinkStep.link_of) (stands_at g.L.LinkStep.stands_for) left_at g.W.Watch.saw l.plan l.from l.until l.desks l.plane l.watch);
+      → GoesTo (network_of l.plan) (the_plane (network_of l.plan)) past (SeenWithin (rules_at g.L.LinkStep.link_of) (stands_at g.L.LinkStep.stands_for) left_at g.W.Watch.saw l.plan l.from l.until l.desks l.plane l.watch);
   rounds : l.plane.rounds ≡ l.initial.plane.rounds;
   table : g.W.Watch.has_table l.watch ≡ g.W.Watch.has_table l.initial.watch;
 }
 
 -- the plane has fewer steps left at most
-abbrev pub decreases-loop-actor : goal.decreases-loop-actor
-decreases-loop-actor g l = plane_most l.plane.links l.plane.rounds l.plane.at
+abbrev pub decreases-loop-plane : goal.decreases-loop-plane
+decreases-loop-plane g l = plane_most l.plane.links l.plane.rounds l.plane.at
