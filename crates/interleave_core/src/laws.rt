@@ -1,11 +1,11 @@
 //! Laws of every run, each as the contract of a function that does nothing.
 ghost use Rattle.interleave_core.specs.runs.Laws.{EveryPartIsLegal, EveryAskFits, ClocksFollowThePlane, HeldRowsPassOnEveryLink, EveryHopIsGuaranteed, NoFlightIsLate, EveryAskIsAnswered, EveryReplyIsExpected, VerdictsFollowTheReplies, EveryChannelIsAskedOnce, AcceptedRequestsAreKept, AcceptedChannelsKeepTheirDelays, EveryRunIsGuaranteed, RunsFollowTheirActors, FittingPartsMakeARun};
 ghost use Rattle.interleave_core.specs.schedules.Quiet.{QuietRoundsGoOn};
-ghost use Rattle.interleave_core.specs.channels.Moves.{EveryMoveKeeps, NonePlannedIsLost, NoneIsLostInAMove, EveryMoveTakesTheLast};
-ghost use Rattle.interleave_core.specs.channels.Shifting.{EveryMovePlansTheShifted, EveryMoveGivesTheShifted, EveryPlannedPacketIsTold};
+ghost use Rattle.interleave_core.specs.channels.Moves.{EveryMoveKeeps, PlannedPacketsAreOfferedLeftOrCancelled, AMoveLeavesNoPacketBehind, EveryMoveTakesTheLast};
+ghost use Rattle.interleave_core.specs.channels.Shifting.{EveryMovePlansTheShifted, EveryMoveGivesTheShifted, EveryPlannedPacketIsCounted};
 ghost use Rattle.interleave_core.specs.schedules.Schedules.{SchedulesComeToOneEnd};
 ghost use Rattle.interleave_core.specs.runs.Turns.{StepsComeToAnEnd};
-ghost use Rattle.interleave_core.specs.channels.Sent.{TicksTellWhatHasLeft};
+ghost use Rattle.interleave_core.specs.channels.Sent.{TicksReportWhatHasLeft};
 ghost use Rattle.interleave_core.specs.runs.Weave.{JournalsWeaveToARun};
 
 /// The part of every run on each link is a legal history of that link. So every law of legal and admissible histories holds
@@ -107,8 +107,8 @@ pub fn every_run_is_guaranteed()
 
 /// Each packet that a tick of a run tells as sent has left its link: the link's history has its start, which ended by the
 /// link's clock, and what the tick tells are this packet's departure, its next link, and when it is due there.
-pub fn ticks_tell_what_has_left()
-    ensures { TicksTellWhatHasLeft }
+pub fn ticks_report_what_has_left()
+    ensures { TicksReportWhatHasLeft }
 {}
 
 /// A run goes on with the next step of any actor, every list of actors gives a run, and each run is that of the list of its
@@ -151,8 +151,8 @@ pub fn every_move_keeps_what_was_taken()
 {}
 
 /// Every packet that was planned on a channel at a link was offered by its source there, is left, or was cancelled.
-pub fn no_planned_packet_is_lost()
-    ensures { NonePlannedIsLost }
+pub fn planned_packets_are_offered_left_or_cancelled()
+    ensures { PlannedPacketsAreOfferedLeftOrCancelled }
 {}
 
 /// Each step of a move is one of three. First the first hop of the channel that is left is released. Where that has cancelled some
@@ -172,14 +172,14 @@ pub fn every_move_gives_what_was_shifted()
 /// While no move from a channel is under way, the packets that its submits have planned at its first hop are those that its source
 /// has offered there, dropped ones included, those that are left, those that were cancelled without a move, and those that a move
 /// has given to another channel.
-pub fn every_planned_packet_is_told()
-    ensures { EveryPlannedPacketIsTold }
+pub fn every_planned_packet_is_counted()
+    ensures { EveryPlannedPacketIsCounted }
 {}
 
 /// Once a move has left a channel, the packets that its source has offered at its first hop, dropped ones included, and those that
 /// the move has told were shifted are all that its submits planned there.
-pub fn no_packet_is_lost_in_a_move()
-    ensures { NoneIsLostInAMove }
+pub fn a_move_leaves_no_packet_behind()
+    ensures { AMoveLeavesNoPacketBehind }
 {}
 
 /// Where each channel has one owner, the packets of a move have the gap and the size of the last submit on the channel that it

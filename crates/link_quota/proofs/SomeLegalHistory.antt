@@ -26,7 +26,7 @@ use Rattle.link_steps.specs.Levels.{level_of}
 use Rattle.link_steps.proofs.Account.{stands-entry}
 use Rattle.link_steps.proofs.ReservationFound.{offer-best}
 use Rattle.link_server.proofs.EveryHistoryAgrees.{rows-have}
-use Rattle.link_steps.specs.Account.{Account, StandsFor, kept_terms, kept_after}
+use Rattle.link_steps.specs.Account.{Account, StandsFor, account_terms, account_after}
 use Rattle.link_steps.specs.Legal.{AskFits, IsLegal}
 use Rattle.link_steps.specs.Replies.{reserve_reply, reply_at, reply_to}
 use Rattle.link_steps.specs.Reservation.{Reservation, is_of}
@@ -39,7 +39,7 @@ use Rattle.link_steps.proofs.LegalAdmissible.{legal-has}
 use Rattle.link_steps.proofs.LegalChannels.{legal-channels}
 use Rattle.link_steps.proofs.QuotasFitLink.{AreWithin, group-offer-may}
 use Rattle.link_server.specs.Held.{seen, seen_of, reservations_held, MayReserve}
-use Rattle.link_server.specs.State.{kept_in, LinkStands}
+use Rattle.link_server.specs.State.{account_in, LinkStands}
 use Rattle.link_server.specs.declared.link_state.LinkState.{LinkState}
 use Rattle.link_server.specs.declared.held_row.HeldRow.{HeldRow}
 use Rattle.link_server.proofs.ChosenLevel.{terms-stand}
@@ -62,7 +62,7 @@ sure-most a b sure = ⊎_elim (λ (over : b < a). absurd (sure (λ most. omega (
 
 -- the reservations that an account holds
 abbrev pub held_in : Account → List Reservation
-held_in k = map kept_terms k.rows
+held_in k = map account_terms k.rows
 
 -- ---- within the quotas
 
@@ -192,7 +192,7 @@ stood-new link k stands = λ none. none [] tt stands
 
 pub held-new : (link : LinkState) → LinkStands link [] → reservations_held link ≡ []
 unfolding scan_of
-held-new link stands = terms-stand link.shape (kept_in link) [] stands
+held-new link stands = terms-stand link.shape (account_in link) [] stands
 
 pub few-held : (link : Link) (held : List Reservation) → AreWithin link held → AreFew link held
 few-held link held within = record { levels = within.levels; buffer = within.buffer }
@@ -209,11 +209,11 @@ unfolding reply_to reply_at
 same-reply link h (Reserve chan contract kind delay up_reach first next) other = absurd other
 same-reply link h _ other = refl
 
-pub goes-on : (split : Split) (old new : LinkState) (ask : Ask) (reply : Reply) → IsNoReserve ask → AskFits old.shape ask → new.shape ≡ old.shape → ((h : List Entry) → LinkStands old h → reply ≡ reply_to (whole old.shape) h ask) → ((h : List Entry) → LinkStands old h → LinkStands new (record { ask = ask; reply = reply } ∷ h)) → GoesOn (record { shape = old.shape; split = split }) (kept_in old) (kept_in new) ask reply
+pub goes-on : (split : Split) (old new : LinkState) (ask : Ask) (reply : Reply) → IsNoReserve ask → AskFits old.shape ask → new.shape ≡ old.shape → ((h : List Entry) → LinkStands old h → reply ≡ reply_to (whole old.shape) h ask) → ((h : List Entry) → LinkStands old h → LinkStands new (record { ask = ask; reply = reply } ∷ h)) → GoesOn (record { shape = old.shape; split = split }) (account_in old) (account_in new) ask reply
 goes-on split old new ask reply other fits shape legal entered = record {
   fits = fits;
   legal = λ h stands. legal h stands ∙ same-reply (record { shape = old.shape; split = split }) h ask other;
-  entered = λ h stands. subst (λ s. StandsFor s (kept_in new) (record { ask = ask; reply = reply } ∷ h)) shape (entered h stands);
+  entered = λ h stands. subst (λ s. StandsFor s (account_in new) (record { ask = ask; reply = reply } ∷ h)) shape (entered h stands);
 }
 
 -- a link that isn't split
@@ -222,11 +222,11 @@ unfolding reply_to reply_at reserve_reply room_of whole_room
 same-unsplit link h (Reserve chan contract kind delay up_reach first next) whole_is = rw whole_is refl
 same-unsplit link h _ whole_is = refl
 
-pub goes-on-unsplit : (split : Split) (old new : LinkState) (ask : Ask) (reply : Reply) → is_split split ≡ false → AskFits old.shape ask → new.shape ≡ old.shape → ((h : List Entry) → LinkStands old h → reply ≡ reply_to (whole old.shape) h ask) → ((h : List Entry) → LinkStands old h → LinkStands new (record { ask = ask; reply = reply } ∷ h)) → GoesOn (record { shape = old.shape; split = split }) (kept_in old) (kept_in new) ask reply
+pub goes-on-unsplit : (split : Split) (old new : LinkState) (ask : Ask) (reply : Reply) → is_split split ≡ false → AskFits old.shape ask → new.shape ≡ old.shape → ((h : List Entry) → LinkStands old h → reply ≡ reply_to (whole old.shape) h ask) → ((h : List Entry) → LinkStands old h → LinkStands new (record { ask = ask; reply = reply } ∷ h)) → GoesOn (record { shape = old.shape; split = split }) (account_in old) (account_in new) ask reply
 goes-on-unsplit split old new ask reply other fits shape legal entered = record {
   fits = fits;
   legal = λ h stands. legal h stands ∙ same-unsplit (record { shape = old.shape; split = split }) h ask other;
-  entered = λ h stands. subst (λ s. StandsFor s (kept_in new) (record { ask = ask; reply = reply } ∷ h)) shape (entered h stands);
+  entered = λ h stands. subst (λ s. StandsFor s (account_in new) (record { ask = ask; reply = reply } ∷ h)) shape (entered h stands);
 }
 
 -- ---- what is kept of a row that is held
@@ -302,10 +302,10 @@ reserve-legal link k chan contract kind delay up_reach first next ask reply is s
 
 -- a refusal enters nothing
 pub refused-enters : (link : LinkState) (chan : ChanNo) (contract : Traffic) (kind : Kind) (delay up_reach : ℕ) (first : Bool) (next : Option LinkNo) (ask : Ask) (refusal : Refusal) → ask ≡ Reserve chan contract kind delay up_reach first next → (h : List Entry) → LinkStands link h → LinkStands link (record { ask = ask; reply = Is.Refused refusal } ∷ h)
-unfolding kept_after
+unfolding account_after
 refused-enters link chan contract kind delay up_reach first next ask refusal is h stands =
     subst (λ a. LinkStands link (record { ask = a; reply = Is.Refused refusal } ∷ h)) (sym is)
-    (stands-entry link.shape (kept_in link) h (Reserve chan contract kind delay up_reach first next) (Is.Refused refusal) (rows-have link) stands)
+    (stands-entry link.shape (account_in link) h (Reserve chan contract kind delay up_reach first next) (Is.Refused refusal) (rows-have link) stands)
 
 -- an offer of the group's room is one that the link may make
 pub offer-may-be : (link : Link) (k : Account) (chan : ChanNo) (contract : Traffic) (kind : Kind) (delay up_reach : ℕ) (first : Bool) (next : Option LinkNo) (ask : Ask) (level : Level) → SplitFits link → is_split link.split ≡ true → IsLegallyStood link k → ask ≡ Reserve chan contract kind delay up_reach first next → Is.Offer level (level_of (reach_of link.shape.bounds delay (level_number level))) ≡ reserve_reply link (held_in k) chan contract delay up_reach → MayReserve link.shape (held_in k) ask level

@@ -24,7 +24,7 @@ use Rattle.link_steps.specs.Rows.{Row}
 use Rattle.link_steps.specs.Split.{Link, Split, SplitFits, is_split, whole}
 use Rattle.link_server.specs.Asks.{IsOffer, TakesNone}
 use Rattle.link_server.specs.Held.{seen_of}
-use Rattle.link_server.specs.State.{kept_in, LinkStands}
+use Rattle.link_server.specs.State.{account_in, LinkStands}
 use Rattle.link_server.specs.declared.held_row.HeldRow.{HeldRow}
 use Rattle.link_server.specs.declared.link_state.LinkState.{LinkState}
 use Rattle.link_quota.specs.Places.{HavePart, AreSmall}
@@ -48,14 +48,14 @@ written-back shares new len long is = subst (λ n. take n (new ++ drop (length n
 pub goes-all : {E : Type 0} (split : Split) (old new : LinkState) (ask : Ask) (r : Result Reply E) → IsNoReserve ask → AskFits old.shape ask → new.shape ≡ old.shape
     → IfOk r (λ reply. (h : List Entry) → LinkStands old h → reply ≡ reply_to (whole old.shape) h ask)
     → IfOk r (λ reply. (h : List Entry) → LinkStands old h → LinkStands new (record { ask = ask; reply = reply } ∷ h))
-    → IfOk r (GoesOn (record { shape = old.shape; split = split }) (kept_in old) (kept_in new) ask)
+    → IfOk r (GoesOn (record { shape = old.shape; split = split }) (account_in old) (account_in new) ask)
 goes-all split old new ask (Ok reply) other fits shape legal entered = goes-on split old new ask reply other fits shape legal entered
 goes-all split old new ask (Err e) other fits shape legal entered = tt
 
 pub goes-all-unsplit : {E : Type 0} (split : Split) (old new : LinkState) (ask : Ask) (r : Result Reply E) → is_split split ≡ false → AskFits old.shape ask → new.shape ≡ old.shape
     → IfOk r (λ reply. (h : List Entry) → LinkStands old h → reply ≡ reply_to (whole old.shape) h ask)
     → IfOk r (λ reply. (h : List Entry) → LinkStands old h → LinkStands new (record { ask = ask; reply = reply } ∷ h))
-    → IfOk r (GoesOn (record { shape = old.shape; split = split }) (kept_in old) (kept_in new) ask)
+    → IfOk r (GoesOn (record { shape = old.shape; split = split }) (account_in old) (account_in new) ask)
 goes-all-unsplit split old new ask (Ok reply) other fits shape legal entered = goes-on-unsplit split old new ask reply other fits shape legal entered
 goes-all-unsplit split old new ask (Err e) other fits shape legal entered = tt
 
@@ -79,9 +79,9 @@ carrying-none (Pour count gap size) carries = tt
 carrying-none _ carries = absurd carries
 
 -- what nothing was entered in stands for the same
-pub same-shape : {E X : Type 0} (old new : LinkState) (r : Result X E) → new.shape ≡ old.shape → OnErr r ((h : List Entry) → LinkStands old h → LinkStands new h) → OnErr r ((h : List Entry) → StandsFor old.shape (kept_in old) h → StandsFor old.shape (kept_in new) h)
+pub same-shape : {E X : Type 0} (old new : LinkState) (r : Result X E) → new.shape ≡ old.shape → OnErr r ((h : List Entry) → LinkStands old h → LinkStands new h) → OnErr r ((h : List Entry) → StandsFor old.shape (account_in old) h → StandsFor old.shape (account_in new) h)
 same-shape old new (Ok x) shape same = tt
-same-shape old new (Err e) shape same = λ h stands. subst (λ s. StandsFor s (kept_in new) h) shape (same h stands)
+same-shape old new (Err e) shape same = λ h stands. subst (λ s. StandsFor s (account_in new) h) shape (same h stands)
 
 pub stood-all : {E : Type 0} (link : Link) (k k' : Account) (ask : Ask) (r : Result Reply E) → IfOk r (GoesOn link k k' ask) → OnErr r ((h : List Entry) → StandsFor link.shape k h → StandsFor link.shape k' h) → IsLegallyStood link k → IsLegallyStood link k'
 stood-all link k k' ask (Ok reply) goes same stood = stood-goes link k k' ask reply goes stood

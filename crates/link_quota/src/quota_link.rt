@@ -3,7 +3,7 @@ ghost use Rattle.std.specs.Prelude.{◌≡◌, ◌^◌, ◌<◌, ◌≤◌, ◌�
 ghost use Rattle.link_steps.specs.Split.{Link, SplitFits};
 ghost use Rattle.link_server.specs.Held.{reservations_held};
 ghost use Rattle.link_server.specs.Resting.{RestsFromClock, RestsFromClock-prop};
-ghost use Rattle.link_server.specs.State.{kept_in};
+ghost use Rattle.link_server.specs.State.{account_in};
 ghost use Rattle.std.specs.Vec.{vec_capacity};
 ghost use Rattle.link_quota.specs.Closing.{AreClosing, AreClosing-prop, HasRoomToClose, HasRoomToClose-prop};
 ghost use Rattle.link_quota.specs.Shares.{AreShares, AreShares-prop};
@@ -40,8 +40,8 @@ pub struct QuotaLink {
     ghost shared: { AreShares (record { shape = link.shape; split = split }) (reservations_held link) shares.items } by { AreShares-prop (record { shape = link.shape; split = split }) (reservations_held link) shares.items },
     ghost listed: { AreClosing (record { shape = link.shape; split = split }) (reservations_held link) closing.items } by { AreClosing-prop (record { shape = link.shape; split = split }) (reservations_held link) closing.items },
     ghost room: { HasRoomToClose split (reservations_held link) (vec_capacity closing) } by { HasRoomToClose-prop split (reservations_held link) (vec_capacity closing) },
-    ghost stood: { IsLegallyStood (record { shape = link.shape; split = split }) (kept_in link) } by { IsLegallyStood-prop (record { shape = link.shape; split = split }) (kept_in link) },
-    ghost rests: { RestsFromClock link.shape due (kept_in link) } by { RestsFromClock-prop link.shape due (kept_in link) },
+    ghost stood: { IsLegallyStood (record { shape = link.shape; split = split }) (account_in link) } by { IsLegallyStood-prop (record { shape = link.shape; split = split }) (account_in link) },
+    ghost rests: { RestsFromClock link.shape due (account_in link) } by { RestsFromClock-prop link.shape due (account_in link) },
 }
 
 impl QuotaLink {
@@ -157,7 +157,7 @@ impl QuotaLink {
         requires whole { is_split self.old.split ≡ false }
         ensures shape { self.new.link.shape ≡ self.old.link.shape }
         ensures split { self.new.split ≡ self.old.split }
-        ensures goes { IfOk result (λ reply. GoesOn (rules_of self.old) (kept_in self.old.link) (kept_in self.new.link) ask.now reply) }
+        ensures goes { IfOk result (λ reply. GoesOn (rules_of self.old) (account_in self.old.link) (account_in self.new.link) ask.now reply) }
         ensures memory { OnErr result ((h : List Entry) → QuotaStands self.old h → QuotaStands self.new h) }
         ensures ticked { IfOk result (λ _. self.new.link.clock ≡ clock_with ask.now self.old.link.clock) }
         ensures stopped { OnErr result (self.new.link.clock ≡ self.old.link.clock) }
@@ -176,7 +176,7 @@ impl QuotaLink {
         requires reserves { IsReserve ask.now }
         ensures shape { self.new.link.shape ≡ self.old.link.shape }
         ensures split { self.new.split ≡ self.old.split }
-        ensures goes { IfOk result (λ reply. GoesOn (rules_of self.old) (kept_in self.old.link) (kept_in self.new.link) ask.now reply) }
+        ensures goes { IfOk result (λ reply. GoesOn (rules_of self.old) (account_in self.old.link) (account_in self.new.link) ask.now reply) }
         ensures memory { OnErr result ((h : List Entry) → QuotaStands self.old h → QuotaStands self.new h) }
         ensures ticked { IfOk result (λ _. self.new.link.clock ≡ clock_with ask.now self.old.link.clock) }
         ensures stopped { OnErr result (self.new.link.clock ≡ self.old.link.clock) }
@@ -217,7 +217,7 @@ impl QuotaLink {
         requires settles { IsSettling chan ask.now }
         ensures shape { self.new.link.shape ≡ self.old.link.shape }
         ensures split { self.new.split ≡ self.old.split }
-        ensures goes { IfOk result (λ reply. GoesOn (rules_of self.old) (kept_in self.old.link) (kept_in self.new.link) ask.now reply) }
+        ensures goes { IfOk result (λ reply. GoesOn (rules_of self.old) (account_in self.old.link) (account_in self.new.link) ask.now reply) }
         ensures memory { OnErr result ((h : List Entry) → QuotaStands self.old h → QuotaStands self.new h) }
         ensures ticked { IfOk result (λ _. self.new.link.clock ≡ clock_with ask.now self.old.link.clock) }
         ensures stopped { OnErr result (self.new.link.clock ≡ self.old.link.clock) }
@@ -243,7 +243,7 @@ impl QuotaLink {
         requires ticks { ask.now ≡ Tick }
         ensures shape { self.new.link.shape ≡ self.old.link.shape }
         ensures split { self.new.split ≡ self.old.split }
-        ensures goes { IfOk result (λ reply. GoesOn (rules_of self.old) (kept_in self.old.link) (kept_in self.new.link) ask.now reply) }
+        ensures goes { IfOk result (λ reply. GoesOn (rules_of self.old) (account_in self.old.link) (account_in self.new.link) ask.now reply) }
         ensures memory { OnErr result ((h : List Entry) → QuotaStands self.old h → QuotaStands self.new h) }
         ensures ticked { IfOk result (λ _. self.new.link.clock ≡ clock_with ask.now self.old.link.clock) }
         ensures stopped { OnErr result (self.new.link.clock ≡ self.old.link.clock) }
@@ -267,7 +267,7 @@ impl QuotaLink {
         requires carries { IsCarrying ask.now }
         ensures shape { self.new.link.shape ≡ self.old.link.shape }
         ensures split { self.new.split ≡ self.old.split }
-        ensures goes { IfOk result (λ reply. GoesOn (rules_of self.old) (kept_in self.old.link) (kept_in self.new.link) ask.now reply) }
+        ensures goes { IfOk result (λ reply. GoesOn (rules_of self.old) (account_in self.old.link) (account_in self.new.link) ask.now reply) }
         ensures memory { OnErr result ((h : List Entry) → QuotaStands self.old h → QuotaStands self.new h) }
         ensures ticked { IfOk result (λ _. self.new.link.clock ≡ clock_with ask.now self.old.link.clock) }
         ensures stopped { OnErr result (self.new.link.clock ≡ self.old.link.clock) }
@@ -285,7 +285,7 @@ impl QuotaLink {
         requires early { self.old.link.clock < 2 ^ 61 }
         ensures shape { self.new.link.shape ≡ self.old.link.shape }
         ensures split { self.new.split ≡ self.old.split }
-        ensures goes { IfOk result (λ reply. GoesOn (rules_of self.old) (kept_in self.old.link) (kept_in self.new.link) ask.now reply) }
+        ensures goes { IfOk result (λ reply. GoesOn (rules_of self.old) (account_in self.old.link) (account_in self.new.link) ask.now reply) }
         ensures memory { OnErr result ((h : List Entry) → QuotaStands self.old h → QuotaStands self.new h) }
         ensures ticked { IfOk result (λ _. self.new.link.clock ≡ clock_with ask.now self.old.link.clock) }
         ensures stopped { OnErr result (self.new.link.clock ≡ self.old.link.clock) }
@@ -306,7 +306,7 @@ impl QuotaLink {
         requires early { self.old.link.clock < 2 ^ 61 }
         ensures shape { self.new.link.shape ≡ self.old.link.shape }
         ensures split { self.new.split ≡ self.old.split }
-        ensures goes { IfOk result (λ reply. GoesOn (rules_of self.old) (kept_in self.old.link) (kept_in self.new.link) ask.now reply) }
+        ensures goes { IfOk result (λ reply. GoesOn (rules_of self.old) (account_in self.old.link) (account_in self.new.link) ask.now reply) }
         ensures memory { OnErr result ((h : List Entry) → QuotaStands self.old h → QuotaStands self.new h) }
         ensures ticked { IfOk result (λ _. self.new.link.clock ≡ clock_with ask.now self.old.link.clock) }
         ensures stopped { OnErr result (self.new.link.clock ≡ self.old.link.clock) }

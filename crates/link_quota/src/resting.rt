@@ -4,8 +4,8 @@ ghost use Rattle.link_steps.specs.declared.asks.Ask.TheVariants.{Tick};
 ghost use Rattle.link_steps.specs.declared.replies.Entry.{Entry};
 ghost use Rattle.link_steps.specs.Quiet.{RestsUntil, later_by, quiet_reply, quiet_ticks};
 ghost use Rattle.link_steps.specs.Replies.{reply_to};
-ghost use Rattle.link_server.specs.State.{kept_in};
-ghost use Rattle.link_quota.specs.Any.{any_clock, any_kept, any_rules, AnyStands};
+ghost use Rattle.link_server.specs.State.{account_in};
+ghost use Rattle.link_quota.specs.Any.{any_clock, any_account, any_rules, AnyStands};
 ghost use Rattle.link_quota.specs.State.{rules_of, QuotaStands};
 ghost use Rattle.link_quota.specs.Steps.{GoesOn};
 
@@ -16,7 +16,7 @@ use link_steps::{LinkStep, Reply};
 impl QuotaLink {
     /// A tick before which nothing falls due: no row's hold ends, no packet is planned, and none starts or departs.
     pub fn rests_until(&self) -> u64
-        ensures { RestsUntil self.now.link.shape result (kept_in self.now.link) }
+        ensures { RestsUntil self.now.link.shape result (account_in self.now.link) }
     {
         self.link.rests_until()
     }
@@ -24,18 +24,18 @@ impl QuotaLink {
     /// Whether it rests in its next tick, as far as it knows without a look at its rows and packets.
     #[inline(always)]
     pub fn rests(&self) -> bool
-        ensures { result ≡ true → (until : ℕ) × (RestsUntil self.now.link.shape until (kept_in self.now.link) × (self.now.link.clock + 1 ≤ until)) }
+        ensures { result ≡ true → (until : ℕ) × (RestsUntil self.now.link.shape until (account_in self.now.link) × (self.now.link.clock + 1 ≤ until)) }
     {
         self.link.clock() < self.due
     }
 
     /// Makes this many ticks, all before a tick until which the link rests.
     pub fn rest(&mut self, ticks: u64)
-        requires rests { (until : ℕ) × (RestsUntil self.old.link.shape until (kept_in self.old.link) × (self.old.link.clock + ticks ≤ until)) }
+        requires rests { (until : ℕ) × (RestsUntil self.old.link.shape until (account_in self.old.link) × (self.old.link.clock + ticks ≤ until)) }
         requires early { self.old.link.clock + ticks ≤ 2 ^ 61 }
         ensures same { rules_of self.new ≡ rules_of self.old }
         ensures clock { self.new.link.clock ≡ self.old.link.clock + ticks }
-        ensures kept { kept_in self.new.link ≡ later_by ticks (kept_in self.old.link) }
+        ensures kept { account_in self.new.link ≡ later_by ticks (account_in self.old.link) }
         ensures made { (h : List Entry) → QuotaStands self.old h → QuotaStands self.new (quiet_ticks ticks self.old.link.clock h) }
         ensures legal { (m : ℕ) (h : List Entry) → m < ticks → QuotaStands self.old h → quiet_reply (self.old.link.clock + m) ≡ reply_to (rules_of self.old) (quiet_ticks m self.old.link.clock h) Tick }
     {
@@ -48,7 +48,7 @@ impl QuotaLink {
         requires early { self.old.link.clock < 2 ^ 61 }
         ensures shape { self.new.link.shape ≡ self.old.link.shape }
         ensures split { self.new.split ≡ self.old.split }
-        ensures goes { GoesOn (rules_of self.old) (kept_in self.old.link) (kept_in self.new.link) Tick result }
+        ensures goes { GoesOn (rules_of self.old) (account_in self.old.link) (account_in self.new.link) Tick result }
         ensures clock { self.new.link.clock ≡ self.old.link.clock + 1 }
     {
         let clock = self.link.clock();
@@ -66,7 +66,7 @@ impl QuotaLink {
 impl AnyLink {
     /// A tick before which nothing falls due: no row's hold ends, no packet is planned, and none starts or departs.
     pub fn rests_until(&self) -> u64
-        ensures { RestsUntil (any_rules self.now).shape result (any_kept self.now) }
+        ensures { RestsUntil (any_rules self.now).shape result (any_account self.now) }
     {
         match self {
             AnyLink::Plain(link) => link.rests_until(),
@@ -77,7 +77,7 @@ impl AnyLink {
     /// Whether it rests in its next tick, as far as it knows without a look at its rows and packets.
     #[inline(always)]
     pub fn rests(&self) -> bool
-        ensures { result ≡ true → (until : ℕ) × (RestsUntil (any_rules self.now).shape until (any_kept self.now) × (any_clock self.now + 1 ≤ until)) }
+        ensures { result ≡ true → (until : ℕ) × (RestsUntil (any_rules self.now).shape until (any_account self.now) × (any_clock self.now + 1 ≤ until)) }
     {
         match self {
             AnyLink::Plain(link) => link.rests(),
@@ -87,11 +87,11 @@ impl AnyLink {
 
     /// Makes this many ticks, all before a tick until which the link rests.
     pub fn rest(&mut self, ticks: u64)
-        requires rests { (until : ℕ) × (RestsUntil (any_rules self.old).shape until (any_kept self.old) × (any_clock self.old + ticks ≤ until)) }
+        requires rests { (until : ℕ) × (RestsUntil (any_rules self.old).shape until (any_account self.old) × (any_clock self.old + ticks ≤ until)) }
         requires early { any_clock self.old + ticks ≤ 2 ^ 61 }
         ensures same { any_rules self.new ≡ any_rules self.old }
         ensures clock { any_clock self.new ≡ any_clock self.old + ticks }
-        ensures kept { any_kept self.new ≡ later_by ticks (any_kept self.old) }
+        ensures kept { any_account self.new ≡ later_by ticks (any_account self.old) }
         ensures made { (h : List Entry) → AnyStands self.old h → AnyStands self.new (quiet_ticks ticks (any_clock self.old) h) }
         ensures legal { (m : ℕ) (h : List Entry) → m < ticks → AnyStands self.old h → quiet_reply (any_clock self.old + m) ≡ reply_to (any_rules self.old) (quiet_ticks m (any_clock self.old) h) Tick }
     {

@@ -11,7 +11,7 @@ use Rattle.traffic_contract.proofs.AdmissionTest.{best_level-is}
 use Rattle.link_steps.specs.declared.asks.Ask.TheVariants.{Reserve, Relax, Deny, Submit, Release, Arrive, Tick, Pour}
 use Rattle.link_steps.specs.declared.replies.Entry.{Entry}
 use Rattle.link_steps.specs.Admissible.{MayOffer, MayAnswer, IsAdmissible}
-use Rattle.link_steps.specs.Account.{HasContract, StandsFor, Account, AccountRow, kept_at, kept_terms, kept_reply}
+use Rattle.link_steps.specs.Account.{HasContract, StandsFor, Account, AccountRow, account_at, account_terms, account_reply}
 use Rattle.link_steps.specs.Replies.{reserve_reply, reply_to}
 use Rattle.link_steps.specs.Room.{room_of, whole_room}
 use Rattle.link_steps.specs.Rows.{row_terms}
@@ -26,27 +26,27 @@ use Rattle.link_server.proofs.Replies.Setup.{reserve-offer}
 -- ---- the rows held
 
 -- the reservations of the account are those of every history that it stands for
-pub terms-stand : (shape : LinkShape) (k : Account) (h : List Entry) → StandsFor shape k h → map kept_terms k.rows ≡ map row_terms (scan_of shape h).rows
-unfolding kept_at
-terms-stand shape k h stands = ap (λ kept. map kept_terms kept.rows) stands ∙ terms-scanned (clock_of h) (scan_of shape h).rows
+pub terms-stand : (shape : LinkShape) (k : Account) (h : List Entry) → StandsFor shape k h → map account_terms k.rows ≡ map row_terms (scan_of shape h).rows
+unfolding account_at
+terms-stand shape k h stands = ap (λ kept. map account_terms kept.rows) stands ∙ terms-scanned (clock_of h) (scan_of shape h).rows
 
 -- what is seen of them is the same
-pub seen-stand : (shape : LinkShape) (k : Account) (place : ℕ) (row : Option HeldRow) → row ≡ seen_at shape.bounds (map kept_terms k.rows) place → (h : List Entry) → StandsFor shape k h → row ≡ seen_at shape.bounds (map row_terms (scan_of shape h).rows) place
+pub seen-stand : (shape : LinkShape) (k : Account) (place : ℕ) (row : Option HeldRow) → row ≡ seen_at shape.bounds (map account_terms k.rows) place → (h : List Entry) → StandsFor shape k h → row ≡ seen_at shape.bounds (map row_terms (scan_of shape h).rows) place
 seen-stand shape k place row same h stands = same ∙ ap (λ held. seen_at shape.bounds held place) (terms-stand shape k h stands)
 
 -- what is seen at a place is the row there, and nothing past the last row
-pub seen-row : (bounds : List ℕ) (rows : List AccountRow) (place : ℕ) (found : Option AccountRow) → slice_get rows place ≡ found → option_map (seen bounds) (option_map kept_terms found) ≡ seen_at bounds (map kept_terms rows) place
+pub seen-row : (bounds : List ℕ) (rows : List AccountRow) (place : ℕ) (found : Option AccountRow) → slice_get rows place ≡ found → option_map (seen bounds) (option_map account_terms found) ≡ seen_at bounds (map account_terms rows) place
 seen-row bounds rows place found at =
-    ap (option_map (seen bounds)) (ap (option_map kept_terms) (sym at) ∙ sym (slice_get-map kept_terms rows place))
-    ∙ sym (slice_get-map (seen bounds) (map kept_terms rows) place)
+    ap (option_map (seen bounds)) (ap (option_map account_terms) (sym at) ∙ sym (slice_get-map account_terms rows place))
+    ∙ sym (slice_get-map (seen bounds) (map account_terms rows) place)
 
-pub seen-none : (bounds : List ℕ) (rows : List AccountRow) (place : ℕ) → length rows ≤ place → None ≡ seen_at bounds (map kept_terms rows) place
+pub seen-none : (bounds : List ℕ) (rows : List AccountRow) (place : ℕ) → length rows ≤ place → None ≡ seen_at bounds (map account_terms rows) place
 seen-none bounds rows place past = seen-row bounds rows place None (slice_get_past rows place past)
 
 -- ---- admissible
 
 -- an admissible history goes on with an offer that the link may make
-pub wanted-admissible : (shape : LinkShape) (k : Account) (wanted : Wanted) (offer : Offered) → ReserveFits wanted.contract wanted.up_reach wanted.first → MayHold shape (map kept_terms k.rows) wanted offer → (h : List Entry) → StandsFor shape k h → IsAdmissible shape h → IsAdmissible shape (record { ask = ask_for wanted; reply = Offer offer.level offer.reach } ∷ h)
+pub wanted-admissible : (shape : LinkShape) (k : Account) (wanted : Wanted) (offer : Offered) → ReserveFits wanted.contract wanted.up_reach wanted.first → MayHold shape (map account_terms k.rows) wanted offer → (h : List Entry) → StandsFor shape k h → IsAdmissible shape h → IsAdmissible shape (record { ask = ask_for wanted; reply = Offer offer.level offer.reach } ∷ h)
 unfolding IsAdmissible MayAnswer
 wanted-admissible shape k wanted offer fits may h stands before =
     (before, record { fits = fits; answered = subst (λ held. MayHold shape held wanted offer) (terms-stand shape k h stands) may })
@@ -55,7 +55,7 @@ wanted-admissible shape k wanted offer fits may h stands before =
 abbrev pub offered : Ask → Level → Level → List Entry → List Entry
 offered ask level reach h = record { ask = ask; reply = Offer level reach } ∷ h
 
-pub offer-admissible : (shape : LinkShape) (k : Account) (ask : Ask) (level reach : Level) → AskFits shape ask → MayReserve shape (map kept_terms k.rows) ask level → reach ≡ reach_at shape ask level → (h : List Entry) → StandsFor shape k h → IsAdmissible shape h → IsAdmissible shape (offered ask level reach h)
+pub offer-admissible : (shape : LinkShape) (k : Account) (ask : Ask) (level reach : Level) → AskFits shape ask → MayReserve shape (map account_terms k.rows) ask level → reach ≡ reach_at shape ask level → (h : List Entry) → StandsFor shape k h → IsAdmissible shape h → IsAdmissible shape (offered ask level reach h)
 unfolding IsAdmissible MayAnswer
 offer-admissible shape k (Reserve chan contract kind delay up_reach first next) level reach fits may same h stands before = (
   before,
@@ -63,7 +63,7 @@ offer-admissible shape k (Reserve chan contract kind delay up_reach first next) 
     fits = fits;
     answered =
         subst (λ held. MayOffer shape held chan contract delay up_reach level reach) (terms-stand shape k h stands)
-        (subst (λ far. MayOffer shape (map kept_terms k.rows) chan contract delay up_reach level far) (sym same) may);
+        (subst (λ far. MayOffer shape (map account_terms k.rows) chan contract delay up_reach level far) (sym same) may);
   },
 )
 offer-admissible shape k (Relax chan at up_bound) level reach fits may same h stands before = absurd may
@@ -108,11 +108,11 @@ best-legal shape held chan contract delay up_reach level may best =
     ap (λ at. Offer at (level_of (reach_of shape.bounds delay (level_number level)))) (sym (level_of-level level))
     ∙ reserve-offer shape held chan contract delay up_reach (level_number level) (le-leb contract.smax shape.cap may.narrow) may.new best (le-leb _ _ free)
 
-chosen-legal : (shape : LinkShape) (k : Account) (ask : Ask) (level reach : Level) → MayReserve shape (map kept_terms k.rows) ask level → reach ≡ reach_at shape ask level → (Offer level reach ≡ kept_reply (whole shape) k ask) ↔ IsBestFor shape (map kept_terms k.rows) ask level
-unfolding kept_reply
+chosen-legal : (shape : LinkShape) (k : Account) (ask : Ask) (level reach : Level) → MayReserve shape (map account_terms k.rows) ask level → reach ≡ reach_at shape ask level → (Offer level reach ≡ account_reply (whole shape) k ask) ↔ IsBestFor shape (map account_terms k.rows) ask level
+unfolding account_reply
 chosen-legal shape k (Reserve chan contract kind delay up_reach first next) level reach may same = (
-  legal-best shape (map kept_terms k.rows) chan contract delay up_reach level reach,
-  λ best. ap (Offer level) same ∙ best-legal shape (map kept_terms k.rows) chan contract delay up_reach level may best,
+  legal-best shape (map account_terms k.rows) chan contract delay up_reach level reach,
+  λ best. ap (Offer level) same ∙ best-legal shape (map account_terms k.rows) chan contract delay up_reach level may best,
 )
 chosen-legal shape k (Relax chan at up_bound) level reach may same = absurd may
 chosen-legal shape k (Deny chan) level reach may same = absurd may
@@ -122,7 +122,7 @@ chosen-legal shape k (Arrive packet) level reach may same = absurd may
 chosen-legal shape k Tick level reach may same = absurd may
 chosen-legal shape k (Pour count gap size) level reach may same = absurd may
 
-pub offer-legal : (shape : LinkShape) (k : Account) (ask : Ask) (level reach : Level) → Each HasContract k.rows → MayReserve shape (map kept_terms k.rows) ask level → reach ≡ reach_at shape ask level → (h : List Entry) → StandsFor shape k h → (Offer level reach ≡ reply_to (whole shape) h ask) ↔ IsBestFor shape (map kept_terms k.rows) ask level
+pub offer-legal : (shape : LinkShape) (k : Account) (ask : Ask) (level reach : Level) → Each HasContract k.rows → MayReserve shape (map account_terms k.rows) ask level → reach ≡ reach_at shape ask level → (h : List Entry) → StandsFor shape k h → (Offer level reach ≡ reply_to (whole shape) h ask) ↔ IsBestFor shape (map account_terms k.rows) ask level
 offer-legal shape k ask level reach each may same h stands =
     let tie = stands-reply (whole shape) k h ask each stands in
     let chosen = chosen-legal shape k ask level reach may same in

@@ -2,8 +2,8 @@
 use Rattle.std.proofs.Common.{◌≡◌, ℕ, zero, suc, ◌+◌, ◌<◌, ◌≤◌, Bool, true, false, ◌&&◌, List, [], ◌∷◌, map, get_or, All, Option, Some, None, ⊎_elim, refl, sym, ◌∙◌, subst, arith, nat_eq}
 use Rattle.std.proofs.lemmas.Bool.{cases_Bool, lt-leb}
 use Rattle.std.proofs.lemmas.List.Folds.{list_any_none}
-use Rattle.link_server.proofs.Words.{Tick, LinkShape, Each, SourcePacket, Arrival, Start, channel_number, Entry, Schedule, ServedRow, row_in}
-use Rattle.link_steps.specs.Account.{HasContracts, Account, AccountRow, kept_stays, kept_after, kept_reply}
+use Rattle.link_server.proofs.Words.{Tick, LinkShape, Each, SourcePacket, Arrival, Start, channel_number, Entry, Timetable, ServedRow, row_in}
+use Rattle.link_steps.specs.Account.{HasContracts, Account, AccountRow, account_stays, account_after, account_reply}
 use Rattle.link_steps.proofs.SearchAndFilter.{Each-if}
 use Rattle.link_server.specs.Holds.{AreListed, IsListed, tells_end}
 use Rattle.link_server.specs.Plans.{IsTold}
@@ -35,15 +35,15 @@ not-told bounds t until row entry from before = rw (lt-leb entry.0 t (omega (ari
   and-false true = refl
   and-false false = refl
 
-listed-stays : (bounds : List ℕ) (clock until : ℕ) (entries : List Entry) (row : AccountRow) → All (λ entry. until ≤ entry.0) entries → IsListed bounds clock entries row → (t : ℕ) → clock ≤ t → t < until → kept_stays bounds t row ≡ true
+listed-stays : (bounds : List ℕ) (clock until : ℕ) (entries : List Entry) (row : AccountRow) → All (λ entry. until ≤ entry.0) entries → IsListed bounds clock entries row → (t : ℕ) → clock ≤ t → t < until → account_stays bounds t row ≡ true
 listed-stays bounds clock until entries row later listed t from before =
-    ⊎_elim (λ (stays : kept_stays bounds t row ≡ true). stays)
-    (λ (ends : kept_stays bounds t row ≡ false).
+    ⊎_elim (λ (stays : account_stays bounds t row ≡ true). stays)
+    (λ (ends : account_stays bounds t row ≡ false).
     absurd (let f : false ≡ true = sym (list_any_none (tells_end bounds t row) entries (λ k d inside. not-told bounds t until row (get_or entries k d) (later k d inside) before)) ∙ listed.told t from ends in cc))
-    (cases_Bool (kept_stays bounds t row))
+    (cases_Bool (account_stays bounds t row))
 
 -- so each row rests
-pub rows-rest : (bounds : List ℕ) (clock until : ℕ) (holds plans : Schedule) (rows : List ServedRow) → All (λ entry. until ≤ entry.0) holds.entries → All (λ entry. until ≤ entry.0) plans.entries
+pub rows-rest : (bounds : List ℕ) (clock until : ℕ) (holds plans : Timetable) (rows : List ServedRow) → All (λ entry. until ≤ entry.0) holds.entries → All (λ entry. until ≤ entry.0) plans.entries
     → Each (IsListed bounds clock holds.entries) (map row_in rows) → Each (IsTold plans.entries) (map row_in rows) → Each (RowRests bounds clock until) (map row_in rows)
 rows-rest bounds clock until holds plans [] held planned listed told = tt
 rows-rest bounds clock until holds plans (row ∷ rows) held planned listed told = (
@@ -62,7 +62,7 @@ all-from until least entries less later = λ k d inside. (let from = later k d i
 -- ---- while it rests, the account stays sound, and some history stands for it
 
 pub later-sound : (shape : LinkShape) (room until n : ℕ) (k : Account) → RestsUntil shape until k → k.clock + n ≤ until → IsSound shape room k → IsSound shape room (later_by n k)
-unfolding kept_after
+unfolding account_after
 later-sound shape room until zero k rests within sound = subst (IsSound shape room) (none-later k) sound
 later-sound shape room until (suc n) k rests within sound =
     let before = later-sound shape room until n k rests (omega (arith, within)) sound in
@@ -70,7 +70,7 @@ later-sound shape room until (suc n) k rests within sound =
     (sound-tick shape room (later_by n k) (quiet_reply (k.clock + n)) before)
 
 pub later-stood : (shape : LinkShape) (until n : ℕ) (k : Account) → HasContracts k → RestsUntil shape until k → k.clock + n ≤ until → IsStood shape k → IsStood shape (later_by n k)
-unfolding kept_after kept_reply
+unfolding account_after account_reply
 later-stood shape until zero k each rests within stood = subst (IsStood shape) (none-later k) stood
 later-stood shape until (suc n) k each rests within stood =
     let before = later-stood shape until n k each rests (omega (arith, within)) stood in
@@ -89,7 +89,7 @@ service-from rate until least here None less rests = Each-if (IsEligibleFrom lea
 service-from rate until least here (Some start) less rests = omega (arith, rests, less)
 
 -- what the calendar tells from the clock on it tells from a later one on
-pub listed-later : (bounds : List ℕ) (clock later : ℕ) (holds : Schedule) (rows : List AccountRow) → clock ≤ later → AreListed bounds clock holds rows → AreListed bounds later holds rows
+pub listed-later : (bounds : List ℕ) (clock later : ℕ) (holds : Timetable) (rows : List AccountRow) → clock ≤ later → AreListed bounds clock holds rows → AreListed bounds later holds rows
 listed-later bounds clock later holds rows less listed = record {
   begun = let begun = listed.begun in omega (arith, begun, less);
   listed = Each-if (IsListed bounds clock holds.entries) (IsListed bounds later holds.entries) rows (λ row is. record { plans_none = is.plans_none; told = λ t from ends. is.told t (omega (arith, from, less)) ends }) listed.listed;

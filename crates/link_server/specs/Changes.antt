@@ -6,24 +6,24 @@ use Rattle.net_units.specs.declared.numbers.Level.{Level}
 use Rattle.traffic_contract.specs.Admission.{total, admits}
 use Rattle.traffic_contract.specs.Eligible.{newest}
 use Rattle.link_steps.specs.declared.replies.Phase.TheVariants.{Tentative, Committed}
-use Rattle.link_steps.specs.Buffer.{slots_of, kept_units}
-use Rattle.link_steps.specs.Account.{AccountRow, is_kept_of, is_kept_at_hop, kept_terms, kept_arrived_row}
+use Rattle.link_steps.specs.Buffer.{slots_of, held_units}
+use Rattle.link_steps.specs.Account.{AccountRow, is_account_of, is_account_at_hop, account_terms, account_arrived_row}
 use Rattle.link_steps.specs.declared.asks.Packet.{Packet}
 use Rattle.link_steps.specs.Refusals.{not_in_phase}
 use Rattle.link_steps.specs.Reservation.{admitted, committed}
-use Rattle.link_server.specs.KeptTable.{KeptTable}
+use Rattle.link_server.specs.TableAccount.{TableAccount}
 use Rattle.link_server.specs.Strays.{stray}
 
 -- the channel has a row, and P holds of it
 pub record HasRow (P : AccountRow → Type 0) (chan : ChanNo) (rows : List AccountRow) : Type 0 where
   pub row : AccountRow
-  pub found : find (is_kept_of chan) rows ≡ Some row
+  pub found : find (is_account_of chan) rows ≡ Some row
   pub holds : P row
 
 -- it is this row, and it is at its first hop, or at a later one
 pub record IsRowAtHop (chan : ChanNo) (first : Bool) (rows : List AccountRow) (row : AccountRow) : Type 0 where
-  pub found : find (is_kept_of chan) rows ≡ Some row
-  pub at_hop : is_kept_at_hop chan first row ≡ true
+  pub found : find (is_account_of chan) rows ≡ Some row
+  pub at_hop : is_account_at_hop chan first row ≡ true
 
 -- the row is tentative, and may be committed at the level with that bound before: it has no more slots then
 pub record MayCommit (bounds : List ℕ) (level : Level) (up_bound : ℕ) (row : AccountRow) : Type 0 where
@@ -46,16 +46,16 @@ pub record MayClose (row : AccountRow) : Type 0 where
 pub record MayTake (clock number : ℕ) (packet : Packet) (row : AccountRow) : Type 0 where
   pub placed : None ≡ stray packet row.terms row.taken
   pub last : newest row.recent < 2 ^ 63
-  pub soon : newest (kept_arrived_row clock number packet row).recent < 2 ^ 63
+  pub soon : newest (account_arrived_row clock number packet row).recent < 2 ^ 63
   pub few : row.taken + 1 < 2 ^ 64
 
 -- the row may be added to the table: it is tentative and plans nothing, its channel has no row, its levels are the link's, the
 -- rows pass with it, and its units are free
-pub record MayAdd (table : KeptTable) (row : AccountRow) : Type 0 where
+pub record MayAdd (table : TableAccount) (row : AccountRow) : Type 0 where
   pub phase : row.terms.phase ≡ Tentative
   pub none_left : row.left ≡ []
-  pub new : find (is_kept_of row.terms.chan) table.rows ≡ None
+  pub new : find (is_account_of row.terms.chan) table.rows ≡ None
   pub level : level_number row.terms.level ≤ length table.server.bounds
   pub reach : level_number row.terms.reach ≤ length table.server.bounds
-  pub passes : admits table.server (map admitted (map kept_terms table.rows)) row.terms.contract (level_number row.terms.level) ≡ true
-  pub free : kept_units table.server.bounds row.terms ≤ table.buffer - total (kept_units table.server.bounds) (map kept_terms table.rows)
+  pub passes : admits table.server (map admitted (map account_terms table.rows)) row.terms.contract (level_number row.terms.level) ≡ true
+  pub free : held_units table.server.bounds row.terms ≤ table.buffer - total (held_units table.server.bounds) (map account_terms table.rows)

@@ -5,7 +5,7 @@ use Rattle.std.specs.Coded.{×_prop, Unit-prop}
 use native.Mathlib.Nat.{ℕ_set}
 use Rattle.net_units.specs.Numbers.{channel_number}
 use Rattle.link_steps.specs.Buffer.{held_packets}
-use Rattle.link_steps.specs.Account.{AccountRow, is_kept_of, leaves_by}
+use Rattle.link_steps.specs.Account.{AccountRow, is_account_of, leaves_by}
 use Rattle.link_steps.specs.Lists.{Each}
 use Rattle.link_steps.specs.Service.{Arrival, Start}
 use Rattle.link_server.specs.SoundProp.{Each-prop}
@@ -42,7 +42,7 @@ abbrev pub departed_after : Option Arrival → List AccountRow → List ℕ → 
 departed_after None rows departed = departed
 departed_after (Some p) [] departed = departed
 departed_after (Some p) (row ∷ rows) [] = []
-departed_after (Some p) (row ∷ rows) (n ∷ departed) = (if is_kept_of p.chan row && (nat_eq row.lead p.lead && nat_lt n row.taken) then suc n else n) ∷ departed_after (Some p) rows departed
+departed_after (Some p) (row ∷ rows) (n ∷ departed) = (if is_account_of p.chan row && (nat_eq row.lead p.lead && nat_lt n row.taken) then suc n else n) ∷ departed_after (Some p) rows departed
 
 -- ---- there is at most one proof that the rows are counted
 

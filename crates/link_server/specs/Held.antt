@@ -12,22 +12,22 @@ use Rattle.link_steps.specs.declared.asks.Ask.{Ask}
 use Rattle.link_steps.specs.declared.asks.Ask.TheVariants.{Reserve}
 use Rattle.link_steps.specs.declared.shape.LinkShape.{LinkShape}
 use Rattle.link_steps.specs.Admissible.{MayOffer}
-use Rattle.link_steps.specs.Buffer.{kept_units}
-use Rattle.link_steps.specs.Account.{kept_terms}
+use Rattle.link_steps.specs.Buffer.{held_units}
+use Rattle.link_steps.specs.Account.{account_terms}
 use Rattle.link_steps.specs.Levels.{level_of}
 use Rattle.link_steps.specs.Reservation.{Reservation, admitted, is_of}
 use Rattle.link_steps.specs.Shape.{server_of}
-use Rattle.link_server.specs.State.{kept_in}
+use Rattle.link_server.specs.State.{account_in}
 use Rattle.link_server.specs.declared.held_row.HeldRow.{HeldRow}
 use Rattle.link_server.specs.declared.link_state.LinkState.{LinkState}
 
 -- the reservations that a link holds
 abbrev pub reservations_held : LinkState → List Reservation
-reservations_held link = map kept_terms (kept_in link).rows
+reservations_held link = map account_terms (account_in link).rows
 
 -- a reservation as a caller sees it, at a link with these bounds
 abbrev pub seen : List ℕ → Reservation → HeldRow
-seen bounds terms = record { chan = terms.chan; contract = terms.contract; level = terms.level; phase = terms.phase; kept = kept_units bounds terms }
+seen bounds terms = record { chan = terms.chan; contract = terms.contract; level = terms.level; phase = terms.phase; kept = held_units bounds terms }
 
 -- the one at a place, from 0, if there is one
 abbrev pub seen_at : List ℕ → List Reservation → ℕ → Option HeldRow

@@ -4,7 +4,7 @@
 use Rattle.std.specs.Prelude.{◌≡◌, ℕ, suc, List}
 use Rattle.buffer_budget.specs.Parts.{whole_of}
 use Rattle.traffic_contract.specs.Admission.{total}
-use Rattle.link_steps.specs.Buffer.{slots_of, kept_units}
+use Rattle.link_steps.specs.Buffer.{slots_of, held_units}
 use Rattle.link_steps.specs.Reservation.{Reservation}
 use Rattle.link_server.specs.declared.table.keeping.Keeping.{Keeping}
 
@@ -15,5 +15,5 @@ places_for bounds terms = suc (slots_of bounds terms)
 -- the numbers are those of these reservations, at a link with this buffer
 pub record IsKeeping (buffer : ℕ) (bounds : List ℕ) (keeping : Keeping) (held : List Reservation) : Type 0 where
   pub whole : whole_of keeping.budget ≡ buffer
-  pub units : keeping.budget.held ≡ total (kept_units bounds) held
+  pub units : keeping.budget.held ≡ total (held_units bounds) held
   pub places : keeping.places ≡ total (places_for bounds) held

@@ -7,9 +7,9 @@ pub mod Sources
 pub mod Strays
 pub mod Wants
 pub mod Packets
-pub mod KeptQueue
+pub mod QueueAccount
 pub mod QueueParts
-pub mod KeptTable
+pub mod TableAccount
 pub mod RowParts
 pub mod TableParts
 pub mod Changes

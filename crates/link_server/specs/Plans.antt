@@ -11,7 +11,7 @@ use Rattle.link_steps.specs.Account.{AccountRow}
 use Rattle.link_steps.specs.Lists.{Each}
 use Rattle.link_steps.specs.Reservation.{is_phase}
 use Rattle.link_steps.specs.Rows.{is_for}
-use Rattle.tick_calendar.specs.Calendar.{Entry, Schedule}
+use Rattle.tick_calendar.specs.Calendar.{Entry, Timetable}
 use Rattle.link_server.specs.declared.table.served_row.ServedRow.{ServedRow}
 use Rattle.link_server.specs.Index.{channel_in}
 use Rattle.link_server.specs.KeyedList.{AreRising}
@@ -37,7 +37,7 @@ abbrev pub idle_in : List AccountRow → ℕ
 idle_in rows = total idle_count rows
 
 -- the next packets of the rows are on the calendar, with room for one entry more for each that is idle
-pub record ArePlanned (clock : ℕ) (plans : Schedule) (rows : List AccountRow) : Type 0 where
+pub record ArePlanned (clock : ℕ) (plans : Timetable) (rows : List AccountRow) : Type 0 where
   pub begun : plans.clock ≤ clock
   pub told : Each (IsTold plans.entries) rows
   pub room : idle_in rows ≤ plans.spare
@@ -48,7 +48,7 @@ is_turn turns place = list_any (nat_eq place) turns
 
 -- the rows at these places have their turn in a tick: the next packets of all others are on the calendar. For each of these there
 -- is room for one entry, as there is for each idle one
-pub record AreCalled (clock : ℕ) (plans : Schedule) (turns : List ℕ) (rows : List ServedRow) : Type 0 where
+pub record AreCalled (clock : ℕ) (plans : Timetable) (turns : List ℕ) (rows : List ServedRow) : Type 0 where
   pub begun : plans.clock ≤ clock
   pub rising : AreRising 0 (length rows) turns
   pub told : (place : ℕ) (d : ServedRow) → place < length rows → is_turn turns place ≡ false → IsTold plans.entries (row_in (slice_index_or rows place d))

@@ -4,7 +4,7 @@ use Rattle.std.specs.Prelude.{◌≡◌, ◌≤◌, List, filter, length}
 use Rattle.link_steps.specs.BestEffort.{is_best}
 use Rattle.link_steps.specs.Service.{Arrival}
 use Rattle.link_server.specs.Arrived.{all_here, arrived, HaveOwnNumbers, AreNumberedUpTo}
-use Rattle.link_server.specs.KeptQueue.{KeptQueue}
+use Rattle.link_server.specs.QueueAccount.{QueueAccount}
 use Rattle.link_server.specs.Line.{waiting_in, room_in}
 use Rattle.link_server.specs.Packets.{here_in, on_in}
 use Rattle.link_server.specs.Planned.{left_in}
@@ -15,7 +15,7 @@ abbrev pub packets_of : Inside → List Arrival
 packets_of q = all_here (on_in q.on) (here_in (waiting_in q.line))
 
 -- what a contract sees
-abbrev pub queue_seen : Inside → KeptQueue
+abbrev pub queue_seen : Inside → QueueAccount
 queue_seen q = record { taken = q.taken; here = arrived (packets_of q) q.taken; on = on_in q.on; best = left_in q.best; room = q.room; looked = q.line.until; bounds = q.bounds }
 
 -- the packets here have numbers of their own; there is room for them; and those of best effort that wait are counted

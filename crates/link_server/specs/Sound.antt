@@ -13,7 +13,7 @@ use Rattle.traffic_contract.specs.Contract.{IsContract}
 use Rattle.link_steps.specs.declared.shape.LinkShape.{LinkShape}
 use Rattle.link_steps.specs.BestEffort.{is_best}
 use Rattle.link_steps.specs.Buffer.{slots_of, held_packets}
-use Rattle.link_steps.specs.Account.{Account, AccountRow, kept_rows_after, held_rows, brought, present}
+use Rattle.link_steps.specs.Account.{Account, AccountRow, account_rows_after, held_rows, brought, present}
 use Rattle.link_steps.specs.Lists.{Each}
 use Rattle.link_steps.specs.Rows.{SourcePacket, left_at}
 use Rattle.link_steps.specs.Service.{Arrival, Start, leaves_at}
@@ -126,7 +126,7 @@ pub record IsSound (shape : LinkShape) (room : ℕ) (k : Account) : Type 0 where
 unfoldable pub with_brought : LinkShape → Account → Account
 with_brought shape k = record k {
   taken = k.taken + length (brought shape k);
-  rows = kept_rows_after shape.bounds k.here k.clock k.taken (held_rows shape k);
+  rows = account_rows_after shape.bounds k.here k.clock k.taken (held_rows shape k);
   here = present shape k;
   best_left = left_at (suc k.clock) k.best_left;
 }

@@ -7,14 +7,14 @@ use Rattle.buffer_budget.specs.Parts.{whole_of}
 use Rattle.link_server.specs.Departed.{departed_in}
 use Rattle.link_server.specs.Holds.{AreListed}
 use Rattle.link_server.specs.Index.{channels_in, IsIndex}
-use Rattle.link_server.specs.KeptTable.{KeptTable}
+use Rattle.link_server.specs.TableAccount.{TableAccount}
 use Rattle.link_server.specs.Plans.{ArePlanned}
 use Rattle.link_server.specs.RowParts.{AreParts}
 use Rattle.link_server.specs.Rows.{row_in}
 use Rattle.link_server.specs.declared.table.Table.TheInside.{Inside}
 
 -- what a contract sees
-abbrev pub table_seen : Inside → KeptTable
+abbrev pub table_seen : Inside → TableAccount
 table_seen t = record { rows = map row_in t.rows.items; departed = map departed_in t.rows.items; server = t.sums.server; buffer = whole_of t.keeping.budget; looked = t.looked }
 
 -- the sums are at the bounds, and the parts are those of the rows; each is found by its channel; the calendars tell all from the tick in which they were last

@@ -1,11 +1,11 @@
 //! The asks of a link but for its ticks.
 ghost use Rattle.std.specs.Prelude.{◌≡◌, ◌^◌, ◌<◌, IfOk, OnErr, IsOk};
 ghost use Rattle.link_steps.specs.declared.asks.Ask.TheVariants.{Tick as AskTick};
-ghost use Rattle.link_steps.specs.Account.{kept_reply, kept_after};
+ghost use Rattle.link_steps.specs.Account.{account_reply, account_after};
 ghost use Rattle.link_steps.specs.Legal.{AskFits};
 ghost use Rattle.link_steps.specs.Split.{whole};
 ghost use Rattle.link_server.specs.Asks.{IsOffer, TakesNone};
-ghost use Rattle.link_server.specs.State.{kept_in};
+ghost use Rattle.link_server.specs.State.{account_in};
 
 mod carrying;
 mod setup;
@@ -24,10 +24,10 @@ impl LinkState {
         requires other { ask.now ≡ AskTick → ⊥ }
         ensures shape { self.new.shape ≡ self.old.shape }
         ensures clock { self.new.clock ≡ self.old.clock }
-        ensures reply { IfOk result (λ reply. reply ≡ kept_reply (whole self.old.shape) (kept_in self.old) ask.now) }
-        ensures kept { IfOk result (λ reply. kept_in self.new ≡ kept_after self.old.shape (kept_in self.old) ask.now reply) }
-        ensures memory { OnErr result (kept_in self.new ≡ kept_in self.old) }
-        ensures instead { OnErr result (IsOffer (kept_reply (whole self.old.shape) (kept_in self.old) ask.now)) }
+        ensures reply { IfOk result (λ reply. reply ≡ account_reply (whole self.old.shape) (account_in self.old) ask.now) }
+        ensures kept { IfOk result (λ reply. account_in self.new ≡ account_after self.old.shape (account_in self.old) ask.now reply) }
+        ensures memory { OnErr result (account_in self.new ≡ account_in self.old) }
+        ensures instead { OnErr result (IsOffer (account_reply (whole self.old.shape) (account_in self.old) ask.now)) }
         ensures sure { TakesNone ask.now → IsOk result }
     {
         match ask {

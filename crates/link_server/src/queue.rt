@@ -17,7 +17,7 @@ use net_units::{Bounds, OutOfMemory};
 use std::alloc::Global;
 use std::marker::Model;
 
-// The packets at a link, and those that are planned of no channel. A contract sees the record `KeptQueue`.
+// The packets at a link, and those that are planned of no channel. A contract sees the record `QueueAccount`.
 #[derive(Drop)]
 pub(crate) struct Queue {
     // How many packets the link has taken.
@@ -37,9 +37,9 @@ pub(crate) struct Queue {
 }
 
 impl Model for Queue {
-    ghost use Rattle.link_server.specs.KeptQueue.{KeptQueue};
+    ghost use Rattle.link_server.specs.QueueAccount.{QueueAccount};
 
-    ghost Value = { KeptQueue };
+    ghost Value = { QueueAccount };
 
     ghost use Rattle.link_server.specs.QueueParts.{queue_seen, IsQueue};
 

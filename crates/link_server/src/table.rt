@@ -7,8 +7,8 @@ ghost use Rattle.net_units.specs.Limits.{most_bound};
 ghost use Rattle.net_units.specs.LevelBounds.{last_bound};
 ghost use Rattle.net_units.specs.Numbers.{channel_number, level_number};
 ghost use Rattle.traffic_contract.specs.Admission.{total, best_level, refused_sum};
-ghost use Rattle.link_steps.specs.Buffer.{kept_units};
-ghost use Rattle.link_steps.specs.Account.{is_kept_of, is_kept_at_hop, kept_terms, kept_stays, kept_relaxed, kept_planned, kept_closed, kept_arrived_row, kept_arrived, kept_packets, kept_rows_after, kept_lost};
+ghost use Rattle.link_steps.specs.Buffer.{held_units};
+ghost use Rattle.link_steps.specs.Account.{is_account_of, is_account_at_hop, account_terms, account_stays, account_relaxed, account_planned, account_closed, account_arrived_row, account_arrived, account_packets, account_rows_after, account_dropped};
 ghost use Rattle.link_steps.specs.Lists.{Each, change_first, without_first};
 ghost use Rattle.link_steps.specs.Quiet.{RowRests};
 ghost use Rattle.link_steps.specs.Reservation.{admitted};
@@ -48,7 +48,7 @@ use std::marker::Model;
 use tick_calendar::Calendar;
 use traffic_contract::Contract;
 
-// The rows of a link. A contract sees the record `KeptTable`.
+// The rows of a link. A contract sees the record `TableAccount`.
 #[derive(Drop)]
 pub(crate) struct Table {
     // Those of the link's levels.
@@ -67,9 +67,9 @@ pub(crate) struct Table {
 }
 
 impl Model for Table {
-    ghost use Rattle.link_server.specs.KeptTable.{KeptTable};
+    ghost use Rattle.link_server.specs.TableAccount.{TableAccount};
 
-    ghost Value = { KeptTable };
+    ghost Value = { TableAccount };
 
     ghost use Rattle.link_server.specs.TableParts.{table_seen, IsTable};
 
@@ -109,8 +109,8 @@ impl Table {
 
     // The channel's row, if one is held.
     pub(crate) fn row_of(&self, chan: ChanNo) -> Option<&ServedRow>
-        ensures none { IfNone result (find (is_kept_of chan) self.now.rows ≡ None) }
-        ensures some { IfSome result (λ row. find (is_kept_of chan) self.now.rows ≡ Some (row_in row.now)) }
+        ensures none { IfNone result (find (is_account_of chan) self.now.rows ≡ None) }
+        ensures some { IfSome result (λ row. find (is_account_of chan) self.now.rows ≡ Some (row_in row.now)) }
         ensures counted { (here : List Arrival) → AreCounted here self.now.rows self.now.departed → IfSome result (λ row. IsCounted here (row_in row.now) row.now.departed) }
         ensures within { IfSome result (λ row. IsWithinLevels (length self.now.server.bounds) row.now) }
     {
@@ -120,7 +120,7 @@ impl Table {
 
     // The channel's row, if one is held and this is its first hop, or else a later one.
     pub(crate) fn row_at_hop(&self, chan: ChanNo, first: bool) -> Option<&ServedRow>
-        ensures none { IfNone result (find (is_kept_at_hop chan first) self.now.rows ≡ None) }
+        ensures none { IfNone result (find (is_account_at_hop chan first) self.now.rows ≡ None) }
         ensures some { IfSome result (λ row. IsRowAtHop chan first self.now.rows (row_in row.now)) }
     {
         let row = &self.rows[key_of(&self.rows, &self.index, chan)?];
@@ -142,10 +142,10 @@ impl Table {
     // The best level of a new contract, or why there is none.
     pub(crate) fn best(&self, contract: &Contract) -> Result<Level, NoLevel>
         ensures level { MatchResult result
-            (λ level. best_level self.now.server (map admitted (map kept_terms self.now.rows)) contract.now ≡ Some (level_number level))
-            (λ _. best_level self.now.server (map admitted (map kept_terms self.now.rows)) contract.now ≡ None) }
+            (λ level. best_level self.now.server (map admitted (map account_terms self.now.rows)) contract.now ≡ Some (level_number level))
+            (λ _. best_level self.now.server (map admitted (map account_terms self.now.rows)) contract.now ≡ None) }
         ensures within { IfOk result (λ level. level_number level ≤ length self.now.server.bounds) }
-        ensures sum { IfErr result (λ none. none.sum ≡ refused_sum self.now.server (map admitted (map kept_terms self.now.rows)) contract.now) }
+        ensures sum { IfErr result (λ none. none.sum ≡ refused_sum self.now.server (map admitted (map account_terms self.now.rows)) contract.now) }
         ensures bound { IfErr result (λ none. none.bound ≡ last_bound self.now.server.bounds) }
     {
         self.sums.best(contract)
@@ -153,7 +153,7 @@ impl Table {
 
     // The units of the buffer that no row keeps.
     pub(crate) fn free(&self) -> u64
-        ensures { result ≡ self.now.buffer - total (kept_units self.now.server.bounds) (map kept_terms self.now.rows) }
+        ensures { result ≡ self.now.buffer - total (held_units self.now.server.bounds) (map account_terms self.now.rows) }
     {
         self.keeping.budget.free()
     }
@@ -195,7 +195,7 @@ impl Table {
         requires level { level_number level ≤ length self.old.server.bounds }
         requires bound { up_bound ≤ most_bound }
         requires may { HasRow (MayCommit self.old.server.bounds level up_bound) chan self.old.rows }
-        ensures { self.new ≡ record self.old { rows = change_first (is_kept_of chan) (kept_relaxed level up_bound) self.old.rows } }
+        ensures { self.new ≡ record self.old { rows = change_first (is_account_of chan) (account_relaxed level up_bound) self.old.rows } }
     {
         let key = held_key(&self.rows, &self.index, chan);
         let row = &mut self.rows[key];
@@ -208,7 +208,7 @@ impl Table {
     // Takes the channel's row out.
     pub(crate) fn remove(&mut self, chan: ChanNo)
         requires held { HasRow (λ row. Unit {0}) chan self.old.rows }
-        ensures rows { self.new ≡ record self.old { rows = without_first (is_kept_of chan) self.old.rows; departed = self.new.departed } }
+        ensures rows { self.new ≡ record self.old { rows = without_first (is_account_of chan) self.old.rows; departed = self.new.departed } }
         ensures counted { (here : List Arrival) → AreCounted here self.old.rows self.old.departed → AreCounted here self.new.rows self.new.departed }
     {
         let key = held_key(&self.rows, &self.index, chan);
@@ -225,7 +225,7 @@ impl Table {
     pub(crate) fn plan(&mut self, chan: ChanNo, planned: Planned)
         requires looked { self.old.looked ≤ planned.tick }
         requires may { HasRow MayPlan chan self.old.rows }
-        ensures { self.new ≡ record self.old { rows = change_first (is_kept_of chan) (kept_planned planned.tick planned.count planned.gap planned.size) self.old.rows } }
+        ensures { self.new ≡ record self.old { rows = change_first (is_account_of chan) (account_planned planned.tick planned.count planned.gap planned.size) self.old.rows } }
     {
         let key = held_key(&self.rows, &self.index, chan);
         let row = &mut self.rows[key];
@@ -237,7 +237,7 @@ impl Table {
     pub(crate) fn close(&mut self, chan: ChanNo, count: u64, clock: u64)
         requires looked { self.old.looked ≤ clock }
         requires may { HasRow MayClose chan self.old.rows }
-        ensures { self.new ≡ record self.old { rows = change_first (is_kept_of chan) (kept_closed count) self.old.rows; looked = clock } }
+        ensures { self.new ≡ record self.old { rows = change_first (is_account_of chan) (account_closed count) self.old.rows; looked = clock } }
     {
         let key = held_key(&self.rows, &self.index, chan);
         let row = &mut self.rows[key];
@@ -254,8 +254,8 @@ impl Table {
         requires size { 1 ≤ packet.now.size }
         requires due { packet.now.due < 2 ^ 62 }
         requires may { HasRow (MayTake clock number packet.now) packet.now.chan self.old.rows }
-        ensures packet { IfSome (find (is_kept_of packet.now.chan) self.old.rows) (λ row. arrival_in result ≡ kept_arrived clock number packet.now row) }
-        ensures table { self.new ≡ record self.old { rows = change_first (is_kept_of packet.now.chan) (kept_arrived_row clock number packet.now) self.old.rows; looked = clock } }
+        ensures packet { IfSome (find (is_account_of packet.now.chan) self.old.rows) (λ row. arrival_in result ≡ account_arrived clock number packet.now row) }
+        ensures table { self.new ≡ record self.old { rows = change_first (is_account_of packet.now.chan) (account_arrived_row clock number packet.now) self.old.rows; looked = clock } }
     {
         let key = held_key(&self.rows, &self.index, packet.chan);
         let row = &mut self.rows[key];
@@ -269,7 +269,7 @@ impl Table {
     pub(crate) fn expire(&mut self, clock: u64)
         requires looked { self.old.looked ≤ clock }
         requires ready { Each (IsReady clock) self.old.rows }
-        ensures rows { self.new ≡ record self.old { rows = filter (kept_stays self.old.server.bounds clock) self.old.rows; departed = self.new.departed; looked = clock } }
+        ensures rows { self.new ≡ record self.old { rows = filter (account_stays self.old.server.bounds clock) self.old.rows; departed = self.new.departed; looked = clock } }
         ensures counted { (here : List Arrival) → AreCounted here self.old.rows self.old.departed → AreCounted here self.new.rows self.new.departed }
     {
         self.looked = clock;
@@ -290,8 +290,8 @@ impl Table {
         requires looked { self.old.looked ≤ clock }
         requires may { MayBring self.old.server.bounds clock queue.old self.old.rows }
         requires counted { AreCounted queue.old.here self.old.rows self.old.departed }
-        ensures lost { result ≡ kept_lost self.old.server.bounds queue.old.here clock self.old.rows }
-        ensures table { self.new ≡ record self.old { rows = kept_rows_after self.old.server.bounds queue.old.here clock queue.old.taken self.old.rows; looked = clock } }
+        ensures lost { result ≡ account_dropped self.old.server.bounds queue.old.here clock self.old.rows }
+        ensures table { self.new ≡ record self.old { rows = account_rows_after self.old.server.bounds queue.old.here clock queue.old.taken self.old.rows; looked = clock } }
         ensures queue { queue.new ≡ queue_after self.old.server.bounds clock self.old.rows queue.new.looked queue.old }
         ensures queue_looked { queue.new.looked ≤ clock }
     {

@@ -1,9 +1,9 @@
 //! The tick of a link: its parts in their order, or none of them where nothing falls due.
 ghost use Rattle.std.specs.Prelude.{◌≡◌, ◌^◌, ◌<◌, suc, IfOk, IsOk};
 ghost use Rattle.link_steps.specs.declared.asks.Ask.TheVariants.{Tick as AskTick};
-ghost use Rattle.link_steps.specs.Account.{kept_reply, kept_after};
+ghost use Rattle.link_steps.specs.Account.{account_reply, account_after};
 ghost use Rattle.link_steps.specs.Split.{whole};
-ghost use Rattle.link_server.specs.State.{kept_in};
+ghost use Rattle.link_server.specs.State.{account_in};
 
 mod resting;
 
@@ -19,8 +19,8 @@ impl LinkState {
         ensures made { IsOk result }
         ensures shape { self.new.shape ≡ self.old.shape }
         ensures clock { self.new.clock ≡ suc self.old.clock }
-        ensures reply { IfOk result (λ reply. reply ≡ kept_reply (whole self.old.shape) (kept_in self.old) AskTick) }
-        ensures kept { IfOk result (λ reply. kept_in self.new ≡ kept_after self.old.shape (kept_in self.old) AskTick reply) }
+        ensures reply { IfOk result (λ reply. reply ≡ account_reply (whole self.old.shape) (account_in self.old) AskTick) }
+        ensures kept { IfOk result (λ reply. account_in self.new ≡ account_after self.old.shape (account_in self.old) AskTick reply) }
     {
         if self.clock < self.due {
             return Ok(self.rest_once());
@@ -37,8 +37,8 @@ impl LinkState {
         ensures made { IsOk result }
         ensures shape { self.new.shape ≡ self.old.shape }
         ensures clock { self.new.clock ≡ suc self.old.clock }
-        ensures reply { IfOk result (λ reply. reply ≡ kept_reply (whole self.old.shape) (kept_in self.old) AskTick) }
-        ensures kept { IfOk result (λ reply. kept_in self.new ≡ kept_after self.old.shape (kept_in self.old) AskTick reply) }
+        ensures reply { IfOk result (λ reply. reply ≡ account_reply (whole self.old.shape) (account_in self.old) AskTick) }
+        ensures kept { IfOk result (λ reply. account_in self.new ≡ account_after self.old.shape (account_in self.old) AskTick reply) }
     {
         let clock = self.clock;
         let shape = self.shape;

@@ -17,7 +17,7 @@ use Rattle.link_steps.specs.declared.shape.LinkShape.{LinkShape}
 use Rattle.link_steps.specs.Split.{Link}
 use Rattle.link_steps.specs.Buffer.{held_packets}
 use Rattle.link_steps.specs.Hold.{stays}
-use Rattle.link_steps.specs.Account.{HasContract, HasContracts, StandsFor, nothing_kept, Account, AccountRow, kept_row, start_on, new_kept, with_kept_rows, kept_at, kept_of, kept_terms, held_rows, brought, present, occupies, kept_lost, kept_rows_after, kept_after_tick, kept_tick_reply, is_kept_of, is_kept_at_hop, kept_submit, kept_release, kept_arrive, kept_reply, kept_relaxed, kept_planned, kept_closed, kept_arrived_row, kept_arrived, kept_with_arrival, kept_after, from_sources, kept_best, kept_waiting, waits_here}
+use Rattle.link_steps.specs.Account.{HasContract, HasContracts, StandsFor, empty_account, Account, AccountRow, account_row, start_on, new_account, with_account_rows, account_at, account_of, account_terms, held_rows, brought, present, occupies, account_dropped, account_rows_after, account_after_tick, account_tick_reply, is_account_of, is_account_at_hop, account_submit, account_release, account_arrive, account_reply, account_relaxed, account_planned, account_closed, account_arrived_row, account_arrived, account_with_arrival, account_after, from_sources, account_best, account_waiting, waits_here}
 use Rattle.link_steps.specs.Lists.{Each}
 use Rattle.link_steps.specs.Replies.{submit_to, release_to, arrive_to, arrive_reply, tick_reply, reply_at, reply_to}
 use Rattle.link_steps.specs.Reservation.{Reservation, tentative}
@@ -85,8 +85,8 @@ sources_in shape t scan = source_packets shape.bounds (here_at shape.rate scan.p
 abbrev new_in : LinkShape → ℕ → Scan → List Arrival
 new_in shape t scan = sources_in shape t scan ++ best_packet (best_step_at shape t scan) shape.bounds (suc (length scan.packets + length (sources_in shape t scan))) t
 
-sources-tick : (shape : LinkShape) (t : ℕ) (scan : Scan) → HaveContracts scan → from_sources shape (kept_at shape t scan) ≡ sources_in shape t scan
-unfolding kept_at
+sources-tick : (shape : LinkShape) (t : ℕ) (scan : Scan) → HaveContracts scan → from_sources shape (account_at shape t scan) ≡ sources_in shape t scan
+unfolding account_at
 sources-tick shape t scan each =
     rw (held-kept shape.bounds t scan.rows each)
     (packets-kept shape.bounds (here_at shape.rate scan.packets t) t (length scan.packets) (held_in shape t scan) (Each-filter RowHasContract (stays shape.bounds t) scan.rows each))
@@ -95,16 +95,16 @@ sources-tick shape t scan each =
 find-planned : (t : ℕ) (plan : List SourcePacket) → find (is_for t) (left_at t plan) ≡ find (is_for t) plan
 find-planned t plan = find-filter (is_for t) (is_from t) (λ p now. (let e = eqb-true p.tick t now in le-leb t p.tick (omega (arith, e)))) plan
 
-best-tick : (shape : LinkShape) (t : ℕ) (scan : Scan) → kept_best shape (kept_at shape t scan) ≡ best_step_at shape t scan
-unfolding kept_at kept_best best_step_at best_step kept_waiting
+best-tick : (shape : LinkShape) (t : ℕ) (scan : Scan) → account_best shape (account_at shape t scan) ≡ best_step_at shape t scan
+unfolding account_at account_best best_step_at best_step account_waiting
 best-tick shape t scan =
     ap (λ found. source_step (nat_lt (length (filter (waits_here shape.bounds (start_on shape.rate (starts_below shape.rate scan.packets t) t)) (here_at shape.rate scan.packets t))) shape.best) found) (find-planned t scan.best_plan)
     ∙ ap (λ n. source_step (nat_lt n shape.best) (find (is_for t) scan.best_plan)) (sym (waiting-kept shape.bounds shape.rate t scan.packets))
 
-brought-tick : (shape : LinkShape) (t : ℕ) (scan : Scan) → HaveContracts scan → brought shape (kept_at shape t scan) ≡ new_in shape t scan
+brought-tick : (shape : LinkShape) (t : ℕ) (scan : Scan) → HaveContracts scan → brought shape (account_at shape t scan) ≡ new_in shape t scan
 brought-tick shape t scan each =
-    ap (λ all. all ++ best_packet (kept_best shape (kept_at shape t scan)) shape.bounds (suc ((kept_at shape t scan).taken + length all)) (kept_at shape t scan).clock) (sources-tick shape t scan each)
-    ∙ (unfold kept_at in ap (λ step. sources_in shape t scan ++ best_packet step shape.bounds (suc (length scan.packets + length (sources_in shape t scan))) t) (best-tick shape t scan))
+    ap (λ all. all ++ best_packet (account_best shape (account_at shape t scan)) shape.bounds (suc ((account_at shape t scan).taken + length all)) (account_at shape t scan).clock) (sources-tick shape t scan each)
+    ∙ (unfold account_at in ap (λ step. sources_in shape t scan ++ best_packet step shape.bounds (suc (length scan.packets + length (sources_in shape t scan))) t) (best-tick shape t scan))
 
 packets-tick : (shape : LinkShape) (t : ℕ) (scan : Scan) → (after_tick shape t scan).packets ≡ scan.packets ++ new_in shape t scan
 unfolding after_tick with_best with_sources without_expired
@@ -113,32 +113,32 @@ packets-tick shape t scan =
     ∙ append_assoc scan.packets (sources_in shape t scan) (best_packet (best_step_at shape t scan) shape.bounds (suc (length scan.packets + length (sources_in shape t scan))) t)
 
 -- the starts after the tick show what the account says of it
-shows-after : (shape : LinkShape) (t : ℕ) (scan : Scan) → HaveContracts scan → IsNumbered scan → ShowsTick shape t (after_tick shape t scan).packets (present shape (kept_at shape t scan)) (occupies shape (kept_at shape t scan)) (starts_below shape.rate (after_tick shape t scan).packets (suc t))
+shows-after : (shape : LinkShape) (t : ℕ) (scan : Scan) → HaveContracts scan → IsNumbered scan → ShowsTick shape t (after_tick shape t scan).packets (present shape (account_at shape t scan)) (occupies shape (account_at shape t scan)) (starts_below shape.rate (after_tick shape t scan).packets (suc t))
 shows-after shape t scan each numbered =
     rw (brought-tick shape t scan each, packets-tick shape t scan)
-    (unfold kept_at in
+    (unfold account_at in
     shows-tick-append shape t (length scan.packets) scan.packets (new_in shape t scan) numbered
     (Each-append (IsAbove (length scan.packets)) (sources_in shape t scan) _ (source_packets-above shape.bounds (here_at shape.rate scan.packets t) t (length scan.packets) (held_in shape t scan)) (best-above shape.bounds t (length scan.packets) _ (best_step_at shape t scan) (omega arith)))
     (Each-append (IsFrom t) (sources_in shape t scan) _ (source_packets-from shape.bounds (here_at shape.rate scan.packets t) t (length scan.packets) (held_in shape t scan)) (best-from shape.bounds t _ (best_step_at shape t scan))))
 
-lost-tick : (shape : LinkShape) (t : ℕ) (scan : Scan) → HaveContracts scan → dropped_in shape.bounds (here_at shape.rate scan.packets t) t (without_expired shape.bounds t scan).rows ≡ kept_lost shape.bounds (kept_at shape t scan).here (kept_at shape t scan).clock (held_rows shape (kept_at shape t scan))
-unfolding kept_at without_expired
+lost-tick : (shape : LinkShape) (t : ℕ) (scan : Scan) → HaveContracts scan → dropped_in shape.bounds (here_at shape.rate scan.packets t) t (without_expired shape.bounds t scan).rows ≡ account_dropped shape.bounds (account_at shape t scan).here (account_at shape t scan).clock (held_rows shape (account_at shape t scan))
+unfolding account_at without_expired
 lost-tick shape t scan each =
     rw (held-kept shape.bounds t scan.rows each) (sym (lost-kept shape.bounds (here_at shape.rate scan.packets t) t (held_in shape t scan)))
 
 -- the parts of the account after the tick, and the reply
-taken-tick : (shape : LinkShape) (t : ℕ) (scan : Scan) → HaveContracts scan → (kept_at shape (suc t) (after_tick shape t scan)).taken ≡ (kept_at shape t scan).taken + length (brought shape (kept_at shape t scan))
-unfolding kept_at
+taken-tick : (shape : LinkShape) (t : ℕ) (scan : Scan) → HaveContracts scan → (account_at shape (suc t) (after_tick shape t scan)).taken ≡ (account_at shape t scan).taken + length (brought shape (account_at shape t scan))
+unfolding account_at
 taken-tick shape t scan each = ap length (packets-tick shape t scan) ∙ length-append scan.packets (new_in shape t scan) ∙ ap (λ all. length scan.packets + length all) (sym (brought-tick shape t scan each))
 
-rows-tick : (shape : LinkShape) (t : ℕ) (scan : Scan) → HaveContracts scan → (kept_at shape (suc t) (after_tick shape t scan)).rows ≡ kept_rows_after shape.bounds (kept_at shape t scan).here (kept_at shape t scan).clock (kept_at shape t scan).taken (held_rows shape (kept_at shape t scan))
-unfolding kept_at after_tick with_best with_sources without_expired
+rows-tick : (shape : LinkShape) (t : ℕ) (scan : Scan) → HaveContracts scan → (account_at shape (suc t) (after_tick shape t scan)).rows ≡ account_rows_after shape.bounds (account_at shape t scan).here (account_at shape t scan).clock (account_at shape t scan).taken (held_rows shape (account_at shape t scan))
+unfolding account_at after_tick with_best with_sources without_expired
 rows-tick shape t scan each =
     rw (held-kept shape.bounds t scan.rows each)
     (sym (rows-kept shape.bounds (here_at shape.rate scan.packets t) t (length scan.packets) (held_in shape t scan) (Each-filter RowHasContract (stays shape.bounds t) scan.rows each)))
 
-reply-tick : (shape : LinkShape) (t : ℕ) (scan : Scan) → HaveContracts scan → IsNumbered scan → tick_reply shape t scan ≡ kept_tick_reply shape (kept_at shape t scan)
-unfolding kept_tick_reply kept_at
+reply-tick : (shape : LinkShape) (t : ℕ) (scan : Scan) → HaveContracts scan → IsNumbered scan → tick_reply shape t scan ≡ account_tick_reply shape (account_at shape t scan)
+unfolding account_tick_reply account_at
 reply-tick shape t scan each numbered =
     let shows = shows-after shape t scan each numbered in
     same-ticked t _ _ _ _ _ _ _ _ (lost-tick shape t scan each) shows.departure shows.best_departure (ap (λ step. nat_eq (dropped_by step) 1) (sym (best-tick shape t scan))) where
@@ -150,43 +150,43 @@ pub same-kept : (k other : Account) → k.clock ≡ other.clock → k.taken ≡ 
 same-kept k other clock taken rows here on left = λ i. record { clock = clock i; taken = taken i; rows = rows i; here = here i; on = on i; best_left = left i }
 
 -- so the account of the scan after the tick is the one that the account goes on to
-after-tick : (shape : LinkShape) (t : ℕ) (scan : Scan) → HaveContracts scan → IsNumbered scan → kept_at shape (suc t) (after_tick shape t scan) ≡ kept_after_tick shape (kept_at shape t scan)
-unfolding kept_at kept_after_tick here_at after_tick with_best with_sources without_expired
+after-tick : (shape : LinkShape) (t : ℕ) (scan : Scan) → HaveContracts scan → IsNumbered scan → account_at shape (suc t) (after_tick shape t scan) ≡ account_after_tick shape (account_at shape t scan)
+unfolding account_at account_after_tick here_at after_tick with_best with_sources without_expired
 after-tick shape t scan each numbered =
     let shows = shows-after shape t scan each numbered in
-    same-kept (kept_at shape (suc t) (after_tick shape t scan)) (kept_after_tick shape (kept_at shape t scan))
+    same-kept (account_at shape (suc t) (after_tick shape t scan)) (account_after_tick shape (account_at shape t scan))
     refl (taken-tick shape t scan each) (rows-tick shape t scan each) shows.next_here shows.next_on (sym (left-left t (suc t) scan.best_plan (omega arith)))
 
 -- ---- the other asks
 
 -- what the other asks find in the account is what they find in the scan
-pub terms-scanned : (t : ℕ) (rows : List Row) → map kept_terms (map (kept_row t) rows) ≡ map row_terms rows
+pub terms-scanned : (t : ℕ) (rows : List Row) → map account_terms (map (account_row t) rows) ≡ map row_terms rows
 terms-scanned t [] = refl
 terms-scanned t (row ∷ rows) = ap (λ all. row.terms ∷ all) (terms-scanned t rows)
 
-find-kept : (t : ℕ) (chan : ChanNo) (rows : List Row) → find (is_kept_of chan) (map (kept_row t) rows) ≡ option_map (kept_row t) (find (is_row_of chan) rows)
-find-kept t chan rows = find-map (kept_row t) (is_row_of chan) (is_kept_of chan) (λ row. refl) rows
+find-kept : (t : ℕ) (chan : ChanNo) (rows : List Row) → find (is_account_of chan) (map (account_row t) rows) ≡ option_map (account_row t) (find (is_row_of chan) rows)
+find-kept t chan rows = find-map (account_row t) (is_row_of chan) (is_account_of chan) (λ row. refl) rows
 
-find-kept-hop : (t : ℕ) (chan : ChanNo) (first : Bool) (rows : List Row) → find (is_kept_at_hop chan first) (map (kept_row t) rows) ≡ option_map (kept_row t) (find (is_row_at_hop chan first) rows)
-find-kept-hop t chan first rows = find-map (kept_row t) (is_row_at_hop chan first) (is_kept_at_hop chan first) (λ row. refl) rows
+find-kept-hop : (t : ℕ) (chan : ChanNo) (first : Bool) (rows : List Row) → find (is_account_at_hop chan first) (map (account_row t) rows) ≡ option_map (account_row t) (find (is_row_at_hop chan first) rows)
+find-kept-hop t chan first rows = find-map (account_row t) (is_row_at_hop chan first) (is_account_at_hop chan first) (λ row. refl) rows
 
-submit-kept : (t size : ℕ) (found : Option Row) → submit_to t size found ≡ kept_submit t size (option_map (kept_row t) found)
+submit-kept : (t size : ℕ) (found : Option Row) → submit_to t size found ≡ account_submit t size (option_map (account_row t) found)
 submit-kept t size None = refl
 submit-kept t size (Some row) = refl
 
-release-kept : (t : ℕ) (upstream : Option ℕ) (found : Option Row) → release_to t upstream found ≡ kept_release upstream (option_map (kept_row t) found)
+release-kept : (t : ℕ) (upstream : Option ℕ) (found : Option Row) → release_to t upstream found ≡ account_release upstream (option_map (account_row t) found)
 release-kept t upstream None = refl
 release-kept t upstream (Some row) = refl
 
-arrive-kept : (shape : LinkShape) (t : ℕ) (packets : List Arrival) (packet : Packet) (found : Option Row) → ((row : Row) → found ≡ Some row → RowHasContract row) → arrive_to shape t packets packet found ≡ kept_arrive shape t (here_at shape.rate packets t) packet (option_map (kept_row t) found)
+arrive-kept : (shape : LinkShape) (t : ℕ) (packets : List Arrival) (packet : Packet) (found : Option Row) → ((row : Row) → found ≡ Some row → RowHasContract row) → arrive_to shape t packets packet found ≡ account_arrive shape t (here_at shape.rate packets t) packet (option_map (account_row t) found)
 arrive-kept shape t packets packet None each = refl
 arrive-kept shape t packets packet (Some row) each =
     ap (λ e. arrive_reply shape.bounds t packet row.terms (length row.ticks) (held_packets row.lead (here_at shape.rate packets t)) e)
     (sym (eligible-recent row.terms row.ticks t packet.due (each row refl)))
 
 -- the reply of the scan is that of the account
-reply-at : (link : Link) (t : ℕ) (scan : Scan) (ask : Ask) → HaveContracts scan → IsNumbered scan → reply_at link t scan ask ≡ kept_reply link (kept_at link.shape t scan) ask
-unfolding reply_at kept_reply kept_at
+reply-at : (link : Link) (t : ℕ) (scan : Scan) (ask : Ask) → HaveContracts scan → IsNumbered scan → reply_at link t scan ask ≡ account_reply link (account_at link.shape t scan) ask
+unfolding reply_at account_reply account_at
 reply-at link t scan (Reserve chan contract kind delay up_reach first next) each numbered = rw (terms-scanned t scan.rows) refl
 reply-at link t scan (Relax chan level up_bound) each numbered = rw (terms-scanned t scan.rows) refl
 reply-at link t scan (Deny chan) each numbered = rw (terms-scanned t scan.rows) refl
@@ -202,22 +202,22 @@ reply-at link t scan (Pour count gap size) each numbered = refl
 -- ---- the account goes on
 
 -- a row that takes a packet that arrives, as it is kept
-arrived-kept : (t place : ℕ) (packet : Packet) (row : Row) → RowHasContract row → kept_arrived_row t place packet (kept_row t row) ≡ kept_row t (arrived_row t place packet row)
+arrived-kept : (t place : ℕ) (packet : Packet) (row : Row) → RowHasContract row → account_arrived_row t place packet (account_row t row) ≡ account_row t (arrived_row t place packet row)
 arrived-kept t place packet row is =
     rw (eligible-recent row.terms row.ticks t packet.due is) (kept-packet t place (arrived_tick t packet row) row)
 
 -- the account with a packet that arrives
-arrival-kept : (shape : LinkShape) (t : ℕ) (packet : Packet) (scan : Scan) (found : Option Row) → ((row : Row) → found ≡ Some row → RowHasContract row) → HaveContracts scan → IsNumbered scan → kept_at shape t (with_arrival t packet scan found) ≡ kept_with_arrival packet (kept_at shape t scan) (option_map (kept_row t) found)
-unfolding with_arrival kept_with_arrival kept_at
+arrival-kept : (shape : LinkShape) (t : ℕ) (packet : Packet) (scan : Scan) (found : Option Row) → ((row : Row) → found ≡ Some row → RowHasContract row) → HaveContracts scan → IsNumbered scan → account_at shape t (with_arrival t packet scan found) ≡ account_with_arrival packet (account_at shape t scan) (option_map (account_row t) found)
+unfolding with_arrival account_with_arrival account_at
 arrival-kept shape t packet scan None one each numbered = refl
 arrival-kept shape t packet scan (Some row) one each numbered =
     let later : t ≤ arrived_tick t packet row = eligible-from row.terms row.ticks t packet.due in
-    let same : arrived_packet t (suc (length scan.packets)) packet row ≡ kept_arrived t (suc (length scan.packets)) packet (kept_row t row) =
+    let same : arrived_packet t (suc (length scan.packets)) packet row ≡ account_arrived t (suc (length scan.packets)) packet (account_row t row) =
     rw (eligible-recent row.terms row.ticks t packet.due (one row refl)) refl in
-    same-kept (kept_at shape t (with_arrival t packet scan (Some row))) (kept_with_arrival packet (kept_at shape t scan) (Some (kept_row t row)))
+    same-kept (account_at shape t (with_arrival t packet scan (Some row))) (account_with_arrival packet (account_at shape t scan) (Some (account_row t row)))
     refl
     (length_push scan.packets (arrived_packet t (suc (length scan.packets)) packet row) ∙ add-one (length scan.packets))
-    (map-change_first RowHasContract (kept_row t) (is_row_of packet.chan) (is_kept_of packet.chan) (arrived_row t (suc (length scan.packets)) packet) (kept_arrived_row t (suc (length scan.packets)) packet)
+    (map-change_first RowHasContract (account_row t) (is_row_of packet.chan) (is_account_of packet.chan) (arrived_row t (suc (length scan.packets)) packet) (account_arrived_row t (suc (length scan.packets)) packet)
     (λ r. refl) (arrived-kept t (suc (length scan.packets)) packet) scan.rows each)
     (here_at-append shape.rate t (length scan.packets) scan.packets (arrived_packet t (suc (length scan.packets)) packet row ∷ []) numbered (omega arith, tt) (later, tt)
     ∙ ap (λ p. here_at shape.rate scan.packets t ++ p ∷ []) same)
@@ -225,73 +225,73 @@ arrival-kept shape t packet scan (Some row) one each numbered =
     refl
 
 -- a change of the rows alone
-rows-kept-at : (shape : LinkShape) (t : ℕ) (scan : Scan) (rows : List Row) (kept : List AccountRow) → map (kept_row t) rows ≡ kept → kept_at shape t (with_rows scan rows) ≡ with_kept_rows (kept_at shape t scan) kept
-unfolding kept_at
-rows-kept-at shape t scan rows kept same = ap (λ all. with_kept_rows (kept_at shape t scan) all) same
+rows-kept-at : (shape : LinkShape) (t : ℕ) (scan : Scan) (rows : List Row) (kept : List AccountRow) → map (account_row t) rows ≡ kept → account_at shape t (with_rows scan rows) ≡ with_account_rows (account_at shape t scan) kept
+unfolding account_at
+rows-kept-at shape t scan rows kept same = ap (λ all. with_account_rows (account_at shape t scan) all) same
 
-new-kept : (t : ℕ) (terms : Reservation) → kept_row t (new_row terms) ≡ new_kept terms
+new-kept : (t : ℕ) (terms : Reservation) → account_row t (new_row terms) ≡ new_account terms
 new-kept t terms = rw (take-nil {A = ℕ} (burst_of terms.contract)) refl
 
-planned-kept : (t count gap size : ℕ) (row : Row) → RowHasContract row → kept_planned t count gap size (kept_row t row) ≡ kept_row t (plan_row t count gap size row)
+planned-kept : (t count gap size : ℕ) (row : Row) → RowHasContract row → account_planned t count gap size (account_row t row) ≡ account_row t (plan_row t count gap size row)
 planned-kept t count gap size row is = rw (left-planned t count gap size row.plan) refl
 
-closed-kept : (t count : ℕ) (row : Row) → RowHasContract row → kept_closed count (kept_row t row) ≡ kept_row t (close_row t count row)
+closed-kept : (t count : ℕ) (row : Row) → RowHasContract row → account_closed count (account_row t row) ≡ account_row t (close_row t count row)
 closed-kept t count row is = rw (left-cancelled t row.plan) refl
 
 -- the account after an entry, from the account before
-after-at : (shape : LinkShape) (t : ℕ) (scan : Scan) (ask : Ask) (reply : Reply) → HaveContracts scan → IsNumbered scan → kept_at shape (clock_with ask t) (after shape t scan ask reply) ≡ kept_after shape (kept_at shape t scan) ask reply
-unfolding after kept_after kept_at
+after-at : (shape : LinkShape) (t : ℕ) (scan : Scan) (ask : Ask) (reply : Reply) → HaveContracts scan → IsNumbered scan → account_at shape (clock_with ask t) (after shape t scan ask reply) ≡ account_after shape (account_at shape t scan) ask reply
+unfolding after account_after account_at
 after-at shape t scan (Reserve chan contract kind delay up_reach first next) (Is.Offer level reach) each numbered =
     let row : Row = new_row (tentative chan contract kind first next up_reach level reach) in
-    rows-kept-at shape t scan (scan.rows ++ row ∷ []) _ (map-append (kept_row t) scan.rows (row ∷ []) ∙ ap (λ k. map (kept_row t) scan.rows ++ k ∷ []) (new-kept t row.terms))
+    rows-kept-at shape t scan (scan.rows ++ row ∷ []) _ (map-append (account_row t) scan.rows (row ∷ []) ∙ ap (λ k. map (account_row t) scan.rows ++ k ∷ []) (new-kept t row.terms))
 after-at shape t scan (Relax chan level up_bound) (Is.Relaxed clock) each numbered =
     rows-kept-at shape t scan _ _
-    (map-change_first RowHasContract (kept_row t) (is_row_of chan) (is_kept_of chan) (relax_row level up_bound) (kept_relaxed level up_bound) (λ row. refl) (λ row is. refl) scan.rows each)
+    (map-change_first RowHasContract (account_row t) (is_row_of chan) (is_account_of chan) (relax_row level up_bound) (account_relaxed level up_bound) (λ row. refl) (λ row is. refl) scan.rows each)
 after-at shape t scan (Deny chan) Is.Denied each numbered =
-    rows-kept-at shape t scan _ _ (map-without_first (kept_row t) (is_row_of chan) (is_kept_of chan) (λ row. refl) scan.rows)
+    rows-kept-at shape t scan _ _ (map-without_first (account_row t) (is_row_of chan) (is_account_of chan) (λ row. refl) scan.rows)
 after-at shape t scan (Submit chan count gap size) (Is.Planned clock) each numbered =
     rows-kept-at shape t scan _ _
-    (map-change_first RowHasContract (kept_row t) (is_row_at_hop chan true) (is_kept_at_hop chan true) (plan_row t count gap size) (kept_planned t count gap size) (λ row. refl) (planned-kept t count gap size) scan.rows each)
+    (map-change_first RowHasContract (account_row t) (is_row_at_hop chan true) (is_account_at_hop chan true) (plan_row t count gap size) (account_planned t count gap size) (λ row. refl) (planned-kept t count gap size) scan.rows each)
 after-at shape t scan (Release chan upstream) (Is.Closing count cancelled) each numbered =
     rows-kept-at shape t scan _ _
-    (map-change_first RowHasContract (kept_row t) (is_row_at_hop chan (names_first_hop upstream)) (is_kept_at_hop chan (names_first_hop upstream)) (close_row t count) (kept_closed count) (λ row. refl) (closed-kept t count) scan.rows each)
+    (map-change_first RowHasContract (account_row t) (is_row_at_hop chan (names_first_hop upstream)) (is_account_at_hop chan (names_first_hop upstream)) (close_row t count) (account_closed count) (λ row. refl) (closed-kept t count) scan.rows each)
 after-at shape t scan (Arrive packet) (Is.Taken clock eligible) each numbered =
     arrival-kept shape t packet scan (find (is_row_of packet.chan) scan.rows) (λ row found. Each-find RowHasContract (is_row_of packet.chan) scan.rows row each found) each numbered
-    ∙ ap (λ found. kept_with_arrival packet (kept_at shape t scan) found) (sym (find-kept t packet.chan scan.rows))
+    ∙ ap (λ found. account_with_arrival packet (account_at shape t scan) found) (sym (find-kept t packet.chan scan.rows))
 after-at shape t scan Tick reply each numbered = after-tick shape t scan each numbered
-after-at shape t scan (Pour count gap size) (Is.Planned clock) each numbered = ap (λ left. record (kept_at shape t scan) { best_left = left }) (left-planned t count gap size scan.best_plan)
+after-at shape t scan (Pour count gap size) (Is.Planned clock) each numbered = ap (λ left. record (account_at shape t scan) { best_left = left }) (left-planned t count gap size scan.best_plan)
 after-at shape t scan _ _ each numbered = refl
 
 -- ---- every history
 
 -- the rows of an account have contracts where those of the scan have
-contracts-scan : (shape : LinkShape) (h : List Entry) → HasContracts (kept_of shape h) → HaveContracts (scan_of shape h)
-unfolding kept_at
-contracts-scan shape h each = Each-mapped HasContract (kept_row (clock_of h)) (scan_of shape h).rows each
+contracts-scan : (shape : LinkShape) (h : List Entry) → HasContracts (account_of shape h) → HaveContracts (scan_of shape h)
+unfolding account_at
+contracts-scan shape h each = Each-mapped HasContract (account_row (clock_of h)) (scan_of shape h).rows each
 
 -- the legal reply after a history is that of its account
-pub reply_to-account : (link : Link) (h : List Entry) (ask : Ask) → HasContracts (kept_of link.shape h) → reply_to link h ask ≡ kept_reply link (kept_of link.shape h) ask
+pub reply_to-account : (link : Link) (h : List Entry) (ask : Ask) → HasContracts (account_of link.shape h) → reply_to link h ask ≡ account_reply link (account_of link.shape h) ask
 unfolding reply_to
 reply_to-account link h ask each = reply-at link (clock_of h) (scan_of link.shape h) ask (contracts-scan link.shape h each) (scan-numbered link.shape h)
 
 -- and the account with one more entry is the next of the account before
-pub kept_of-entry : (shape : LinkShape) (h : List Entry) (e : Entry) → HasContracts (kept_of shape h) → kept_of shape (e ∷ h) ≡ kept_after shape (kept_of shape h) e.ask e.reply
+pub account_of-entry : (shape : LinkShape) (h : List Entry) (e : Entry) → HasContracts (account_of shape h) → account_of shape (e ∷ h) ≡ account_after shape (account_of shape h) e.ask e.reply
 unfolding clock_of scan_of
-kept_of-entry shape h e each = after-at shape (clock_of h) (scan_of shape h) e.ask e.reply (contracts-scan shape h each) (scan-numbered shape h)
+account_of-entry shape h e each = after-at shape (clock_of h) (scan_of shape h) e.ask e.reply (contracts-scan shape h each) (scan-numbered shape h)
 
 -- ---- what stands for a history
 
 -- a link that keeps nothing stands for no history
-pub nothing-stands : (shape : LinkShape) → StandsFor shape nothing_kept []
-unfolding kept_at clock_of scan_of here_at starts_below
+pub nothing-stands : (shape : LinkShape) → StandsFor shape empty_account []
+unfolding account_at clock_of scan_of here_at starts_below
 nothing-stands shape = refl
 
 -- a link that stands for a history gives the legal reply from what it keeps
-pub stands-reply : (link : Link) (k : Account) (h : List Entry) (ask : Ask) → HasContracts k → StandsFor link.shape k h → kept_reply link k ask ≡ reply_to link h ask
+pub stands-reply : (link : Link) (k : Account) (h : List Entry) (ask : Ask) → HasContracts k → StandsFor link.shape k h → account_reply link k ask ≡ reply_to link h ask
 stands-reply link k h ask each stands =
-    ap (λ kept. kept_reply link kept ask) stands ∙ sym (reply_to-account link h ask (subst HasContracts stands each))
+    ap (λ kept. account_reply link kept ask) stands ∙ sym (reply_to-account link h ask (subst HasContracts stands each))
 
 -- and stands for it with the entry added, once it keeps what follows
-pub stands-entry : (shape : LinkShape) (k : Account) (h : List Entry) (ask : Ask) (reply : Reply) → HasContracts k → StandsFor shape k h → StandsFor shape (kept_after shape k ask reply) (record { ask = ask; reply = reply } ∷ h)
+pub stands-entry : (shape : LinkShape) (k : Account) (h : List Entry) (ask : Ask) (reply : Reply) → HasContracts k → StandsFor shape k h → StandsFor shape (account_after shape k ask reply) (record { ask = ask; reply = reply } ∷ h)
 stands-entry shape k h ask reply each stands =
-    ap (λ kept. kept_after shape kept ask reply) stands ∙ sym (kept_of-entry shape h (record { ask = ask; reply = reply }) (subst HasContracts stands each))
+    ap (λ kept. account_after shape kept ask reply) stands ∙ sym (account_of-entry shape h (record { ask = ask; reply = reply }) (subst HasContracts stands each))

@@ -13,7 +13,7 @@ use Rattle.traffic_contract.proofs.BurstIsPositive.{burst-least}
 use Rattle.traffic_contract.proofs.LeastEligibleTick.{eligible-take, first_from-reached, newest-take, take-cons-take}
 use Rattle.link_steps.specs.Buffer.{has_slot}
 use Rattle.link_steps.specs.Hold.{stays}
-use Rattle.link_steps.specs.Account.{kept_row, kept_stays, kept_step, kept_tick, kept_packet, kept_with, past_tick, kept_after_step, kept_packets, kept_rows_after, kept_lost}
+use Rattle.link_steps.specs.Account.{account_row, account_stays, account_step, account_tick, account_packet, account_with, past_tick, account_after_step, account_packets, account_rows_after, account_dropped}
 use Rattle.link_steps.specs.Lists.{Each}
 use Rattle.link_steps.specs.Reservation.{Reservation}
 use Rattle.link_steps.specs.Service.{Arrival}
@@ -94,60 +94,60 @@ left-cancelled t plan =
 
 -- ---- one row in tick t
 
-stays-kept : (bounds : List ℕ) (t : ℕ) (row : Row) → RowHasContract row → kept_stays bounds t (kept_row t row) ≡ stays bounds t row
+stays-kept : (bounds : List ℕ) (t : ℕ) (row : Row) → RowHasContract row → account_stays bounds t (account_row t row) ≡ stays bounds t row
 stays-kept bounds t row is = rw (newest-recent row.terms.contract row.ticks is) refl
 
 -- the rows that stay held are the same ones
-pub held-kept : (bounds : List ℕ) (t : ℕ) (rows : List Row) → Each RowHasContract rows → filter (kept_stays bounds t) (map (kept_row t) rows) ≡ map (kept_row t) (filter (stays bounds t) rows)
+pub held-kept : (bounds : List ℕ) (t : ℕ) (rows : List Row) → Each RowHasContract rows → filter (account_stays bounds t) (map (account_row t) rows) ≡ map (account_row t) (filter (stays bounds t) rows)
 held-kept bounds t rows each =
-    filter-map (kept_row t) (stays bounds t) (kept_stays bounds t) rows (Each-if RowHasContract _ rows (stays-kept bounds t) each)
+    filter-map (account_row t) (stays bounds t) (account_stays bounds t) rows (Each-if RowHasContract _ rows (stays-kept bounds t) each)
 
-step-kept : (bounds : List ℕ) (here : List Arrival) (t : ℕ) (row : Row) → kept_step bounds here t (kept_row t row) ≡ step_of bounds here t row
-unfolding kept_step step_of
+step-kept : (bounds : List ℕ) (here : List Arrival) (t : ℕ) (row : Row) → account_step bounds here t (account_row t row) ≡ step_of bounds here t row
+unfolding account_step step_of
 step-kept bounds here t row =
     ap (source_step (has_slot bounds row.terms row.lead here))
     (find-filter (is_for t) (is_from t) (λ p same. le-leb t p.tick (let e = eqb-true p.tick t same in omega (arith, e))) row.plan)
 
-tick-kept : (t : ℕ) (row : Row) → RowHasContract row → kept_tick (kept_row t row) t ≡ source_tick row t
+tick-kept : (t : ℕ) (row : Row) → RowHasContract row → account_tick (account_row t row) t ≡ source_tick row t
 tick-kept t row is = eligible-recent row.terms row.ticks t 0 is
 
-packet-kept : (step : SourceStep) (t place : ℕ) (row : Row) → RowHasContract row → kept_packet step t place (kept_row t row) ≡ packet_of step t place row
+packet-kept : (step : SourceStep) (t place : ℕ) (row : Row) → RowHasContract row → account_packet step t place (account_row t row) ≡ packet_of step t place row
 packet-kept (Brings size) t place row is = rw (tick-kept t row is) refl
 packet-kept Rests t place row is = refl
 packet-kept Drops t place row is = refl
 
 -- the row with one more packet, as it is kept at t or at the tick after it
-pub kept-packet : (t place e : ℕ) (row : Row) → kept_with place e (kept_row t row) ≡ kept_row t (with_packet place e row)
+pub kept-packet : (t place e : ℕ) (row : Row) → account_with place e (account_row t row) ≡ account_row t (with_packet place e row)
 kept-packet t place e row = rw (recent-more row.terms.contract e row.ticks) refl
 
-past-kept : (t : ℕ) (row : Row) → past_tick t (kept_row t row) ≡ kept_row (suc t) row
+past-kept : (t : ℕ) (row : Row) → past_tick t (account_row t row) ≡ account_row (suc t) row
 past-kept t row = rw (left-left t (suc t) row.plan (omega arith)) refl
 
-after-kept : (step : SourceStep) (t place : ℕ) (row : Row) → RowHasContract row → kept_after_step step t place (kept_row t row) ≡ kept_row (suc t) (row_after step t place row)
+after-kept : (step : SourceStep) (t place : ℕ) (row : Row) → RowHasContract row → account_after_step step t place (account_row t row) ≡ account_row (suc t) (row_after step t place row)
 after-kept (Brings size) t place row is =
-    rw (tick-kept t row is) (ap (λ k. kept_with place (source_tick row t) k) (past-kept t row) ∙ kept-packet (suc t) place (source_tick row t) row)
+    rw (tick-kept t row is) (ap (λ k. account_with place (source_tick row t) k) (past-kept t row) ∙ kept-packet (suc t) place (source_tick row t) row)
 after-kept Rests t place row is = past-kept t row
 after-kept Drops t place row is = past-kept t row
 
 -- ---- all rows in tick t
 
 -- the account tells the packets that all sources bring, the rows afterwards, and the packets dropped
-pub packets-kept : (bounds : List ℕ) (here : List Arrival) (t taken : ℕ) (rows : List Row) → Each RowHasContract rows → kept_packets bounds here t taken (map (kept_row t) rows) ≡ source_packets bounds here t taken rows
-unfolding kept_packets source_packets
+pub packets-kept : (bounds : List ℕ) (here : List Arrival) (t taken : ℕ) (rows : List Row) → Each RowHasContract rows → account_packets bounds here t taken (map (account_row t) rows) ≡ source_packets bounds here t taken rows
+unfolding account_packets source_packets
 packets-kept bounds here t taken [] each = refl
 packets-kept bounds here t taken (row ∷ rows) each =
     rw (step-kept bounds here t row, packet-kept (step_of bounds here t row) t (suc taken) row each.0)
     (ap (λ all. packet_of (step_of bounds here t row) t (suc taken) row ++ all) (packets-kept bounds here t (taken + taken_by (step_of bounds here t row)) rows each.1))
 
-pub rows-kept : (bounds : List ℕ) (here : List Arrival) (t taken : ℕ) (rows : List Row) → Each RowHasContract rows → kept_rows_after bounds here t taken (map (kept_row t) rows) ≡ map (kept_row (suc t)) (rows_after bounds here t taken rows)
-unfolding kept_rows_after rows_after
+pub rows-kept : (bounds : List ℕ) (here : List Arrival) (t taken : ℕ) (rows : List Row) → Each RowHasContract rows → account_rows_after bounds here t taken (map (account_row t) rows) ≡ map (account_row (suc t)) (rows_after bounds here t taken rows)
+unfolding account_rows_after rows_after
 rows-kept bounds here t taken [] each = refl
 rows-kept bounds here t taken (row ∷ rows) each =
     rw (step-kept bounds here t row, after-kept (step_of bounds here t row) t (suc taken) row each.0)
-    (ap (λ all. kept_row (suc t) (row_after (step_of bounds here t row) t (suc taken) row) ∷ all) (rows-kept bounds here t (taken + taken_by (step_of bounds here t row)) rows each.1))
+    (ap (λ all. account_row (suc t) (row_after (step_of bounds here t row) t (suc taken) row) ∷ all) (rows-kept bounds here t (taken + taken_by (step_of bounds here t row)) rows each.1))
 
-pub lost-kept : (bounds : List ℕ) (here : List Arrival) (t : ℕ) (rows : List Row) → kept_lost bounds here t (map (kept_row t) rows) ≡ dropped_in bounds here t rows
-unfolding kept_lost dropped_in
+pub lost-kept : (bounds : List ℕ) (here : List Arrival) (t : ℕ) (rows : List Row) → account_dropped bounds here t (map (account_row t) rows) ≡ dropped_in bounds here t rows
+unfolding account_dropped dropped_in
 lost-kept bounds here t [] = refl
 lost-kept bounds here t (row ∷ rows) = rw (step-kept bounds here t row, lost-kept bounds here t rows) refl
 

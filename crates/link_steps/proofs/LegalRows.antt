@@ -5,7 +5,7 @@ use Rattle.link_steps.specs.declared.replies.Entry.{Entry}
 use Rattle.link_steps.specs.declared.shape.LinkShape.{LinkShape}
 use Rattle.link_steps.specs.Admissible.{IsAdmissible}
 use Rattle.link_steps.specs.Hold.{stays}
-use Rattle.link_steps.specs.Account.{HasContract, HasContracts, kept_row, kept_at, kept_of}
+use Rattle.link_steps.specs.Account.{HasContract, HasContracts, account_row, account_at, account_of}
 use Rattle.link_steps.specs.Lists.{Each}
 use Rattle.link_steps.specs.Scan.{Scan, clock_of, is_row_of, arrived_row, with_arrival, without_expired, with_sources, with_best, after_tick, scan_of}
 use Rattle.link_steps.specs.Service.{Arrival}
@@ -41,6 +41,6 @@ pub legal-contracts : (shape : LinkShape) (h : List Entry) → IsAdmissible shap
 legal-contracts shape h legal = each-admissible (λ t scan. Each RowHasContract scan.rows) shape tt (λ past effect may. effect-contracts shape (clock_of past) (scan_of shape past) effect) h legal
 
 -- and so has its account
-pub account-contracts : (shape : LinkShape) (h : List Entry) → IsAdmissible shape h → HasContracts (kept_of shape h)
-unfolding kept_at
-account-contracts shape h legal = Each-map HasContract (kept_row (clock_of h)) (scan_of shape h).rows (legal-contracts shape h legal)
+pub account-contracts : (shape : LinkShape) (h : List Entry) → IsAdmissible shape h → HasContracts (account_of shape h)
+unfolding account_at
+account-contracts shape h legal = Each-map HasContract (account_row (clock_of h)) (scan_of shape h).rows (legal-contracts shape h legal)

@@ -13,7 +13,7 @@ use Rattle.link_steps.specs.declared.shape.LinkShape.{LinkShape}
 use Rattle.link_steps.specs.Admissible.{IsAdmissible}
 use Rattle.link_steps.specs.Belonging.{own_packets, eligible_of, IsRowOf, TellsPackets, HasRow}
 use Rattle.link_steps.specs.BestEffort.{is_best}
-use Rattle.link_steps.specs.Buffer.{slots_of, kept_units, has_lead, has_slot, held_packets}
+use Rattle.link_steps.specs.Buffer.{slots_of, held_units, has_lead, has_slot, held_packets}
 use Rattle.link_steps.specs.BufferHolds.{units_of, here_after, FitsItsShare, BufferHolds, BufferAlwaysHolds}
 use Rattle.link_steps.specs.Hold.{expires, stays}
 use Rattle.link_steps.specs.HopGuarantee.{HasLeftInTime}
@@ -100,7 +100,7 @@ total-narrow bounds most (p ∷ ps) each =
     at-most false = omega arith
 
 row-share : (shape : LinkShape) (h : List Entry) (row : Row) → HasSlots shape h row → AreNarrow row (own_packets row (scan_of shape h).packets) → FitsItsShare shape h row
-unfolding here_at held_packets slots_of kept_units
+unfolding here_at held_packets slots_of held_units
 row-share shape h row slots narrow =
     let here = here_after shape h in
     let all = Each-if_passes (λ p. p.size ≤ row.terms.contract.smax) (has_lead row.lead) (scan_of shape h).packets narrow in
@@ -152,7 +152,7 @@ covered bounds rows (p ∷ ps) each =
     ]
 
 -- what each row takes is within its share
-total-shares : (shape : LinkShape) (h : List Entry) (rows : List Row) → Each (FitsItsShare shape h) rows → total (units_in shape.bounds (here_after shape h)) rows ≤ total (λ row. kept_units shape.bounds row.terms) rows
+total-shares : (shape : LinkShape) (h : List Entry) (rows : List Row) → Each (FitsItsShare shape h) rows → total (units_in shape.bounds (here_after shape h)) rows ≤ total (λ row. held_units shape.bounds row.terms) rows
 total-shares shape h [] each = omega arith
 total-shares shape h (row ∷ rows) each =
     let rest = total-shares shape h rows each.1 in
@@ -205,7 +205,7 @@ holds-now shape h legal =
     (Each-both (HasSlots shape h) (λ row. AreNarrow row (own_packets row (scan_of shape h).packets)) rows (slots-held shape h legal) narrow) in
     let here = covered shape.bounds rows (here_after shape h) (held-here shape h legal) in
     let sum = total-shares shape h rows shares in
-    let same = total-map (kept_units shape.bounds) row_terms rows in
+    let same = total-map (held_units shape.bounds) row_terms rows in
     record { kept = kept; shares = shares; here = omega (arith, here, sum, same, kept) }
 
 pub buffer-holds : BufferAlwaysHolds

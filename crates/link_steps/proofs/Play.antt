@@ -10,7 +10,7 @@ use Rattle.link_steps.specs.declared.replies.Reply.{Reply}
 use Rattle.link_steps.specs.Room.{group_work, group_units, all_from, group_admits, group_room, whole_room, room_of}
 use Rattle.link_steps.specs.Split.{Link}
 use Rattle.link_steps.specs.BestEffort.{best_step, waiting_best}
-use Rattle.link_steps.specs.Buffer.{slots_of, need_of, kept_units, free_units, held_packets}
+use Rattle.link_steps.specs.Buffer.{slots_of, need_of, held_units, free_units, held_packets}
 use Rattle.link_steps.specs.Hold.{hold_ended}
 use Rattle.link_steps.specs.Lists.{change_first, without_first}
 use Rattle.link_steps.specs.Replies.{reserve_reply, relax_reply, deny_reply, submit_reply, release_reply, arrive_reply, sent_at, best_sent_at, pour_reply, reply_at, reply_to}
@@ -44,7 +44,7 @@ replies_from-scan link past (ask ∷ asks) =
 
 -- the same after the empty history; a proof that unfolds it computes with all the rules
 unfoldable pub replied : Link → List Ask → List Reply
-unfolding replies_from reply_at reserve_reply room_of whole_room group_room group_admits all_from group_work group_units relax_reply deny_reply submit_reply release_reply arrive_reply sent_at best_sent_at pour_reply with_best best_step_at best_step waiting_best clock_of scan_of after with_arrival after_tick change_first without_first without_expired with_sources hold_ended here_at starts_below serve_tick is_waiting first_in_line goes_before held_packets slots_of need_of kept_units free_units planned_from eligible_next step_of source_packets rows_after dropped_in work_in work_up_to load some_upto passes_up_to passes admits first_level best_level most_in first_from eligible may_follow
+unfolding replies_from reply_at reserve_reply room_of whole_room group_room group_admits all_from group_work group_units relax_reply deny_reply submit_reply release_reply arrive_reply sent_at best_sent_at pour_reply with_best best_step_at best_step waiting_best clock_of scan_of after with_arrival after_tick change_first without_first without_expired with_sources hold_ended here_at starts_below serve_tick is_waiting first_in_line goes_before held_packets slots_of need_of held_units free_units planned_from eligible_next step_of source_packets rows_after dropped_in work_in work_up_to load some_upto passes_up_to passes admits first_level best_level most_in first_from eligible may_follow
 replied link asks = replies_from link (clock_of []) (scan_of link.shape []) asks
 
 -- so the legal replies are computed in one scan

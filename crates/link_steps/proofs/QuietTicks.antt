@@ -7,7 +7,7 @@ use Rattle.link_steps.specs.declared.replies.Entry.{Entry}
 use Rattle.link_steps.specs.declared.replies.Reply.TheVariants.{Ticked}
 use Rattle.link_steps.specs.declared.replies.Sent.{Sent}
 use Rattle.link_steps.specs.declared.shape.LinkShape.{LinkShape}
-use Rattle.link_steps.specs.Account.{Account, AccountRow, HasContracts, StandsFor, kept_stays, kept_step, past_tick, kept_packets, kept_rows_after, kept_lost, kept_best, kept_reply, kept_after, held_rows, brought, present, served, still_on, still_here, departs, best_departs, is_eligible_by, kept_after_tick, kept_tick_reply}
+use Rattle.link_steps.specs.Account.{Account, AccountRow, HasContracts, StandsFor, account_stays, account_step, past_tick, account_packets, account_rows_after, account_dropped, account_best, account_reply, account_after, held_rows, brought, present, served, still_on, still_here, departs, best_departs, is_eligible_by, account_after_tick, account_tick_reply}
 use Rattle.link_steps.specs.BestEffort.{best_step}
 use Rattle.link_steps.specs.Legal.{IsLegal}
 use Rattle.link_steps.specs.Lists.{Each}
@@ -36,38 +36,38 @@ all-left until t (p ∷ left) plans before =
 
 -- ---- rows
 
-row-rests : (bounds : List ℕ) (here : List Arrival) (until t : ℕ) (row : AccountRow) → Each (IsPlannedFrom until) row.left → t < until → kept_step bounds here t row ≡ Rests
-unfolding kept_step
+row-rests : (bounds : List ℕ) (here : List Arrival) (until t : ℕ) (row : AccountRow) → Each (IsPlannedFrom until) row.left → t < until → account_step bounds here t row ≡ Rests
+unfolding account_step
 row-rests bounds here until t row plans before = rw (none-planned until t row.left plans before) refl
 
 row-past : (until t : ℕ) (row : AccountRow) → Each (IsPlannedFrom until) row.left → t < until → past_tick t row ≡ row
 row-past until t row plans before = ap (λ left. record row { left = left }) (all-left until t row.left plans before)
 
 -- all rows stay
-rows-stay : (bounds : List ℕ) (until t : ℕ) (rows : List AccountRow) → Each (RowRests bounds t until) rows → t < until → filter (kept_stays bounds t) rows ≡ rows
+rows-stay : (bounds : List ℕ) (until t : ℕ) (rows : List AccountRow) → Each (RowRests bounds t until) rows → t < until → filter (account_stays bounds t) rows ≡ rows
 rows-stay bounds until t [] each before = refl
 rows-stay bounds until t (row ∷ rows) each before =
     rw (each.0.stays t (omega arith) before) (ap (λ rest. row ∷ rest) (rows-stay bounds until t rows each.1 before))
 
 -- they bring no packet, drop none, and stay as they are
-rows-bring : (bounds : List ℕ) (here : List Arrival) (until t taken : ℕ) (rows : List AccountRow) → Each (RowRests bounds t until) rows → t < until → kept_packets bounds here t taken rows ≡ []
-unfolding kept_packets
+rows-bring : (bounds : List ℕ) (here : List Arrival) (until t taken : ℕ) (rows : List AccountRow) → Each (RowRests bounds t until) rows → t < until → account_packets bounds here t taken rows ≡ []
+unfolding account_packets
 rows-bring bounds here until t taken [] each before = refl
 rows-bring bounds here until t taken (row ∷ rows) each before =
     rw (row-rests bounds here until t row each.0.plans before) (rows-bring bounds here until t (taken + 0) rows each.1 before)
 
-rows-lose : (bounds : List ℕ) (here : List Arrival) (until t : ℕ) (rows : List AccountRow) → Each (RowRests bounds t until) rows → t < until → kept_lost bounds here t rows ≡ 0
-unfolding kept_lost
+rows-lose : (bounds : List ℕ) (here : List Arrival) (until t : ℕ) (rows : List AccountRow) → Each (RowRests bounds t until) rows → t < until → account_dropped bounds here t rows ≡ 0
+unfolding account_dropped
 rows-lose bounds here until t [] each before = refl
 rows-lose bounds here until t (row ∷ rows) each before =
     rw (row-rests bounds here until t row each.0.plans before) (omega (arith, rows-lose bounds here until t rows each.1 before))
 
-rows-same : (bounds : List ℕ) (here : List Arrival) (until t taken : ℕ) (rows : List AccountRow) → Each (RowRests bounds t until) rows → t < until → kept_rows_after bounds here t taken rows ≡ rows
-unfolding kept_rows_after
+rows-same : (bounds : List ℕ) (here : List Arrival) (until t taken : ℕ) (rows : List AccountRow) → Each (RowRests bounds t until) rows → t < until → account_rows_after bounds here t taken rows ≡ rows
+unfolding account_rows_after
 rows-same bounds here until t taken [] each before = refl
 rows-same bounds here until t taken (row ∷ rows) each before =
     rw (row-rests bounds here until t row each.0.plans before)
-    (ap (λ first. first ∷ kept_rows_after bounds here t (taken + 0) rows) (row-past until t row each.0.plans before)
+    (ap (λ first. first ∷ account_rows_after bounds here t (taken + 0) rows) (row-past until t row each.0.plans before)
     ∙ ap (λ rest. row ∷ rest) (rows-same bounds here until t (taken + 0) rows each.1 before))
 
 -- ---- the service
@@ -108,8 +108,8 @@ no-best-departs shape until t here (Some start) rests before =
 rows-held : (shape : LinkShape) (until : ℕ) (k : Account) → RestsUntil shape until k → k.clock < until → held_rows shape k ≡ k.rows
 rows-held shape until k rests before = rows-stay shape.bounds until k.clock k.rows rests.rows before
 
-best-rests : (shape : LinkShape) (until : ℕ) (k : Account) → RestsUntil shape until k → k.clock < until → kept_best shape k ≡ Rests
-unfolding kept_best best_step
+best-rests : (shape : LinkShape) (until : ℕ) (k : Account) → RestsUntil shape until k → k.clock < until → account_best shape k ≡ Rests
+unfolding account_best best_step
 best-rests shape until k rests before = rw (none-planned until k.clock k.best_left rests.best before) refl
 
 none-brought : (shape : LinkShape) (until : ℕ) (k : Account) → RestsUntil shape until k → k.clock < until → brought shape k ≡ []
@@ -121,13 +121,13 @@ none-brought shape until k rests before =
 same-present : (shape : LinkShape) (until : ℕ) (k : Account) → RestsUntil shape until k → k.clock < until → present shape k ≡ k.here
 same-present shape until k rests before = ap (λ new. k.here ++ new) (none-brought shape until k rests before) ∙ append-nil k.here
 
-pub quiet-after : (shape : LinkShape) (until : ℕ) (k : Account) → RestsUntil shape until k → k.clock < until → kept_after_tick shape k ≡ record k { clock = suc k.clock }
-unfolding kept_after_tick
+pub quiet-after : (shape : LinkShape) (until : ℕ) (k : Account) → RestsUntil shape until k → k.clock < until → account_after_tick shape k ≡ record k { clock = suc k.clock }
+unfolding account_after_tick
 quiet-after shape until k rests before =
     let same = same-present shape until k rests before in
-    same-kept (kept_after_tick shape k) (record k { clock = suc k.clock }) refl
+    same-kept (account_after_tick shape k) (record k { clock = suc k.clock }) refl
     (ap (λ new. k.taken + length new) (none-brought shape until k rests before) ∙ omega arith)
-    (ap (kept_rows_after shape.bounds k.here k.clock k.taken) (rows-held shape until k rests before) ∙ rows-same shape.bounds k.here until k.clock k.taken k.rows rests.rows before)
+    (ap (account_rows_after shape.bounds k.here k.clock k.taken) (rows-held shape until k rests before) ∙ rows-same shape.bounds k.here until k.clock k.taken k.rows rests.rows before)
     (ap (λ here. still_here shape.rate k.clock (served k.clock here k.on) here) same ∙ here-stays shape.rate until k.clock k.here k.on rests.service before)
     (ap (λ here. still_on shape.rate k.clock (served k.clock here k.on)) same ∙ on-stays shape.rate until k.clock k.here k.on rests.service before)
     (all-left until k.clock k.best_left rests.best before)
@@ -135,12 +135,12 @@ quiet-after shape until k rests before =
 same-tick : (t lost : ℕ) (sent : Option Sent) (best_sent best_lost : Bool) → lost ≡ 0 → sent ≡ None → best_sent ≡ false → best_lost ≡ false → Ticked t lost sent best_sent best_lost ≡ quiet_reply t
 same-tick t lost sent best_sent best_lost none left kept held = rw (none, left, kept, held) refl
 
-pub quiet-tick : (shape : LinkShape) (until : ℕ) (k : Account) → RestsUntil shape until k → k.clock < until → kept_tick_reply shape k ≡ quiet_reply k.clock
-unfolding kept_tick_reply
+pub quiet-tick : (shape : LinkShape) (until : ℕ) (k : Account) → RestsUntil shape until k → k.clock < until → account_tick_reply shape k ≡ quiet_reply k.clock
+unfolding account_tick_reply
 quiet-tick shape until k rests before =
     let same = same-present shape until k rests before in
     same-tick k.clock _ _ _ _
-    (ap (kept_lost shape.bounds k.here k.clock) (rows-held shape until k rests before) ∙ rows-lose shape.bounds k.here until k.clock k.rows rests.rows before)
+    (ap (account_dropped shape.bounds k.here k.clock) (rows-held shape until k rests before) ∙ rows-lose shape.bounds k.here until k.clock k.rows rests.rows before)
     (ap (λ here. departs shape k.clock (served k.clock here k.on)) same ∙ none-departs shape until k.clock k.here k.on rests.service before)
     (ap (λ here. best_departs shape k.clock (served k.clock here k.on)) same ∙ no-best-departs shape until k.clock k.here k.on rests.service before)
     (ap (λ step. nat_eq (dropped_by step) 1) (best-rests shape until k rests before))
@@ -162,7 +162,7 @@ none-later k = ap (λ clock. record k { clock = clock }) (omega arith)
 
 -- the account stands for the history with them
 quiet-stands : (link : Link) (until n : ℕ) (k : Account) (h : List Entry) → HasContracts k → StandsFor link.shape k h → RestsUntil link.shape until k → k.clock + n ≤ until → StandsFor link.shape (later_by n k) (quiet_ticks n k.clock h)
-unfolding quiet_ticks kept_after
+unfolding quiet_ticks account_after
 quiet-stands link until zero k h each stands rests within = sym (none-later k) ∙ stands
 quiet-stands link until (suc n) k h each stands rests within =
     sym (quiet-after link.shape until (later_by n k) (later-rests link.shape until n k rests) (omega (arith, within)) ∙ one-more n k)
@@ -170,7 +170,7 @@ quiet-stands link until (suc n) k h each stands rests within =
 
 -- each has its legal reply
 quiet-replied : (link : Link) (until m : ℕ) (k : Account) (h : List Entry) → HasContracts k → StandsFor link.shape k h → RestsUntil link.shape until k → k.clock + m < until → quiet_reply (k.clock + m) ≡ reply_to link (quiet_ticks m k.clock h) Tick
-unfolding kept_reply
+unfolding account_reply
 quiet-replied link until m k h each stands rests early =
     sym (quiet-tick link.shape until (later_by m k) (later-rests link.shape until m k rests) early)
     ∙ stands-reply link (later_by m k) (quiet_ticks m k.clock h) Tick each (quiet-stands link until m k h each stands rests (omega (arith, early)))

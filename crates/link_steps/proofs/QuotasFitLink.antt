@@ -19,7 +19,7 @@ use Rattle.link_steps.specs.declared.asks.Ask.TheVariants.{Reserve}
 use Rattle.link_steps.specs.declared.replies.Reply.{Reply}
 use Rattle.link_steps.specs.declared.replies.Reply.TheVariants as Is
 use Rattle.link_steps.specs.Admissible.{MayOffer, MayAnswer}
-use Rattle.link_steps.specs.Buffer.{kept_units, need_of, free_units}
+use Rattle.link_steps.specs.Buffer.{held_units, need_of, free_units}
 use Rattle.link_steps.specs.Replies.{reserve_reply_in, reserve_reply, reply_at}
 use Rattle.link_steps.specs.Reservation.{Reservation, admitted, tentative, committed, closing}
 use Rattle.link_steps.specs.Room.{group_work, group_units, group_sum, level_quota, buffer_quota, within_quota, all_from, group_admits, group_room, room_of}
@@ -60,12 +60,12 @@ together-levels link held m within from upto =
     (let g = total-map (in_group group) (share_of link (work_at link m)) held in let h = within.levels group m from upto in omega (arith, g, h))) in
     omega (arith, e, all)
 
-together-buffer : (link : Link) (held : List Reservation) → AreWithin link held → total (kept_units link.shape.bounds) held ≤ total buffer_part link.split.quotas
+together-buffer : (link : Link) (held : List Reservation) → AreWithin link held → total (held_units link.shape.bounds) held ≤ total buffer_part link.split.quotas
 unfolding group_units
 together-buffer link held within =
-    let e = total-map amount_of (share_of link (kept_units link.shape.bounds)) held in
-    let all = within-together buffer_part link.split.quotas (map (share_of link (kept_units link.shape.bounds)) held) (λ group.
-    (let g = total-map (in_group group) (share_of link (kept_units link.shape.bounds)) held in let h = within.buffer group in omega (arith, g, h))) in
+    let e = total-map amount_of (share_of link (held_units link.shape.bounds)) held in
+    let all = within-together buffer_part link.split.quotas (map (share_of link (held_units link.shape.bounds)) held) (λ group.
+    (let g = total-map (in_group group) (share_of link (held_units link.shape.bounds)) held in let h = within.buffer group in omega (arith, g, h))) in
     omega (arith, e, all)
 
 -- and so the held pass
@@ -104,7 +104,7 @@ best-group link held group contract m best =
 
 -- the reservation of an offer in the room of its group keeps every group within its quotas
 pub within-offered : (link : Link) (held : List Reservation) (chan : ChanNo) (contract : Traffic) (kind : Kind) (first : Bool) (next : Option LinkNo) (delay up_reach : ℕ) (level reach : Level) → AreWithin link held → (offers : OffersBest link.shape held chan contract delay up_reach (group_room link held (group_of link.split chan) contract) level reach) → AreWithin link (held ++ tentative chan contract kind first next up_reach level reach ∷ [])
-unfolding group_work group_units group_room need_of kept_units
+unfolding group_work group_units group_room need_of held_units
 within-offered link held chan contract kind first next delay up_reach level reach within offers =
     let group = group_of link.split chan in
     let new = tentative chan contract kind first next up_reach level reach in
@@ -153,8 +153,8 @@ group-offer-may link held chan contract delay up_reach level reach fits within s
     let rows : map admitted (held ++ new ∷ []) ≡ with_row (map admitted held) contract offers.number = map-append admitted held (new ∷ []) ∙ ap (λ l. with_row (map admitted held) contract l) numbers.level_is in
     let passes = subst (Passes (server_of link.shape)) rows (within-passes link (held ++ tentative chan contract Rate true None up_reach level reach ∷ []) fits after) in
     let all = together-buffer link (held ++ tentative chan contract Rate true None up_reach level reach ∷ []) after in
-    let sum = total-push (kept_units link.shape.bounds) held (tentative chan contract Rate true None up_reach level reach) in
-    let need : kept_units link.shape.bounds new ≡ need_of link.shape.bounds contract up_reach (reach_of link.shape.bounds delay offers.number) = need-kept link.shape.bounds chan contract Rate true None up_reach level reach ∙ ap (need_of link.shape.bounds contract up_reach) numbers.reach_is in
+    let sum = total-push (held_units link.shape.bounds) held (tentative chan contract Rate true None up_reach level reach) in
+    let need : held_units link.shape.bounds new ≡ need_of link.shape.bounds contract up_reach (reach_of link.shape.bounds delay offers.number) = need-kept link.shape.bounds chan contract Rate true None up_reach level reach ∙ ap (need_of link.shape.bounds contract up_reach) numbers.reach_is in
     let fit = fits.buffer in
     offer-may link.shape held chan contract delay up_reach (group_room link held (group_of link.split chan) contract) level reach offers best.0 best.1
     ((Decides-admits (server_of link.shape) (map admitted held) contract offers.number).1 passes)
@@ -176,10 +176,10 @@ unfolding group_units
 group-units-raise link group = record {
   relaxed = λ level up_bound terms fits valid most.
       let less = (units-raise link.shape).relaxed level up_bound terms fits valid most in
-      elim (is_in link.split group terms.chan) as (λ b. cond b (kept_units link.shape.bounds (committed level up_bound terms)) 0 ≤ cond b (kept_units link.shape.bounds terms) 0) [ true ↦ less | false ↦ omega arith ];
+      elim (is_in link.split group terms.chan) as (λ b. cond b (held_units link.shape.bounds (committed level up_bound terms)) 0 ≤ cond b (held_units link.shape.bounds terms) 0) [ true ↦ less | false ↦ omega arith ];
   closed = λ count terms is.
       let less = (units-raise link.shape).closed count terms is in
-      elim (is_in link.split group terms.chan) as (λ b. cond b (kept_units link.shape.bounds (closing count terms)) 0 ≤ cond b (kept_units link.shape.bounds terms) 0) [ true ↦ less | false ↦ omega arith ];
+      elim (is_in link.split group terms.chan) as (λ b. cond b (held_units link.shape.bounds (closing count terms)) 0 ≤ cond b (held_units link.shape.bounds terms) 0) [ true ↦ less | false ↦ omega arith ];
 }
 
 -- without a new row each group stays within its quotas

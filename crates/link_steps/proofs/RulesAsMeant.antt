@@ -16,7 +16,7 @@ use Rattle.link_steps.specs.declared.shape.LinkShape.{LinkShape}
 use Rattle.link_steps.specs.Split.{Link}
 use Rattle.link_steps.specs.BestEffort.{best_packet}
 use Rattle.link_steps.specs.Hold.{stays}
-use Rattle.link_steps.specs.Buffer.{need_of, kept_units}
+use Rattle.link_steps.specs.Buffer.{need_of, held_units}
 use Rattle.link_steps.specs.Legal.{AskFits, IsLegal}
 use Rattle.link_steps.specs.Lists.{Each}
 use Rattle.link_steps.specs.Replies.{reply_to}
@@ -34,8 +34,8 @@ use Rattle.link_steps.proofs.ServiceStarts.{HasLeft, HasBegun, FollowEachOther}
 
 -- ---- a new reservation keeps what it needed
 
-pub need-kept : (bounds : List ℕ) (chan : ChanNo) (contract : Traffic) (kind : Kind) (first : Bool) (next : Option LinkNo) (up_reach : ℕ) (level reach : Level) → kept_units bounds (tentative chan contract kind first next up_reach level reach) ≡ need_of bounds contract up_reach (level_number reach)
-unfolding kept_units need_of
+pub need-kept : (bounds : List ℕ) (chan : ChanNo) (contract : Traffic) (kind : Kind) (first : Bool) (next : Option LinkNo) (up_reach : ℕ) (level reach : Level) → held_units bounds (tentative chan contract kind first next up_reach level reach) ≡ need_of bounds contract up_reach (level_number reach)
+unfolding held_units need_of
 need-kept bounds chan contract kind first next up_reach level reach = refl
 
 -- ---- the packet that started last is the only one that can occupy the link

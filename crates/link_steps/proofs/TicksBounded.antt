@@ -19,7 +19,7 @@ use Rattle.link_steps.specs.declared.replies.Entry.{Entry}
 use Rattle.link_steps.specs.declared.shape.LinkShape.{LinkShape}
 use Rattle.link_steps.specs.Admissible.{IsAdmissible}
 use Rattle.link_steps.specs.Belonging.{own_packets}
-use Rattle.link_steps.specs.Buffer.{stay_of, slots_of, kept_units, has_lead, held_packets}
+use Rattle.link_steps.specs.Buffer.{stay_of, slots_of, held_units, has_lead, held_packets}
 use Rattle.link_steps.specs.Hold.{expires, stays}
 use Rattle.link_steps.specs.Lists.{Each, Among}
 use Rattle.link_steps.specs.Regulator.{waits_until, eligible_next}
@@ -170,8 +170,8 @@ each-part f [] = tt
 each-part f (x ∷ xs) = (omega arith, Each-if (λ y. f y ≤ total f xs) (λ y. f y ≤ f x + total f xs) xs (λ y part. omega (arith, part)) (each-part f xs))
 
 -- a reservation has no more slots than it keeps units
-slots-units : (bounds : List ℕ) (terms : Reservation) → 1 ≤ terms.contract.smax → slots_of bounds terms ≤ kept_units bounds terms
-unfolding slots_of kept_units
+slots-units : (bounds : List ℕ) (terms : Reservation) → 1 ≤ terms.contract.smax → slots_of bounds terms ≤ held_units bounds terms
+unfolding slots_of held_units
 slots-units bounds terms some =
     let more = mul-le-mul_left (most_in terms.contract (stay_of bounds terms)) some in
     omega (arith, more)
@@ -181,7 +181,7 @@ record HeldRow (shape : LinkShape) (h : List Entry) (row : Row) : Type 0 where
   order : IsInOrder shape (clock_of h) row
   paced : IsPaced row (own_packets row (scan_of shape h).packets)
   slots : HasSlots shape h row
-  units : kept_units shape.bounds row.terms ≤ shape.buffer
+  units : held_units shape.bounds row.terms ≤ shape.buffer
 
 held-soon : (shape : LinkShape) (h : List Entry) (row : Row) → clock_of h ≤ 2 ^ 62 → HeldRow shape h row → Each IsSoon row.ticks
 held-soon shape h row soon held =
@@ -203,8 +203,8 @@ ticks-soon shape h early legal =
     let all = units-held shape h legal in
     let stand = rows-paced shape h soon legal in
     record {
-      held = Each-if (λ row. IsInOrder shape (clock_of h) row × (IsHeld IsPaced (scan_of shape h).packets row × (HasSlots shape h row × (kept_units shape.bounds row.terms ≤ total (kept_units shape.bounds) (map row_terms (scan_of shape h).rows))))) HasSoonTicks (scan_of shape h).rows
+      held = Each-if (λ row. IsInOrder shape (clock_of h) row × (IsHeld IsPaced (scan_of shape h).packets row × (HasSlots shape h row × (held_units shape.bounds row.terms ≤ total (held_units shape.bounds) (map row_terms (scan_of shape h).rows))))) HasSoonTicks (scan_of shape h).rows
           (λ row facts. (let part = facts.1.1.1 in held-soon shape h row soon (record { order = facts.0; paced = facts.1.0.fact; slots = facts.1.1.0; units = omega (arith, all, part) })))
-          (Each-both _ _ (scan_of shape h).rows order.held (Each-both _ _ (scan_of shape h).rows stand.held (Each-both _ _ (scan_of shape h).rows (slots-held shape h legal) (Each-mapped (λ terms. kept_units shape.bounds terms ≤ total (kept_units shape.bounds) (map row_terms (scan_of shape h).rows)) row_terms (scan_of shape h).rows (each-part (kept_units shape.bounds) (map row_terms (scan_of shape h).rows))))));
+          (Each-both _ _ (scan_of shape h).rows order.held (Each-both _ _ (scan_of shape h).rows stand.held (Each-both _ _ (scan_of shape h).rows (slots-held shape h legal) (Each-mapped (λ terms. held_units shape.bounds terms ≤ total (held_units shape.bounds) (map row_terms (scan_of shape h).rows)) row_terms (scan_of shape h).rows (each-part (held_units shape.bounds) (map row_terms (scan_of shape h).rows))))));
       gone = Each-if (HasExpired shape (clock_of h)) HasSoonTicks (scan_of shape h).gone (λ row expired. Each-if (λ e. e + last_bound shape.bounds < clock_of h) IsSoon row.ticks (λ e before. omega (arith, before, early)) expired) order.expired;
     }

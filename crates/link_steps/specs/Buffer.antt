@@ -33,8 +33,8 @@ unfoldable pub slots_of : List ℕ → Reservation → ℕ
 slots_of bounds terms = most_in terms.contract (stay_of bounds terms)
 
 -- the units that it keeps
-unfoldable pub kept_units : List ℕ → Reservation → ℕ
-kept_units bounds terms = units_for terms.contract (stay_of bounds terms)
+unfoldable pub held_units : List ℕ → Reservation → ℕ
+held_units bounds terms = units_for terms.contract (stay_of bounds terms)
 
 -- the need of a new reservation: the units that it would keep as a tentative one
 unfoldable pub need_of : List ℕ → Traffic → ℕ → ℕ → ℕ
@@ -42,7 +42,7 @@ need_of bounds contract up_reach reach = units_for contract (up_reach + bound_at
 
 -- the free units of a link that holds these reservations
 unfoldable pub free_units : LinkShape → List Reservation → ℕ
-free_units shape held = shape.buffer - total (kept_units shape.bounds) held
+free_units shape held = shape.buffer - total (held_units shape.bounds) held
 
 -- whether a packet is of the reservation whose first packet had this place
 abbrev pub has_lead : ℕ → Arrival → Bool

@@ -6,7 +6,7 @@ use Rattle.std.specs.Prelude.{ℕ, ◌≤◌, if◌then◌else◌, List, map, fi
 use Rattle.traffic_contract.specs.Admission.{total}
 use Rattle.link_steps.specs.Admissible.{IsAdmissible}
 use Rattle.link_steps.specs.BestEffort.{is_best}
-use Rattle.link_steps.specs.Buffer.{kept_units, has_lead}
+use Rattle.link_steps.specs.Buffer.{held_units, has_lead}
 use Rattle.link_steps.specs.HopGuarantee.{AfterEach}
 use Rattle.link_steps.specs.Lists.{Each}
 use Rattle.link_steps.specs.Rows.{Row, row_terms}
@@ -25,11 +25,11 @@ here_after shape h = here_at shape.rate (scan_of shape h).packets (clock_of h)
 
 -- the packets of a row that are here take no more units than the row keeps
 pub record FitsItsShare (shape : LinkShape) (h : List Entry) (row : Row) : Type 0 where
-  pub units : total (units_of shape.bounds) (filter (has_lead row.lead) (here_after shape h)) ≤ kept_units shape.bounds row.terms
+  pub units : total (units_of shape.bounds) (filter (has_lead row.lead) (here_after shape h)) ≤ held_units shape.bounds row.terms
 
 -- what the buffer holds after a history
 pub record BufferHolds (shape : LinkShape) (h : List Entry) : Type 0 where
-  pub kept : total (kept_units shape.bounds) (map row_terms (scan_of shape h).rows) ≤ shape.buffer
+  pub kept : total (held_units shape.bounds) (map row_terms (scan_of shape h).rows) ≤ shape.buffer
   pub shares : Each (FitsItsShare shape h) (scan_of shape h).rows
   pub here : total (units_of shape.bounds) (here_after shape h) ≤ shape.buffer
 

@@ -7,10 +7,10 @@ use Rattle.link_steps.specs.declared.replies.Entry.{Entry}
 use Rattle.link_steps.specs.declared.shape.LinkShape.{LinkShape}
 use Rattle.link_steps.specs.Admissible.{IsAdmissible}
 use Rattle.traffic_contract.specs.Admission.{total}
-use Rattle.link_steps.specs.Buffer.{kept_units}
+use Rattle.link_steps.specs.Buffer.{held_units}
 use Rattle.link_steps.specs.BusyPeriod.{HasWork, IsClear, FitsWindow, FitsWithin, EndsWithin}
 use Rattle.link_steps.specs.HopGuarantee.{AfterEach, HeldRowsPass, HopGuarantee}
-use Rattle.link_steps.specs.Account.{HasContracts, kept_of, kept_reply, kept_after}
+use Rattle.link_steps.specs.Account.{HasContracts, account_of, account_reply, account_after}
 use Rattle.link_steps.specs.Legal.{AskFits, IsLegal}
 use Rattle.link_steps.specs.Lists.{Each}
 use Rattle.link_steps.specs.Replies.{reply_to}
@@ -27,15 +27,15 @@ HeldRowsAlwaysPass = (shape : LinkShape) (h : List Entry) → IsAdmissible shape
 
 -- the legal reply to an ask after a history is that of the account
 abbrev pub AccountGivesReply : Type 0
-AccountGivesReply = (link : Link) (h : List Entry) (ask : Ask) → HasContracts (kept_of link.shape h) → reply_to link h ask ≡ kept_reply link (kept_of link.shape h) ask
+AccountGivesReply = (link : Link) (h : List Entry) (ask : Ask) → HasContracts (account_of link.shape h) → reply_to link h ask ≡ account_reply link (account_of link.shape h) ask
 
 -- the account of a history with one more entry is the next of the account before
 abbrev pub AccountGoesOn : Type 0
-AccountGoesOn = (shape : LinkShape) (h : List Entry) (e : Entry) → HasContracts (kept_of shape h) → kept_of shape (e ∷ h) ≡ kept_after shape (kept_of shape h) e.ask e.reply
+AccountGoesOn = (shape : LinkShape) (h : List Entry) (e : Entry) → HasContracts (account_of shape h) → account_of shape (e ∷ h) ≡ account_after shape (account_of shape h) e.ask e.reply
 
 -- the account of an admissible history has contracts
 abbrev pub LegalHasContracts : Type 0
-LegalHasContracts = (shape : LinkShape) (h : List Entry) → IsAdmissible shape h → HasContracts (kept_of shape h)
+LegalHasContracts = (shape : LinkShape) (h : List Entry) → IsAdmissible shape h → HasContracts (account_of shape h)
 
 -- a busy period of the levels up to m that begins at t ends within a window that its work and the blocking fit
 abbrev pub BusyPeriodEnds : Type 0
@@ -81,7 +81,7 @@ LegalIsAdmissible = (link : Link) (h : List Entry) → SplitFits link → IsLega
 
 -- in every admissible history the held rows together never keep more than the link's buffer
 abbrev pub HeldRowsFitBuffer : Type 0
-HeldRowsFitBuffer = (shape : LinkShape) (h : List Entry) → IsAdmissible shape h → total (kept_units shape.bounds) (map row_terms (scan_of shape h).rows) ≤ shape.buffer
+HeldRowsFitBuffer = (shape : LinkShape) (h : List Entry) → IsAdmissible shape h → total (held_units shape.bounds) (map row_terms (scan_of shape h).rows) ≤ shape.buffer
 
 -- a legal history goes on with each ask that meets the conditions, with one reply, and its asks determine it
 pub record RepliesAreDetermined : Type 0 where

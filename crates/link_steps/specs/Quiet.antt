@@ -7,7 +7,7 @@ use Rattle.link_steps.specs.declared.replies.Entry.{Entry}
 use Rattle.link_steps.specs.declared.replies.Reply.{Reply}
 use Rattle.link_steps.specs.declared.replies.Reply.TheVariants.{Ticked}
 use Rattle.link_steps.specs.declared.shape.LinkShape.{LinkShape}
-use Rattle.link_steps.specs.Account.{Account, AccountRow, HasContracts, StandsFor, kept_stays}
+use Rattle.link_steps.specs.Account.{Account, AccountRow, HasContracts, StandsFor, account_stays}
 use Rattle.link_steps.specs.Legal.{IsLegal}
 use Rattle.link_steps.specs.Lists.{Each}
 use Rattle.link_steps.specs.Replies.{reply_to}
@@ -27,7 +27,7 @@ IsEligibleFrom until p = until ≤ p.eligible
 -- from the clock on a row plans none before it, and its hold doesn't end before it
 pub record RowRests (bounds : List ℕ) (clock until : ℕ) (row : AccountRow) : Type 0 where
   pub plans : Each (IsPlannedFrom until) row.left
-  pub stays : (t : ℕ) → clock ≤ t → t < until → kept_stays bounds t row ≡ true
+  pub stays : (t : ℕ) → clock ≤ t → t < until → account_stays bounds t row ≡ true
 
 -- the packet on the link goes on through the ticks before it, or else none of those here starts
 abbrev pub ServiceRests : ℕ → ℕ → List Arrival → Option Start → Type 0

@@ -7,7 +7,7 @@ use Rattle.net_units.specs.LevelBounds.{bound_at, last_bound}
 use Rattle.net_units.specs.declared.numbers.ChanNo.{ChanNo}
 use Rattle.traffic_contract.specs.Admission.{total, work_up_to, first_level, best_level, refused_sum}
 use Rattle.traffic_contract.specs.Contract.{Traffic}
-use Rattle.link_steps.specs.Buffer.{kept_units, free_units}
+use Rattle.link_steps.specs.Buffer.{held_units, free_units}
 use Rattle.link_steps.specs.Reservation.{Reservation, admitted}
 use Rattle.link_steps.specs.Shape.{server_of}
 use Rattle.link_steps.specs.Split.{Link, is_split, group_of, is_in, level_part, buffer_part, quota_part}
@@ -38,7 +38,7 @@ group_work link group m terms = if is_in link.split group terms.chan then work_u
 
 -- and to the units that it keeps
 unfoldable pub group_units : Link → ℕ → Reservation → ℕ
-group_units link group terms = if is_in link.split group terms.chan then kept_units link.shape.bounds terms else 0
+group_units link group terms = if is_in link.split group terms.chan then held_units link.shape.bounds terms else 0
 
 -- the group's load at the levels up to m, with a new contract at a level
 abbrev pub group_sum : Link → List Reservation → ℕ → Traffic → ℕ → ℕ → ℕ

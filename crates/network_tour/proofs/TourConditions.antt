@@ -23,7 +23,7 @@ use Rattle.step_stamp.specs.Lists.{up_to}
 use Rattle.step_stamp.specs.Opening.{ArePasses}
 use Rattle.step_stamp.specs.Seats.{seat_actor}
 use Rattle.step_stamp.specs.declared.seats.PassSeat.{PassSeat}
-use Rattle.tick_plane.specs.Kept.{KeptPlane}
+use Rattle.tick_plane.specs.PlaneAccount.{PlaneAccount}
 use Rattle.tick_plane.specs.Planes.{plane_start}
 use Rattle.network_tour.specs.Tour.{IsNewOf, IsTour, IsTourHop, MayClose, PlaneGoes}
 
@@ -77,10 +77,10 @@ module _ (table : TableId) (owners : List ActorNo) (links : List Link) (seats : 
 
 -- ---- the plane
 
-pub goes-first : (table : TableId) (owners : List ActorNo) (links : List Link) (plane : KeptPlane) (pass : Token) → IsTour links owners → IsNewOf table owners links 1 pass → plane ≡ record { links = 2; rounds = 50; at = plane_start; spare = 0 } → PlaneGoes table owners links plane pass
+pub goes-first : (table : TableId) (owners : List ActorNo) (links : List Link) (plane : PlaneAccount) (pass : Token) → IsTour links owners → IsNewOf table owners links 1 pass → plane ≡ record { links = 2; rounds = 50; at = plane_start; spare = 0 } → PlaneGoes table owners links plane pass
 goes-first table owners links plane pass tour of is = record {
   may_close = record { may_step = of.new.may_step; among = of.new.among; actor_is = of.actor_is };
-  links_are = ap (λ (p : KeptPlane). p.links) is ∙ sym tour.two;
-  rounds_are = ap (λ (p : KeptPlane). p.rounds) is;
-  planes = planes-first (length links) plane pass.own of.new.own (ap (λ (p : KeptPlane). p.at) is);
+  links_are = ap (λ (p : PlaneAccount). p.links) is ∙ sym tour.two;
+  rounds_are = ap (λ (p : PlaneAccount). p.rounds) is;
+  planes = planes-first (length links) plane pass.own of.new.own (ap (λ (p : PlaneAccount). p.at) is);
 }

@@ -12,7 +12,7 @@ use Rattle.setup_protocol.specs.declared.request.Request.{Request}
 use Rattle.shared_network.specs.Planes.{IsPlanes}
 use Rattle.shared_network.specs.Ready.{IsNew, MayStep}
 use Rattle.shared_network.specs.Worked.{IsWorkedLink}
-use Rattle.tick_plane.specs.Kept.{KeptPlane}
+use Rattle.tick_plane.specs.PlaneAccount.{PlaneAccount}
 
 pub record IsTour (links : List Link) (owners : List ActorNo) : Type 0 where
   pub two : length links ≡ 2
@@ -41,7 +41,7 @@ pub record MayClose (table : TableId) (owners : List ActorNo) (links : List Link
   pub actor_is : actor_number pass.actor ≡ actor
 
 -- the plane may go on with its pass
-pub record PlaneGoes (table : TableId) (owners : List ActorNo) (links : List Link) (plane : KeptPlane) (pass : Token) : Type 0 where
+pub record PlaneGoes (table : TableId) (owners : List ActorNo) (links : List Link) (plane : PlaneAccount) (pass : Token) : Type 0 where
   pub may_close : MayClose table owners links 1 pass
   pub links_are : plane.links ≡ length links
   pub rounds_are : plane.rounds ≡ 50

@@ -10,7 +10,7 @@ use Rattle.link_steps.specs.declared.replies.Entry.{Entry}
 use Rattle.link_steps.specs.declared.replies.Reply.{Reply}
 use Rattle.call_script.specs.Parts.{PlanParts}
 use Rattle.call_script.specs.Tasks.{network_of}
-use Rattle.tick_plane.specs.Kept.{KeptPlane}
+use Rattle.tick_plane.specs.PlaneAccount.{PlaneAccount}
 use Rattle.tick_plane.specs.Planes.{next_due, plane_after, plane_ask, plane_expects, IsDueLater}
 use Rattle.run_record.specs.declared.done.Done.{Done}
 use Rattle.interleave_core.specs.runs.Runs.{IsNext}
@@ -24,7 +24,7 @@ use Rattle.plane_workers.specs.declared.desk.Desk.{Desk}
 use Rattle.plane_workers.proofs.NextWindowStep.{one-next, one-expected, one-goes, one-fewer, one-within, one-later}
 
 -- the plane asks this next, and the desk of its link had this reply first among those left
-pub record HandsOut {X : Type 0} (rules : X → Link) (stands : X → List Entry → Type 0) (left : X → List Reply) (plane : KeptPlane) (old new : List X) (link : LinkNo) (ask : Ask) (reply : Reply) : Type 0 where
+pub record HandsOut {X : Type 0} (rules : X → Link) (stands : X → List Entry → Type 0) (left : X → List Reply) (plane : PlaneAccount) (old new : List X) (link : LinkNo) (ask : Ask) (reply : Reply) : Type 0 where
   pub asked : Some (link, ask) ≡ plane_ask plane.rounds plane.at
   pub before : X
   pub after : X
@@ -36,7 +36,7 @@ pub record HandsOut {X : Type 0} (rules : X → Link) (stands : X → List Entry
   pub long : length new ≡ length old
   pub others : (n : ℕ) → n ≢ link_number link → slice_get new n ≡ slice_get old n
 
-pub handed : {L : Type 0} (link_of : L → Link) (stands_for : L → List Entry → Type 0) (plane : KeptPlane) (old new : List (Desk L)) (link : LinkNo) (ask : Ask) (reply : Reply) (number : ℕ) → Some (link, ask) ≡ plane_ask plane.rounds plane.at → number ≡ link_number link → link_number link < length old → length new ≡ length old
+pub handed : {L : Type 0} (link_of : L → Link) (stands_for : L → List Entry → Type 0) (plane : PlaneAccount) (old new : List (Desk L)) (link : LinkNo) (ask : Ask) (reply : Reply) (number : ℕ) → Some (link, ask) ≡ plane_ask plane.rounds plane.at → number ≡ link_number link → link_number link < length old → length new ≡ length old
     → ((n : ℕ) → n ≢ number → slice_get new n ≡ slice_get old n)
     → ((x y : Desk L) → slice_get old number ≡ Some x → slice_get new number ≡ Some y → y.link ≡ x.link)
     → ((x y : Desk L) → slice_get old number ≡ Some x → slice_get new number ≡ Some y → left_at x ≡ reply ∷ left_at y)
@@ -59,7 +59,7 @@ handed {L} link_of stands_for plane old new link ask reply number asked is withi
       others = λ n off. others n (λ at. off (at ∙ is));
     }
 
-module _ {X : Type 0} (rules : X → Link) (stands : X → List Entry → Type 0) (left : X → List Reply) (parts : PlanParts) (from until : ℕ) (old new : List X) (plane : KeptPlane) (run : List Done) (is : IsInWindow rules stands left parts from until old plane run) (early : plane.at.round < until)
+module _ {X : Type 0} (rules : X → Link) (stands : X → List Entry → Type 0) (left : X → List Reply) (parts : PlanParts) (from until : ℕ) (old new : List X) (plane : PlaneAccount) (run : List Done) (is : IsInWindow rules stands left parts from until old plane run) (early : plane.at.round < until)
     (actor : ActorNo) (by : actor_number actor ≡ length parts.callers) (link : LinkNo) (ask : Ask) (reply : Reply) (hands : HandsOut rules stands left plane old new link ask reply) where
   abbrev done : Done
   done = record { actor = actor; link = link; ask = ask; reply = reply }
@@ -75,7 +75,7 @@ module _ {X : Type 0} (rules : X → Link) (stands : X → List Entry → Type 0
   pub hand-later : IsDueLater plane.at.round reply
   hand-later = one-later rules stands left parts from until old plane run is early link ask hands.asked actor by reply new hands.before hands.after hands.found hands.told
 
-  module _ (plane' : KeptPlane) (after : plane'.at ≡ plane_after plane.links reply plane.at) (same-links : plane'.links ≡ plane.links) (same-rounds : plane'.rounds ≡ plane.rounds) where
+  module _ (plane' : PlaneAccount) (after : plane'.at ≡ plane_after plane.links reply plane.at) (same-links : plane'.links ≡ plane.links) (same-rounds : plane'.rounds ≡ plane.rounds) where
     pub hand-fewer : plane_most plane'.links plane'.rounds plane'.at < plane_most plane.links plane.rounds plane.at
     hand-fewer = one-fewer rules stands left parts from until old plane run is early link ask hands.asked actor by reply new hands.before hands.after hands.found hands.told plane' after same-links same-rounds
 

@@ -23,7 +23,7 @@ use Rattle.call_script.specs.Tasks.{Network, network_of, request_of, tasks_of, s
 use Rattle.call_script.specs.declared.entries.CallerEntry.{CallerEntry}
 use Rattle.call_script.specs.declared.entries.RequestEntry.{RequestEntry}
 use Rattle.call_script.specs.declared.operations.Op.{Op}
-use Rattle.tick_plane.specs.Kept.{KeptPlane}
+use Rattle.tick_plane.specs.PlaneAccount.{PlaneAccount}
 use Rattle.tick_plane.specs.Planes.{Plane, ask_due, next_due, plane_ask}
 use Rattle.run_record.specs.Runs.{part_of}
 use Rattle.run_record.specs.declared.done.Done.{Done}
@@ -54,7 +54,7 @@ module _ {D X : Type 0} (link : D → X) (rules : X → Link) (stands : X → Li
 
 -- ---- the plane
 
-pub plane-over : (network : Network) (plane : KeptPlane) (run : List Done) → PlaneStands network plane run → network.rounds ≤ plane.at.round → next_for network (plane_no network) run ≡ None
+pub plane-over : (network : Network) (plane : PlaneAccount) (run : List Done) → PlaneStands network plane run → network.rounds ≤ plane.at.round → next_for network (plane_no network) run ≡ None
 plane-over network plane run stands over =
     let round = ap (λ (p : Plane). p.round) stands.at in
     asked-plane network (plane_no network) run refl ∙ rw (le-ltb (plane_at network run).round network.rounds (omega (arith, over, round))) refl
@@ -78,11 +78,11 @@ pub rounds-of : (parts : PlanParts) → (network_of parts).rounds ≡ parts.roun
 unfolding network_of
 rounds-of parts = refl
 
-pub plane-end : (parts : PlanParts) (plane : KeptPlane) (run : List Done) (actor : ActorNo) → IsPlan parts → PlaneStands (network_of parts) plane run → actor ≡ the_plane (network_of parts) → (network_of parts).rounds ≤ plane.at.round → next_for (network_of parts) (actor_number actor) run ≡ None
+pub plane-end : (parts : PlanParts) (plane : PlaneAccount) (run : List Done) (actor : ActorNo) → IsPlan parts → PlaneStands (network_of parts) plane run → actor ≡ the_plane (network_of parts) → (network_of parts).rounds ≤ plane.at.round → next_for (network_of parts) (actor_number actor) run ≡ None
 plane-end parts plane run actor plan stands is over = ap (λ n. next_for (network_of parts) n run) (plane-actor parts actor plan is ∙ sym (plane-number parts)) ∙ plane-over (network_of parts) plane run stands over
 
 -- before its last round there is a step left
-pub plane-left : (parts : PlanParts) (plane : KeptPlane) (run : List Done) (actor : ActorNo) → IsPlan parts → PlaneStands (network_of parts) plane run → actor ≡ the_plane (network_of parts) → plane.at.round < (network_of parts).rounds → next_for (network_of parts) (actor_number actor) run ≢ None
+pub plane-left : (parts : PlanParts) (plane : PlaneAccount) (run : List Done) (actor : ActorNo) → IsPlan parts → PlaneStands (network_of parts) plane run → actor ≡ the_plane (network_of parts) → plane.at.round < (network_of parts).rounds → next_for (network_of parts) (actor_number actor) run ≢ None
 plane-left parts plane run actor plan stands is left none =
     let network = network_of parts in
     let round = ap (λ (p : Plane). p.round) stands.at in
@@ -109,14 +109,14 @@ module _ {D W : Type 0} (link : D → AnyLink) (saw : W → PlanParts → List D
   network = network_of parts
 
   -- before the plane's first round they and the plane stand for the run for which the engine does
-  pub seen-first : (links : List AnyLink) (plane : KeptPlane) (desks : List D) (watch : W) (run : List Done) → WatchStands saw parts engine watch run → links ≡ engine.links.items → plane ≡ engine.actors.plane → map link desks ≡ links → KeepsGap network gap
+  pub seen-first : (links : List AnyLink) (plane : PlaneAccount) (desks : List D) (watch : W) (run : List Done) → WatchStands saw parts engine watch run → links ≡ engine.links.items → plane ≡ engine.actors.plane → map link desks ≡ links → KeepsGap network gap
       → SeenBetween (λ d. any_rules (link d)) (λ d. AnyStands (link d)) saw parts gap desks plane watch run
   seen-first links plane desks watch run stand same flown are keeps = record {
     between = record {
       plan = stand.stands.plan;
       run_is = stand.stands.run;
       kept = at-desks link any_rules AnyStands network.links run engine.links.items desks (are ∙ same) (kept-of network.links engine.links.items run stand.stands.links);
-      plane_is = subst (λ (p : KeptPlane). PlaneStands network p run) (sym flown) stand.stands.actors.plane;
+      plane_is = subst (λ (p : PlaneAccount). PlaneStands network p run) (sym flown) stand.stands.actors.plane;
       keeps = keeps;
     };
     seen = stand.seen;
@@ -134,7 +134,7 @@ module _ {D W : Type 0} (link : D → AnyLink) (saw : W → PlanParts → List D
   }
 
   -- the engine of these links, the plane and the callers stands for the run with the window
-  pub engine-again : (callers : Callers) (desks : List D) (plane : KeptPlane) (made : Engine) (first watch : W) (past : List Done) (actor : ActorNo) → WatchStands saw parts engine first past → length parts.callers ≤ actor_number actor → callers ≡ engine.actors.callers
+  pub engine-again : (callers : Callers) (desks : List D) (plane : PlaneAccount) (made : Engine) (first watch : W) (past : List Done) (actor : ActorNo) → WatchStands saw parts engine first past → length parts.callers ≤ actor_number actor → callers ≡ engine.actors.callers
       → made.links.items ≡ map link desks → made.actors.plane ≡ plane → made.actors.callers ≡ callers → GoesTo network actor past (SeenBetween (λ d. any_rules (link d)) (λ d. AnyStands (link d)) saw parts gap desks plane watch) → PlaysMore saw parts made watch past actor 0
   engine-again callers desks plane made first watch past actor stand high same links flown called goes =
       let run = goes.run in
@@ -152,7 +152,7 @@ module _ {D W : Type 0} (link : D → AnyLink) (saw : W → PlanParts → List D
               links = subst (λ ls. LinksStand network.links ls run) (sym links) (off-desks link network.links desks run between.kept);
               actors = record {
                 callers = subst (λ (cs : Callers). CallersStand parts cs run) (sym (called ∙ same)) (callers-stay engine.actors.callers.by_number.items past run actor high goes.goes stand.stands.actors.callers);
-                plane = subst (λ (p : KeptPlane). PlaneStands network p run) (sym flown) between.plane_is;
+                plane = subst (λ (p : PlaneAccount). PlaneStands network p run) (sym flown) between.plane_is;
               };
             };
             seen = goes.comes.seen;

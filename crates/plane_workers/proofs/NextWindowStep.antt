@@ -19,7 +19,7 @@ use Rattle.call_script.proofs.PlansFit.{plan-fits}
 use Rattle.call_script.specs.Fits.{NetworkFits}
 use Rattle.call_script.specs.Parts.{PlanParts}
 use Rattle.call_script.specs.Tasks.{Network, network_of}
-use Rattle.tick_plane.specs.Kept.{KeptPlane}
+use Rattle.tick_plane.specs.PlaneAccount.{PlaneAccount}
 use Rattle.tick_plane.specs.Planes.{Plane, next_due, plane_ask, plane_after, plane_with, plane_expects, flight_in}
 use Rattle.tick_plane.specs.declared.flight.Flight.{Flight}
 use Rattle.tick_plane.proofs.AskedInWindow.{window-goes, window-holds}
@@ -98,7 +98,7 @@ comes-both network actor past held holds one on =
 
 -- ---- one step
 
-module _ {X : Type 0} (rules : X → Link) (stands : X → List Entry → Type 0) (left : X → List Reply) (parts : PlanParts) (from until : ℕ) (links : List X) (plane : KeptPlane) (run : List Done) (is : IsInWindow rules stands left parts from until links plane run) (early : plane.at.round < until) where
+module _ {X : Type 0} (rules : X → Link) (stands : X → List Entry → Type 0) (left : X → List Reply) (parts : PlanParts) (from until : ℕ) (links : List X) (plane : PlaneAccount) (run : List Done) (is : IsInWindow rules stands left parts from until links plane run) (early : plane.at.round < until) where
   abbrev network : Network
   network = network_of parts
 
@@ -158,11 +158,11 @@ module _ {X : Type 0} (rules : X → Link) (stands : X → List Entry → Type 0
       pub one-goes : GoesOnBy network actor run (done ∷ run)
       one-goes = goes-one network run done one-next
 
-      module _ (plane' : KeptPlane) (after : plane'.at ≡ plane_after plane.links reply plane.at) (same-links : plane'.links ≡ plane.links) (same-rounds : plane'.rounds ≡ plane.rounds) where
+      module _ (plane' : PlaneAccount) (after : plane'.at ≡ plane_after plane.links reply plane.at) (same-links : plane'.links ≡ plane.links) (same-rounds : plane'.rounds ≡ plane.rounds) where
         pub one-fewer : plane_most plane'.links plane'.rounds plane'.at < plane_most plane.links plane.rounds plane.at
         one-fewer =
             let some : plane.at.ticked < plane.links = (let ticked = (run-stands network run fits is.run_is).ticked in let same = ap (λ (p : Plane). p.ticked) at in let ls = is.plane_is.links in omega (arith, ticked, same, ls)) in
-            subst (λ (p : KeptPlane). plane_most p.links p.rounds p.at < plane_most plane.links plane.rounds plane.at) (λ i. record { links = sym same-links i; rounds = sym same-rounds i; at = sym after i; spare = plane'.spare })
+            subst (λ (p : PlaneAccount). plane_most p.links p.rounds p.at < plane_most plane.links plane.rounds plane.at) (λ i. record { links = sym same-links i; rounds = sym same-rounds i; at = sym after i; spare = plane'.spare })
             (with-fewer plane.links plane.rounds plane.at (next_due plane.at) reply refl some step-left)
 
         pub one-within : IsRun network (done ∷ run) → length new ≡ length links → ((n : ℕ) → n ≢ link_number link → slice_get new n ≡ slice_get links n) → slice_get new (link_number link) ≡ Some y → rules y ≡ rules x → ((h : List Entry) → stands x h → stands y h) → IsInWindow rules stands left parts from until new plane' (done ∷ run)

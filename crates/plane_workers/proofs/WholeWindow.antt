@@ -16,7 +16,7 @@ use Rattle.call_script.proofs.PlansFit.{plan-fits}
 use Rattle.call_script.specs.Fits.{NetworkFits}
 use Rattle.call_script.specs.Parts.{PlanParts}
 use Rattle.call_script.specs.Tasks.{Network, network_of}
-use Rattle.tick_plane.specs.Kept.{KeptPlane}
+use Rattle.tick_plane.specs.PlaneAccount.{PlaneAccount}
 use Rattle.tick_plane.specs.Planes.{Plane, flight_in}
 use Rattle.tick_plane.specs.Windows.{window_at}
 use Rattle.tick_plane.specs.declared.flight.Flight.{Flight}
@@ -46,7 +46,7 @@ one-at-most n ticked =
       | inr left ↦ rw left (omega arith)
     ]
 
-module _ {X : Type 0} (rules : X → Link) (stands : X → List Entry → Type 0) (parts : PlanParts) (gap until : ℕ) (links : List X) (plane : KeptPlane) (run : List Done) (is : IsBetween rules stands parts gap links plane run) where
+module _ {X : Type 0} (rules : X → Link) (stands : X → List Entry → Type 0) (parts : PlanParts) (gap until : ℕ) (links : List X) (plane : PlaneAccount) (run : List Done) (is : IsBetween rules stands parts gap links plane run) where
   abbrev network : Network
   network = network_of parts
 
@@ -93,7 +93,7 @@ module _ {X : Type 0} (rules : X → Link) (stands : X → List Entry → Type 0
     }
 
 -- the window is over
-pub between-again : {X : Type 0} (rules : X → Link) (stands : X → List Entry → Type 0) (left : X → List Reply) (parts : PlanParts) (gap from until : ℕ) (links : List X) (plane : KeptPlane) (run : List Done) → KeepsGap (network_of parts) gap → IsInWindow rules stands left parts from until links plane run → until ≤ plane.at.round → IsBetween rules stands parts gap links plane run
+pub between-again : {X : Type 0} (rules : X → Link) (stands : X → List Entry → Type 0) (left : X → List Reply) (parts : PlanParts) (gap from until : ℕ) (links : List X) (plane : PlaneAccount) (run : List Done) → KeepsGap (network_of parts) gap → IsInWindow rules stands left parts from until links plane run → until ≤ plane.at.round → IsBetween rules stands parts gap links plane run
 between-again rules stands left parts gap from until links plane run keeps is over = record {
   plan = is.plan;
   run_is = is.run_is;
@@ -105,14 +105,14 @@ between-again rules stands left parts gap from until links plane run keeps is ov
 -- ---- the watcher has seen the run
 
 module _ {X W : Type 0} (rules : X → Link) (stands : X → List Entry → Type 0) (left : X → List Reply) (saw : W → PlanParts → List Done → Type 0) (parts : PlanParts) (gap from until : ℕ) where
-  pub seen-begins : (links new : List X) (plane : KeptPlane) (watch : W) (run : List Done) → SeenBetween rules stands saw parts gap links plane watch run → from ≡ plane.at.round → until ≤ plane.at.round + gap + 1 → plane.at.round < until → until ≤ plane.rounds → length new ≡ length links
+  pub seen-begins : (links new : List X) (plane : PlaneAccount) (watch : W) (run : List Done) → SeenBetween rules stands saw parts gap links plane watch run → from ≡ plane.at.round → until ≤ plane.at.round + gap + 1 → plane.at.round < until → until ≤ plane.rounds → length new ≡ length links
       → ((n : ℕ) (x y : X) → slice_get links n ≡ Some x → slice_get new n ≡ Some y → IsAnswered rules stands x y (window_at n until plane.at) (left y)) → SeenWithin rules stands left saw parts from until new plane watch run
   seen-begins links new plane watch run is at near early all long answered = record {
     within = subst (λ start. IsInWindow rules stands left parts start until new plane run) (sym at) (within-begins rules stands parts gap until links plane run is.between left new near early all long answered);
     seen = is.seen;
   }
 
-  pub seen-again : (actor : ActorNo) (links : List X) (plane : KeptPlane) (watch : W) (past : List Done) → KeepsGap (network_of parts) gap → until ≤ plane.at.round → GoesTo (network_of parts) actor past (SeenWithin rules stands left saw parts from until links plane watch)
+  pub seen-again : (actor : ActorNo) (links : List X) (plane : PlaneAccount) (watch : W) (past : List Done) → KeepsGap (network_of parts) gap → until ≤ plane.at.round → GoesTo (network_of parts) actor past (SeenWithin rules stands left saw parts from until links plane watch)
       → GoesTo (network_of parts) actor past (SeenBetween rules stands saw parts gap links plane watch)
   seen-again actor links plane watch past keeps over goes = record {
     run = goes.run;
@@ -120,7 +120,7 @@ module _ {X W : Type 0} (rules : X → Link) (stands : X → List Entry → Type
     comes = record { between = between-again rules stands left parts gap from until links plane goes.run keeps goes.comes.within over; seen = goes.comes.seen };
   }
 
-pub rounds-few : {X : Type 0} (rules : X → Link) (stands : X → List Entry → Type 0) (parts : PlanParts) (gap : ℕ) (links : List X) (plane : KeptPlane) (run : List Done) → IsBetween rules stands parts gap links plane run → plane.rounds ≤ 1048576
+pub rounds-few : {X : Type 0} (rules : X → Link) (stands : X → List Entry → Type 0) (parts : PlanParts) (gap : ℕ) (links : List X) (plane : PlaneAccount) (run : List Done) → IsBetween rules stands parts gap links plane run → plane.rounds ≤ 1048576
 rounds-few rules stands parts gap links plane run is = (let most = (plan-fits parts is.plan).rounds in let same = is.plane_is.rounds in omega (arith, most, same))
 
 pub on-ok : {T E : Type 0} {P Q R : Type 0} (answer : Result T E) → (P → Q → R) → OnOk answer P → OnOk answer Q → OnOk answer R

@@ -7,7 +7,7 @@ use Rattle.link_steps.specs.declared.replies.Entry.{Entry}
 use Rattle.link_steps.specs.declared.replies.Reply.{Reply}
 use Rattle.call_script.specs.Parts.{PlanParts}
 use Rattle.call_script.specs.Tasks.{Network}
-use Rattle.tick_plane.specs.Kept.{KeptPlane}
+use Rattle.tick_plane.specs.PlaneAccount.{PlaneAccount}
 use Rattle.run_record.specs.declared.done.Done.{Done}
 use Rattle.interleave_core.specs.schedules.Schedules.{repeated}
 use Rattle.interleave_core.specs.schedules.Watching.{PlaysOn}
@@ -21,12 +21,12 @@ pub record GoesTo (network : Network) (actor : ActorNo) (past : List Done) (hold
   pub comes : holds run
 
 -- within a window, and the run was seen
-pub record SeenWithin {X W : Type 0} (rules : X → Link) (stands : X → List Entry → Type 0) (left : X → List Reply) (saw : W → PlanParts → List Done → Type 0) (parts : PlanParts) (from until : ℕ) (links : List X) (plane : KeptPlane) (watch : W) (run : List Done) : Type 0 where
+pub record SeenWithin {X W : Type 0} (rules : X → Link) (stands : X → List Entry → Type 0) (left : X → List Reply) (saw : W → PlanParts → List Done → Type 0) (parts : PlanParts) (from until : ℕ) (links : List X) (plane : PlaneAccount) (watch : W) (run : List Done) : Type 0 where
   pub within : IsInWindow rules stands left parts from until links plane run
   pub seen : saw watch parts run
 
 -- between two windows, and the run was seen
-pub record SeenBetween {X W : Type 0} (rules : X → Link) (stands : X → List Entry → Type 0) (saw : W → PlanParts → List Done → Type 0) (parts : PlanParts) (gap : ℕ) (links : List X) (plane : KeptPlane) (watch : W) (run : List Done) : Type 0 where
+pub record SeenBetween {X W : Type 0} (rules : X → Link) (stands : X → List Entry → Type 0) (saw : W → PlanParts → List Done → Type 0) (parts : PlanParts) (gap : ℕ) (links : List X) (plane : PlaneAccount) (watch : W) (run : List Done) : Type 0 where
   pub between : IsBetween rules stands parts gap links plane run
   pub seen : saw watch parts run
 

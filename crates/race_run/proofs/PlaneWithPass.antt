@@ -12,7 +12,7 @@ use Rattle.net_units.specs.declared.numbers.LinkNo.{LinkNo}
 use Rattle.link_steps.specs.Split.{Link}
 use Rattle.link_steps.specs.declared.asks.Ask.{Ask}
 use Rattle.link_steps.specs.declared.replies.Reply.{Reply}
-use Rattle.tick_plane.specs.Kept.{KeptPlane}
+use Rattle.tick_plane.specs.PlaneAccount.{PlaneAccount}
 use Rattle.tick_plane.specs.Planes.{Plane, ask_due, next_due, plane_ask, plane_of, plane_start, plane_with}
 use Rattle.tick_plane.specs.declared.flight.Flight.{Flight}
 use Rattle.link_ledger.specs.Tokens.{Token, stamps_drawn}
@@ -37,7 +37,7 @@ use Rattle.race_run.proofs.TaskEntries.{asked-more}
 -- ---- at the start
 
 -- a new plane of the network's links and rounds, with the plane's pass, which has made no step
-pub plane-begins : (network : Network) (plane : KeptPlane) (pass : Token) → plane.links ≡ length network.links → plane.rounds ≡ network.rounds → plane.at ≡ plane_start → pass.own ≡ [] → actor_number pass.actor ≡ plane_no network → PlaneIsAt network plane pass
+pub plane-begins : (network : Network) (plane : PlaneAccount) (pass : Token) → plane.links ≡ length network.links → plane.rounds ≡ network.rounds → plane.at ≡ plane_start → pass.own ≡ [] → actor_number pass.actor ≡ plane_no network → PlaneIsAt network plane pass
 unfolding Follows plane_of
 plane-begins network plane pass links rounds start none is = record {
   on = record {
@@ -53,9 +53,9 @@ plane-begins network plane pass links rounds start none is = record {
 
 -- ---- with room for the flights
 
-pub on-ready : (network : Network) (plane plane' : KeptPlane) (pass : Token) → plane' ≡ record plane { spare = plane'.spare } → PlaneIsOn network plane pass → PlaneIsOn network plane' pass
+pub on-ready : (network : Network) (plane plane' : PlaneAccount) (pass : Token) → plane' ≡ record plane { spare = plane'.spare } → PlaneIsOn network plane pass → PlaneIsOn network plane' pass
 on-ready network plane plane' pass kept on =
-    subst (λ (p : KeptPlane). PlaneIsOn network p pass) (sym kept) (record { links = on.links; rounds = on.rounds; planes = record { follows = on.planes.follows; stands = on.planes.stands }; only = on.only; is = on.is })
+    subst (λ (p : PlaneAccount). PlaneIsOn network p pass) (sym kept) (record { links = on.links; rounds = on.rounds; planes = record { follows = on.planes.follows; stands = on.planes.stands }; only = on.only; is = on.is })
 
 -- ---- a step
 
@@ -77,7 +77,7 @@ one-round [] one are round = refl
 one-round (e ∷ []) one are round = (let is : asked_in e ≡ one = cc in rw (ap (λ (x : Asked). is_round x.ask) is ∙ round) refl)
 one-round (e ∷ f ∷ entries) one are round = cc
 
-pub on-next : (network : Network) (plane plane' : KeptPlane) (pass pass' : Token) (reply : Reply) → PlaneIsOn network plane pass → MakesRound plane plane' pass pass' reply → IsPlanes (length network.links) plane' pass'.own → pass'.actor ≡ pass.actor → PlaneIsOn network plane' pass'
+pub on-next : (network : Network) (plane plane' : PlaneAccount) (pass pass' : Token) (reply : Reply) → PlaneIsOn network plane pass → MakesRound plane plane' pass pass' reply → IsPlanes (length network.links) plane' pass'.own → pass'.actor ≡ pass.actor → PlaneIsOn network plane' pass'
 on-next network plane plane' pass pass' reply on made planes by =
     let adds = made.adds in
     let one = one-round adds.entries _ adds.are (asks-round plane.rounds plane.at made.link made.ask made.asked) in
@@ -97,10 +97,10 @@ after-round links plane None reply =
       | inr more ↦ rw more (inl refl)
     ]
 
-pub stepped-from : (plane ready plane' : KeptPlane) → ready ≡ record plane { spare = ready.spare } → IsStepped ready plane' → IsStepped plane plane'
-stepped-from plane ready plane' kept stepped = (let same = subst (λ (p : KeptPlane). IsStepped p plane') kept stepped in record { round = same.round; fewer = same.fewer })
+pub stepped-from : (plane ready plane' : PlaneAccount) → ready ≡ record plane { spare = ready.spare } → IsStepped ready plane' → IsStepped plane plane'
+stepped-from plane ready plane' kept stepped = (let same = subst (λ (p : PlaneAccount). IsStepped p plane') kept stepped in record { round = same.round; fewer = same.fewer })
 
-pub step-made : (network : Network) (plane plane' : KeptPlane) (pass pass' : Token) (reply : Reply) → NetworkFits network → PlaneIsOn network plane pass → MakesRound plane plane' pass pass' reply → IsStepped plane plane'
+pub step-made : (network : Network) (plane plane' : PlaneAccount) (pass pass' : Token) (reply : Reply) → NetworkFits network → PlaneIsOn network plane pass → MakesRound plane plane' pass pass' reply → IsStepped plane plane'
 step-made network plane plane' pass pass' reply fits on made =
     let links : plane.links ≡ length network.links = on.links in
     let early = asks-early plane.rounds plane.at made.link made.ask made.asked in
@@ -118,17 +118,17 @@ one-added [] one pass pass' are own = absurd (let clash : [] ≡ one ∷ [] = ar
 one-added (e ∷ []) one pass pass' are own = record { entry = e; own = own }
 one-added (e ∷ f ∷ entries) one pass pass' are own = absurd (let clash : asked_in e ∷ asked_in f ∷ map asked_in entries ≡ one ∷ [] = are in cc)
 
-pub adds-one : (plane plane' : KeptPlane) (pass pass' : Token) (reply : Reply) → MakesRound plane plane' pass pass' reply → AddsOne pass pass'
+pub adds-one : (plane plane' : PlaneAccount) (pass pass' : Token) (reply : Reply) → MakesRound plane plane' pass pass' reply → AddsOne pass pass'
 adds-one plane plane' pass pass' reply made = one-added made.adds.entries _ pass pass' made.adds.are made.adds.own
 
 -- and it is asked in the round in which the plane stands
-pub early-next : (network : Network) (plane : KeptPlane) (pass pass' : Token) (round : ℕ) → PlaneIsOn network plane pass → AddsOne pass pass' → plane.at.round < round → AreAskedBefore (length network.links) round pass.own → AreAskedBefore (length network.links) round pass'.own
+pub early-next : (network : Network) (plane : PlaneAccount) (pass pass' : Token) (round : ℕ) → PlaneIsOn network plane pass → AddsOne pass pass' → plane.at.round < round → AreAskedBefore (length network.links) round pass.own → AreAskedBefore (length network.links) round pass'.own
 early-next network plane pass pass' round on adds now early =
     let stands : plane.at ≡ plane_of (length network.links) (reverse (map reply_in pass.own)) = on.planes.stands ∙ ap (λ own. plane_of (length network.links) (reverse (map reply_in own))) on.only in
     asked-one (length network.links) round pass.own pass'.own adds.entry early (subst (λ (p : Plane). p.round < round) stands now) adds.own
 
 -- the pass has drawn few stamps, as the rounds of a plan are few
-pub few-drawn : (table : TableId) (owners : List ActorNo) (links : List Link) (network : Network) (plane : KeptPlane) (pass : Token) → NetworkFits network → PlaneIsOn network plane pass → MayStep table owners links pass → stamps_drawn pass < 2 ^ 40 - 64
+pub few-drawn : (table : TableId) (owners : List ActorNo) (links : List Link) (network : Network) (plane : PlaneAccount) (pass : Token) → NetworkFits network → PlaneIsOn network plane pass → MayStep table owners links pass → stamps_drawn pass < 2 ^ 40 - 64
 few-drawn table owners links network plane pass fits on may =
     let own = ap length on.only in
     let drew = drawn-count table owners links pass may in
@@ -151,7 +151,7 @@ asked-on network actor front (e ∷ own) is asked follows =
     let left = subst (λ replies. Follows (next_round (length network.links) network.rounds) replies own) (sym (map-append reply_in front (e ∷ []))) follows.1 in
     subst (λ own. IsAsked network (actor_number actor) (reverse (map (own_done actor) own))) (append_assoc front (e ∷ []) own) (asked-on network actor (front ++ e ∷ []) own is more left)
 
-pub plane-over : (network : Network) (plane : KeptPlane) (pass : Token) → PlaneIsAt network plane pass → plane.at.round ≡ network.rounds → HasMadeAll network pass
+pub plane-over : (network : Network) (plane : PlaneAccount) (pass : Token) → PlaneIsAt network plane pass → plane.at.round ≡ network.rounds → HasMadeAll network pass
 plane-over network plane pass at over =
     let on = at.on in
     let follows : Follows (next_round (length network.links) network.rounds) [] pass.own = subst (λ (x : ℕ × List OwnEntry). Follows (next_round (length network.links) x.0) [] x.1) (λ i. (on.rounds i, on.only i)) on.planes.follows in

@@ -18,7 +18,7 @@ use Rattle.shared_network.specs.Gathering.{AreAll, token_actor}
 use Rattle.shared_network.specs.Ready.{IsNew, MayStep, PassGoesOn}
 use Rattle.shared_network.proofs.ActorOrder.{actors-in_order}
 use Rattle.shared_network.proofs.LinkNumbers.{numbered-at, numbered-length}
-use Rattle.tick_plane.specs.Kept.{KeptPlane}
+use Rattle.tick_plane.specs.PlaneAccount.{PlaneAccount}
 use Rattle.call_script.specs.Parts.{PlanParts}
 use Rattle.call_script.specs.Tasks.{network_of}
 use Rattle.interleave_core.specs.runs.Runs.{plane_no}
@@ -82,7 +82,7 @@ module _ (table : TableId) (owners : List ActorNo) (links : List Link) (parts : 
       let new = Each-at (IsNew table owners links (suc (length parts.callers))) callers k pass parted.0 found in
       record { may_step = new.may_step; begins = record { caller = (let m = many in omega (arith, inside, is, m)); own = new.own; drawn = ap length new.drawn } }
 
-  pub all-begin : (plane : KeptPlane) → IsAtRound parts 0 plane last → Each (MayBegin table owners links parts) (map (λ (p : Token). Script p) callers ++ Rounds plane last ∷ [])
+  pub all-begin : (plane : PlaneAccount) → IsAtRound parts 0 plane last → Each (MayBegin table owners links parts) (map (λ (p : Token). Script p) callers ++ Rounds plane last ∷ [])
   all-begin plane at =
       Each-append (MayBegin table owners links parts) (map (λ (p : Token). Script p) callers) (Rounds plane last ∷ [])
       (Each-map (MayBegin table owners links parts) (λ (p : Token). Script p) callers (Each-by_place (λ (p : Token). MayBegin table owners links parts (Script p)) callers caller-begins))
@@ -101,12 +101,12 @@ module _ (table : TableId) (owners : List ActorNo) (links : List Link) (parts : 
   of-script pass (Ok (Rounds plane p)) ended = ended.ends
   of-script pass (Err wanted) ended = tt
 
-  of-rounds : (plane : KeptPlane) (pass : Token) (made : Result Piece OutOfMemory) → IsMade table owners links parts (Rounds plane pass) made → IsOfRounds made
+  of-rounds : (plane : PlaneAccount) (pass : Token) (made : Result Piece OutOfMemory) → IsMade table owners links parts (Rounds plane pass) made → IsOfRounds made
   of-rounds plane pass (Ok (Script p)) ended = ended.ends
   of-rounds plane pass (Ok (Rounds plane' p)) ended = tt
   of-rounds plane pass (Err wanted) ended = tt
 
-  by-pieces : (callers : List Token) (plane : KeptPlane) (last : Token) (made : List (Result Piece OutOfMemory)) → Pairwise (IsMade table owners links parts) (map (λ (p : Token). Script p) callers ++ Rounds plane last ∷ []) made → AreInOrder made
+  by-pieces : (callers : List Token) (plane : PlaneAccount) (last : Token) (made : List (Result Piece OutOfMemory)) → Pairwise (IsMade table owners links parts) (map (λ (p : Token). Script p) callers ++ Rounds plane last ∷ []) made → AreInOrder made
   by-pieces [] plane last [] pairs = absurd pairs
   by-pieces [] plane last (r ∷ []) pairs = of-rounds plane last r pairs.0
   by-pieces [] plane last (r ∷ s ∷ made) pairs = absurd pairs.1
@@ -115,7 +115,7 @@ module _ (table : TableId) (owners : List ActorNo) (links : List Link) (parts : 
   by-pieces (c ∷ d ∷ cs) plane last (r ∷ []) pairs = absurd pairs.1
   by-pieces (c ∷ cs) plane last (r ∷ s ∷ made) pairs = (of-script c r pairs.0, by-pieces cs plane last (s ∷ made) pairs.1)
 
-  pub made-in_order : (pieces : List Piece) (made : List (Result Piece OutOfMemory)) (callers : List Token) (plane : KeptPlane) (last : Token) → pieces ≡ map (λ (p : Token). Script p) callers ++ Rounds plane last ∷ [] → Pairwise (IsMade table owners links parts) pieces made → AreInOrder made
+  pub made-in_order : (pieces : List Piece) (made : List (Result Piece OutOfMemory)) (callers : List Token) (plane : PlaneAccount) (last : Token) → pieces ≡ map (λ (p : Token). Script p) callers ++ Rounds plane last ∷ [] → Pairwise (IsMade table owners links parts) pieces made → AreInOrder made
   made-in_order pieces made callers plane last are pairs = by-pieces callers plane last made (subst (λ (ps : List Piece). Pairwise (IsMade table owners links parts) ps made) are pairs)
 
 -- ---- the end
@@ -125,17 +125,17 @@ module _ (table : TableId) (owners : List ActorNo) (links : List Link) (parts : 
   ScriptEnds pass pass' = HasEnded table owners links parts (Script pass) (Script pass')
 
   -- the callers' pieces, and that of the plane
-  pub record AreMade (callers : List Token) (plane : KeptPlane) (last : Token) (callers' : List Token) (plane' : KeptPlane) (last' : Token) : Type 0 where
+  pub record AreMade (callers : List Token) (plane : PlaneAccount) (last : Token) (callers' : List Token) (plane' : PlaneAccount) (last' : Token) : Type 0 where
     pub scripts : Pairwise ScriptEnds callers callers'
     pub rounds : HasEnded table owners links parts (Rounds plane last) (Rounds plane' last')
 
-  pub all-made : (callers callers' : List Token) (plane plane' : KeptPlane) (last last' : Token) → Pairwise (IsMade table owners links parts) (map (λ (p : Token). Script p) callers ++ Rounds plane last ∷ []) (map (λ (p : Token). Ok (Script p)) callers' ++ Ok (Rounds plane' last') ∷ []) → AreMade callers plane last callers' plane' last'
+  pub all-made : (callers callers' : List Token) (plane plane' : PlaneAccount) (last last' : Token) → Pairwise (IsMade table owners links parts) (map (λ (p : Token). Script p) callers ++ Rounds plane last ∷ []) (map (λ (p : Token). Ok (Script p)) callers' ++ Ok (Rounds plane' last') ∷ []) → AreMade callers plane last callers' plane' last'
   all-made [] [] plane plane' last last' pairs = record { scripts = tt; rounds = pairs.0 }
   all-made [] (p ∷ ps) plane plane' last last' pairs = absurd (let first : HasEnded table owners links parts (Rounds plane last) (Script p) = pairs.0 in first.ends)
   all-made (c ∷ cs) [] plane plane' last last' pairs = absurd (let first : HasEnded table owners links parts (Script c) (Rounds plane' last') = pairs.0 in first.ends)
   all-made (c ∷ cs) (p ∷ ps) plane plane' last last' pairs = (let rest = all-made cs ps plane plane' last last' pairs.1 in record { scripts = (pairs.0, rest.scripts); rounds = rest.rounds })
 
-  pub made-of : (pieces : List Piece) (made : List (Result Piece OutOfMemory)) (callers callers' : List Token) (plane plane' : KeptPlane) (last last' : Token) → pieces ≡ map (λ (p : Token). Script p) callers ++ Rounds plane last ∷ [] → made ≡ map (λ (p : Token). Ok (Script p)) callers' ++ Ok (Rounds plane' last') ∷ [] → Pairwise (IsMade table owners links parts) pieces made → AreMade callers plane last callers' plane' last'
+  pub made-of : (pieces : List Piece) (made : List (Result Piece OutOfMemory)) (callers callers' : List Token) (plane plane' : PlaneAccount) (last last' : Token) → pieces ≡ map (λ (p : Token). Script p) callers ++ Rounds plane last ∷ [] → made ≡ map (λ (p : Token). Ok (Script p)) callers' ++ Ok (Rounds plane' last') ∷ [] → Pairwise (IsMade table owners links parts) pieces made → AreMade callers plane last callers' plane' last'
   made-of pieces made callers callers' plane plane' last last' are came pairs =
       all-made callers callers' plane plane' last last'
       (subst (λ (ps : List Piece). Pairwise (IsMade table owners links parts) ps (map (λ (p : Token). Ok (Script p)) callers' ++ Ok (Rounds plane' last') ∷ [])) are
@@ -147,7 +147,7 @@ module _ (table : TableId) (owners : List ActorNo) (links : List Link) (parts : 
     pub goes : PassGoesOn table owners links pass pass'
     pub actor : pass'.actor ≡ pass.actor
 
-  module _ (callers callers' : List Token) (plane plane' : KeptPlane) (last last' final : Token) (all : AreNew table owners links parts (callers ++ last ∷ [])) (made : AreMade callers plane last callers' plane' last') (ends : IsLast last' final) where
+  module _ (callers callers' : List Token) (plane plane' : PlaneAccount) (last last' final : Token) (all : AreNew table owners links parts (callers ++ last ∷ [])) (made : AreMade callers plane last callers' plane' last') (ends : IsLast last' final) where
     same-actors : map token_actor (callers' ++ final ∷ []) ≡ map token_actor (callers ++ last ∷ [])
     same-actors =
         map-append token_actor callers' (final ∷ [])

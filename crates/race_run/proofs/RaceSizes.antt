@@ -16,7 +16,7 @@ use Rattle.link_ledger.specs.Tokens.{Token}
 use Rattle.shared_network.specs.Gathering.{token_actor}
 use Rattle.shared_network.specs.Ready.{IsNew}
 use Rattle.shared_network.proofs.LinkNumbers.{numbered-length}
-use Rattle.tick_plane.specs.Kept.{KeptPlane}
+use Rattle.tick_plane.specs.PlaneAccount.{PlaneAccount}
 use Rattle.tick_plane.specs.Planes.{plane_start}
 use Rattle.call_script.proofs.PlansFit.{plan-fits}
 use Rattle.call_script.specs.Parts.{PlanParts}
@@ -37,28 +37,28 @@ unfolding network_of
 plane-rounds parts = refl
 
 -- the rounds beside the callers are left to a plane that has made none
-pub rounds-left : (parts : PlanParts) (plane : KeptPlane) (pass : Token) (rounds : ℕ) → IsAtRound parts 0 plane pass → rounds ≡ parts.rounds → (plane.at.round ≤ rounds) × (rounds ≤ plane.rounds)
+pub rounds-left : (parts : PlanParts) (plane : PlaneAccount) (pass : Token) (rounds : ℕ) → IsAtRound parts 0 plane pass → rounds ≡ parts.rounds → (plane.at.round ≤ rounds) × (rounds ≤ plane.rounds)
 rounds-left parts plane pass rounds at is =
     let all = at.at.on.rounds ∙ plane-rounds parts in
     let none = at.round_is in
     (omega (arith, none), omega (arith, all, is))
 
 -- and after these the others
-pub tail-left : (parts : PlanParts) (plane : KeptPlane) (pass : Token) (rounds tail : ℕ) → IsAtRound parts parts.rounds plane pass → rounds ≡ parts.rounds → tail ≡ parts.tail → (plane.at.round ≤ rounds + tail) × (rounds + tail ≤ plane.rounds)
+pub tail-left : (parts : PlanParts) (plane : PlaneAccount) (pass : Token) (rounds tail : ℕ) → IsAtRound parts parts.rounds plane pass → rounds ≡ parts.rounds → tail ≡ parts.tail → (plane.at.round ≤ rounds + tail) × (rounds + tail ≤ plane.rounds)
 tail-left parts plane pass rounds tail at is rest =
     let all = at.at.on.rounds ∙ plane-rounds parts in
     let made = at.round_is in
     (omega (arith, made, is), omega (arith, all, is, rest))
 
-pub tail-made : (parts : PlanParts) (plane : KeptPlane) (pass : Token) (rounds tail : ℕ) → PlaneIsAt (network_of parts) plane pass → plane.at.round ≡ rounds + tail → rounds ≡ parts.rounds → tail ≡ parts.tail → HasMadeAll (network_of parts) pass
+pub tail-made : (parts : PlanParts) (plane : PlaneAccount) (pass : Token) (rounds tail : ℕ) → PlaneIsAt (network_of parts) plane pass → plane.at.round ≡ rounds + tail → rounds ≡ parts.rounds → tail ≡ parts.tail → HasMadeAll (network_of parts) pass
 tail-made parts plane pass rounds tail at made is rest =
     plane-over (network_of parts) plane pass at (made ∙ (λ i. is i + rest i) ∙ sym (plane-rounds parts))
 
-pub plane-new : (parts : PlanParts) (plane : KeptPlane) (pass : Token) → plane ≡ record { links = length parts.links; rounds = parts.rounds + parts.tail; at = plane_start; spare = 0 } → pass.own ≡ [] → actor_number pass.actor ≡ plane_no (network_of parts) → IsAtRound parts 0 plane pass
+pub plane-new : (parts : PlanParts) (plane : PlaneAccount) (pass : Token) → plane ≡ record { links = length parts.links; rounds = parts.rounds + parts.tail; at = plane_start; spare = 0 } → pass.own ≡ [] → actor_number pass.actor ≡ plane_no (network_of parts) → IsAtRound parts 0 plane pass
 unfolding network_of
 plane-new parts plane pass new none is = record {
-  at = plane-begins (network_of parts) plane pass (ap (λ (p : KeptPlane). p.links) new ∙ sym (length-map parts.links (entry_link (groups_in parts)))) (ap (λ (p : KeptPlane). p.rounds) new) (ap (λ (p : KeptPlane). p.at) new) none is;
-  round_is = ap (λ (p : KeptPlane). p.at.round) new;
+  at = plane-begins (network_of parts) plane pass (ap (λ (p : PlaneAccount). p.links) new ∙ sym (length-map parts.links (entry_link (groups_in parts)))) (ap (λ (p : PlaneAccount). p.rounds) new) (ap (λ (p : PlaneAccount). p.at) new) none is;
+  round_is = ap (λ (p : PlaneAccount). p.at.round) new;
 }
 
 -- ---- what is opened

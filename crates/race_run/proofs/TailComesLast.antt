@@ -11,7 +11,7 @@ use Rattle.net_units.specs.Numbers.{actor_number}
 use Rattle.shared_network.specs.Added.{AddsAbove}
 use Rattle.shared_network.specs.Closing.{KeptPass, kept_pass, HaveGivenUp}
 use Rattle.shared_network.specs.Planes.{IsPlanes, rounds_in}
-use Rattle.tick_plane.specs.Kept.{KeptPlane}
+use Rattle.tick_plane.specs.PlaneAccount.{PlaneAccount}
 use Rattle.call_script.specs.Parts.{PlanParts}
 use Rattle.call_script.specs.Splits.{entry_link, groups_in}
 use Rattle.call_script.specs.Tasks.{network_of}
@@ -54,7 +54,7 @@ goes-last callers stamp pass seen pass' upto least same adds = record {
 }
 
 -- the plane stands there with any pass that has the same entries
-pub at-same : (parts : PlanParts) (round : ℕ) (plane : KeptPlane) (pass pass' : Token) → pass'.actor ≡ pass.actor → pass'.own ≡ pass.own → IsAtRound parts round plane pass → IsAtRound parts round plane pass'
+pub at-same : (parts : PlanParts) (round : ℕ) (plane : PlaneAccount) (pass pass' : Token) → pass'.actor ≡ pass.actor → pass'.own ≡ pass.own → IsAtRound parts round plane pass → IsAtRound parts round plane pass'
 at-same parts round plane pass pass' actor own at =
     let on = at.at.on in
     record {
@@ -82,7 +82,7 @@ late-above links rounds callers first last before after e early above (In rest i
 late-above links rounds callers first last before after e early above (Past front is all) late = each-middle (IsAboveAll callers) front after e (subst (Each (IsAboveAll callers)) is above)
 
 -- the callers, and the plane with the rounds that it has made after them
-pub tail-last : (parts : PlanParts) (callers all : List Token) (plane : KeptPlane) (pass pass' : Token) → IsAtRound parts parts.rounds plane pass → GoesLast (map own_in callers) pass pass' → all ≡ callers ++ pass' ∷ [] → TailIsLast parts (map own_in all)
+pub tail-last : (parts : PlanParts) (callers all : List Token) (plane : PlaneAccount) (pass pass' : Token) → IsAtRound parts parts.rounds plane pass → GoesLast (map own_in callers) pass pass' → all ≡ callers ++ pass' ∷ [] → TailIsLast parts (map own_in all)
 tail-last parts callers all plane pass pass' at goes are =
     let early : AreAskedBefore (length parts.links) parts.rounds pass.own = subst (λ (x : ℕ × ℕ). AreAskedBefore x.0 x.1 pass.own) (λ i. (links-same parts i, at.round_is i)) at.at.early in
     record {

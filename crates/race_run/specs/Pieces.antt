@@ -13,7 +13,7 @@ use Rattle.step_stamp.specs.Lists.{up_to}
 use Rattle.link_ledger.specs.Tokens.{Token, stamps_drawn}
 use Rattle.shared_network.specs.Gathering.{token_actor}
 use Rattle.shared_network.specs.Ready.{IsNew, MayStep, PassGoesOn}
-use Rattle.tick_plane.specs.Kept.{KeptPlane}
+use Rattle.tick_plane.specs.PlaneAccount.{PlaneAccount}
 use Rattle.call_script.specs.Parts.{PlanParts}
 use Rattle.call_script.specs.Tasks.{network_of}
 use Rattle.race_run.specs.Rounds.{PlaneIsAt}
@@ -41,7 +41,7 @@ pub record IsUnbegun (parts : PlanParts) (pass : Token) : Type 0 where
   pub drawn : stamps_drawn pass ≡ 0
 
 -- the plane stands where this many of its rounds are made
-pub record IsAtRound (parts : PlanParts) (round : ℕ) (plane : KeptPlane) (pass : Token) : Type 0 where
+pub record IsAtRound (parts : PlanParts) (round : ℕ) (plane : PlaneAccount) (pass : Token) : Type 0 where
   pub at : PlaneIsAt (network_of parts) plane pass
   pub round_is : plane.at.round ≡ round
 

@@ -3,7 +3,7 @@
 -- replies. Nothing has been asked in the round that comes next: no packet has arrived in it, and no link has made its tick.
 use Rattle.std.specs.Prelude.{◌≡◌, ℕ, ◌+◌, ◌<◌, ◌⊎◌, List, [], ◌∷◌, ◌++◌, length, map, reverse}
 use Rattle.net_units.specs.Numbers.{actor_number}
-use Rattle.tick_plane.specs.Kept.{KeptPlane}
+use Rattle.tick_plane.specs.PlaneAccount.{PlaneAccount}
 use Rattle.tick_plane.specs.Planes.{plane_of}
 use Rattle.link_ledger.specs.Tokens.{Token}
 use Rattle.link_ledger.specs.declared.entries.OwnEntry.{OwnEntry}
@@ -14,7 +14,7 @@ use Rattle.interleave_core.specs.runs.Runs.{plane_no}
 use Rattle.interleave_core.specs.runs.Turns.{plane_most}
 
 -- the pass is the plane's, and has made the plane's steps so far and no others
-pub record PlaneIsOn (network : Network) (plane : KeptPlane) (pass : Token) : Type 0 where
+pub record PlaneIsOn (network : Network) (plane : PlaneAccount) (pass : Token) : Type 0 where
   pub links : plane.links ≡ length network.links
   pub rounds : plane.rounds ≡ network.rounds
   pub planes : IsPlanes (length network.links) plane pass.own
@@ -30,7 +30,7 @@ abbrev pub AreAskedBefore : ℕ → ℕ → List OwnEntry → Type 0
 AreAskedBefore links round own = (before after : List OwnEntry) (e : OwnEntry) → own ≡ before ++ e ∷ after → round_after links before < round
 
 -- it stands between two rounds
-pub record PlaneIsAt (network : Network) (plane : KeptPlane) (pass : Token) : Type 0 where
+pub record PlaneIsAt (network : Network) (plane : PlaneAccount) (pass : Token) : Type 0 where
   pub on : PlaneIsOn network plane pass
   pub between : plane.at.ticked ≡ 0
   pub early : AreAskedBefore (length network.links) plane.at.round pass.own
@@ -44,6 +44,6 @@ pub record AddsOne (pass pass' : Token) : Type 0 where
 
 -- the plane has taken the reply to one more ask: it is in the same round, or has ended it, and the greatest number of steps that it
 -- may have left falls
-pub record IsStepped (plane plane' : KeptPlane) : Type 0 where
+pub record IsStepped (plane plane' : PlaneAccount) : Type 0 where
   pub round : (plane'.at.round ≡ plane.at.round) ⊎ ((plane'.at.round ≡ plane.at.round + 1) × (plane'.at.ticked ≡ 0))
   pub fewer : plane_most plane'.links plane'.rounds plane'.at < plane_most plane.links plane.rounds plane.at

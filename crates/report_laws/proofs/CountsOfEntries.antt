@@ -31,7 +31,7 @@ use Rattle.channel_report.specs.Moves.{move_lines}
 use Rattle.channel_report.specs.Report.{end_line, request_lines, link_lines, table_if}
 use Rattle.channel_report.specs.Routes.{route_lines}
 use Rattle.channel_report.specs.Sources.{act_of, refused_by, refused_in, first_link}
-use Rattle.report_laws.specs.Counts.{dropped_packets, best_taken, best_offered, left_in, is_best_start, is_channel_start, refuses_pour, is_refused_pour, ReportsTellWhatLinksDid, refuses_send, is_refused_send, ReportsTellRefusedSends, ReportsTellTheSteps}
+use Rattle.report_laws.specs.Counts.{dropped_packets, best_taken, best_offered, left_in, is_best_start, is_channel_start, refuses_pour, is_refused_pour, ReportsShowWhatLinksDid, refuses_send, is_refused_send, ReportsShowRefusedSends, ReportsShowTheSteps}
 use Rattle.report_laws.proofs.LinkCounts.{quiet-left, tick-left, sent-now, best-now, run-part}
 use Rattle.report_laws.proofs.LostPackets.{counts-stay, tick-counts}
 
@@ -73,7 +73,7 @@ sends-passed c (e ∷ past) =
       | inr off ↦ (let is : refused_by c (act_of e.ask e.reply) ≡ 0 = one ∙ ap one_if off in rw off (omega (arith, is, rest)))
     ]
 
-pub sends-told : ReportsTellRefusedSends
+pub sends-told : ReportsShowRefusedSends
 sends-told run entry = sends-passed (channel_number entry.request.chan) (part_of (first_link entry.request.route) run)
 
 -- ---- packets that have left
@@ -146,7 +146,7 @@ none-told : (link : Link) → HasTold link []
 unfolding total_in clock_of scan_of starts_below
 none-told link = record { sent = refl; full = refl; best = refl; lost = refl }
 
-pub links-told : ReportsTellWhatLinksDid
+pub links-told : ReportsShowWhatLinksDid
 links-told plan run n link is run_is linked =
     let told = run-part (network_of plan) (HasTold link) n link run (plan-fits plan is) (all-owned plan is) linked (none-told link)
     (λ h legal was. tick-told link h legal was) (λ ask reply h more legal other answers was. other-told link ask reply h more other answers was) run_is in
@@ -161,7 +161,7 @@ regroup a b c d e f = simp append_assoc
 abbrev lines_before : PlanParts → List Done → List ℕ
 lines_before plan entries = request_lines plan (reverse entries) ++ (route_lines plan.links plan.requests ++ (move_lines plan (reverse entries) ++ (channel_lines plan (rows_of entries) (reverse entries) ++ link_lines plan (reverse entries))))
 
-pub steps-told : ReportsTellTheSteps
+pub steps-told : ReportsShowTheSteps
 steps-told plan run packets = record {
   lines = lines_before plan (reverse run);
   is = regroup (request_lines plan (reverse (reverse run))) (route_lines plan.links plan.requests) (move_lines plan (reverse (reverse run))) (channel_lines plan (rows_of (reverse run)) (reverse (reverse run))) (link_lines plan (reverse (reverse run))) (end_line (length (reverse run)) ++ table_if packets plan (reverse run))

@@ -29,7 +29,7 @@ use Rattle.trace_audit.proofs.WholeRoute.{filter-reverse}
 use Rattle.trace_audit.proofs.RunIsSound.{run-is_sound}
 use Rattle.channel_report.specs.Delays.{is_last, least_with, least_of, worst_with, worst_of}
 use Rattle.report_laws.specs.Bounds.{delays_told}
-use Rattle.report_laws.specs.Delivered.{IsDelay, IsLeast, IsWorst, ReportsTellEveryDelay}
+use Rattle.report_laws.specs.Delivered.{IsDelay, IsLeast, IsWorst, ReportsShowEveryDelay}
 use Rattle.report_laws.proofs.DelayRows.{delay-is}
 use Rattle.report_laws.proofs.GivenLevels.{levels_in, levels-are}
 use Rattle.report_laws.proofs.PairedRows.{delays-count, tells-delay}
@@ -81,7 +81,7 @@ same-delay network request first m last run j k one other index departs = ap (λ
 
 -- ---- the law
 
-pub every-delay : ReportsTellEveryDelay
+pub every-delay : ReportsShowEveryDelay
 every-delay plan run c entry levels delay first m last is run_is requested accepted end = record {
   delivered = delays-count plan (levels_in plan run) entry.request (reverse (rows_of (reverse run))) sound
       ∙ ap length (filter-reverse (is_last entry.request) (rows_of (reverse run)))

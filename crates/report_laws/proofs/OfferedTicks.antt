@@ -32,7 +32,7 @@ use Rattle.link_steps.proofs.RulesPassed.{answers-reply}
 use Rattle.channel_laws.specs.Channels.{HopTerms, channel_of, offers_with, offers_to, AllOfferTerms, IsElsewhere, ChannelStands}
 use Rattle.channel_laws.proofs.ChannelRows.{find-passes, row-at-hop, others-elsewhere, legal-stands}
 use Rattle.channel_laws.proofs.FirstSource.{GoneTells, AllGone, legal-gone}
-use Rattle.report_laws.specs.Offered.{HasOffered, ReportsTellWhatSourcesOffer}
+use Rattle.report_laws.specs.Offered.{HasOffered, ReportsShowWhatSourcesOffer}
 use Rattle.channel_report.specs.Sources.{act_of, ticks_from, is_made, planned_after, planned_in, offered_in}
 
 -- ---- plans
@@ -243,7 +243,7 @@ plans-told shape terms c (e ∷ past) legal names once =
 plans-offered : (c t : ℕ) (planned : List ℕ) (row : Row) → PlansAs c planned row → channel_of row ≡ c → offered_by t row ≡ filter (is_made t) planned
 plans-offered c t planned row plans own = made-same t row.plan ∙ ap (filter (is_made t)) (plans own)
 
-pub offers-told : ReportsTellWhatSourcesOffer
+pub offers-told : ReportsShowWhatSourcesOffer
 offers-told shape terms c h legal names once =
     let told = plans-told shape terms c h legal names once in
     record {

@@ -41,7 +41,7 @@ use Rattle.trace_audit.proofs.PacketOf.{fits-network}
 use Rattle.trace_audit.proofs.RunRows.{departure-told, sent-at, run-split}
 use Rattle.trace_audit.proofs.RunSound.{departures_of}
 use Rattle.trace_audit.proofs.SortedRows.{order-among}
-use Rattle.report_laws.specs.Rows.{TellsDeparture, RowsTellDepartures}
+use Rattle.report_laws.specs.Rows.{TellsDeparture, RowsShowDepartures}
 use Rattle.interleave_core.proofs.Channels.GuaranteeLaw.{own-channel}
 
 -- every hop has offered
@@ -99,6 +99,6 @@ row-is-of plan run c entry row is run_is requested offered among chan =
 pub all-offered : (run : List Done) (request : Request) (levels : List ℕ) (delay : ℕ) → verdict_of request (setup_replies (channel_number request.chan) run) ≡ Some (Accepts levels delay) → AllOffered run request
 all-offered run request levels delay accepted = ((accepted-passed request (setup_replies (channel_number request.chan) run) (Accepts levels delay) accepted).0 refl).all_offer
 
-pub rows-tell : RowsTellDepartures
+pub rows-tell : RowsShowDepartures
 rows-tell plan run c entry levels delay row is run_is requested accepted among chan =
     row-is-of plan run c entry row is run_is requested (all-offered run entry.request levels delay accepted) (order-among row (departures_of run) among) chan

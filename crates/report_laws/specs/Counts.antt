@@ -76,8 +76,8 @@ pub record TellsLink (link : Link) (h : List Entry) : Type 0 where
   pub lost : best_lost_in h + best_taken link.shape (scan_of link.shape h) ≡ best_offered (clock_of h) (scan_of link.shape h)
   pub refused : pours_refused_in h ≡ length (filter is_refused_pour h)
 
-abbrev pub ReportsTellWhatLinksDid : Type 0
-ReportsTellWhatLinksDid = (plan : PlanParts) (run : List Done) (n : ℕ) (link : Link) → IsPlan plan → IsRun (network_of plan) run → slice_get (network_of plan).links n ≡ Some link → TellsLink link (part_of n run)
+abbrev pub ReportsShowWhatLinksDid : Type 0
+ReportsShowWhatLinksDid = (plan : PlanParts) (run : List Done) (n : ℕ) (link : Link) → IsPlan plan → IsRun (network_of plan) run → slice_get (network_of plan).links n ≡ Some link → TellsLink link (part_of n run)
 
 -- ---- sends, and steps
 
@@ -89,13 +89,13 @@ refuses_send c _ _ = false
 abbrev pub is_refused_send : ℕ → Entry → Bool
 is_refused_send c e = refuses_send c e.ask e.reply
 
-abbrev pub ReportsTellRefusedSends : Type 0
-ReportsTellRefusedSends = (run : List Done) (entry : RequestEntry) → sends_refused run entry ≡ length (filter (is_refused_send (channel_number entry.request.chan)) (part_of (first_link entry.request.route) run))
+abbrev pub ReportsShowRefusedSends : Type 0
+ReportsShowRefusedSends = (run : List Done) (entry : RequestEntry) → sends_refused run entry ≡ length (filter (is_refused_send (channel_number entry.request.chan)) (part_of (first_link entry.request.route) run))
 
 -- the lines before the last one, which tells the number of steps; a table follows where one is asked for
 pub record TellsSteps (plan : PlanParts) (run : List Done) (packets : Bool) : Type 0 where
   pub lines : List ℕ
   pub is : report_of plan (reverse run) packets ≡ lines ++ (end_line (length run) ++ table_if packets plan (reverse run))
 
-abbrev pub ReportsTellTheSteps : Type 0
-ReportsTellTheSteps = (plan : PlanParts) (run : List Done) (packets : Bool) → TellsSteps plan run packets
+abbrev pub ReportsShowTheSteps : Type 0
+ReportsShowTheSteps = (plan : PlanParts) (run : List Done) (packets : Bool) → TellsSteps plan run packets

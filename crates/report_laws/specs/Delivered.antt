@@ -57,6 +57,6 @@ pub record TellsDelays (plan : PlanParts) (run : List Done) (entry : RequestEntr
   pub least : IsLeast (least_of (delays_told run entry)) (delays_told run entry)
   pub worst : IsWorst (worst_of (delays_told run entry)) (delays_told run entry)
 
-abbrev pub ReportsTellEveryDelay : Type 0
-ReportsTellEveryDelay = (plan : PlanParts) (run : List Done) (c : ℕ) (entry : RequestEntry) (levels : List ℕ) (delay : ℕ) (first : HopAt (network_of plan) entry.request 0) (m : ℕ) (last : HopAt (network_of plan) entry.request m) → IsPlan plan → IsRun (network_of plan) run → slice_get plan.requests c ≡ Some entry → verdict_in run entry ≡ Some (Accepts levels delay)
+abbrev pub ReportsShowEveryDelay : Type 0
+ReportsShowEveryDelay = (plan : PlanParts) (run : List Done) (c : ℕ) (entry : RequestEntry) (levels : List ℕ) (delay : ℕ) (first : HopAt (network_of plan) entry.request 0) (m : ℕ) (last : HopAt (network_of plan) entry.request m) → IsPlan plan → IsRun (network_of plan) run → slice_get plan.requests c ≡ Some entry → verdict_in run entry ≡ Some (Accepts levels delay)
     → suc m ≡ length entry.request.route → TellsDelays plan run entry first m last

@@ -20,6 +20,6 @@ pub record HaveOffered (c clock : ℕ) (offered : List ℕ) (scan : Scan) : Type
   pub gone : Each (HasOffered c clock offered) scan.gone
 
 -- in each admissible history of a link that offers to the channel at most once
-abbrev pub ReportsTellWhatSourcesOffer : Type 0
-ReportsTellWhatSourcesOffer = (shape : LinkShape) (terms : HopTerms) (c : ℕ) (h : List Entry) → IsAdmissible shape h → AllOfferTerms terms c h → offers_to c h ≤ 1
+abbrev pub ReportsShowWhatSourcesOffer : Type 0
+ReportsShowWhatSourcesOffer = (shape : LinkShape) (terms : HopTerms) (c : ℕ) (h : List Entry) → IsAdmissible shape h → AllOfferTerms terms c h → offers_to c h ≤ 1
     → HaveOffered c (clock_of h) (offered_in c h) (scan_of shape h)

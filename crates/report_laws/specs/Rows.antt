@@ -38,7 +38,7 @@ pub record TellsDeparture (network : Network) (run : List Done) (request : Reque
   pub departed : row.departed ≡ departs_at at start
 
 -- each row of an accepted channel, in each run of a plan
-abbrev pub RowsTellDepartures : Type 0
-RowsTellDepartures = (plan : PlanParts) (run : List Done) (c : ℕ) (entry : RequestEntry) (levels : List ℕ) (delay : ℕ) (row : HopRow) → IsPlan plan → IsRun (network_of plan) run
+abbrev pub RowsShowDepartures : Type 0
+RowsShowDepartures = (plan : PlanParts) (run : List Done) (c : ℕ) (entry : RequestEntry) (levels : List ℕ) (delay : ℕ) (row : HopRow) → IsPlan plan → IsRun (network_of plan) run
     → slice_get plan.requests c ≡ Some entry → verdict_in run entry ≡ Some (Accepts levels delay) → Among row (rows_of (reverse run)) → channel_number row.chan ≡ channel_number entry.request.chan
     → TellsDeparture (network_of plan) run entry.request row

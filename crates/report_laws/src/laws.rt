@@ -1,21 +1,21 @@
 //! The laws.
-ghost use Rattle.report_laws.specs.Offered.{ReportsTellWhatSourcesOffer};
-ghost use Rattle.report_laws.specs.Rows.{RowsTellDepartures};
+ghost use Rattle.report_laws.specs.Offered.{ReportsShowWhatSourcesOffer};
+ghost use Rattle.report_laws.specs.Rows.{RowsShowDepartures};
 ghost use Rattle.report_laws.specs.Bounds.{ReportsKeepTheirBounds};
-ghost use Rattle.report_laws.specs.Delivered.{EveryDepartureHasOneRow, ReportsTellEveryDelay};
-ghost use Rattle.report_laws.specs.Counts.{ReportsTellWhatLinksDid, ReportsTellRefusedSends, ReportsTellTheSteps};
+ghost use Rattle.report_laws.specs.Delivered.{EveryDepartureHasOneRow, ReportsShowEveryDelay};
+ghost use Rattle.report_laws.specs.Counts.{ReportsShowWhatLinksDid, ReportsShowRefusedSends, ReportsShowTheSteps};
 
 /// Where a link offers to a channel at most once, the ticks that the report takes for those at which the channel's source has offered
 /// a packet are those that the link keeps of the channel's row, whether it is held or gone. So the report's *offered* and *keeps* are
 /// what the whole guarantee means by these words.
-pub fn reports_tell_what_sources_offer()
-    ensures { ReportsTellWhatSourcesOffer }
+pub fn reports_show_what_sources_offer()
+    ensures { ReportsShowWhatSourcesOffer }
 {}
 
 /// Each row of an accepted channel is of a packet of the channel that has left a hop of its route: the row tells the hop's place in the
 /// route and its link, the packet's number and size, and the ticks at which it arrived there, was eligible and departed.
-pub fn rows_tell_departures()
-    ensures { RowsTellDepartures }
+pub fn rows_show_departures()
+    ensures { RowsShowDepartures }
 {}
 
 /// Each packet of an accepted channel that has left a hop of its route has one row there, and no more.
@@ -26,25 +26,25 @@ pub fn every_departure_has_one_row()
 /// The delays of an accepted channel that the report counts are those of the packets that have departed from its last hop. There are
 /// as many delays as such packets, the delay of each is among them, and each is the delay of one. Its least and its worst are the
 /// least and the greatest of them.
-pub fn reports_tell_every_delay()
-    ensures { ReportsTellEveryDelay }
+pub fn reports_show_every_delay()
+    ensures { ReportsShowEveryDelay }
 {}
 
 /// A link's *sent* is the number of packets of channels that have left it, and *full* that of source packets that its rows, held or
 /// gone, have dropped. Its *best* is the number of best-effort packets that have left it, *lost* that of those whose tick was made and
 /// which it hasn't taken, and *refused* that of pours that were answered with a refusal.
-pub fn reports_tell_what_links_did()
-    ensures { ReportsTellWhatLinksDid }
+pub fn reports_show_what_links_did()
+    ensures { ReportsShowWhatLinksDid }
 {}
 
 /// A channel's *refused* is the number of submits on it at the first link of its route that were answered with a refusal.
-pub fn reports_tell_refused_sends()
-    ensures { ReportsTellRefusedSends }
+pub fn reports_show_refused_sends()
+    ensures { ReportsShowRefusedSends }
 {}
 
 /// The line after those of the links tells the number of the run's entries.
-pub fn reports_tell_the_steps()
-    ensures { ReportsTellTheSteps }
+pub fn reports_show_the_steps()
+    ensures { ReportsShowTheSteps }
 {}
 
 /// In the report of a run, where the line of an accepted channel says that its source keeps its contract, its worst delay is at most the

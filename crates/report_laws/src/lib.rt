@@ -5,7 +5,7 @@
 pub mod laws;
 
 pub use laws::{
-    every_departure_has_one_row, reports_keep_their_bounds, reports_tell_every_delay,
-    reports_tell_refused_sends, reports_tell_the_steps, reports_tell_what_links_did,
-    reports_tell_what_sources_offer, rows_tell_departures,
+    every_departure_has_one_row, reports_keep_their_bounds, reports_show_every_delay,
+    reports_show_refused_sends, reports_show_the_steps, reports_show_what_links_did,
+    reports_show_what_sources_offer, rows_show_departures,
 };

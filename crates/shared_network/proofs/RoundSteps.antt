@@ -13,7 +13,7 @@ use Rattle.link_steps.specs.Lists.{Each}
 use Rattle.link_steps.specs.Split.{Link, SplitFits}
 use Rattle.link_steps.specs.declared.asks.Ask.{Ask}
 use Rattle.link_steps.specs.declared.replies.Reply.{Reply}
-use Rattle.tick_plane.specs.Kept.{KeptPlane}
+use Rattle.tick_plane.specs.PlaneAccount.{PlaneAccount}
 use Rattle.tick_plane.specs.Planes.{next_due, plane_ask, plane_after, plane_of, plane_expects, IsDueLater}
 use Rattle.link_ledger.specs.Journals.{done_in, history_in}
 use Rattle.link_ledger.specs.Own.{own_entry, own_mark}
@@ -32,7 +32,7 @@ use Rattle.shared_network.proofs.PassAfterStep.{adds-one}
 use Rattle.link_steps.proofs.ListParts.{Each-at, Each-reverse}
 use Rattle.tick_plane.proofs.PlaneFlights.{plane-flights}
 
-module _ (table : TableId) (owners : List ActorNo) (links : List Link) (pass : Token) (plane : KeptPlane) (splits : Each SplitFits links) (may : MayStep table owners links pass) (links_are : plane.links ≡ length links) (within : plane.at.ticked < plane.links) (few : plane.links ≤ 32) (is : IsPlanes (length links) plane pass.own) (to : LinkNo) (ask : Ask) (asks : plane_ask plane.rounds plane.at ≡ Some (to, ask)) where
+module _ (table : TableId) (owners : List ActorNo) (links : List Link) (pass : Token) (plane : PlaneAccount) (splits : Each SplitFits links) (may : MayStep table owners links pass) (links_are : plane.links ≡ length links) (within : plane.at.ticked < plane.links) (few : plane.links ≤ 32) (is : IsPlanes (length links) plane pass.own) (to : LinkNo) (ask : Ask) (asks : plane_ask plane.rounds plane.at ≡ Some (to, ask)) where
   flies : Each (MayFly (length links)) plane.at.flights
   flies = subst (λ p. Each (MayFly (length links)) p.flights) (sym is.stands)
       (plane-flights (MayFly (length links)) (length links) (reverse (map reply_in (rounds_in pass.own))) (Each-reverse _ (map reply_in (rounds_in pass.own)) (rounds-fly table owners links pass splits may)))
@@ -65,7 +65,7 @@ module _ (table : TableId) (owners : List ActorNo) (links : List Link) (pass : T
     asks-entry : next_round (length links) plane.rounds (map reply_in (rounds_in pass.own)) ≡ Some (e.link, e.ask)
     asks-entry = ap (plane_ask plane.rounds) (sym is.stands) ∙ asks ∙ (λ i. Some (same-link to e.link (sym steps.acted.link_is) i, sym steps.acted.ask_is i))
 
-    module _ (plane' : KeptPlane) (taken : plane'.at ≡ plane_after plane.links reply plane.at) (rounds : plane'.rounds ≡ plane.rounds) where
+    module _ (plane' : PlaneAccount) (taken : plane'.at ≡ plane_after plane.links reply plane.at) (rounds : plane'.rounds ≡ plane.rounds) where
       stands' : plane'.at ≡ plane_of (length links) (reverse (map reply_in (rounds_in pass.own ++ e ∷ [])))
       unfolding plane_of
       stands' =

@@ -24,7 +24,7 @@ use Rattle.step_stamp.specs.Opening.{AreLinks, ArePasses}
 use Rattle.step_stamp.specs.Seats.{seat_actor}
 use Rattle.step_stamp.specs.declared.seats.LinkSeat.{LinkSeat}
 use Rattle.step_stamp.specs.declared.seats.PassSeat.{PassSeat}
-use Rattle.tick_plane.specs.Kept.{KeptPlane}
+use Rattle.tick_plane.specs.PlaneAccount.{PlaneAccount}
 use Rattle.tick_plane.specs.Planes.{plane_start, plane_of}
 use Rattle.link_ledger.specs.Owners.{IsOwner}
 use Rattle.link_ledger.specs.Tokens.{Token, IsLink, stamps_drawn}
@@ -70,7 +70,7 @@ two-backwards table owners links first second one other zeroth next = record {
 }
 
 -- a plane that stands at the start of its first round has asked nothing
-pub planes-first : (links : ℕ) (plane : KeptPlane) (own : List OwnEntry) → own ≡ [] → plane.at ≡ plane_start → IsPlanes links plane own
+pub planes-first : (links : ℕ) (plane : PlaneAccount) (own : List OwnEntry) → own ≡ [] → plane.at ≡ plane_start → IsPlanes links plane own
 unfolding Follows plane_of
 planes-first links plane own none start = subst (IsPlanes links plane) (sym none) (record { follows = tt; stands = start })
 

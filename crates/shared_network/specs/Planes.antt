@@ -6,7 +6,7 @@ use Rattle.net_units.specs.declared.numbers.LinkNo.{LinkNo}
 use Rattle.link_steps.specs.declared.asks.Ask.{Ask}
 use Rattle.link_steps.specs.declared.asks.Ask.TheVariants.{Arrive, Tick}
 use Rattle.link_steps.specs.declared.replies.Reply.{Reply}
-use Rattle.tick_plane.specs.Kept.{KeptPlane}
+use Rattle.tick_plane.specs.PlaneAccount.{PlaneAccount}
 use Rattle.tick_plane.specs.Planes.{plane_ask, plane_after, plane_of}
 use Rattle.link_ledger.specs.Tokens.{Token}
 use Rattle.link_ledger.specs.declared.entries.OwnEntry.{OwnEntry}
@@ -28,12 +28,12 @@ abbrev pub next_round : ℕ → ℕ → List Reply → Option (LinkNo × Ask)
 next_round links rounds replies = plane_ask rounds (plane_of links (reverse replies))
 
 -- the arrives and ticks are the plane's, of a network of this many links, and it has taken their replies
-pub record IsPlanes (links : ℕ) (plane : KeptPlane) (own : List OwnEntry) : Type 0 where
+pub record IsPlanes (links : ℕ) (plane : PlaneAccount) (own : List OwnEntry) : Type 0 where
   pub follows : Follows (next_round links plane.rounds) [] (rounds_in own)
   pub stands : plane.at ≡ plane_of links (reverse (map reply_in (rounds_in own)))
 
 -- the pass has made the plane's next ask, and the plane has taken the reply
-pub record MakesRound (plane plane' : KeptPlane) (pass pass' : Token) (reply : Reply) : Type 0 where
+pub record MakesRound (plane plane' : PlaneAccount) (pass pass' : Token) (reply : Reply) : Type 0 where
   pub link : LinkNo
   pub ask : Ask
   pub asked : plane_ask plane.rounds plane.at ≡ Some (link, ask)

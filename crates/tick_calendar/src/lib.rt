@@ -2,7 +2,7 @@
 #![tactic(auto)]
 
 ghost use Rattle.std.specs.Prelude.{◌≡◌, ◌+◌, ◌-◌, ◌<◌, ◌≤◌, ◌↔◌, ◌++◌, ◌∷◌, [], IsOk, OnOk, OnErr, IfOk, IsNone, IfSome, is_some, if◌then◌else◌, All};
-ghost use Rattle.tick_calendar.specs.Calendar.{PunctualIsFirst, Schedule, TakesDue, due_key, left_after};
+ghost use Rattle.tick_calendar.specs.Calendar.{PunctualIsFirst, Timetable, TakesDue, due_key, left_after};
 ghost use Rattle.tick_calendar.specs.Wheel.{AreAllFrom};
 
 mod place;
@@ -38,10 +38,10 @@ pub fn the_punctual_are_taken_in_their_order()
 
 impl Model for Calendar {
     ghost use Rattle.std.specs.Prelude.{◌-◌, vec_capacity};
-    ghost use Rattle.tick_calendar.specs.Calendar.{Schedule};
+    ghost use Rattle.tick_calendar.specs.Calendar.{Timetable};
     ghost use Rattle.tick_calendar.specs.Wheel.{entries_in, AreAllFrom, IsKeptWheel};
 
-    ghost Value = { Schedule };
+    ghost Value = { Timetable };
 
     ghost view = { λ c. record { entries = entries_in c.wheel.places.items; spare = c.room - c.waiting; clock = c.clock } };
 

@@ -5,7 +5,7 @@ use Rattle.std.specs.Prelude.{◌≡◌, ℕ, ◌+◌, ◌^◌, ◌<◌, ◌≤�
 use Rattle.slab.specs.Slab.{Slab, slab_len}
 use Rattle.net_units.specs.Numbers.{link_at, channel_at}
 use Rattle.link_steps.specs.Lists.{Each}
-use Rattle.tick_calendar.specs.Calendar.{Entry, Schedule}
+use Rattle.tick_calendar.specs.Calendar.{Entry, Timetable}
 use Rattle.tick_plane.specs.declared.flight.Flight.{Flight}
 
 -- what a contract sees: the flights in the order of their departures, the round at hand, and the room for more
@@ -72,7 +72,7 @@ IsDue round entries None = Each (IsAfter round) entries
 IsDue round entries (Some key) = IsFirst round key entries
 
 -- what is kept
-pub record IsKept (carried : Slab Flight) (rounds : Schedule) (round : ℕ) (due : Option ℕ) (room : ℕ) : Type 0 where
+pub record IsKept (carried : Slab Flight) (rounds : Timetable) (round : ℕ) (due : Option ℕ) (room : ℕ) : Type 0 where
   pub keyed : AreKeyed carried.slots rounds.entries
   pub punctual : Each (IsFrom round) rounds.entries
   pub looked : rounds.clock ≤ round

@@ -1,5 +1,5 @@
 pub mod Planes
-pub mod Kept
+pub mod PlaneAccount
 pub mod Carried
 pub mod Rounds
 pub mod Windows

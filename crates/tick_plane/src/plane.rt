@@ -36,9 +36,9 @@ pub struct Plane {
 }
 
 impl Model for Plane {
-    ghost use Rattle.tick_plane.specs.Kept.{KeptPlane};
+    ghost use Rattle.tick_plane.specs.PlaneAccount.{PlaneAccount};
 
-    ghost Value = { KeptPlane };
+    ghost Value = { PlaneAccount };
 
     ghost view = { λ p. record { links = p.links; rounds = p.rounds; at = record { round = p.round; ticked = p.ticked; flights = p.flights.list }; spare = p.flights.spare } };
 }

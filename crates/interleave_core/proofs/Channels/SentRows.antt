@@ -27,7 +27,7 @@ use Rattle.channel_laws.proofs.DepartedCount.{history-from}
 use Rattle.interleave_core.proofs.Runs.RunLegal.{part-on, part-admissible, by-part}
 use Rattle.channel_laws.specs.Departing.{ticked}
 use Rattle.channel_laws.proofs.SentInTime.{sent-facts, tick-answer}
-use Rattle.interleave_core.specs.channels.Sent.{SentBy, TicksTellWhatHasLeft}
+use Rattle.interleave_core.specs.channels.Sent.{SentBy, TicksReportWhatHasLeft}
 
 best-more : (best : Option Arrival) (t : ℕ) (starts : List Start) (s : Start) → Among s starts → Among s (add_start best t starts)
 best-more None t starts s among = among
@@ -73,7 +73,7 @@ now-sent network done past link clock full sent best_sent best_lost fits run nex
     let part : part_of (link_number done.link) (done ∷ past) ≡ ticked link.shape (part_of (link_number done.link) past) = part-on (link_number done.link) done past refl ∙ ap (λ e. e ∷ part_of (link_number done.link) past) (entry-tick done _ (sym tick) answered) in
     subst (λ h. SentBy link.shape h sent) (sym part) (record { start = from.start; among = from.among; left = (let l = from.leaves in omega (arith, l)); is = from.is })
 
-pub sent-by : TicksTellWhatHasLeft
+pub sent-by : TicksReportWhatHasLeft
 unfolding IsRun
 sent-by network [] done link clock full sent best_sent best_lost fits is among linked tick reply = absurd among
 sent-by network (d ∷ past) done link clock full sent best_sent best_lost fits is (inl same) linked tick reply =

@@ -27,7 +27,7 @@ use Rattle.interleave_core.proofs.Replies.Replying.{replies-expected}
 use Rattle.interleave_core.proofs.Runs.RunLegal.{AsksOf, asked-plane, asked-caller, caller-next, plane-next, plane-by, plane-off, replies-by, replies-off}
 use Rattle.run_record.specs.Runs.{replies_to}
 use Rattle.run_record.specs.declared.done.Done.{Done}
-use Rattle.tick_plane.specs.Kept.{KeptPlane}
+use Rattle.tick_plane.specs.PlaneAccount.{PlaneAccount}
 use Rattle.tick_plane.specs.Planes.{Plane, next_due, plane_after, plane_ask, plane_expects, plane_of, plane_start, IsDueLater}
 
 -- the plane's number is the number of callers
@@ -63,7 +63,7 @@ pub all-made : (parts : PlanParts) (callers : List Actor) → length callers ≡
 unfolding replies_to
 all-made parts callers long made = record { same = long; numbers = made.numbers; stand = made.fresh }
 
-pub plane-made : (parts : PlanParts) (plane : KeptPlane) → plane.links ≡ length parts.links → plane.rounds ≡ parts.rounds + parts.tail → plane.at ≡ plane_start → PlaneStands (network_of parts) plane []
+pub plane-made : (parts : PlanParts) (plane : PlaneAccount) → plane.links ≡ length parts.links → plane.rounds ≡ parts.rounds + parts.tail → plane.at ≡ plane_start → PlaneStands (network_of parts) plane []
 unfolding network_of plane_of replies_to
 plane-made parts plane links rounds at = record { links = links ∙ sym (length-map parts.links (entry_link (groups_in parts))); rounds = rounds; at = at }
 
@@ -207,7 +207,7 @@ calls-taken parts old new past done due other callers plane =
     let place = plane-place parts old.callers.by_number.items past due.stand.callers in
     record {
       callers = callers;
-      plane = subst (λ (p : KeptPlane). PlaneStands (network_of parts) p (done ∷ past)) (sym plane)
+      plane = subst (λ (p : PlaneAccount). PlaneStands (network_of parts) p (done ∷ past)) (sym plane)
           (record {
             links = due.stand.plane.links;
             rounds = due.stand.plane.rounds;

@@ -29,7 +29,7 @@ use Rattle.run_record.specs.Runs.{replies_to, part_of}
 use Rattle.run_record.specs.declared.done.Done.{Done}
 use Rattle.interleave_core.specs.channels.Paths.{HopAt}
 use Rattle.interleave_core.specs.channels.Moves.{planned_in, cancelled_in, offered_in, left_in}
-use Rattle.interleave_core.specs.channels.Shifting.{given_with, given_in, IsNotLeaving, cancelled_alone, EveryMoveGivesTheShifted, EveryPlannedPacketIsTold}
+use Rattle.interleave_core.specs.channels.Shifting.{given_with, given_in, IsNotLeaving, cancelled_alone, EveryMoveGivesTheShifted, EveryPlannedPacketIsCounted}
 use Rattle.interleave_core.specs.runs.Runs.{IsRun}
 use Rattle.interleave_core.proofs.Moves.LastPackets.{some-left}
 use Rattle.interleave_core.proofs.Moves.MoveLaw.{MoveTold, Was, Now, move-told, move-own, no-moves, run-moved}
@@ -269,7 +269,7 @@ still-none : (c : ℕ) (tasks : List Task) (replies : List Reply) → IsNotLeavi
 still-none c (Moves old new gap size ∷ tasks) replies still = no-way c (Moves old new gap size) tasks replies still
 still-none c _ replies still = refl
 
-pub planned-told : EveryPlannedPacketIsTold
+pub planned-told : EveryPlannedPacketIsCounted
 planned-told network request owner first run tasks fits all sound full is found still = by (moved_off request.chan (standing tasks (replies_to owner run)).outcomes) refl where
   by : (told : Option Shifted) → moved_off request.chan (standing tasks (replies_to owner run)).outcomes ≡ told
       → planned_in (channel_number request.chan) (part_of (link_number first.hop.link) run) ≡ offered_in (channel_number request.chan) first.link.shape (part_of (link_number first.hop.link) run) + left_in (channel_number request.chan) first.link.shape (part_of (link_number first.hop.link) run)

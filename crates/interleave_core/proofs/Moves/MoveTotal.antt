@@ -35,7 +35,7 @@ use Rattle.call_script.specs.declared.tasks.Task.{Task}
 use Rattle.run_record.specs.Runs.{replies_to, part_of}
 use Rattle.run_record.specs.declared.done.Done.{Done}
 use Rattle.interleave_core.specs.channels.Hops.{terms_at, ChannelAsked}
-use Rattle.interleave_core.specs.channels.Moves.{cancelled_with, cancelled_in, NoneIsLostInAMove}
+use Rattle.interleave_core.specs.channels.Moves.{cancelled_with, cancelled_in, AMoveLeavesNoPacketBehind}
 use Rattle.interleave_core.specs.channels.Paths.{HopAt}
 use Rattle.interleave_core.specs.runs.Runs.{IsNext, IsRun}
 use Rattle.interleave_core.proofs.Moves.Emptied.{uncancelled, none-left-closing}
@@ -223,7 +223,7 @@ module _ (network : Network) (request : Request) (owner : ℕ) (first : HopAt ne
   pub run-shifted : (run : List Done) → IsRun network run → (script : List Task) → slice_get network.scripts owner ≡ Some script → ShiftedAt request (cancelled_at network request first run) (standing script (replies_to owner run))
   run-shifted run is script found = each-run network owner script found (λ past outcomes tasks. TellsShifted past outcomes) ShiftedBy (shifted-keeps script) run is
 
-pub none-lost-in-moves : NoneIsLostInAMove
+pub none-lost-in-moves : AMoveLeavesNoPacketBehind
 none-lost-in-moves network request owner first run tasks told fits sound full is found moved =
     let legal = part-admissible network run (link_number first.hop.link) first.link fits is first.linked in
     let frozen = run-moved network request owner first fits sound full run tasks is found told moved in

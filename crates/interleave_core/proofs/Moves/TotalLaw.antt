@@ -33,7 +33,7 @@ use Rattle.link_steps.proofs.SearchAndFilter.{Each-find, find-map}
 use Rattle.link_steps.proofs.ReservationFound.{deny-tells}
 use Rattle.channel_laws.specs.Channels.{channel_of}
 use Rattle.channel_laws.proofs.ChannelRows.{find-passes}
-use Rattle.interleave_core.specs.channels.Moves.{planned_with, planned_in, cancelled_with, cancelled_in, offered_of, left_of, NonePlannedIsLost}
+use Rattle.interleave_core.specs.channels.Moves.{planned_with, planned_in, cancelled_with, cancelled_in, offered_of, left_of, PlannedPacketsAreOfferedLeftOrCancelled}
 use Rattle.channel_laws.proofs.PlanLaw.{On}
 use Rattle.channel_laws.proofs.UnsentPlans.{LaterEmpty, later-empty}
 use Rattle.channel_laws.proofs.FewLeft.{planned-count}
@@ -259,7 +259,7 @@ rows-parts : (c t : ℕ) (rows : List Row) → total (plan_of c) rows ≡ total 
 rows-parts c t [] = refl
 rows-parts c t (row ∷ rows) = (let one = row-parts c t row in let rest = rows-parts c t rows in omega (arith, one, rest))
 
-pub none-lost : NonePlannedIsLost
+pub none-lost : PlannedPacketsAreOfferedLeftOrCancelled
 unfolding plans_of
 none-lost shape c h legal =
     let all = all-plans shape c h legal in

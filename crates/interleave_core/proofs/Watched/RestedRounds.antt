@@ -3,7 +3,7 @@ use Rattle.std.proofs.Common.{◌≡◌, ℕ, suc, ◌+◌, ◌-◌, ◌<◌, �
 use Rattle.std.proofs.lemmas.Bool.{cases_eq, le-ltb}
 use Rattle.std.proofs.lemmas.Option.{same_Some, slice_get_within}
 use Rattle.std.specs.List.{slice_get}
-use Rattle.link_quota.specs.Any.{any_clock, any_kept, any_rules, AnyStands, any-clock-is}
+use Rattle.link_quota.specs.Any.{any_clock, any_account, any_rules, AnyStands, any-clock-is}
 use Rattle.link_quota.specs.declared.any_link.AnyLink.{AnyLink}
 use Rattle.link_steps.specs.declared.asks.Ask.TheVariants.{Tick}
 use Rattle.link_steps.specs.declared.replies.Entry.{Entry}
@@ -21,7 +21,7 @@ use Rattle.call_script.specs.Standing.{CallerStands}
 use Rattle.call_script.specs.Tasks.{Network, network_of}
 use Rattle.tick_plane.specs.QuietRounds.{HasQuietRounds, rounds_later}
 use Rattle.tick_plane.specs.Coming.{IsDueFrom}
-use Rattle.tick_plane.specs.Kept.{KeptPlane}
+use Rattle.tick_plane.specs.PlaneAccount.{PlaneAccount}
 use Rattle.tick_plane.specs.Planes.{Plane}
 use Rattle.run_record.specs.Runs.{part_of}
 use Rattle.run_record.specs.declared.done.Done.{Done}
@@ -70,7 +70,7 @@ each-held P [] there = tt
 each-held P (x ∷ xs) there = (there 0 x refl, each-held P xs (λ k. there (suc k)))
 
 -- one link more rests for as many ticks
-pub least-more : (links : List AnyLink) (i : ℕ) (link : AnyLink) (until ticks now : ℕ) → i < length links → link ≡ get_or links i link → RestsUntil (any_rules link).shape until (any_kept link) → now ≤ ticks → now ≤ until - any_clock link → (1 ≤ ticks → Each (RestsBy ticks) (take i links)) → 1 ≤ now
+pub least-more : (links : List AnyLink) (i : ℕ) (link : AnyLink) (until ticks now : ℕ) → i < length links → link ≡ get_or links i link → RestsUntil (any_rules link).shape until (any_account link) → now ≤ ticks → now ≤ until - any_clock link → (1 ≤ ticks → Each (RestsBy ticks) (take i links)) → 1 ≤ now
     → Each (RestsBy now) (take (i + 1) links)
 least-more links i link until ticks now within is rests few fewer before some =
     subst (Each (RestsBy now)) (sym (before-at links i link within is))
@@ -194,13 +194,13 @@ module _ (parts : PlanParts) (engine : Engine) (news : List AnyLink) (run : List
             subst (CallerStands parts caller) (sym (goes.callers k (λ same. absurd (omega (arith, same, within, number, long))))) (were.stand k caller found);
       }
 
-  plane-rested : (plane : KeptPlane) → plane ≡ record engine.actors.plane { at = rounds_later n engine.actors.plane.at } → PlaneStands network plane (rested network n run)
+  plane-rested : (plane : PlaneAccount) → plane ≡ record engine.actors.plane { at = rounds_later n engine.actors.plane.at } → PlaneStands network plane (rested network n run)
   plane-rested plane is =
       let was = stands.actors.plane in
       record {
-        links = ap (λ (p : KeptPlane). p.links) is ∙ was.links;
-        rounds = ap (λ (p : KeptPlane). p.rounds) is ∙ was.rounds;
-        at = ap (λ (p : KeptPlane). p.at) is ∙ ap (rounds_later n) was.at ∙ sym goes.plane;
+        links = ap (λ (p : PlaneAccount). p.links) is ∙ was.links;
+        rounds = ap (λ (p : PlaneAccount). p.rounds) is ∙ was.rounds;
+        at = ap (λ (p : PlaneAccount). p.at) is ∙ ap (rounds_later n) was.at ∙ sym goes.plane;
       }
 
   pub makes-stride : (new : Engine) → new.links.items ≡ news → new.actors.callers ≡ engine.actors.callers → new.actors.plane ≡ record engine.actors.plane { at = rounds_later n engine.actors.plane.at } → MakesStride parts new run n

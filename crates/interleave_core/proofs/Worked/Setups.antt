@@ -16,7 +16,7 @@ use Rattle.link_steps.specs.Room.{whole_room, room_of}
 use Rattle.link_steps.specs.Regulator.{eligible_next}
 use Rattle.link_steps.specs.Hold.{hold_ended}
 use Rattle.link_steps.specs.Scan.{clock_of, with_arrival, without_expired, with_sources, with_best, best_step_at, after_tick, after, scan_of}
-use Rattle.link_steps.specs.Buffer.{slots_of, need_of, kept_units, free_units, held_packets}
+use Rattle.link_steps.specs.Buffer.{slots_of, need_of, held_units, free_units, held_packets}
 use Rattle.link_steps.specs.declared.replies.Refusal.TheVariants.{NoLevel}
 use Rattle.link_steps.specs.Sources.{step_of, source_packets, rows_after, dropped_in}
 use Rattle.link_steps.specs.Lists.{change_first, without_first}
@@ -37,7 +37,7 @@ use Rattle.interleave_core.proofs.Worked.Networks.{k1, k2, plane, chan0, chan1, 
 
 -- what a caller's request has come to
 unfoldable settled : Network → List ActorNo → ActorNo → ChanNo → Option Outcome
-unfolding run_from next_for part_of replies_to plane_of standing resumed from_step is_established outcome_in newest offers_in after_offers reach_after delay_over bound_at_end allotment reply_to reply_at reserve_reply room_of whole_room relax_reply deny_reply submit_reply release_reply arrive_reply sent_at best_sent_at clock_of scan_of after with_arrival after_tick with_best best_step_at best_step waiting_best change_first without_first without_expired with_sources hold_ended here_at starts_below serve_tick is_waiting first_in_line goes_before held_packets slots_of need_of kept_units free_units planned_from eligible_next step_of source_packets rows_after dropped_in work_in work_up_to load some_upto passes_up_to passes admits first_level best_level most_in first_from eligible may_follow
+unfolding run_from next_for part_of replies_to plane_of standing resumed from_step is_established outcome_in newest offers_in after_offers reach_after delay_over bound_at_end allotment reply_to reply_at reserve_reply room_of whole_room relax_reply deny_reply submit_reply release_reply arrive_reply sent_at best_sent_at clock_of scan_of after with_arrival after_tick with_best best_step_at best_step waiting_best change_first without_first without_expired with_sources hold_ended here_at starts_below serve_tick is_waiting first_in_line goes_before held_packets slots_of need_of held_units free_units planned_from eligible_next step_of source_packets rows_after dropped_in work_in work_up_to load some_upto passes_up_to passes admits first_level best_level most_in first_from eligible may_follow
 settled network actors caller chan = outcome_in chan (outcomes_in (slice_get network.scripts (actor_number caller)) (actor_number caller) (run_from network [] actors))
 
 -- ---- a request that isn't settled when the run ends

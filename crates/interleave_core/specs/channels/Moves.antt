@@ -67,8 +67,8 @@ abbrev pub left_in : ℕ → LinkShape → List Entry → ℕ
 left_in c shape h = total (left_of c (clock_of h)) (scan_of shape h).rows + total (left_of c (clock_of h)) (scan_of shape h).gone
 
 -- every packet that was planned is offered, is left or was cancelled
-abbrev pub NonePlannedIsLost : Type 0
-NonePlannedIsLost = (shape : LinkShape) (c : ℕ) (h : List Entry) → IsAdmissible shape h → planned_in c h ≡ offered_in c shape h + left_in c shape h + cancelled_in c h
+abbrev pub PlannedPacketsAreOfferedLeftOrCancelled : Type 0
+PlannedPacketsAreOfferedLeftOrCancelled = (shape : LinkShape) (c : ℕ) (h : List Entry) → IsAdmissible shape h → planned_in c h ≡ offered_in c shape h + left_in c shape h + cancelled_in c h
 
 -- ---- moves
 
@@ -87,8 +87,8 @@ EveryMoveKeeps = (network : Network) (request : Request) (owner : ℕ) (first : 
     → moved_off request.chan (standing tasks (replies_to owner run)).outcomes ≡ Some told → AreUpTo told.kept (packets_at network request 0 first run)
 
 -- the packets that its source has offered there and those that were shifted are all that its submits planned
-abbrev pub NoneIsLostInAMove : Type 0
-NoneIsLostInAMove = (network : Network) (request : Request) (owner : ℕ) (first : HopAt network request 0) (run : List Done) (tasks : List Task) (told : Shifted) → NetworkFits network → RequestFits network.links request → OwnedFully network request owner → IsRun network run → slice_get network.scripts owner ≡ Some tasks
+abbrev pub AMoveLeavesNoPacketBehind : Type 0
+AMoveLeavesNoPacketBehind = (network : Network) (request : Request) (owner : ℕ) (first : HopAt network request 0) (run : List Done) (tasks : List Task) (told : Shifted) → NetworkFits network → RequestFits network.links request → OwnedFully network request owner → IsRun network run → slice_get network.scripts owner ≡ Some tasks
     → moved_off request.chan (standing tasks (replies_to owner run)).outcomes ≡ Some told
     → planned_in (channel_number request.chan) (part_of (link_number first.hop.link) run) ≡ offered_in (channel_number request.chan) first.link.shape (part_of (link_number first.hop.link) run) + told.shifted
 

@@ -27,5 +27,5 @@ pub record SentBy (shape : LinkShape) (h : List Entry) (sent : Sent) : Type 0 wh
   pub is : sent ≡ sent_of shape start
 
 -- each packet that the reply to a tick tells as sent has left its link
-abbrev pub TicksTellWhatHasLeft : Type 0
-TicksTellWhatHasLeft = (network : Network) (run : List Done) (done : Done) (link : Link) (clock full : ℕ) (sent : Sent) (best_sent best_lost : Bool) → NetworkFits network → IsRun network run → Among done run → slice_get network.links (link_number done.link) ≡ Some link → done.ask ≡ Tick → done.reply ≡ Ticked clock full (Some sent) best_sent best_lost → SentBy link.shape (part_of (link_number done.link) run) sent
+abbrev pub TicksReportWhatHasLeft : Type 0
+TicksReportWhatHasLeft = (network : Network) (run : List Done) (done : Done) (link : Link) (clock full : ℕ) (sent : Sent) (best_sent best_lost : Bool) → NetworkFits network → IsRun network run → Among done run → slice_get network.links (link_number done.link) ≡ Some link → done.ask ≡ Tick → done.reply ≡ Ticked clock full (Some sent) best_sent best_lost → SentBy link.shape (part_of (link_number done.link) run) sent

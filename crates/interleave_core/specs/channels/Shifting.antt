@@ -88,8 +88,8 @@ cancelled_alone None cancelled = cancelled
 cancelled_alone (Some told) cancelled = 0
 
 -- what its submits planned is offered, is left, was cancelled without a move, or was given to another channel
-abbrev pub EveryPlannedPacketIsTold : Type 0
-EveryPlannedPacketIsTold = (network : Network) (request : Request) (owner : ℕ) (first : HopAt network request 0) (run : List Done) (tasks : List Task) → NetworkFits network → AllOwned network → RequestFits network.links request → OwnedFully network request owner → IsRun network run → slice_get network.scripts owner ≡ Some tasks
+abbrev pub EveryPlannedPacketIsCounted : Type 0
+EveryPlannedPacketIsCounted = (network : Network) (request : Request) (owner : ℕ) (first : HopAt network request 0) (run : List Done) (tasks : List Task) → NetworkFits network → AllOwned network → RequestFits network.links request → OwnedFully network request owner → IsRun network run → slice_get network.scripts owner ≡ Some tasks
     → IsNotLeaving (channel_number request.chan) (standing tasks (replies_to owner run)).tasks
     → planned_in (channel_number request.chan) (history_at first run)
     ≡ offered_in (channel_number request.chan) first.link.shape (history_at first run)

@@ -4,7 +4,7 @@ use Rattle.std.specs.Prelude.{◌≡◌, ℕ, ◌+◌, ◌<◌, ◌≤◌, Some,
 use Rattle.std.specs.List.{slice_get}
 use Rattle.net_units.specs.Numbers.{link_number}
 use Rattle.net_units.specs.declared.numbers.LinkNo.{LinkNo}
-use Rattle.link_quota.specs.Any.{any_clock, any_kept, any_rules, AnyStands}
+use Rattle.link_quota.specs.Any.{any_clock, any_account, any_rules, AnyStands}
 use Rattle.link_quota.specs.declared.any_link.AnyLink.{AnyLink}
 use Rattle.link_steps.specs.declared.asks.Ask.TheVariants.{Tick}
 use Rattle.link_steps.specs.declared.replies.Entry.{Entry}
@@ -23,7 +23,7 @@ use Rattle.run_record.specs.declared.done.Done.{Done}
 
 -- nothing falls due in its next n ticks
 abbrev pub RestsBy : ℕ → AnyLink → Type 0
-RestsBy n link = (until : ℕ) × (RestsUntil (any_rules link).shape until (any_kept link) × (any_clock link + n ≤ until))
+RestsBy n link = (until : ℕ) × (RestsUntil (any_rules link).shape until (any_account link) × (any_clock link + n ≤ until))
 
 -- it has made n such ticks
 pub record HasRested (n : ℕ) (old new : AnyLink) : Type 0 where

@@ -26,7 +26,7 @@ use Rattle.interleave_core.specs.declared.refusal.CoreRefusal.{CoreRefusal}
 use Rattle.interleave_core.specs.declared.refusal.CoreRefusal.TheVariants.{NoSuchActor, NoStepLeft, Memory}
 use Rattle.run_record.specs.Runs.{replies_to, part_of}
 use Rattle.run_record.specs.declared.done.Done.{Done}
-use Rattle.tick_plane.specs.Kept.{KeptPlane}
+use Rattle.tick_plane.specs.PlaneAccount.{PlaneAccount}
 
 -- ---- the parts of a core
 
@@ -45,7 +45,7 @@ pub record AreCallers (parts : PlanParts) (callers : List Actor) (run : List Don
 abbrev pub CallersStand : PlanParts → Callers → List Done → Type 0
 CallersStand parts callers run = AreCallers parts callers.by_number.items run
 
-pub record PlaneStands (network : Network) (plane : KeptPlane) (run : List Done) : Type 0 where
+pub record PlaneStands (network : Network) (plane : PlaneAccount) (run : List Done) : Type 0 where
   pub links : plane.links ≡ length network.links
   pub rounds : plane.rounds ≡ network.rounds
   pub at : plane.at ≡ plane_at network run

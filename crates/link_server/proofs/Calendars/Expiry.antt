@@ -2,7 +2,7 @@
 use Rattle.std.proofs.Common.{◌≡◌, ℕ, zero, suc, ◌<◌, Bool, false, not, List, [], ◌∷◌, length, map, get_or, set, refl, sym, ap, ◌∙◌, arith}
 use Rattle.std.proofs.lemmas.Bool.{eq-eqb, ne_eqb}
 use Rattle.std.proofs.lemmas.List.{length-map, get_or-map}
-use Rattle.link_server.proofs.Words.{remove, if◌then◌else◌, filter, channel_number, key_of, IsDistinct, AccountRow, kept_stays, Each, reservation_in, row_in, is_served_row_of, summed, IsPlaceOf, ServedRow}
+use Rattle.link_server.proofs.Words.{remove, if◌then◌else◌, filter, channel_number, key_of, IsDistinct, AccountRow, account_stays, Each, reservation_in, row_in, is_served_row_of, summed, IsPlaceOf, ServedRow}
 use Rattle.link_steps.specs.Hold.{hold_ended}
 use Rattle.rcsp_admission.proofs.OneRowPerKey.{distinct-later}
 
@@ -30,7 +30,7 @@ place-distinct (row ∷ rows) (suc i) d distinct inside =
       place-before row rows i found other later (suc k) d below = later.before k d (omega arith)
 
 -- a row stays where its hold hasn't ended
-pub stays-is : (bounds : List ℕ) (t : ℕ) (row : ServedRow) (ended : Bool) → ended ≡ hold_ended bounds (reservation_in row) row.taken row.last t → kept_stays bounds t (row_in row) ≡ not ended
+pub stays-is : (bounds : List ℕ) (t : ℕ) (row : ServedRow) (ended : Bool) → ended ≡ hold_ended bounds (reservation_in row) row.taken row.last t → account_stays bounds t (row_in row) ≡ not ended
 stays-is bounds t row ended same = ap (λ last. not (hold_ended bounds (reservation_in row) row.taken last t)) (sym row.newest) ∙ ap not (sym same)
 
 -- where there is a place, there is a row

@@ -3,7 +3,7 @@ use Rattle.std.proofs.Common.{◌≡◌, ℕ, suc, ◌+◌, ◌<◌, ◌≤◌, 
 use Rattle.std.proofs.lemmas.Bool.{cases_Bool, cases_lt, eq-eqb, eqb-true, le-leb, leb-true, lt-leb}
 use Rattle.std.proofs.lemmas.List.{map_push, get_or_default}
 use Rattle.std.proofs.lemmas.List.Folds.{list_any_none}
-use Rattle.link_server.proofs.Words.{remove, if◌then◌else◌, filter, nat_eq, nat_le, channel_number, last_bound, ChanNo, newest, Closing, AccountRow, kept_stays, Each, is_phase, Entry, Schedule, TakesDue, row_in, IsAbsent, IsPlaceOf, ServedRow}
+use Rattle.link_server.proofs.Words.{remove, if◌then◌else◌, filter, nat_eq, nat_le, channel_number, last_bound, ChanNo, newest, Closing, AccountRow, account_stays, Each, is_phase, Entry, Timetable, TakesDue, row_in, IsAbsent, IsPlaceOf, ServedRow}
 use Rattle.traffic_contract.proofs.AdmissionTest.{total-push}
 use Rattle.link_steps.specs.Hold.{hold_ended}
 use Rattle.link_steps.proofs.SearchAndFilter.{Each-append, Each-if, Each-both, filter-all}
@@ -29,13 +29,13 @@ absent-stays bounds clock chan key rows number absent =
     (λ k d inside same. absurd (let f : false ≡ true = sym (absent k d inside) ∙ eq-eqb (channel_number (get_or rows k d).chan) (channel_number chan) (same ∙ sym number) in cc))
 
 -- the row of the channel stays
-pub place-stays : (bounds : List ℕ) (clock : ℕ) (chan : ChanNo) (key i : ℕ) (rows : List ServedRow) (index keys : List ℕ) (row : ServedRow) → channel_number chan ≡ key → IsIndex index keys (channels_in rows) → IsPlaceOf chan rows i → row ≡ get_or rows i row → kept_stays bounds clock (row_in row) ≡ true → Each (StaysIfOf bounds clock key) (map row_in rows)
+pub place-stays : (bounds : List ℕ) (clock : ℕ) (chan : ChanNo) (key i : ℕ) (rows : List ServedRow) (index keys : List ℕ) (row : ServedRow) → channel_number chan ≡ key → IsIndex index keys (channels_in rows) → IsPlaceOf chan rows i → row ≡ get_or rows i row → account_stays bounds clock (row_in row) ≡ true → Each (StaysIfOf bounds clock key) (map row_in rows)
 place-stays bounds clock chan key i rows index keys row number is place at stays =
     each-place (StaysIfOf bounds clock key) rows
     (λ k d inside same.
     (let own = eqb-true (channel_in (get_or rows i row)) (channel_number chan) (place.here row) in
     let here = one-place index keys rows k i d row is inside place.inside (same ∙ sym number ∙ sym own) in
-    subst (λ r. kept_stays bounds clock (row_in r) ≡ true) (at ∙ ap (λ n. get_or rows n row) (sym here) ∙ get_or_default rows k row d inside) stays))
+    subst (λ r. account_stays bounds clock (row_in r) ≡ true) (at ∙ ap (λ n. get_or rows n row) (sym here) ∙ get_or_default rows k row d inside) stays))
 
 -- once the row of the channel is taken out, no row is the channel's
 pub others-stay : (bounds : List ℕ) (clock key i : ℕ) (rows : List ServedRow) (index keys : List ℕ) (d : ServedRow) → IsIndex index keys (channels_in rows) → HasEnded bounds clock key rows i → Each (StaysIfOf bounds clock key) (map row_in (remove rows i))
@@ -62,7 +62,7 @@ held-on true false false d e more is = refl
 held-on true false true d false more is = refl
 held-on true false true d true more is = rw (more refl) at is
 
-stays-before : (bounds : List ℕ) (tick clock : ℕ) (row : AccountRow) → tick ≤ clock → kept_stays bounds clock row ≡ true → kept_stays bounds tick row ≡ true
+stays-before : (bounds : List ℕ) (tick clock : ℕ) (row : AccountRow) → tick ≤ clock → account_stays bounds clock row ≡ true → account_stays bounds tick row ≡ true
 unfolding hold_ended
 stays-before bounds tick clock row less =
     held-on (is_phase row.terms.phase Closing) (nat_eq row.terms.count 0) (nat_eq row.taken row.terms.count) (nat_le (newest row.recent + last_bound bounds) clock) (nat_le (newest row.recent + last_bound bounds) tick)
@@ -80,7 +80,7 @@ tells-none bounds clock tick key t row due stays =
       both true false = refl
       both true true = refl
 
-pub due-taken : (bounds : List ℕ) (clock key : ℕ) (old new : Schedule) (rows : List AccountRow) → TakesDue old.entries new.entries clock key → new.spare ≡ old.spare + 1 → new.clock ≡ clock → Each (IsListed bounds clock old.entries) rows → open_in rows ≤ old.spare → Each (StaysIfOf bounds clock key) rows → AreListed bounds clock new rows
+pub due-taken : (bounds : List ℕ) (clock key : ℕ) (old new : Timetable) (rows : List AccountRow) → TakesDue old.entries new.entries clock key → new.spare ≡ old.spare + 1 → new.clock ≡ clock → Each (IsListed bounds clock old.entries) rows → open_in rows ≤ old.spare → Each (StaysIfOf bounds clock key) rows → AreListed bounds clock new rows
 due-taken bounds clock key old new rows due spare begun listed room stays = record {
   begun = omega (arith, begun);
   listed =
@@ -92,11 +92,11 @@ due-taken bounds clock key old new rows due spare begun listed room stays = reco
 }
 
 -- where none is due, every row stays
-stays-on : (bounds : List ℕ) (clock : ℕ) (entries : List Entry) (row : AccountRow) → All (λ entry. clock < entry.0) entries → IsListed bounds clock entries row → kept_stays bounds clock row ≡ true
+stays-on : (bounds : List ℕ) (clock : ℕ) (entries : List Entry) (row : AccountRow) → All (λ entry. clock < entry.0) entries → IsListed bounds clock entries row → account_stays bounds clock row ≡ true
 stays-on bounds clock entries row later listed =
-    ⊎_elim (λ (is : kept_stays bounds clock row ≡ true). is)
-    (λ (gone : kept_stays bounds clock row ≡ false). absurd (let f : false ≡ true = sym (list_any_none (tells_end bounds clock row) entries (λ k d inside. not-yet (get_or entries k d) (later k d inside))) ∙ listed.told clock (omega arith) gone in cc))
-    (cases_Bool (kept_stays bounds clock row)) where
+    ⊎_elim (λ (is : account_stays bounds clock row ≡ true). is)
+    (λ (gone : account_stays bounds clock row ≡ false). absurd (let f : false ≡ true = sym (list_any_none (tells_end bounds clock row) entries (λ k d inside. not-yet (get_or entries k d) (later k d inside))) ∙ listed.told clock (omega arith) gone in cc))
+    (cases_Bool (account_stays bounds clock row)) where
       none : (a : Bool) → (a && false) ≡ false
       none true = refl
       none false = refl
@@ -104,8 +104,8 @@ stays-on bounds clock entries row later listed =
       not-yet : (entry : Entry) → clock < entry.0 → tells_end bounds clock row entry ≡ false
       not-yet entry past = rw (lt-leb entry.0 clock past) (none (nat_eq entry.1 (channel_number row.terms.chan)))
 
-pub all-stay : (bounds : List ℕ) (clock : ℕ) (entries : List Entry) (rows : List AccountRow) → All (λ entry. clock < entry.0) entries → Each (IsListed bounds clock entries) rows → filter (kept_stays bounds clock) rows ≡ rows
-all-stay bounds clock entries rows later listed = filter-all (kept_stays bounds clock) rows (Each-if (IsListed bounds clock entries) (λ row. kept_stays bounds clock row ≡ true) rows (λ row is. stays-on bounds clock entries row later is) listed)
+pub all-stay : (bounds : List ℕ) (clock : ℕ) (entries : List Entry) (rows : List AccountRow) → All (λ entry. clock < entry.0) entries → Each (IsListed bounds clock entries) rows → filter (account_stays bounds clock) rows ≡ rows
+all-stay bounds clock entries rows later listed = filter-all (account_stays bounds clock) rows (Each-if (IsListed bounds clock entries) (λ row. account_stays bounds clock row ≡ true) rows (λ row is. stays-on bounds clock entries row later is) listed)
 
 -- ---- rows that come, change and go
 
@@ -121,7 +121,7 @@ pub open-one : (row : AccountRow) → is_open row ≡ true → open_count row �
 open-one row is = rw is refl
 
 -- room for an open row
-pub open-room : (bounds : List ℕ) (clock : ℕ) (holds : Schedule) (rows : List ServedRow) (i : ℕ) (d : ServedRow) → AreListed bounds clock holds (map row_in rows) → i < length rows → is_open (row_in (get_or rows i d)) ≡ true → 1 ≤ holds.spare
+pub open-room : (bounds : List ℕ) (clock : ℕ) (holds : Timetable) (rows : List ServedRow) (i : ℕ) (d : ServedRow) → AreListed bounds clock holds (map row_in rows) → i < length rows → is_open (row_in (get_or rows i d)) ≡ true → 1 ≤ holds.spare
 open-room bounds clock holds rows i d listed inside is =
     let at = row-part open_count rows i d inside in
     let one = open-one (row_in (get_or rows i d)) is in
@@ -129,7 +129,7 @@ open-room bounds clock holds rows i d listed inside is =
     omega (arith, at, one, room)
 
 -- more room in the calendar
-pub listed-reserved : (bounds : List ℕ) (clock : ℕ) (old new : Schedule) (rows : List AccountRow) → new ≡ record old { spare = new.spare } → old.spare ≤ new.spare → AreListed bounds clock old rows → AreListed bounds clock new rows
+pub listed-reserved : (bounds : List ℕ) (clock : ℕ) (old new : Timetable) (rows : List AccountRow) → new ≡ record old { spare = new.spare } → old.spare ≤ new.spare → AreListed bounds clock old rows → AreListed bounds clock new rows
 listed-reserved bounds clock old new rows same grows listed = record {
   begun = (let begun = listed.begun in let clock_is : new.clock ≡ old.clock = ap (λ s. s.clock) same in omega (arith, begun, clock_is));
   listed = subst (λ entries. Each (IsListed bounds clock entries) rows) (sym (ap (λ s. s.entries) same)) listed.listed;
@@ -137,7 +137,7 @@ listed-reserved bounds clock old new rows same grows listed = record {
 }
 
 -- a row that comes
-pub listed-pushed : (bounds : List ℕ) (clock : ℕ) (holds : Schedule) (rows : List ServedRow) (row : ServedRow) → AreListed bounds clock holds (map row_in rows) → IsListed bounds clock holds.entries (row_in row) → length rows + 1 ≤ holds.spare → AreListed bounds clock holds (map row_in (rows ++ row ∷ []))
+pub listed-pushed : (bounds : List ℕ) (clock : ℕ) (holds : Timetable) (rows : List ServedRow) (row : ServedRow) → AreListed bounds clock holds (map row_in rows) → IsListed bounds clock holds.entries (row_in row) → length rows + 1 ≤ holds.spare → AreListed bounds clock holds (map row_in (rows ++ row ∷ []))
 listed-pushed bounds clock holds rows row listed own room = record {
   begun = listed.begun;
   listed = subst (Each (IsListed bounds clock holds.entries)) (sym (map_push row_in rows row)) (Each-append (IsListed bounds clock holds.entries) (map row_in rows) (row_in row ∷ []) listed.listed (own, tt));
@@ -149,7 +149,7 @@ listed-pushed bounds clock holds rows row listed own room = record {
 }
 
 -- a row that changes, and is open only if it was
-pub listed-set : (bounds : List ℕ) (clock : ℕ) (holds : Schedule) (rows : List ServedRow) (i : ℕ) (new d : ServedRow) → AreListed bounds clock holds (map row_in rows) → i < length rows → IsListed bounds clock holds.entries (row_in new) → is_open (row_in (get_or rows i d)) ≡ true → AreListed bounds clock holds (map row_in (set rows i new))
+pub listed-set : (bounds : List ℕ) (clock : ℕ) (holds : Timetable) (rows : List ServedRow) (i : ℕ) (new d : ServedRow) → AreListed bounds clock holds (map row_in rows) → i < length rows → IsListed bounds clock holds.entries (row_in new) → is_open (row_in (get_or rows i d)) ≡ true → AreListed bounds clock holds (map row_in (set rows i new))
 listed-set bounds clock holds rows i new d listed inside own is = record {
   begun = listed.begun;
   listed = each-set (IsListed bounds clock holds.entries) rows i new own listed.listed;
@@ -162,7 +162,7 @@ listed-set bounds clock holds rows i new d listed inside own is = record {
 }
 
 -- a row whose entry was put, if no packet is left to wait for
-pub listed-put : (bounds : List ℕ) (clock : ℕ) (old new : Schedule) (rows : List ServedRow) (i : ℕ) (row d : ServedRow) → AreListed bounds clock old (map row_in rows) → i < length rows → is_open (row_in (get_or rows i d)) ≡ true
+pub listed-put : (bounds : List ℕ) (clock : ℕ) (old new : Timetable) (rows : List ServedRow) (i : ℕ) (row d : ServedRow) → AreListed bounds clock old (map row_in rows) → i < length rows → is_open (row_in (get_or rows i d)) ≡ true
     → new.clock ≡ old.clock → ((other : AccountRow) → IsListed bounds clock old.entries other → IsListed bounds clock new.entries other) → IsListed bounds clock new.entries (row_in row) → open_count (row_in row) + old.spare ≤ new.spare + 1 → AreListed bounds clock new (map row_in (set rows i row))
 listed-put bounds clock old new rows i row d listed inside is same others own spare = record {
   begun = (let begun = listed.begun in omega (arith, begun, same));
@@ -175,7 +175,7 @@ listed-put bounds clock old new rows i row d listed inside is same others own sp
 }
 
 -- a row that goes
-pub listed-removed : (bounds : List ℕ) (clock : ℕ) (holds : Schedule) (rows : List ServedRow) (i : ℕ) → AreListed bounds clock holds (map row_in rows) → AreListed bounds clock holds (map row_in (remove rows i))
+pub listed-removed : (bounds : List ℕ) (clock : ℕ) (holds : Timetable) (rows : List ServedRow) (i : ℕ) → AreListed bounds clock holds (map row_in rows) → AreListed bounds clock holds (map row_in (remove rows i))
 listed-removed bounds clock holds rows i listed = record {
   begun = listed.begun;
   listed = each-without (IsListed bounds clock holds.entries) rows i listed.listed;

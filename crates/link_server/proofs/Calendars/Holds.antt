@@ -2,7 +2,7 @@
 use Rattle.std.proofs.Common.{◌≡◌, ℕ, ◌+◌, ◌≤◌, Bool, true, false, not, ◌&&◌, ◌||◌, ◌⊎◌, inl, inr, ⊎_elim, List, ◌∷◌, ◌++◌, length, None, refl, sym, ap, ◌∙◌, arith}
 use Rattle.std.proofs.lemmas.Bool.{cases_Bool, eq-eqb, eqb-true, le-leb, leb-true, and_parts, or_right}
 use Rattle.std.proofs.lemmas.List.Folds.{list_any-append}
-use Rattle.link_server.proofs.Words.{list_any, nat_eq, nat_le, last_bound, newest, Phase, Tentative, Committed, Closing, AccountRow, kept_stays, is_phase, not_in_phase, Entry}
+use Rattle.link_server.proofs.Words.{list_any, nat_eq, nat_le, last_bound, newest, Phase, Tentative, Committed, Closing, AccountRow, account_stays, is_phase, not_in_phase, Entry}
 use Rattle.link_steps.specs.Hold.{hold_ended}
 use Rattle.link_steps.specs.declared.replies.Refusal.TheVariants.{NotInPhase}
 use Rattle.link_steps.proofs.RulesPassed.{unless-none}
@@ -19,7 +19,7 @@ weaker true true c d is = absurd (let f : false ≡ true = is in cc)
 weaker true false true d is = absurd (let f : false ≡ true = is in cc)
 weaker true false false d is = refl
 
-pub open-stays-held : (bounds : List ℕ) (t : ℕ) (row : AccountRow) → is_open row ≡ true → kept_stays bounds t row ≡ true
+pub open-stays-held : (bounds : List ℕ) (t : ℕ) (row : AccountRow) → is_open row ≡ true → account_stays bounds t row ≡ true
 unfolding hold_ended
 open-stays-held bounds t row is =
     weaker (is_phase row.terms.phase Closing) (nat_eq row.terms.count 0) (nat_eq row.taken row.terms.count) (nat_le (newest row.recent + last_bound bounds) t) is

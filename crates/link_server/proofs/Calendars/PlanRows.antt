@@ -2,7 +2,7 @@
 use Rattle.std.proofs.Common.{◌≡◌, ℕ, ◌+◌, ◌<◌, ◌≤◌, Bool, true, false, not, ◌&&◌, ⊎_elim, List, [], ◌∷◌, ◌++◌, Some, None, length, map, get_or, set, refl, sym, ap, ◌∙◌, subst, arith}
 use Rattle.std.proofs.lemmas.Bool.{cases_Bool, eqb-true, eq-eqb, false≢true}
 use Rattle.std.proofs.lemmas.List.{nil_from_length, map_push, get_or_default}
-use Rattle.link_server.proofs.Words.{remove, channel_number, ChanNo, Closing, AccountRow, Each, is_phase, SourcePacket, planned_from, is_for, Schedule, TakesDue, row_in, IsAbsent, IsPlaceOf, ServedRow}
+use Rattle.link_server.proofs.Words.{remove, channel_number, ChanNo, Closing, AccountRow, Each, is_phase, SourcePacket, planned_from, is_for, Timetable, TakesDue, row_in, IsAbsent, IsPlaceOf, ServedRow}
 use Rattle.std.specs.Prelude.{if◌then◌else◌, find, filter, is_none, nat_eq}
 use Rattle.traffic_contract.proofs.AdmissionTest.{total-push}
 use Rattle.link_steps.proofs.SearchAndFilter.{Each-append, Each-filter, Each-if}
@@ -44,7 +44,7 @@ key-at chan key i rows number place = record {
 -- ---- the rows that have their turn
 
 -- at first none has
-pub none-called : (clock : ℕ) (plans : Schedule) (rows : List ServedRow) → ArePlanned clock plans (map row_in rows) → AreCalled clock plans [] rows
+pub none-called : (clock : ℕ) (plans : Timetable) (rows : List ServedRow) → ArePlanned clock plans (map row_in rows) → AreCalled clock plans [] rows
 none-called clock plans rows planned = record {
   begun = planned.begun;
   rising = omega arith;
@@ -53,7 +53,7 @@ none-called clock plans rows planned = record {
 }
 
 -- the entry that is taken tells of no row that has none
-pub called-rests : (clock key : ℕ) (old new : Schedule) (turns : List ℕ) (rows : List ServedRow) → AreCalled clock old turns rows → AreReady clock rows → TakesDue old.entries new.entries clock key → old.spare ≤ new.spare → new.clock ≡ clock → Each (RestsIfOf clock key) (map row_in rows) → AreCalled clock new turns rows
+pub called-rests : (clock key : ℕ) (old new : Timetable) (turns : List ℕ) (rows : List ServedRow) → AreCalled clock old turns rows → AreReady clock rows → TakesDue old.entries new.entries clock key → old.spare ≤ new.spare → new.clock ≡ clock → Each (RestsIfOf clock key) (map row_in rows) → AreCalled clock new turns rows
 called-rests clock key old new turns rows called ready due spare begun rests = record {
   begun = omega (arith, begun);
   rising = called.rising;
@@ -74,7 +74,7 @@ called-rests clock key old new turns rows called ready due spare begun rests = r
       (cases_Bool (nat_eq (channel_number row.terms.chan) key))
 
 -- and of one that has its turn from then on
-pub called-more : (clock key i : ℕ) (old new : Schedule) (turns more : List ℕ) (index keys : List ℕ) (rows : List ServedRow) → AreCalled clock old turns rows → IsIndex index keys (channels_in rows) → TakesDue old.entries new.entries clock key → new.spare ≡ old.spare + 1 → new.clock ≡ clock → IsPlaceOfKey key rows i
+pub called-more : (clock key i : ℕ) (old new : Timetable) (turns more : List ℕ) (index keys : List ℕ) (rows : List ServedRow) → AreCalled clock old turns rows → IsIndex index keys (channels_in rows) → TakesDue old.entries new.entries clock key → new.spare ≡ old.spare + 1 → new.clock ≡ clock → IsPlaceOfKey key rows i
     → AreRising 0 (length rows) more → is_turn more i ≡ true → ((other : ℕ) → is_turn more other ≡ false → is_turn turns other ≡ false) → length more ≤ length turns + 1 → AreCalled clock new more rows
 called-more clock key i old new turns more index keys rows called is due spare begun place rising its others one = record {
   begun = omega (arith, begun);
@@ -97,7 +97,7 @@ idle-most row = most (is_idle row) where
   most false = omega arith
 
 -- more room in the calendar
-pub planned-reserved : (clock : ℕ) (old new : Schedule) (rows : List AccountRow) → new ≡ record old { spare = new.spare } → old.spare ≤ new.spare → ArePlanned clock old rows → ArePlanned clock new rows
+pub planned-reserved : (clock : ℕ) (old new : Timetable) (rows : List AccountRow) → new ≡ record old { spare = new.spare } → old.spare ≤ new.spare → ArePlanned clock old rows → ArePlanned clock new rows
 planned-reserved clock old new rows same grows planned = record {
   begun = (let begun = planned.begun in let clock_is : new.clock ≡ old.clock = ap (λ s. s.clock) same in omega (arith, begun, clock_is));
   told = subst (λ entries. Each (IsTold entries) rows) (sym (ap (λ s. s.entries) same)) planned.told;
@@ -105,7 +105,7 @@ planned-reserved clock old new rows same grows planned = record {
 }
 
 -- a later clock
-pub planned-later : (clock later : ℕ) (plans : Schedule) (rows : List AccountRow) → clock ≤ later → ArePlanned clock plans rows → ArePlanned later plans rows
+pub planned-later : (clock later : ℕ) (plans : Timetable) (rows : List AccountRow) → clock ≤ later → ArePlanned clock plans rows → ArePlanned later plans rows
 planned-later clock later plans rows less planned = record {
   begun = (let begun = planned.begun in omega (arith, begun, less));
   told = planned.told;
@@ -113,7 +113,7 @@ planned-later clock later plans rows less planned = record {
 }
 
 -- a row that comes
-pub planned-pushed : (clock : ℕ) (plans : Schedule) (rows : List ServedRow) (row : ServedRow) → ArePlanned clock plans (map row_in rows) → IsTold plans.entries (row_in row) → length rows + 1 ≤ plans.spare → ArePlanned clock plans (map row_in (rows ++ row ∷ []))
+pub planned-pushed : (clock : ℕ) (plans : Timetable) (rows : List ServedRow) (row : ServedRow) → ArePlanned clock plans (map row_in rows) → IsTold plans.entries (row_in row) → length rows + 1 ≤ plans.spare → ArePlanned clock plans (map row_in (rows ++ row ∷ []))
 planned-pushed clock plans rows row planned own room = record {
   begun = planned.begun;
   told = subst (Each (IsTold plans.entries)) (sym (map_push row_in rows row)) (Each-append (IsTold plans.entries) (map row_in rows) (row_in row ∷ []) planned.told (own, tt));
@@ -125,7 +125,7 @@ planned-pushed clock plans rows row planned own room = record {
 }
 
 -- a row that changes, and is idle only if it was
-pub planned-set : (clock : ℕ) (plans : Schedule) (rows : List ServedRow) (i : ℕ) (new d : ServedRow) → ArePlanned clock plans (map row_in rows) → i < length rows → IsTold plans.entries (row_in new) → idle_count (row_in new) ≤ idle_count (row_in (get_or rows i d)) → ArePlanned clock plans (map row_in (set rows i new))
+pub planned-set : (clock : ℕ) (plans : Timetable) (rows : List ServedRow) (i : ℕ) (new d : ServedRow) → ArePlanned clock plans (map row_in rows) → i < length rows → IsTold plans.entries (row_in new) → idle_count (row_in new) ≤ idle_count (row_in (get_or rows i d)) → ArePlanned clock plans (map row_in (set rows i new))
 planned-set clock plans rows i new d planned inside own less = record {
   begun = planned.begun;
   told = each-set (IsTold plans.entries) rows i new own planned.told;
@@ -136,7 +136,7 @@ planned-set clock plans rows i new d planned inside own less = record {
 }
 
 -- a row that was idle, and whose entry was put, if it has a packet left
-pub planned-put : (clock : ℕ) (old new : Schedule) (rows : List ServedRow) (i : ℕ) (row d : ServedRow) → ArePlanned clock old (map row_in rows) → i < length rows → idle_count (row_in (get_or rows i d)) ≡ 1
+pub planned-put : (clock : ℕ) (old new : Timetable) (rows : List ServedRow) (i : ℕ) (row d : ServedRow) → ArePlanned clock old (map row_in rows) → i < length rows → idle_count (row_in (get_or rows i d)) ≡ 1
     → new.clock ≡ old.clock → ((other : AccountRow) → IsTold old.entries other → IsTold new.entries other) → IsTold new.entries (row_in row) → idle_count (row_in row) + old.spare ≤ new.spare + 1 → ArePlanned clock new (map row_in (set rows i row))
 planned-put clock old new rows i row d planned inside was same others own spare = record {
   begun = (let begun = planned.begun in omega (arith, begun, same));
@@ -148,14 +148,14 @@ planned-put clock old new rows i row d planned inside was same others own spare 
 }
 
 -- rows that go
-pub planned-removed : (clock : ℕ) (plans : Schedule) (rows : List ServedRow) (i : ℕ) → ArePlanned clock plans (map row_in rows) → ArePlanned clock plans (map row_in (remove rows i))
+pub planned-removed : (clock : ℕ) (plans : Timetable) (rows : List ServedRow) (i : ℕ) → ArePlanned clock plans (map row_in rows) → ArePlanned clock plans (map row_in (remove rows i))
 planned-removed clock plans rows i planned = record {
   begun = planned.begun;
   told = each-without (IsTold plans.entries) rows i planned.told;
   room = (let fewer = row-gone idle_count rows i in let room = planned.room in omega (arith, fewer, room));
 }
 
-pub planned-left : (clock : ℕ) (plans : Schedule) (test : AccountRow → Bool) (rows : List AccountRow) → ArePlanned clock plans rows → ArePlanned clock plans (filter test rows)
+pub planned-left : (clock : ℕ) (plans : Timetable) (test : AccountRow → Bool) (rows : List AccountRow) → ArePlanned clock plans rows → ArePlanned clock plans (filter test rows)
 planned-left clock plans test rows planned = record {
   begun = planned.begun;
   told = Each-filter (IsTold plans.entries) test rows planned.told;
@@ -185,7 +185,7 @@ closing-idle row closing = closed (is_none (first_tick row.left)) (is_phase row.
   closed false b is = refl
 
 -- there is room for the entry of one that is
-pub idle-room : (clock : ℕ) (plans : Schedule) (rows : List ServedRow) (i : ℕ) (d : ServedRow) → ArePlanned clock plans (map row_in rows) → i < length rows → idle_count (row_in (get_or rows i d)) ≡ 1 → 1 ≤ plans.spare
+pub idle-room : (clock : ℕ) (plans : Timetable) (rows : List ServedRow) (i : ℕ) (d : ServedRow) → ArePlanned clock plans (map row_in rows) → i < length rows → idle_count (row_in (get_or rows i d)) ≡ 1 → 1 ≤ plans.spare
 idle-room clock plans rows i d planned inside one =
     let at = row-part idle_count rows i d inside in
     let room = planned.room in

@@ -2,7 +2,7 @@
 use Rattle.std.proofs.Common.{◌≡◌, ℕ, zero, suc, ◌+◌, ◌<◌, ◌≤◌, List, [], ◌∷◌, None, refl, ap, arith}
 use Rattle.std.proofs.lemmas.Bool.{ne_eqb, le-leb}
 use Rattle.link_server.proofs.Words.{find, Each, Arrival, Rests}
-use Rattle.link_steps.specs.Account.{AccountRow, kept_step, past_tick}
+use Rattle.link_steps.specs.Account.{AccountRow, account_step, past_tick}
 use Rattle.link_steps.specs.Rows.{SourcePacket, planned_from, is_for, left_at}
 use Rattle.link_server.specs.Planned.{IsPlannedFrom}
 use Rattle.link_server.specs.Plans.{IsQuiet}
@@ -21,8 +21,8 @@ quiet-left until t (p ∷ left) plans before =
     rw (le-leb (suc t) p.tick (omega (arith, from, before))) (ap (λ rest. p ∷ rest) (quiet-left until t left plans.1 before))
 
 -- and the row rests
-pub quiet-step : (bounds : List ℕ) (here : List Arrival) (until t : ℕ) (row : AccountRow) → IsQuiet until row → t < until → kept_step bounds here t row ≡ Rests
-unfolding kept_step
+pub quiet-step : (bounds : List ℕ) (here : List Arrival) (until t : ℕ) (row : AccountRow) → IsQuiet until row → t < until → account_step bounds here t row ≡ Rests
+unfolding account_step
 quiet-step bounds here until t row quiet before = rw (quiet-plan until t row.left quiet before) refl
 
 pub quiet-past : (bounds : List ℕ) (until t : ℕ) (row : AccountRow) → IsQuiet until row → t < until → past_tick t row ≡ row

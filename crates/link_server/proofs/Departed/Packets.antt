@@ -4,9 +4,9 @@ use Rattle.std.proofs.lemmas.Bool.{cases_Bool, cases_eq, eq-eqb, eqb-false, eqb-
 use Rattle.std.proofs.lemmas.List.{length-append}
 use Rattle.std.proofs.lemmas.List.Elements.{filter-append}
 use Rattle.std.proofs.lemmas.Option.{same_Some}
-use Rattle.link_server.proofs.Words.{filter, Each, nat_eq, channel_number, find, is_kept_of, Arrival, AccountRow, SourceStep, Rests, Brings, Drops, lead_with, taken_by, kept_packet, kept_after_step, kept_arrived, kept_arrived_row, Packet}
+use Rattle.link_server.proofs.Words.{filter, Each, nat_eq, channel_number, find, is_account_of, Arrival, AccountRow, SourceStep, Rests, Brings, Drops, lead_with, taken_by, account_packet, account_after_step, account_arrived, account_arrived_row, Packet}
 use Rattle.link_steps.specs.Buffer.{has_lead, held_packets}
-use Rattle.link_steps.specs.Account.{kept_packets, kept_rows_after, kept_step, past_tick}
+use Rattle.link_steps.specs.Account.{account_packets, account_rows_after, account_step, past_tick}
 use Rattle.link_steps.proofs.SearchAndFilter.{Each-append, Each-both, Each-find, Each-if}
 use Rattle.link_steps.specs.Lists.{change_first}
 use Rattle.link_steps.proofs.PacketRows.{lead_with-later}
@@ -32,20 +32,20 @@ other-lead own lead place apart below =
       | inr some ↦ rw some (ne_eqb own lead (λ same. eqb-false own 0 some (same ∙ apart same)))
     ]
 
-step-other : (step : SourceStep) (t taken lead : ℕ) (row : AccountRow) → IsApartFrom lead row → lead ≤ taken → held_packets lead (kept_packet step t (suc taken) row) ≡ 0
+step-other : (step : SourceStep) (t taken lead : ℕ) (row : AccountRow) → IsApartFrom lead row → lead ≤ taken → held_packets lead (account_packet step t (suc taken) row) ≡ 0
 unfolding held_packets
 step-other Rests t taken lead row apart most = refl
 step-other Drops t taken lead row apart most = refl
 step-other (Brings size) t taken lead row apart most = rw (other-lead row.lead lead (suc taken) apart (omega (arith, most))) refl
 
-rows-other : (bounds : List ℕ) (was : List Arrival) (t taken lead : ℕ) (rows : List AccountRow) → Each (IsApartFrom lead) rows → lead ≤ taken → held_packets lead (kept_packets bounds was t taken rows) ≡ 0
-unfolding kept_packets held_packets
+rows-other : (bounds : List ℕ) (was : List Arrival) (t taken lead : ℕ) (rows : List AccountRow) → Each (IsApartFrom lead) rows → lead ≤ taken → held_packets lead (account_packets bounds was t taken rows) ≡ 0
+unfolding account_packets held_packets
 rows-other bounds was t taken lead [] each most = refl
 rows-other bounds was t taken lead (row ∷ rows) each most =
-    let step = kept_step bounds was t row in
+    let step = account_step bounds was t row in
     let own = step-other step t taken lead row each.0 most in
     let rest = rows-other bounds was t (taken + taken_by step) lead rows each.1 (omega (arith, most)) in
-    held-append lead (kept_packet step t (suc taken) row) (kept_packets bounds was t (taken + taken_by step) rows) ∙ omega (arith, own, rest)
+    held-append lead (account_packet step t (suc taken) row) (account_packets bounds was t (taken + taken_by step) rows) ∙ omega (arith, own, rest)
 
 none-own : (row : AccountRow) (more : List Arrival) → held_packets row.lead more ≡ 0 → Each (IsOwn row) more
 unfolding held_packets
@@ -116,52 +116,52 @@ held-other p own lead taken is apart most = rw (is, other-lead own lead (suc tak
 
 -- ---- a packet from the link before
 
-pub counted-arrived : (t taken : ℕ) (packet : Packet) (here : List Arrival) (rows : List AccountRow) (ns : List ℕ) (row : AccountRow) → Each (IsLedUpTo taken) here → HaveOwnLeads rows → Each (λ r. r.lead ≤ taken) rows → find (is_kept_of packet.chan) rows ≡ Some row → AreCounted here rows ns
-    → AreCounted (here ++ kept_arrived t (suc taken) packet row ∷ []) (change_first (is_kept_of packet.chan) (kept_arrived_row t (suc taken) packet) rows) ns
+pub counted-arrived : (t taken : ℕ) (packet : Packet) (here : List Arrival) (rows : List AccountRow) (ns : List ℕ) (row : AccountRow) → Each (IsLedUpTo taken) here → HaveOwnLeads rows → Each (λ r. r.lead ≤ taken) rows → find (is_account_of packet.chan) rows ≡ Some row → AreCounted here rows ns
+    → AreCounted (here ++ account_arrived t (suc taken) packet row ∷ []) (change_first (is_account_of packet.chan) (account_arrived_row t (suc taken) packet) rows) ns
 unfolding change_first
 counted-arrived t taken packet here [] [] row led apart most found each = cc
 counted-arrived t taken packet here (r ∷ rows) (n ∷ ns) row led apart most found each =
-    elim (cases_Bool (is_kept_of packet.chan r)) [
+    elim (cases_Bool (is_account_of packet.chan r)) [
       | inl own ↦
-          (let p = kept_arrived t (suc taken) packet r in
-          let its : AreCounted (here ++ p ∷ []) (kept_arrived_row t (suc taken) packet r ∷ rows) (n ∷ ns) = (
-            counted-one here r (kept_arrived_row t (suc taken) packet r) n taken p led refl refl refl refl refl each.0,
+          (let p = account_arrived t (suc taken) packet r in
+          let its : AreCounted (here ++ p ∷ []) (account_arrived_row t (suc taken) packet r ∷ rows) (n ∷ ns) = (
+            counted-one here r (account_arrived_row t (suc taken) packet r) n taken p led refl refl refl refl refl each.0,
             still-counted here (p ∷ []) rows ns
                 (Each-if (λ other. IsApartFrom r.lead other × (other.lead ≤ taken)) (λ other. held_packets other.lead (p ∷ []) ≡ 0) rows (λ other both. held-other p r.lead other.lead taken refl (λ same. sym same ∙ both.0 (sym same)) both.1)
                 (Each-both (IsApartFrom r.lead) (λ other. other.lead ≤ taken) rows apart.0 most.1)) each.1,
           ) in
-          rw own (subst (λ x. AreCounted (here ++ kept_arrived t (suc taken) packet x ∷ []) (kept_arrived_row t (suc taken) packet r ∷ rows) (n ∷ ns)) (same_Some r row (rw own at found)) its))
+          rw own (subst (λ x. AreCounted (here ++ account_arrived t (suc taken) packet x ∷ []) (account_arrived_row t (suc taken) packet r ∷ rows) (n ∷ ns)) (same_Some r row (rw own at found)) its))
       | inr other ↦
           (let later = rw other at found in
-          let p = kept_arrived t (suc taken) packet row in
+          let p = account_arrived t (suc taken) packet row in
           let rest = counted-arrived t taken packet here rows ns row led apart.1 most.1 later each.1 in
-          rw other (counted-more here (p ∷ []) r n (held-other p row.lead r.lead taken refl (Each-find (IsApartFrom r.lead) (is_kept_of packet.chan) rows row apart.0 later) most.0) each.0, rest))
+          rw other (counted-more here (p ∷ []) r n (held-other p row.lead r.lead taken refl (Each-find (IsApartFrom r.lead) (is_account_of packet.chan) rows row apart.0 later) most.0) each.0, rest))
     ]
 counted-arrived t taken packet here [] (n ∷ ns) row led apart most found each = absurd each
 counted-arrived t taken packet here (r ∷ rows) [] row led apart most found each = absurd each
 
 -- ---- the packets of the sources
 
-step-counted : (step : SourceStep) (t taken n : ℕ) (row : AccountRow) (now : List Arrival) → Each (IsLedUpTo taken) now → IsCounted now row n → IsCounted (now ++ kept_packet step t (suc taken) row) (kept_after_step step t (suc taken) row) n
-step-counted (Brings size) t taken n row now led counted = counted-one now row (kept_after_step (Brings size) t (suc taken) row) n taken _ led refl refl refl refl refl counted
+step-counted : (step : SourceStep) (t taken n : ℕ) (row : AccountRow) (now : List Arrival) → Each (IsLedUpTo taken) now → IsCounted now row n → IsCounted (now ++ account_packet step t (suc taken) row) (account_after_step step t (suc taken) row) n
+step-counted (Brings size) t taken n row now led counted = counted-one now row (account_after_step (Brings size) t (suc taken) row) n taken _ led refl refl refl refl refl counted
 step-counted Rests t taken n row now led counted = subst (λ all. IsCounted all (past_tick t row) n) (sym (append-nil now)) (record { taken = counted.taken; own = counted.own })
 step-counted Drops t taken n row now led counted = subst (λ all. IsCounted all (past_tick t row) n) (sym (append-nil now)) (record { taken = counted.taken; own = counted.own })
 
-step-led : (step : SourceStep) (t taken : ℕ) (row : AccountRow) → row.lead ≤ taken → Each (IsLedUpTo (taken + taken_by step)) (kept_packet step t (suc taken) row)
+step-led : (step : SourceStep) (t taken : ℕ) (row : AccountRow) → row.lead ≤ taken → Each (IsLedUpTo (taken + taken_by step)) (account_packet step t (suc taken) row)
 step-led (Brings size) t taken row most = (record { some = lead_with-least row.lead (suc taken) (omega arith); upto = lead_with-most row.lead (suc taken) (taken + 1) (omega (arith, most)) (omega arith) }, tt)
 step-led Rests t taken row most = tt
 step-led Drops t taken row most = tt
 
 pub counted-brought : (bounds : List ℕ) (was : List Arrival) (t taken : ℕ) (rows : List AccountRow) (ns : List ℕ) (now : List Arrival) → Each (IsLedUpTo taken) now → HaveOwnLeads rows → Each (λ row. row.lead ≤ taken) rows → AreCounted now rows ns
-    → AreCounted (now ++ kept_packets bounds was t taken rows) (kept_rows_after bounds was t taken rows) ns
-unfolding kept_packets kept_rows_after
+    → AreCounted (now ++ account_packets bounds was t taken rows) (account_rows_after bounds was t taken rows) ns
+unfolding account_packets account_rows_after
 counted-brought bounds was t taken [] [] now led apart most each = tt
 counted-brought bounds was t taken (row ∷ rows) (n ∷ ns) now led apart most each =
-    let step = kept_step bounds was t row in
-    let own = kept_packet step t (suc taken) row in
-    let after = kept_after_step step t (suc taken) row in
+    let step = account_step bounds was t row in
+    let own = account_packet step t (suc taken) row in
+    let after = account_after_step step t (suc taken) row in
     let count = taken + taken_by step in
-    let more = kept_packets bounds was t count rows in
+    let more = account_packets bounds was t count rows in
     let below = Each-if (λ r. r.lead ≤ taken) (λ r. r.lead < suc taken) rows (λ r upto. omega (arith, upto)) most.1 in
     let others = step-lead (λ l. Each (IsApartFrom l) rows) t (suc taken) row step apart.0 (apart-lead_with (suc taken) row.lead rows below apart.0) in
     let its = counted-more (now ++ own) more after n (rows-other bounds was t count after.lead rows others (step-lead-most t taken row step most.0)) (step-counted step t taken n row now led each.0) in
@@ -170,6 +170,6 @@ counted-brought bounds was t taken (row ∷ rows) (n ∷ ns) now led apart most 
     (Each-both (IsApartFrom row.lead) (λ r. r.lead ≤ taken) rows apart.0 most.1)) each.1 in
     let rest = counted-brought bounds was t count rows ns (now ++ own) (Each-append (IsLedUpTo count) now own (Each-if (IsLedUpTo taken) (IsLedUpTo count) now (λ q is. record { some = is.some; upto = (let most = is.upto in omega (arith, most)) }) led) (step-led step t taken row most.0)) apart.1
     (Each-if (λ r. r.lead ≤ taken) (λ r. r.lead ≤ count) rows (λ r upto. omega (arith, upto)) most.1) still in
-    subst (λ all. AreCounted all (after ∷ kept_rows_after bounds was t count rows) (n ∷ ns)) (append_assoc now own more) (its, rest)
+    subst (λ all. AreCounted all (after ∷ account_rows_after bounds was t count rows) (n ∷ ns)) (append_assoc now own more) (its, rest)
 counted-brought bounds was t taken [] (n ∷ ns) now led apart most each = absurd each
 counted-brought bounds was t taken (row ∷ rows) [] now led apart most each = absurd each

@@ -1,6 +1,6 @@
 -- The rows of a table are counted, with what is here of their packets, through the changes of the table and of the queue.
 use Rattle.std.proofs.Common.{◌≡◌, ℕ, zero, suc, ◌-◌, ◌<◌, Bool, true, false, ◌&&◌, Some, List, [], ◌∷◌, ◌++◌, length, map, get_or, set, refl, sym, ap, ◌∙◌, subst, arith}
-use Rattle.link_server.proofs.Words.{nat_eq, nat_lt, if◌then◌else◌, remove, ChanNo, is_kept_of, held_packets, Arrival, KeptQueue, AccountRow, KeptTable, LinkState, ServedRow, row_in, is_served_row_of, IsAbsent}
+use Rattle.link_server.proofs.Words.{nat_eq, nat_lt, if◌then◌else◌, remove, ChanNo, is_account_of, held_packets, Arrival, QueueAccount, AccountRow, TableAccount, LinkState, ServedRow, row_in, is_served_row_of, IsAbsent}
 use Rattle.link_steps.specs.Lists.{change_first}
 use Rattle.std.proofs.lemmas.Bool.{cond_both}
 use Rattle.link_server.specs.Departed.{AreCounted, IsCounted, departed_after, departed_in}
@@ -61,14 +61,14 @@ one-departs p (row ∷ rows) (suc i) new d inside own others counts =
 -- ---- a link
 
 -- a row is changed that keeps its channel, its lead and its packets
-pub counted-changed : (link : LinkState) (new : KeptTable) (looked : ℕ) (chan : ChanNo) (change : AccountRow → AccountRow) → ((row : AccountRow) (n : ℕ) → IsCounted link.queue.here row n → IsCounted link.queue.here (change row) n) → new ≡ record link.table { rows = change_first (is_kept_of chan) change link.table.rows; looked = looked }
+pub counted-changed : (link : LinkState) (new : TableAccount) (looked : ℕ) (chan : ChanNo) (change : AccountRow → AccountRow) → ((row : AccountRow) (n : ℕ) → IsCounted link.queue.here row n → IsCounted link.queue.here (change row) n) → new ≡ record link.table { rows = change_first (is_account_of chan) change link.table.rows; looked = looked }
     → AreCounted link.queue.here new.rows new.departed
 counted-changed link new looked chan change keeps same =
-    subst (λ (table : KeptTable). AreCounted link.queue.here table.rows table.departed) (sym same) (rows-changed link.queue.here (is_kept_of chan) change keeps link.table.rows link.table.departed link.counted)
+    subst (λ (table : TableAccount). AreCounted link.queue.here table.rows table.departed) (sym same) (rows-changed link.queue.here (is_account_of chan) change keeps link.table.rows link.table.departed link.counted)
 
 -- the queue changes, and no packet comes or goes
-pub counted-still : (link : LinkState) (queue : KeptQueue) (table : KeptTable) → queue.here ≡ link.queue.here → table ≡ link.table → AreCounted queue.here table.rows table.departed
-counted-still link queue table here same = subst (λ all. AreCounted all table.rows table.departed) (sym here) (subst (λ (t : KeptTable). AreCounted link.queue.here t.rows t.departed) (sym same) link.counted)
+pub counted-still : (link : LinkState) (queue : QueueAccount) (table : TableAccount) → queue.here ≡ link.queue.here → table ≡ link.table → AreCounted queue.here table.rows table.departed
+counted-still link queue table here same = subst (λ all. AreCounted all table.rows table.departed) (sym here) (subst (λ (t : TableAccount). AreCounted link.queue.here t.rows t.departed) (sym same) link.counted)
 
 -- what a row tells of its packets here
 pub held-here : (here : List Arrival) (row : ServedRow) → IsCounted here (row_in row) row.departed → row.taken - row.departed ≡ held_packets row.lead here

@@ -4,9 +4,9 @@ use Rattle.std.proofs.lemmas.Bool.{cases_Bool, eq-eqb, eqb-false, eqb-true, lt-l
 use Rattle.std.proofs.Math.Bool.{and-false}
 use Rattle.std.proofs.lemmas.Option.{same_Some}
 use Rattle.std.specs.Option.{ForSome}
-use Rattle.link_server.proofs.Words.{Each, filter, find, nat_eq, nat_lt, if◌then◌else◌, channel_number, is_kept_of, is_other, Arrival, Start, Account, AccountRow, Reply, Tick, LinkShape, SourceStep, Rests, Brings, Drops, best_packet, from_sources, held_rows, kept_stays}
+use Rattle.link_server.proofs.Words.{Each, filter, find, nat_eq, nat_lt, if◌then◌else◌, channel_number, is_account_of, is_other, Arrival, Start, Account, AccountRow, Reply, Tick, LinkShape, SourceStep, Rests, Brings, Drops, best_packet, from_sources, held_rows, account_stays}
 use Rattle.link_steps.specs.Buffer.{has_lead, held_packets}
-use Rattle.link_steps.specs.Account.{brought, kept_after, kept_after_tick, kept_best, kept_rows_after, leaves_by, occupies, present, still_here}
+use Rattle.link_steps.specs.Account.{brought, account_after, account_after_tick, account_best, account_rows_after, leaves_by, occupies, present, still_here}
 use Rattle.link_steps.proofs.SearchAndFilter.{Each-filter, Each-find, Each-if}
 use Rattle.link_steps.proofs.RowPackets.{IsLedUpTo}
 use Rattle.link_server.specs.Departed.{AreCounted, IsCounted, IsOwn, departed_after, leaver}
@@ -42,7 +42,7 @@ held-left start low (p ∷ here) high lead numbered found =
 
 -- the row's packets are counted without it
 left-counted : (start : Start) (here : List Arrival) (taken : ℕ) (row : AccountRow) (n : ℕ) → AreNumberedWithin 0 here taken → find (has_arrival_number start.packet.place) here ≡ Some start.packet → IsCounted here row n
-    → IsCounted (filter (is_other start) here) row (if is_kept_of start.packet.chan row && (nat_eq row.lead start.packet.lead && nat_lt n row.taken) then suc n else n)
+    → IsCounted (filter (is_other start) here) row (if is_account_of start.packet.chan row && (nat_eq row.lead start.packet.lead && nat_lt n row.taken) then suc n else n)
 left-counted start here taken row n numbered found counted =
     let p = start.packet in
     let all = counted.taken in
@@ -57,7 +57,7 @@ left-counted start here taken row n numbered found counted =
           rw (eq-eqb (channel_number row.terms.chan) (channel_number p.chan) (sym chan), same, some) (record { taken = omega (arith, all, held, one); own = own }))
       | inr other ↦ (
           let none : one_of p.lead row.lead ≡ 0 = rw (ne_eqb p.lead row.lead (λ e. eqb-false row.lead p.lead other (sym e))) refl in
-          rw (other, and-false (is_kept_of p.chan row)) (record { taken = omega (arith, all, held, none); own = own }))
+          rw (other, and-false (is_account_of p.chan row)) (record { taken = omega (arith, all, held, none); own = own }))
     ]
 
 all-left : (start : Start) (here : List Arrival) (taken : ℕ) (rows : List AccountRow) (ns : List ℕ) → AreNumberedWithin 0 here taken → find (has_arrival_number start.packet.place) here ≡ Some start.packet → AreCounted here rows ns
@@ -94,24 +94,24 @@ best-other Rests bounds taken t lead most = refl
 best-other Drops bounds taken t lead most = refl
 
 -- all packets of the tick have come
-counted-present : (shape : LinkShape) (room : ℕ) (k : Account) (ns : List ℕ) → IsSound shape room k → AreCounted k.here (held_rows shape k) ns → AreCounted (present shape k) (kept_rows_after shape.bounds k.here k.clock k.taken (held_rows shape k)) ns
+counted-present : (shape : LinkShape) (room : ℕ) (k : Account) (ns : List ℕ) → IsSound shape room k → AreCounted k.here (held_rows shape k) ns → AreCounted (present shape k) (account_rows_after shape.bounds k.here k.clock k.taken (held_rows shape k)) ns
 counted-present shape room k ns sound each =
     let levels : ℕ = length shape.bounds in
     let rows = held_rows shape k in
-    let stay = kept_stays shape.bounds k.clock in
+    let stay = account_stays shape.bounds k.clock in
     let src = from_sources shape k in
     let count = k.taken + length src in
-    let best = best_packet (kept_best shape k) shape.bounds (suc count) k.clock in
-    let after = kept_rows_after shape.bounds k.here k.clock k.taken rows in
+    let best = best_packet (account_best shape k) shape.bounds (suc count) k.clock in
+    let after = account_rows_after shape.bounds k.here k.clock k.taken rows in
     let held = Each-filter (IsSoundRow levels k.clock k.taken) stay k.rows sound.rows in
     let came = counted-brought shape.bounds k.here k.clock k.taken rows ns k.here (sound-led levels k.taken k.here sound.packets) (AreApart-filter stay k.rows sound.apart) (rows-led levels k.clock k.taken rows held) each in
     let led = rows-led levels (suc k.clock) count after (sources-rows levels k.clock k.taken k.taken count shape.bounds k.here rows (omega arith) (omega arith) held) in
     subst (λ all. AreCounted all after ns) (append_assoc k.here src best)
-    (still-counted (k.here ++ src) best after ns (Each-if (λ row. row.lead ≤ count) (λ row. held_packets row.lead best ≡ 0) after (λ row most. best-other (kept_best shape k) shape.bounds count k.clock row.lead most) led) came)
+    (still-counted (k.here ++ src) best after ns (Each-if (λ row. row.lead ≤ count) (λ row. held_packets row.lead best ≡ 0) after (λ row most. best-other (account_best shape k) shape.bounds count k.clock row.lead most) led) came)
 
 -- and so one has left, if one does
 pub tick-counted : (shape : LinkShape) (room : ℕ) (k : Account) (ns : List ℕ) → IsSound shape room k → AreCounted k.here (held_rows shape k) ns
-    → AreCounted (still_here shape.rate k.clock (occupies shape k) (present shape k)) (kept_rows_after shape.bounds k.here k.clock k.taken (held_rows shape k)) (departed_after (leaver shape.rate k.clock (occupies shape k)) (kept_rows_after shape.bounds k.here k.clock k.taken (held_rows shape k)) ns)
+    → AreCounted (still_here shape.rate k.clock (occupies shape k) (present shape k)) (account_rows_after shape.bounds k.here k.clock k.taken (held_rows shape k)) (departed_after (leaver shape.rate k.clock (occupies shape k)) (account_rows_after shape.bounds k.here k.clock k.taken (held_rows shape k)) ns)
 unfolding with_brought
 tick-counted shape room k ns sound each =
     let taken = k.taken + length (brought shape k) in
@@ -120,6 +120,6 @@ tick-counted shape room k ns sound each =
     counted-left shape.rate k.clock (occupies shape k) (present shape k) taken _ ns served.numbered running (counted-present shape room k ns sound each)
 
 -- where those are that are here afterwards
-pub here-after : (shape : LinkShape) (k : Account) (reply : Reply) → (kept_after shape k Tick reply).here ≡ still_here shape.rate k.clock (occupies shape k) (present shape k)
-unfolding kept_after kept_after_tick
+pub here-after : (shape : LinkShape) (k : Account) (reply : Reply) → (account_after shape k Tick reply).here ≡ still_here shape.rate k.clock (occupies shape k) (present shape k)
+unfolding account_after account_after_tick
 here-after shape k reply = refl

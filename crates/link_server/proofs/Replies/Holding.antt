@@ -3,12 +3,12 @@
 use Rattle.std.proofs.Common.{◌≡◌, ℕ, suc, ◌+◌, ◌≤◌, List, [], ◌∷◌, ◌++◌, None, true, map, refl, sym, ap, ◌∙◌, subst, arith}
 use Rattle.std.proofs.lemmas.List.{map_push}
 use Rattle.std.proofs.lemmas.List.Elements.{All-push}
-use Rattle.link_server.proofs.Words.{channel_number, level_number, Offer, LinkShape, find, ReserveFits, Reservation, admitted, tentative, server_of, KeptTable, ServedRow, Offered, Wanted}
+use Rattle.link_server.proofs.Words.{channel_number, level_number, Offer, LinkShape, find, ReserveFits, Reservation, admitted, tentative, server_of, TableAccount, ServedRow, Offered, Wanted}
 use Rattle.traffic_contract.proofs.AdmissionTest.{Decides-admits}
 use Rattle.traffic_contract.specs.Admission.{Passes, admits, with_row}
 use Rattle.rcsp_admission.specs.Sums.{Sums, Held, Holds, row_held, admitted_rows}
 use Rattle.link_steps.specs.Buffer.{slots_of, free_units}
-use Rattle.link_steps.specs.Account.{Account, AccountRow, is_kept_of, kept_terms, kept_after, new_kept}
+use Rattle.link_steps.specs.Account.{Account, AccountRow, is_account_of, account_terms, account_after, new_account}
 use Rattle.link_server.specs.Rows.{row_in, summed, IsWithinLevels, AreWithin}
 use Rattle.link_server.specs.Changes.{MayAdd}
 use Rattle.link_steps.proofs.RulesAsMeant.{need-kept}
@@ -26,24 +26,24 @@ held_terms wanted offer = tentative wanted.chan wanted.contract wanted.kind want
 
 -- the account with it is sound
 pub sound-held : (shape : LinkShape) (room : ℕ) (k : Account) (wanted : Wanted) (offer : Offered) (row : AccountRow) → ReserveFits wanted.contract wanted.up_reach wanted.first → IsSound shape room k
-    → MayHold shape (map kept_terms k.rows) wanted offer → row ≡ new_kept (held_terms wanted offer)
+    → MayHold shape (map account_terms k.rows) wanted offer → row ≡ new_account (held_terms wanted offer)
     → most_places shape.bounds k.here k.rows + suc (slots_of shape.bounds row.terms) + suc shape.best ≤ room
-    → IsSound shape room (kept_after shape k (ask_for wanted) (Offer offer.level offer.reach))
-unfolding kept_after
+    → IsSound shape room (account_after shape k (ask_for wanted) (Offer offer.level offer.reach))
+unfolding account_after
 sound-held shape room k wanted offer row fits sound may same enough =
-    let push = most_places-push shape.bounds k.here k.rows (new_kept (held_terms wanted offer)) in
+    let push = most_places-push shape.bounds k.here k.rows (new_account (held_terms wanted offer)) in
     let slots : slots_of shape.bounds row.terms ≡ slots_of shape.bounds (held_terms wanted offer) = ap (λ kept. slots_of shape.bounds kept.terms) same in
     sound-reserve shape room k wanted.chan wanted.contract wanted.kind wanted.delay wanted.up_reach wanted.first wanted.next offer.level offer.reach fits sound may (omega (arith, push, slots, enough))
 
 -- the row may be added to the table of a link that may make the offer
-pub may-add : (shape : LinkShape) (table : KeptTable) (wanted : Wanted) (offer : Offered) (row : AccountRow) → table ≡ record table { server = server_of shape; buffer = shape.buffer } → MayHold shape (map kept_terms table.rows) wanted offer → row ≡ new_kept (held_terms wanted offer) → MayAdd table row
+pub may-add : (shape : LinkShape) (table : TableAccount) (wanted : Wanted) (offer : Offered) (row : AccountRow) → table ≡ record table { server = server_of shape; buffer = shape.buffer } → MayHold shape (map account_terms table.rows) wanted offer → row ≡ new_account (held_terms wanted offer) → MayAdd table row
 unfolding free_units
 may-add shape table wanted offer row of_shape may same =
-    let bounds = ap (λ (t : KeptTable). t.server.bounds) of_shape in
+    let bounds = ap (λ (t : TableAccount). t.server.bounds) of_shape in
     let need = need-kept shape.bounds wanted.chan wanted.contract wanted.kind wanted.first wanted.next wanted.up_reach offer.level offer.reach in
-    let reach = may-reach shape (map kept_terms table.rows) wanted.chan wanted.contract wanted.delay wanted.up_reach offer.level offer.reach may in
+    let reach = may-reach shape (map account_terms table.rows) wanted.chan wanted.contract wanted.delay wanted.up_reach offer.level offer.reach may in
     let free = may.free in
-    let may_new : MayAdd (record table { server = server_of shape; buffer = shape.buffer }) (new_kept (held_terms wanted offer)) = record {
+    let may_new : MayAdd (record table { server = server_of shape; buffer = shape.buffer }) (new_account (held_terms wanted offer)) = record {
       phase = refl;
       none_left = refl;
       new = terms-none wanted.chan table.rows may.new;
@@ -57,12 +57,12 @@ may-add shape table wanted offer row of_shape may same =
 -- ---- the admission sums
 
 -- its key is new to them
-pub key-new : (rows : List ServedRow) (sums : Sums) (row : ServedRow) (key : ℕ) → sums.rows ≡ map summed rows → key ≡ channel_number row.chan → find (is_kept_of row.chan) (map row_in rows) ≡ None → Holds sums.rows key → ⊥
+pub key-new : (rows : List ServedRow) (sums : Sums) (row : ServedRow) (key : ℕ) → sums.rows ≡ map summed rows → key ≡ channel_number row.chan → find (is_account_of row.chan) (map row_in rows) ≡ None → Holds sums.rows key → ⊥
 key-new rows sums row key same number new held =
     absent-new row.chan rows (kept-none row.chan rows new) (subst (λ all. Holds all (channel_number row.chan)) same (subst (λ n. Holds sums.rows n) number held))
 
 -- they pass with it
-pub sums-pass : (rows : List ServedRow) (sums : Sums) (row : ServedRow) → sums.rows ≡ map summed rows → admits sums.server (map admitted (map kept_terms (map row_in rows))) row.contract (level_number row.level) ≡ true → Passes sums.server (with_row (admitted_rows sums.rows) row.contract (level_number row.level))
+pub sums-pass : (rows : List ServedRow) (sums : Sums) (row : ServedRow) → sums.rows ≡ map summed rows → admits sums.server (map admitted (map account_terms (map row_in rows))) row.contract (level_number row.level) ≡ true → Passes sums.server (with_row (admitted_rows sums.rows) row.contract (level_number row.level))
 sums-pass rows sums row same passes =
     (Decides-admits sums.server (admitted_rows sums.rows) row.contract (level_number row.level)).0
     (same-admission (λ all. admits sums.server all row.contract (level_number row.level)) sums rows same ∙ passes)

@@ -1,9 +1,9 @@
 -- The answers to a pour, case by case, and the best-effort packet of a tick.
 use Rattle.std.proofs.Common.{◌≡◌, ℕ, suc, ◌+◌, ◌<◌, ◌≤◌, ◌++◌, ◌∷◌, [], Bool, true, false, List, length, Option, Some, None, refl, sym, ap, ◌∙◌, arith}
 use Rattle.std.proofs.lemmas.Bool.{lt-leb, le-leb}
-use Rattle.link_server.proofs.Words.{find, filter, nat_lt, channel_number, ChanNo, Arrival, Pour, Refusal, Planned, Refused, LinkShape, busy, SourcePacket, planned_from, is_for, left_at, SourceStep, Rests, Brings, Drops, source_step, taken_by, whole, account, KeptQueue}
+use Rattle.link_server.proofs.Words.{find, filter, nat_lt, channel_number, ChanNo, Arrival, Pour, Refusal, Planned, Refused, LinkShape, busy, SourcePacket, planned_from, is_for, left_at, SourceStep, Rests, Brings, Drops, source_step, taken_by, whole, account, QueueAccount}
 use Rattle.link_steps.specs.declared.replies.Refusal.TheVariants.{TooBig}
-use Rattle.link_steps.specs.Account.{Account, AccountRow, waits_here, kept_waiting, kept_best, kept_reply, kept_after}
+use Rattle.link_steps.specs.Account.{Account, AccountRow, waits_here, account_waiting, account_best, account_reply, account_after}
 use Rattle.link_steps.specs.Replies.{pour_reply}
 use Rattle.link_steps.specs.BestEffort.{best_step, best_arrival, best_packet}
 use Rattle.std.proofs.lemmas.List.{append-nil}
@@ -16,24 +16,24 @@ use Rattle.net_units.proofs.KnownByNumber.{same-channel}
 abbrev pub with_plan : Account → List SourcePacket → Account
 with_plan k plan = record k { best_left = plan }
 
-pub pour-busy : (shape : LinkShape) (t : ℕ) (queue : KeptQueue) (rows : List AccountRow) (count gap size : ℕ) (refusal : Refusal) → Some refusal ≡ busy (length queue.best) → Refused refusal ≡ kept_reply (whole shape) (account t queue rows) (Pour count gap size)
-unfolding kept_reply pour_reply
+pub pour-busy : (shape : LinkShape) (t : ℕ) (queue : QueueAccount) (rows : List AccountRow) (count gap size : ℕ) (refusal : Refusal) → Some refusal ≡ busy (length queue.best) → Refused refusal ≡ account_reply (whole shape) (account t queue rows) (Pour count gap size)
+unfolding account_reply pour_reply
 pour-busy shape t queue rows count gap size refusal left = rw (sym left) refl
 
-pub pour-big : (shape : LinkShape) (t : ℕ) (queue : KeptQueue) (rows : List AccountRow) (count gap size : ℕ) → None ≡ busy (length queue.best) → shape.cap < size → Refused (TooBig size shape.cap) ≡ kept_reply (whole shape) (account t queue rows) (Pour count gap size)
-unfolding kept_reply pour_reply
+pub pour-big : (shape : LinkShape) (t : ℕ) (queue : QueueAccount) (rows : List AccountRow) (count gap size : ℕ) → None ≡ busy (length queue.best) → shape.cap < size → Refused (TooBig size shape.cap) ≡ account_reply (whole shape) (account t queue rows) (Pour count gap size)
+unfolding account_reply pour_reply
 pour-big shape t queue rows count gap size left big = rw (sym left, lt-leb size shape.cap big) refl
 
-pub pour-planned : (shape : LinkShape) (t : ℕ) (queue : KeptQueue) (rows : List AccountRow) (count gap size : ℕ) → None ≡ busy (length queue.best) → size ≤ shape.cap → Planned t ≡ kept_reply (whole shape) (account t queue rows) (Pour count gap size)
-unfolding kept_reply pour_reply
+pub pour-planned : (shape : LinkShape) (t : ℕ) (queue : QueueAccount) (rows : List AccountRow) (count gap size : ℕ) → None ≡ busy (length queue.best) → size ≤ shape.cap → Planned t ≡ account_reply (whole shape) (account t queue rows) (Pour count gap size)
+unfolding account_reply pour_reply
 pour-planned shape t queue rows count gap size left small = rw (sym left, le-leb size shape.cap small) refl
 
-pub pour-same : (shape : LinkShape) (k : Account) (count gap size : ℕ) (refusal : Refusal) → k ≡ kept_after shape k (Pour count gap size) (Refused refusal)
-unfolding kept_after
+pub pour-same : (shape : LinkShape) (k : Account) (count gap size : ℕ) (refusal : Refusal) → k ≡ account_after shape k (Pour count gap size) (Refused refusal)
+unfolding account_after
 pour-same shape k count gap size refusal = refl
 
-pub pour-kept : (shape : LinkShape) (t : ℕ) (queue : KeptQueue) (rows : List AccountRow) (count gap size clock : ℕ) → None ≡ busy (length queue.best) → account t (record queue { best = planned_from t gap size count }) rows ≡ kept_after shape (account t queue rows) (Pour count gap size) (Planned clock)
-unfolding kept_after
+pub pour-kept : (shape : LinkShape) (t : ℕ) (queue : QueueAccount) (rows : List AccountRow) (count gap size clock : ℕ) → None ≡ busy (length queue.best) → account t (record queue { best = planned_from t gap size count }) rows ≡ account_after shape (account t queue rows) (Pour count gap size) (Planned clock)
+unfolding account_after
 pour-kept shape t queue rows count gap size clock left =
     ap (with_plan (account t queue rows)) (after-none queue.best (planned_from t gap size count) (none-left (length queue.best) left))
 
@@ -62,12 +62,12 @@ unfolding best_step
 best-some fits waiting most t plan same = ap (λ b. source_step b (find (is_for t) plan)) same
 
 -- the step that the code finds is that of the account
-pub best-step-is : (shape : LinkShape) (k : Account) (fits : Bool) (plan : List SourcePacket) → source_step fits (find (is_for k.clock) k.best_left) ≡ best_step (length (filter (waits_here shape.bounds k.on) k.here)) shape.best k.clock k.best_left → plan ≡ k.best_left → source_step fits (find (is_for k.clock) plan) ≡ kept_best shape k
-unfolding kept_best kept_waiting
+pub best-step-is : (shape : LinkShape) (k : Account) (fits : Bool) (plan : List SourcePacket) → source_step fits (find (is_for k.clock) k.best_left) ≡ best_step (length (filter (waits_here shape.bounds k.on) k.here)) shape.best k.clock k.best_left → plan ≡ k.best_left → source_step fits (find (is_for k.clock) plan) ≡ account_best shape k
+unfolding account_best account_waiting
 best-step-is shape k fits plan step left = ap (λ p. source_step fits (find (is_for k.clock) p)) left ∙ step
 
-pub waiting-is : (shape : LinkShape) (k : Account) → length (filter (waits_here shape.bounds k.on) k.here) ≡ kept_waiting shape k
-unfolding kept_waiting
+pub waiting-is : (shape : LinkShape) (k : Account) → length (filter (waits_here shape.bounds k.on) k.here) ≡ account_waiting shape k
+unfolding account_waiting
 waiting-is shape k = refl
 
 -- ---- the channel that a best-effort packet names
@@ -82,23 +82,23 @@ best-made bounds place size t level chan none below =
 -- ---- the queue once the step is made
 
 -- the queue after a step of the best-effort plan
-abbrev pub stepped-queue : List ℕ → ℕ → KeptQueue → SourceStep → ℕ → KeptQueue
+abbrev pub stepped-queue : List ℕ → ℕ → QueueAccount → SourceStep → ℕ → QueueAccount
 stepped-queue bounds clock queue step looked =
     record queue { taken = queue.taken + taken_by step; here = queue.here ++ best_packet step bounds (suc queue.taken) clock; best = left_at (clock + 1) queue.best; looked = looked }
 
 -- a step that takes no packet leaves the plan alone behind
-nothing-taken : (bounds : List ℕ) (clock : ℕ) (queue : KeptQueue) (left : List SourcePacket) → left ≡ left_at (clock + 1) queue.best → record queue { best = left } ≡ stepped-queue bounds clock queue Rests queue.looked
+nothing-taken : (bounds : List ℕ) (clock : ℕ) (queue : QueueAccount) (left : List SourcePacket) → left ≡ left_at (clock + 1) queue.best → record queue { best = left } ≡ stepped-queue bounds clock queue Rests queue.looked
 nothing-taken bounds clock queue left over =
     let same : queue.taken ≡ queue.taken + 0 = omega arith in
     queue-same (record queue { best = left }) (stepped-queue bounds clock queue Rests queue.looked) same (sym (append-nil queue.here)) refl over refl refl refl
 
-pub rests-queue : (bounds : List ℕ) (clock : ℕ) (queue : KeptQueue) (left : List SourcePacket) (step : SourceStep) → step ≡ Rests → left ≡ left_at (clock + 1) queue.best → record queue { best = left } ≡ stepped-queue bounds clock queue step queue.looked
+pub rests-queue : (bounds : List ℕ) (clock : ℕ) (queue : QueueAccount) (left : List SourcePacket) (step : SourceStep) → step ≡ Rests → left ≡ left_at (clock + 1) queue.best → record queue { best = left } ≡ stepped-queue bounds clock queue step queue.looked
 rests-queue bounds clock queue left step is over = rw is (nothing-taken bounds clock queue left over)
 
-pub drops-queue : (bounds : List ℕ) (clock : ℕ) (queue : KeptQueue) (left : List SourcePacket) (step : SourceStep) → step ≡ Drops → left ≡ left_at (clock + 1) queue.best → record queue { best = left } ≡ stepped-queue bounds clock queue step queue.looked
+pub drops-queue : (bounds : List ℕ) (clock : ℕ) (queue : QueueAccount) (left : List SourcePacket) (step : SourceStep) → step ≡ Drops → left ≡ left_at (clock + 1) queue.best → record queue { best = left } ≡ stepped-queue bounds clock queue step queue.looked
 drops-queue bounds clock queue left step is over = rw is (nothing-taken bounds clock queue left over)
 
-pub brings-queue : (bounds : List ℕ) (clock size looked : ℕ) (queue : KeptQueue) (left : List SourcePacket) (step : SourceStep) (packet : Arrival) → step ≡ Brings size → left ≡ left_at (clock + 1) queue.best → packet ≡ best_arrival bounds (queue.taken + 1) size clock
+pub brings-queue : (bounds : List ℕ) (clock size looked : ℕ) (queue : QueueAccount) (left : List SourcePacket) (step : SourceStep) (packet : Arrival) → step ≡ Brings size → left ≡ left_at (clock + 1) queue.best → packet ≡ best_arrival bounds (queue.taken + 1) size clock
     → record queue { taken = queue.taken + 1; here = queue.here ++ packet ∷ []; best = left; looked = looked } ≡ stepped-queue bounds clock queue step looked
 brings-queue bounds clock size looked queue left step packet is over made =
     let next : queue.taken + 1 ≡ suc queue.taken = omega arith in

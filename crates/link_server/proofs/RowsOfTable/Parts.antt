@@ -2,13 +2,13 @@
 use Rattle.std.proofs.Common.{◌≡◌, ℕ, ◌-◌, ◌<◌, List, [], ◌∷◌, length, map, get_or, Some, None, refl, sym, ap, ◌∙◌, subst, arith}
 use Rattle.std.proofs.lemmas.List.{get_or-map, length-map}
 use Rattle.std.proofs.lemmas.Option.{same_Some}
-use Rattle.link_server.proofs.Words.{IsDistinct, find, channel_number, ChanNo, is_kept_of, is_served_row_of, IsAbsent, level_number, Sums, Held, row_held, Tentative, Reservation, whole_of, total, LinkShape, AccountRow, kept_terms, server_of, LinkState, ServedRow, KeptTable, reservation_in, row_in, summed, IsPlaceOf, IsWithinLevels}
+use Rattle.link_server.proofs.Words.{IsDistinct, find, channel_number, ChanNo, is_account_of, is_served_row_of, IsAbsent, level_number, Sums, Held, row_held, Tentative, Reservation, whole_of, total, LinkShape, AccountRow, account_terms, server_of, LinkState, ServedRow, TableAccount, reservation_in, row_in, summed, IsPlaceOf, IsWithinLevels}
 use Rattle.link_server.specs.Changes.{HasRow}
 use Rattle.link_server.specs.Index.{channel_in, channels_in, IsIndex}
 use Rattle.link_server.specs.Keeping.{IsKeeping}
 use Rattle.link_server.specs.RowParts.{AreParts}
 use Rattle.link_server.specs.declared.table.keeping.Keeping.{Keeping}
-use Rattle.link_steps.specs.Buffer.{kept_units, free_units}
+use Rattle.link_steps.specs.Buffer.{held_units, free_units}
 use Rattle.link_server.specs.declared.table.Table.TheInside.{Inside}
 use Rattle.link_server.specs.TableParts.{table_seen, IsTable}
 use Rattle.link_server.proofs.RowsOfTable.Places.{kept-absent}
@@ -17,33 +17,33 @@ use Rattle.link_server.proofs.RowsOfTable.Keeping.{own-whole}
 use Rattle.link_server.proofs.RowsOfTable.Placed.{found-at}
 
 -- tables that agree in each part are the same
-pub table-same : (table other : KeptTable) → table.rows ≡ other.rows → table.departed ≡ other.departed → table.server ≡ other.server → table.buffer ≡ other.buffer → table.looked ≡ other.looked → table ≡ other
+pub table-same : (table other : TableAccount) → table.rows ≡ other.rows → table.departed ≡ other.departed → table.server ≡ other.server → table.buffer ≡ other.buffer → table.looked ≡ other.looked → table ≡ other
 table-same table other rows departed server buffer looked = λ i. record { rows = rows i; departed = departed i; server = server i; buffer = buffer i; looked = looked i }
 
 -- a table with the server and the buffer of a shape is one of the shape
-pub of-shape : (shape : LinkShape) (table : KeptTable) → table.server ≡ server_of shape → table.buffer ≡ shape.buffer → table ≡ record table { server = server_of shape; buffer = shape.buffer }
+pub of-shape : (shape : LinkShape) (table : TableAccount) → table.server ≡ server_of shape → table.buffer ≡ shape.buffer → table ≡ record table { server = server_of shape; buffer = shape.buffer }
 of-shape shape table server buffer = λ i. record { rows = table.rows; departed = table.departed; server = server i; buffer = buffer i; looked = table.looked }
 
 -- what its rows leave of the buffer is free by the link's rule
-pub free-is : (link : LinkState) → link.table.buffer - total (kept_units link.table.server.bounds) (map kept_terms link.table.rows) ≡ free_units link.shape (map kept_terms link.table.rows)
+pub free-is : (link : LinkState) → link.table.buffer - total (held_units link.table.server.bounds) (map account_terms link.table.rows) ≡ free_units link.shape (map account_terms link.table.rows)
 unfolding free_units
-free-is link = ap (λ (table : KeptTable). table.buffer - total (kept_units table.server.bounds) (map kept_terms link.table.rows)) link.of_shape
+free-is link = ap (λ (table : TableAccount). table.buffer - total (held_units table.server.bounds) (map account_terms link.table.rows)) link.of_shape
 
 -- a table stays one of the link's shape
-pub still-of : (link : LinkState) (new : KeptTable) → new.server ≡ link.table.server → new.buffer ≡ link.table.buffer → new ≡ record new { server = server_of link.shape; buffer = link.shape.buffer }
-still-of link new server buffer = of-shape link.shape new (server ∙ ap (λ (table : KeptTable). table.server) link.of_shape) (buffer ∙ ap (λ (table : KeptTable). table.buffer) link.of_shape)
+pub still-of : (link : LinkState) (new : TableAccount) → new.server ≡ link.table.server → new.buffer ≡ link.table.buffer → new ≡ record new { server = server_of link.shape; buffer = link.shape.buffer }
+still-of link new server buffer = of-shape link.shape new (server ∙ ap (λ (table : TableAccount). table.server) link.of_shape) (buffer ∙ ap (λ (table : TableAccount). table.buffer) link.of_shape)
 
 -- as many rows are seen as there are
-pub as-many : (t : Inside) (seen : KeptTable) → table_seen t ≡ seen → length t.rows.items ≡ length seen.rows
-as-many t seen same = sym (length-map t.rows.items row_in) ∙ ap (λ (table : KeptTable). length table.rows) same
+pub as-many : (t : Inside) (seen : TableAccount) → table_seen t ≡ seen → length t.rows.items ≡ length seen.rows
+as-many t seen same = sym (length-map t.rows.items row_in) ∙ ap (λ (table : TableAccount). length table.rows) same
 
 -- the bounds are those of the server that is seen
-pub bounds-seen : (t : Inside) (seen : KeptTable) → IsTable t → table_seen t ≡ seen → t.bounds ≡ seen.server.bounds
-bounds-seen t seen is same = sym is.same_bounds ∙ ap (λ (table : KeptTable). table.server.bounds) same
+pub bounds-seen : (t : Inside) (seen : TableAccount) → IsTable t → table_seen t ≡ seen → t.bounds ≡ seen.server.bounds
+bounds-seen t seen is same = sym is.same_bounds ∙ ap (λ (table : TableAccount). table.server.bounds) same
 
 -- a row at levels of the table is at levels of the link
 pub at-levels : (link : LinkState) (row : ServedRow) → IsWithinLevels (length link.table.server.bounds) row → IsWithinLevels (length link.shape.bounds) row
-at-levels link row within = subst (λ n. IsWithinLevels n row) (ap (λ (table : KeptTable). length table.server.bounds) link.of_shape) within
+at-levels link row within = subst (λ n. IsWithinLevels n row) (ap (λ (table : TableAccount). length table.server.bounds) link.of_shape) within
 
 -- ---- one row
 
@@ -52,20 +52,20 @@ pub record IsRowAt (P : AccountRow → Type 0) (t : Inside) (i : ℕ) (d : Serve
   pub inside : i < length t.rows.items
   pub is : P (row_in (get_or t.rows.items i d))
 
-pub row-at : (P : AccountRow → Type 0) (t : Inside) (seen : KeptTable) (chan : ChanNo) (i : ℕ) (d : ServedRow) → table_seen t ≡ seen → IsPlaceOf chan t.rows.items i → HasRow P chan seen.rows → IsRowAt P t i d
+pub row-at : (P : AccountRow → Type 0) (t : Inside) (seen : TableAccount) (chan : ChanNo) (i : ℕ) (d : ServedRow) → table_seen t ≡ seen → IsPlaceOf chan t.rows.items i → HasRow P chan seen.rows → IsRowAt P t i d
 row-at P t seen chan i d same place has =
-    let found = subst (λ (table : KeptTable). find (is_kept_of chan) table.rows ≡ Some has.row) (sym same) has.found in
+    let found = subst (λ (table : TableAccount). find (is_account_of chan) table.rows ≡ Some has.row) (sym same) has.found in
     record { inside = place.inside; is = subst P (same_Some has.row (row_in (get_or t.rows.items i d)) (sym found ∙ found-at chan t.rows.items i d place)) has.holds }
 
 -- a row that stands there is seen, and where none does none is seen
-pub row-seen : (t : Inside) (seen : KeptTable) (chan : ChanNo) (i : ℕ) (row : ServedRow) → table_seen t ≡ seen → IsPlaceOf chan t.rows.items i → row ≡ get_or t.rows.items i row → find (is_kept_of chan) seen.rows ≡ Some (row_in row)
-row-seen t seen chan i row same place at = subst (λ (table : KeptTable). find (is_kept_of chan) table.rows ≡ Some (row_in row)) same (found-at chan t.rows.items i row place ∙ ap (λ (r : ServedRow). Some (row_in r)) (sym at))
+pub row-seen : (t : Inside) (seen : TableAccount) (chan : ChanNo) (i : ℕ) (row : ServedRow) → table_seen t ≡ seen → IsPlaceOf chan t.rows.items i → row ≡ get_or t.rows.items i row → find (is_account_of chan) seen.rows ≡ Some (row_in row)
+row-seen t seen chan i row same place at = subst (λ (table : TableAccount). find (is_account_of chan) table.rows ≡ Some (row_in row)) same (found-at chan t.rows.items i row place ∙ ap (λ (r : ServedRow). Some (row_in r)) (sym at))
 
-pub none-seen : (t : Inside) (seen : KeptTable) (chan : ChanNo) → table_seen t ≡ seen → IsAbsent chan t.rows.items → find (is_kept_of chan) seen.rows ≡ None
-none-seen t seen chan same absent = subst (λ (table : KeptTable). find (is_kept_of chan) table.rows ≡ None) same (kept-absent (is_served_row_of chan) (is_kept_of chan) (λ row. refl) t.rows.items absent)
+pub none-seen : (t : Inside) (seen : TableAccount) (chan : ChanNo) → table_seen t ≡ seen → IsAbsent chan t.rows.items → find (is_account_of chan) seen.rows ≡ None
+none-seen t seen chan same absent = subst (λ (table : TableAccount). find (is_account_of chan) table.rows ≡ None) same (kept-absent (is_served_row_of chan) (is_account_of chan) (λ row. refl) t.rows.items absent)
 
 -- a channel that has a row in the account has one in the table
-pub has-place : (P : AccountRow → Type 0) (t : Inside) (seen : KeptTable) (chan : ChanNo) → table_seen t ≡ seen → HasRow P chan seen.rows → IsAbsent chan t.rows.items → ⊥
+pub has-place : (P : AccountRow → Type 0) (t : Inside) (seen : TableAccount) (chan : ChanNo) → table_seen t ≡ seen → HasRow P chan seen.rows → IsAbsent chan t.rows.items → ⊥
 has-place P t seen chan same has absent = (let both : Some has.row ≡ None = sym has.found ∙ none-seen t seen chan same absent in cc)
 
 -- it is its channel's, and the only one

@@ -3,7 +3,7 @@
 use Rattle.std.proofs.Common.{◌≡◌, ℕ, zero, suc, inl, inr, Bool, true, List, [], ◌∷◌, map, get_or, set, Some, refl, sym, ap, subst, arith}
 use Rattle.std.proofs.lemmas.Bool.{cases_Bool}
 use Rattle.std.proofs.lemmas.Option.{same_Some}
-use Rattle.link_server.proofs.Words.{remove, find, ChanNo, AccountRow, is_kept_of, is_kept_at_hop, ServedRow, row_in, is_served_row_of, IsPlaceOf}
+use Rattle.link_server.proofs.Words.{remove, find, ChanNo, AccountRow, is_account_of, is_account_at_hop, ServedRow, row_in, is_served_row_of, IsPlaceOf}
 use Rattle.link_steps.specs.Lists.{Each, change_first, without_first}
 use Rattle.link_server.specs.Changes.{IsRowAtHop}
 use Rattle.link_server.proofs.RowsOfTable.Places.{and-false, place-later}
@@ -12,19 +12,19 @@ use Rattle.link_server.proofs.RowsOfTable.Places.{and-false, place-later}
 
 module _ (chan : ChanNo) where
   -- what stands at its place is found
-  pub found-at : (rows : List ServedRow) (i : ℕ) (d : ServedRow) → IsPlaceOf chan rows i → find (is_kept_of chan) (map row_in rows) ≡ Some (row_in (get_or rows i d))
+  pub found-at : (rows : List ServedRow) (i : ℕ) (d : ServedRow) → IsPlaceOf chan rows i → find (is_account_of chan) (map row_in rows) ≡ Some (row_in (get_or rows i d))
   found-at [] i d place = let h = place.inside in absurd (omega arith)
   found-at (row ∷ rows) zero d place = rw (place.here row) refl
   found-at (row ∷ rows) (suc i) d place = rw (place.before 0 row (omega arith)) (found-at rows i d (place-later (is_served_row_of chan) row rows i place))
 
   -- it is the one that is changed, and taken out
-  pub changed-mapped : (change : AccountRow → AccountRow) (rows : List ServedRow) (i : ℕ) (new d : ServedRow) → IsPlaceOf chan rows i → row_in new ≡ change (row_in (get_or rows i d)) → map row_in (set rows i new) ≡ change_first (is_kept_of chan) change (map row_in rows)
+  pub changed-mapped : (change : AccountRow → AccountRow) (rows : List ServedRow) (i : ℕ) (new d : ServedRow) → IsPlaceOf chan rows i → row_in new ≡ change (row_in (get_or rows i d)) → map row_in (set rows i new) ≡ change_first (is_account_of chan) change (map row_in rows)
   unfolding change_first
   changed-mapped change [] i new d place same = let h = place.inside in absurd (omega arith)
   changed-mapped change (row ∷ rows) zero new d place same = rw (place.here row) (ap (λ k. k ∷ map row_in rows) same)
   changed-mapped change (row ∷ rows) (suc i) new d place same = rw (place.before 0 row (omega arith)) (ap (λ all. row_in row ∷ all) (changed-mapped change rows i new d (place-later (is_served_row_of chan) row rows i place) same))
 
-  pub removed-first : (rows : List ServedRow) (i : ℕ) → IsPlaceOf chan rows i → map row_in (remove rows i) ≡ without_first (is_kept_of chan) (map row_in rows)
+  pub removed-first : (rows : List ServedRow) (i : ℕ) → IsPlaceOf chan rows i → map row_in (remove rows i) ≡ without_first (is_account_of chan) (map row_in rows)
   unfolding without_first
   removed-first [] i place = let h = place.inside in absurd (omega arith)
   removed-first (row ∷ rows) zero place = rw (place.here row) refl
@@ -50,19 +50,19 @@ each-changed P test change (y ∷ xs) x found each =
 
 -- the channel's row that is at it is the first that is so
 module _ (chan : ChanNo) (first : Bool) where
-  pub hop-found : (rows : List AccountRow) (row : AccountRow) → IsRowAtHop chan first rows row → find (is_kept_at_hop chan first) rows ≡ Some row
+  pub hop-found : (rows : List AccountRow) (row : AccountRow) → IsRowAtHop chan first rows row → find (is_account_at_hop chan first) rows ≡ Some row
   hop-found [] row is = is.found
   hop-found (r ∷ rows) row is =
-      elim (cases_Bool (is_kept_of chan r)) [
-        | inl own ↦ (let same = same_Some r row (rw own at is.found) in let here : is_kept_at_hop chan first r ≡ true = subst (λ x. is_kept_at_hop chan first x ≡ true) (sym same) is.at_hop in rw here (ap Some same))
-        | inr other ↦ (let found = rw other at is.found in rw (and-false (is_kept_of chan r) _ other) (hop-found rows row (record { found = found; at_hop = is.at_hop })))
+      elim (cases_Bool (is_account_of chan r)) [
+        | inl own ↦ (let same = same_Some r row (rw own at is.found) in let here : is_account_at_hop chan first r ≡ true = subst (λ x. is_account_at_hop chan first x ≡ true) (sym same) is.at_hop in rw here (ap Some same))
+        | inr other ↦ (let found = rw other at is.found in rw (and-false (is_account_of chan r) _ other) (hop-found rows row (record { found = found; at_hop = is.at_hop })))
       ]
 
-  pub hop-changed : (change : AccountRow → AccountRow) (rows : List AccountRow) (row : AccountRow) → IsRowAtHop chan first rows row → change_first (is_kept_of chan) change rows ≡ change_first (is_kept_at_hop chan first) change rows
+  pub hop-changed : (change : AccountRow → AccountRow) (rows : List AccountRow) (row : AccountRow) → IsRowAtHop chan first rows row → change_first (is_account_of chan) change rows ≡ change_first (is_account_at_hop chan first) change rows
   unfolding change_first
   hop-changed change [] row is = refl
   hop-changed change (r ∷ rows) row is =
-      elim (cases_Bool (is_kept_of chan r)) [
-        | inl own ↦ (let same = same_Some r row (rw own at is.found) in let here : is_kept_at_hop chan first r ≡ true = subst (λ x. is_kept_at_hop chan first x ≡ true) (sym same) is.at_hop in let at = rw own at here in rw (own, at) refl)
+      elim (cases_Bool (is_account_of chan r)) [
+        | inl own ↦ (let same = same_Some r row (rw own at is.found) in let here : is_account_at_hop chan first r ≡ true = subst (λ x. is_account_at_hop chan first x ≡ true) (sym same) is.at_hop in let at = rw own at here in rw (own, at) refl)
         | inr other ↦ (let found = rw other at is.found in rw other (ap (λ all. r ∷ all) (hop-changed change rows row (record { found = found; at_hop = is.at_hop }))))
       ]

@@ -2,7 +2,7 @@
 use Rattle.std.proofs.Common.{◌≡◌, Bool, true, false, ◌&&◌, ℕ, zero, suc, List, [], ◌∷◌, map, Option, Some, None, refl, sym, ap, ◌∙◌, arith}
 use Rattle.std.proofs.Common.{⊎_elim}
 use Rattle.std.proofs.lemmas.Bool.{cases_Bool}
-use Rattle.link_server.proofs.Words.{find, ChanNo, AccountRow, is_kept_of, kept_terms, is_of, ServedRow, reservation_in, row_in, is_served_row_of, NoRowPasses, IsFirstPlace, IsAbsent}
+use Rattle.link_server.proofs.Words.{find, ChanNo, AccountRow, is_account_of, account_terms, is_of, ServedRow, reservation_in, row_in, is_served_row_of, NoRowPasses, IsFirstPlace, IsAbsent}
 use Rattle.std.specs.List.{All, remove}
 use Rattle.std.specs.Option.{option_map}
 use Rattle.link_steps.proofs.SearchAndFilter.{find-map}
@@ -41,29 +41,29 @@ pub kept-absent : (test : ServedRow → Bool) (seen : AccountRow → Bool) → (
 kept-absent test seen same rows absent = find-map row_in test seen same rows ∙ ap (option_map row_in) (absent-found test rows absent)
 
 -- the reservations of the account are those of the rows
-pub terms-kept : (rows : List ServedRow) → map kept_terms (map row_in rows) ≡ map reservation_in rows
+pub terms-kept : (rows : List ServedRow) → map account_terms (map row_in rows) ≡ map reservation_in rows
 terms-kept [] = refl
 terms-kept (row ∷ rows) = ap (λ all. reservation_in row ∷ all) (terms-kept rows)
 
-find-terms : (chan : ChanNo) (rows : List AccountRow) → find (is_of chan) (map kept_terms rows) ≡ option_map kept_terms (find (is_kept_of chan) rows)
-find-terms chan rows = find-map kept_terms (is_kept_of chan) (is_of chan) (λ row. refl) rows
+find-terms : (chan : ChanNo) (rows : List AccountRow) → find (is_of chan) (map account_terms rows) ≡ option_map account_terms (find (is_account_of chan) rows)
+find-terms chan rows = find-map account_terms (is_account_of chan) (is_of chan) (λ row. refl) rows
 
 -- the reservation of the channel, where it has a row, and where it has none
-pub terms-found : (chan : ChanNo) (rows : List AccountRow) (row : AccountRow) → find (is_kept_of chan) rows ≡ Some row → find (is_of chan) (map kept_terms rows) ≡ Some row.terms
-terms-found chan rows row found = find-terms chan rows ∙ ap (option_map kept_terms) found
+pub terms-found : (chan : ChanNo) (rows : List AccountRow) (row : AccountRow) → find (is_account_of chan) rows ≡ Some row → find (is_of chan) (map account_terms rows) ≡ Some row.terms
+terms-found chan rows row found = find-terms chan rows ∙ ap (option_map account_terms) found
 
-pub terms-absent : (chan : ChanNo) (rows : List AccountRow) → find (is_kept_of chan) rows ≡ None → find (is_of chan) (map kept_terms rows) ≡ None
-terms-absent chan rows absent = find-terms chan rows ∙ ap (option_map kept_terms) absent
+pub terms-absent : (chan : ChanNo) (rows : List AccountRow) → find (is_account_of chan) rows ≡ None → find (is_of chan) (map account_terms rows) ≡ None
+terms-absent chan rows absent = find-terms chan rows ∙ ap (option_map account_terms) absent
 
-pub terms-none : (chan : ChanNo) (rows : List AccountRow) → find (is_of chan) (map kept_terms rows) ≡ None → find (is_kept_of chan) rows ≡ None
-terms-none chan rows none = mapped-none (find (is_kept_of chan) rows) (sym (find-terms chan rows) ∙ none) where
-  mapped-none : (found : Option AccountRow) → option_map kept_terms found ≡ None → found ≡ None
+pub terms-none : (chan : ChanNo) (rows : List AccountRow) → find (is_of chan) (map account_terms rows) ≡ None → find (is_account_of chan) rows ≡ None
+terms-none chan rows none = mapped-none (find (is_account_of chan) rows) (sym (find-terms chan rows) ∙ none) where
+  mapped-none : (found : Option AccountRow) → option_map account_terms found ≡ None → found ≡ None
   mapped-none None none = refl
   mapped-none (Some row) none = cc
 
 -- where the account has no row of the channel, no row is the channel's
-pub kept-none : (chan : ChanNo) (rows : List ServedRow) → find (is_kept_of chan) (map row_in rows) ≡ None → IsAbsent chan rows
-kept-none chan rows none = found-absent (is_served_row_of chan) rows (mapped-none (find (is_served_row_of chan) rows) (sym (find-map row_in (is_served_row_of chan) (is_kept_of chan) (λ row. refl) rows) ∙ none)) where
+pub kept-none : (chan : ChanNo) (rows : List ServedRow) → find (is_account_of chan) (map row_in rows) ≡ None → IsAbsent chan rows
+kept-none chan rows none = found-absent (is_served_row_of chan) rows (mapped-none (find (is_served_row_of chan) rows) (sym (find-map row_in (is_served_row_of chan) (is_account_of chan) (λ row. refl) rows) ∙ none)) where
   mapped-none : (found : Option ServedRow) → option_map row_in found ≡ None → found ≡ None
   mapped-none None none = refl
   mapped-none (Some row) none = cc

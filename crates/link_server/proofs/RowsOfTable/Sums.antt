@@ -1,7 +1,7 @@
 -- The rows and the admission sums, each row under the number of its channel, go together.
 use Rattle.std.proofs.Common.{◌≡◌, ℕ, zero, suc, ◌<◌, ◌≤◌, false, List, [], ◌∷◌, length, map, get_or, set, refl, sym, ap, ◌∙◌, arith}
 use Rattle.std.proofs.lemmas.Bool.{ne_eqb, eqb-true, eqb-false}
-use Rattle.link_server.proofs.Words.{remove, channel_number, level_number, ChanNo, Level, kept_terms, new_kept, kept_relaxed, Each, Reservation, admitted, ServedRow, reservation_in, row_in, is_served_row_of, summed, IsAbsent, IsPlaceOf, IsWithinLevels}
+use Rattle.link_server.proofs.Words.{remove, channel_number, level_number, ChanNo, Level, account_terms, new_account, account_relaxed, Each, Reservation, admitted, ServedRow, reservation_in, row_in, is_served_row_of, summed, IsAbsent, IsPlaceOf, IsWithinLevels}
 use Rattle.traffic_contract.specs.Admission.{Admitted}
 use Rattle.rcsp_admission.specs.Sums.{Sums, Held, row_held, key_of, admitted_rows, has_key, Holds, HoldsUpTo, put_at, moved, without_key, IsDistinct}
 use Rattle.link_server.proofs.RowsOfTable.Places.{place-later, terms-kept}
@@ -71,11 +71,11 @@ absent-new chan rows absent (k, inside, at) = absent-at chan rows absent k insid
   absent-at chan (row ∷ rows) absent (suc k) inside at = absent-at chan rows (λ j d within. absent (suc j) d (omega arith)) k (omega arith) at
 
 -- a row that is committed is moved in the sums
-pub summed-committed : (new old : ServedRow) (level : Level) (up_bound : ℕ) → row_in new ≡ kept_relaxed level up_bound (row_in old) → summed new ≡ put_at (level_number level) (summed old)
+pub summed-committed : (new old : ServedRow) (level : Level) (up_bound : ℕ) → row_in new ≡ account_relaxed level up_bound (row_in old) → summed new ≡ put_at (level_number level) (summed old)
 summed-committed new old level up_bound same = ap (λ row. row_held (channel_number row.terms.chan) row.terms.contract (level_number row.terms.level)) same
 
 -- and its levels are still the link's
-pub within-committed : (levels : ℕ) (new old : ServedRow) (level : Level) (up_bound : ℕ) → row_in new ≡ kept_relaxed level up_bound (row_in old) → level_number level ≤ levels → IsWithinLevels levels old → IsWithinLevels levels new
+pub within-committed : (levels : ℕ) (new old : ServedRow) (level : Level) (up_bound : ℕ) → row_in new ≡ account_relaxed level up_bound (row_in old) → level_number level ≤ levels → IsWithinLevels levels old → IsWithinLevels levels new
 within-committed levels new old level up_bound same upto within =
     let at : level_number new.level ≡ level_number level = ap (λ row. level_number row.terms.level) same in
     let far : level_number new.reach ≡ level_number old.reach = ap (λ row. level_number row.terms.reach) same in
@@ -83,12 +83,12 @@ within-committed levels new old level up_bound same upto within =
     record { level = omega arith; reach = omega (arith, most) }
 
 -- a row that is reserved has the levels of its offer
-pub within-reserved : (levels : ℕ) (new : ServedRow) (terms : Reservation) → row_in new ≡ new_kept terms → level_number terms.level ≤ levels → level_number terms.reach ≤ levels → IsWithinLevels levels new
+pub within-reserved : (levels : ℕ) (new : ServedRow) (terms : Reservation) → row_in new ≡ new_account terms → level_number terms.level ≤ levels → level_number terms.reach ≤ levels → IsWithinLevels levels new
 within-reserved levels new terms same near most =
     let at : level_number new.level ≡ level_number terms.level = ap (λ row. level_number row.terms.level) same in
     let far : level_number new.reach ≡ level_number terms.reach = ap (λ row. level_number row.terms.reach) same in
     record { level = omega (arith, near); reach = omega (arith, most) }
 
 -- what the admission test says of the sums it says of the reservations of the account
-pub same-admission : {X : Type 0} (answer : List Admitted → X) (sums : Sums) (rows : List ServedRow) → sums.rows ≡ map summed rows → answer (admitted_rows sums.rows) ≡ answer (map admitted (map kept_terms (map row_in rows)))
+pub same-admission : {X : Type 0} (answer : List Admitted → X) (sums : Sums) (rows : List ServedRow) → sums.rows ≡ map summed rows → answer (admitted_rows sums.rows) ≡ answer (map admitted (map account_terms (map row_in rows)))
 same-admission answer sums rows same = ap answer (ap admitted_rows same ∙ summed-rows rows ∙ ap (map admitted) (sym (terms-kept rows)))

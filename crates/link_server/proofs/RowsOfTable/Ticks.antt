@@ -1,7 +1,7 @@
 -- What a table tells in a tick, told by the shape of its link: the rows that stay, and that they may bring their packets.
 use Rattle.std.proofs.Common.{◌≡◌, ℕ, ◌<◌, ◌^◌, List, ap, ◌∙◌, arith}
 use Rattle.std.proofs.lemmas.List.{length-append}
-use Rattle.link_server.proofs.Words.{filter, AccountRow, from_sources, held_rows, kept_stays, KeptTable, kept_in, LinkState}
+use Rattle.link_server.proofs.Words.{filter, AccountRow, from_sources, held_rows, account_stays, TableAccount, account_in, LinkState}
 use Rattle.link_steps.proofs.SearchAndFilter.{Each-filter}
 use Rattle.link_server.specs.Sources.{IsReady, MayBring}
 use Rattle.link_server.proofs.RowsOfTable.Totals.{filter-fewer}
@@ -10,17 +10,17 @@ use Rattle.link_server.proofs.Sound.Sources.{from_best}
 use Rattle.link_server.proofs.Sound.Stood.{all-ready, rows-few}
 
 -- what is told by the bounds and the rows of the table, once rows have expired, is told by the shape and the rows that are held
-pub at-shape : {X : Type 0} (f : List ℕ → List AccountRow → X) (link : LinkState) (table : KeptTable) → table ≡ record link.table { rows = filter (kept_stays link.table.server.bounds link.clock) link.table.rows; departed = table.departed; looked = link.clock }
-    → f table.server.bounds table.rows ≡ f link.shape.bounds (held_rows link.shape (kept_in link))
+pub at-shape : {X : Type 0} (f : List ℕ → List AccountRow → X) (link : LinkState) (table : TableAccount) → table ≡ record link.table { rows = filter (account_stays link.table.server.bounds link.clock) link.table.rows; departed = table.departed; looked = link.clock }
+    → f table.server.bounds table.rows ≡ f link.shape.bounds (held_rows link.shape (account_in link))
 at-shape f link table same =
-    ap (λ (t : KeptTable). f t.server.bounds t.rows) same
-    ∙ ap (λ (t : KeptTable). f t.server.bounds (filter (kept_stays t.server.bounds link.clock) link.table.rows)) link.of_shape
+    ap (λ (t : TableAccount). f t.server.bounds t.rows) same
+    ∙ ap (λ (t : TableAccount). f t.server.bounds (filter (account_stays t.server.bounds link.clock) link.table.rows)) link.of_shape
 
 -- these may bring their packets
-pub may-bring : (link : LinkState) → link.clock < 2 ^ 61 → MayBring link.shape.bounds link.clock link.queue (held_rows link.shape (kept_in link))
+pub may-bring : (link : LinkState) → link.clock < 2 ^ 61 → MayBring link.shape.bounds link.clock link.queue (held_rows link.shape (account_in link))
 may-bring link early =
-    let k = kept_in link in
-    let stay = kept_stays link.shape.bounds link.clock in
+    let k = account_in link in
+    let stay = account_stays link.shape.bounds link.clock in
     let few = rows-few link in
     let fewer = filter-fewer stay link.table.rows in
     let small = brought-small link.shape link.queue.room k early link.few link.sound in

@@ -7,7 +7,7 @@ use Rattle.std.specs.Prelude.{filter, find, not, nat_lt}
 use Rattle.link_server.proofs.Words.{LinkShape, Each, SourcePacket, is_for, Arrival, Start, SourceStep, Rests, Brings, Drops, source_step}
 use Rattle.link_steps.specs.BestEffort.{is_best, best_step, best_packet}
 use Rattle.link_steps.specs.Buffer.{has_lead, held_packets}
-use Rattle.link_steps.specs.Account.{Account, waits_here, is_other, kept_waiting, kept_best}
+use Rattle.link_steps.specs.Account.{Account, waits_here, is_other, account_waiting, account_best}
 use Rattle.link_steps.proofs.SearchAndFilter.{Each-filter, Each-find, Each-if, filter-all, filter-none, filter-filter}
 use Rattle.link_server.specs.Sound.{of_channels, best_count, AreNumberedWithin, IsSoundPacket, HasSize, AreAhead}
 use Rattle.link_server.proofs.Sound.Packets.{HasLead, packets-lead, numbered-filter, count-upto}
@@ -119,9 +119,9 @@ best_step-is waiting most t u plan ahead = by-found (nat_lt waiting most) refl (
       let size = Each-find HasSize (is_for t) plan p (ahead-sizes u plan ahead) is in
       (ltb-true waiting most free, size.least, size.most)
 
-pub kept_best-is : (shape : LinkShape) (k : Account) → AreAhead k.clock k.best_left → IsBestStep (kept_waiting shape k) shape.best (kept_best shape k)
-unfolding kept_best
-kept_best-is shape k ahead = best_step-is (kept_waiting shape k) shape.best k.clock k.clock k.best_left ahead
+pub account_best-is : (shape : LinkShape) (k : Account) → AreAhead k.clock k.best_left → IsBestStep (account_waiting shape k) shape.best (account_best shape k)
+unfolding account_best
+account_best-is shape k ahead = best_step-is (account_waiting shape k) shape.best k.clock k.clock k.best_left ahead
 
 pub best-numbered : (step : SourceStep) (bounds : List ℕ) (n t : ℕ) → AreNumberedWithin n (best_packet step bounds (suc n) t) (n + length (best_packet step bounds (suc n) t))
 best-numbered (Brings size) bounds n t = (omega arith, omega arith)
@@ -159,8 +159,8 @@ best-upto step bounds here place t =
     omega (arith, both, count-upto (is_best bounds) (best_packet step bounds place t))
 
 -- with it there are no more than may be
-pub best-fits : (shape : LinkShape) (k : Account) (place t : ℕ) (step : SourceStep) → IsBestStep (kept_waiting shape k) shape.best step → AreNumberedWithin 0 k.here k.taken → Each (IsSoundPacket (length shape.bounds) k.taken) k.here → best_count shape.bounds k.here ≤ suc shape.best → best_count shape.bounds k.here + length (best_packet step shape.bounds place t) ≤ suc shape.best
-unfolding kept_waiting
+pub best-fits : (shape : LinkShape) (k : Account) (place t : ℕ) (step : SourceStep) → IsBestStep (account_waiting shape k) shape.best step → AreNumberedWithin 0 k.here k.taken → Each (IsSoundPacket (length shape.bounds) k.taken) k.here → best_count shape.bounds k.here ≤ suc shape.best → best_count shape.bounds k.here + length (best_packet step shape.bounds place t) ≤ suc shape.best
+unfolding account_waiting
 best-fits shape k place t (Brings size) is numbered each few = omega (arith, is.0, waits-count shape.bounds k.here k.on (length shape.bounds) k.taken numbered each)
 best-fits shape k place t Rests is numbered each few = omega (arith, few)
 best-fits shape k place t Drops is numbered each few = omega (arith, few)

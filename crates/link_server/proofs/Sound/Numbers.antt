@@ -3,12 +3,12 @@
 use Rattle.std.proofs.Common.{◌≡◌, ℕ, suc, ◌+◌, ◌^◌, ◌<◌, ◌≤◌, List, [], ◌∷◌, ◌++◌, length, arith, length-append}
 use Rattle.traffic_contract.proofs.AdmissionTest.{total-append, total-filter-le}
 use Rattle.link_server.proofs.Words.{total, newest, LinkShape, slots_of, Each, SourcePacket, Arrival}
-use Rattle.link_steps.specs.Account.{Account, AccountRow, kept_stays, kept_waiting, kept_best, from_sources, brought}
+use Rattle.link_steps.specs.Account.{Account, AccountRow, account_stays, account_waiting, account_best, from_sources, brought}
 use Rattle.link_steps.proofs.SearchAndFilter.{Each-both, Each-if}
 use Rattle.link_server.specs.Planned.{IsPlannedFrom}
 use Rattle.link_server.specs.Sources.{IsReady}
 use Rattle.link_server.specs.Sound.{of_channels, places_of, all_places_of, places, most_places, AreAhead, IsSoundRow, IsSound}
-use Rattle.link_server.proofs.Sound.Best.{both-count, waits-count, kept_best-is, best-fits}
+use Rattle.link_server.proofs.Sound.Best.{both-count, waits-count, account_best-is, best-fits}
 use Rattle.link_server.proofs.Sound.Sources.{brought-places, from_best}
 
 -- ---- places
@@ -27,19 +27,19 @@ rows-upto shape room k sound = omega (arith, sound.fits, sound.best_few, both-co
 pub brought-room : (shape : LinkShape) (room : ℕ) (k : Account) → IsSound shape room k → length k.here + length (brought shape k) ≤ room
 unfolding places
 brought-room shape room k sound =
-    let few = best-fits shape k (suc (k.taken + length (from_sources shape k))) k.clock (kept_best shape k) (kept_best-is shape k sound.best_ahead) sound.numbered sound.packets sound.best_few in
-    omega (arith, brought-places shape room k sound, total-filter-le (places_of shape.bounds (of_channels shape.bounds k.here)) (kept_stays shape.bounds k.clock) k.rows, sound.fits, both-count shape.bounds k.here, few, length-append (from_sources shape k) (from_best shape k))
+    let few = best-fits shape k (suc (k.taken + length (from_sources shape k))) k.clock (account_best shape k) (account_best-is shape k sound.best_ahead) sound.numbered sound.packets sound.best_few in
+    omega (arith, brought-places shape room k sound, total-filter-le (places_of shape.bounds (of_channels shape.bounds k.here)) (account_stays shape.bounds k.clock) k.rows, sound.fits, both-count shape.bounds k.here, few, length-append (from_sources shape k) (from_best shape k))
 
 -- for the sources' packets
 pub sources-room : (shape : LinkShape) (room : ℕ) (k : Account) → IsSound shape room k → length k.here + length (from_sources shape k) ≤ room
 sources-room shape room k sound = omega (arith, brought-room shape room k sound, length-append (from_sources shape k) (from_best shape k))
 
 -- and for a best-effort packet after them, where fewer wait than may
-pub best-room : (shape : LinkShape) (room : ℕ) (k : Account) → IsSound shape room k → kept_waiting shape k < shape.best → length k.here + length (from_sources shape k) < room
-unfolding places kept_waiting
+pub best-room : (shape : LinkShape) (room : ℕ) (k : Account) → IsSound shape room k → account_waiting shape k < shape.best → length k.here + length (from_sources shape k) < room
+unfolding places account_waiting
 best-room shape room k sound free =
     let few = waits-count shape.bounds k.here k.on (length shape.bounds) k.taken sound.numbered sound.packets in
-    omega (arith, brought-places shape room k sound, total-filter-le (places_of shape.bounds (of_channels shape.bounds k.here)) (kept_stays shape.bounds k.clock) k.rows, sound.fits, both-count shape.bounds k.here, few, free)
+    omega (arith, brought-places shape room k sound, total-filter-le (places_of shape.bounds (of_channels shape.bounds k.here)) (account_stays shape.bounds k.clock) k.rows, sound.fits, both-count shape.bounds k.here, few, free)
 
 -- ---- counts
 

@@ -10,7 +10,7 @@ use Rattle.traffic_contract.proofs.AdmissionTest.{total-le}
 use Rattle.traffic_contract.proofs.LongerWindows.{most_in-mono}
 use Rattle.link_steps.specs.declared.replies.Reply.TheVariants as Is
 use Rattle.link_steps.specs.Buffer.{slots_of, stay_in, held_packets}
-use Rattle.link_steps.specs.Account.{Account, AccountRow, nothing_kept, with_kept_rows, kept_terms, is_kept_of, is_kept_at_hop, kept_relaxed, kept_planned, kept_closed, new_kept, kept_submit, kept_release, kept_reply, kept_after}
+use Rattle.link_steps.specs.Account.{Account, AccountRow, empty_account, with_account_rows, account_terms, is_account_of, is_account_at_hop, account_relaxed, account_planned, account_closed, new_account, account_submit, account_release, account_reply, account_after}
 use Rattle.link_steps.specs.Legal.{ReserveFits, RelaxFits, SubmitFits}
 use Rattle.link_steps.specs.Lists.{change_first, without_first, Each}
 use Rattle.link_steps.specs.Replies.{relax_reply, submit_reply, release_reply}
@@ -26,7 +26,7 @@ use Rattle.link_steps.proofs.SlotsHeld.{slots-closed}
 -- ---- nothing, and more room
 
 -- what is kept of no history is sound
-pub nothing-sound : (shape : LinkShape) (room : ℕ) → suc shape.best ≤ room → IsSound shape room nothing_kept
+pub nothing-sound : (shape : LinkShape) (room : ℕ) → suc shape.best ≤ room → IsSound shape room empty_account
 unfolding places of_channels best_count
 nothing-sound shape room enough = record {
   taken_most = omega arith;
@@ -61,7 +61,7 @@ abbrev pub AreSoundRows : LinkShape → Account → List AccountRow → Type 0
 AreSoundRows shape k rows = Each (IsSoundRow (length shape.bounds) k.clock k.taken) rows
 
 -- the account with other rows
-pub sound-rows : (shape : LinkShape) (room larger : ℕ) (k : Account) (rows : List AccountRow) → IsSound shape room k → HaveOwnLeads rows → AreSoundRows shape k rows → places shape.bounds (of_channels shape.bounds k.here) rows + suc shape.best ≤ larger → IsSound shape larger (with_kept_rows k rows)
+pub sound-rows : (shape : LinkShape) (room larger : ℕ) (k : Account) (rows : List AccountRow) → IsSound shape room k → HaveOwnLeads rows → AreSoundRows shape k rows → places shape.bounds (of_channels shape.bounds k.here) rows + suc shape.best ≤ larger → IsSound shape larger (with_account_rows k rows)
 sound-rows shape room larger k rows sound apart each fits = record {
   taken_most = sound.taken_most;
   numbered = sound.numbered;
@@ -75,7 +75,7 @@ sound-rows shape room larger k rows sound apart each fits = record {
 }
 
 -- the account with one row changed, which has no more slots than before and the same lead
-pub sound-changed : (shape : LinkShape) (room : ℕ) (k : Account) (test : AccountRow → Bool) (change : AccountRow → AccountRow) → IsSound shape room k → ((row : AccountRow) → (change row).lead ≡ row.lead) → ((row : AccountRow) → find test k.rows ≡ Some row → IsSoundRow (length shape.bounds) k.clock k.taken row → IsSoundRow (length shape.bounds) k.clock k.taken (change row)) → ((row : AccountRow) → find test k.rows ≡ Some row → slots_of shape.bounds (change row).terms ≤ slots_of shape.bounds row.terms) → IsSound shape room (with_kept_rows k (change_first test change k.rows))
+pub sound-changed : (shape : LinkShape) (room : ℕ) (k : Account) (test : AccountRow → Bool) (change : AccountRow → AccountRow) → IsSound shape room k → ((row : AccountRow) → (change row).lead ≡ row.lead) → ((row : AccountRow) → find test k.rows ≡ Some row → IsSoundRow (length shape.bounds) k.clock k.taken row → IsSoundRow (length shape.bounds) k.clock k.taken (change row)) → ((row : AccountRow) → find test k.rows ≡ Some row → slots_of shape.bounds (change row).terms ≤ slots_of shape.bounds row.terms) → IsSound shape room (with_account_rows k (change_first test change k.rows))
 unfolding places
 sound-changed shape room k test change sound same each fewer =
     sound-rows shape room room k (change_first test change k.rows) sound
@@ -86,22 +86,22 @@ sound-changed shape room k test change sound same each fewer =
 
 -- ---- a deny
 
-pub sound-deny : (shape : LinkShape) (room : ℕ) (k : Account) (chan : ChanNo) (reply : Reply) → IsSound shape room k → IsSound shape room (kept_after shape k (Deny chan) reply)
-unfolding kept_after places
+pub sound-deny : (shape : LinkShape) (room : ℕ) (k : Account) (chan : ChanNo) (reply : Reply) → IsSound shape room k → IsSound shape room (account_after shape k (Deny chan) reply)
+unfolding account_after places
 sound-deny shape room k chan Is.Denied sound =
-    sound-rows shape room room k (without_first (is_kept_of chan) k.rows) sound
-    (AreApart-without_first (is_kept_of chan) k.rows sound.apart)
-    (Each-without_first (IsSoundRow (length shape.bounds) k.clock k.taken) (is_kept_of chan) k.rows sound.rows)
-    (omega (arith, total-without_first-le (places_of shape.bounds (of_channels shape.bounds k.here)) (is_kept_of chan) k.rows, sound.fits))
+    sound-rows shape room room k (without_first (is_account_of chan) k.rows) sound
+    (AreApart-without_first (is_account_of chan) k.rows sound.apart)
+    (Each-without_first (IsSoundRow (length shape.bounds) k.clock k.taken) (is_account_of chan) k.rows sound.rows)
+    (omega (arith, total-without_first-le (places_of shape.bounds (of_channels shape.bounds k.here)) (is_account_of chan) k.rows, sound.fits))
 sound-deny shape room k chan _ sound = sound
 
 -- ---- a relax
 
 -- the reply is that of the row of the channel
-relax-found : (shape : LinkShape) (k : Account) (chan : ChanNo) (level : Level) (up_bound : ℕ) (row : AccountRow) → find (is_kept_of chan) k.rows ≡ Some row → kept_reply (whole shape) k (Relax chan level up_bound) ≡ relax_reply k.clock level up_bound (Some row.terms)
-unfolding kept_reply
+relax-found : (shape : LinkShape) (k : Account) (chan : ChanNo) (level : Level) (up_bound : ℕ) (row : AccountRow) → find (is_account_of chan) k.rows ≡ Some row → account_reply (whole shape) k (Relax chan level up_bound) ≡ relax_reply k.clock level up_bound (Some row.terms)
+unfolding account_reply
 relax-found shape k chan level up_bound row found =
-    ap (relax_reply k.clock level up_bound) (find-map kept_terms (is_kept_of chan) (is_of chan) (λ r. refl) k.rows ∙ ap (option_map kept_terms) found)
+    ap (relax_reply k.clock level up_bound) (find-map account_terms (is_account_of chan) (is_of chan) (λ r. refl) k.rows ∙ ap (option_map account_terms) found)
 
 -- a row that is relaxed has no more slots than before
 relax-slots : (shape : LinkShape) (terms : Reservation) (level : Level) (up_bound : ℕ) → IsContract terms.contract → level_number terms.reach ≤ length shape.bounds → FitsOffer terms level up_bound → slots_of shape.bounds (committed level up_bound terms) ≤ slots_of shape.bounds terms
@@ -112,15 +112,15 @@ relax-slots shape terms level up_bound valid within fits =
     rw stay (most_in-mono terms.contract (up_bound + bound_at shape.bounds (level_number level)) (terms.up_reach + bound_at shape.bounds (level_number terms.reach)) valid (omega (arith, bound, fits.bound_most)))
 
 -- where the row of the channel is relaxed
-pub relaxed-slots : (shape : LinkShape) (room : ℕ) (k : Account) (chan : ChanNo) (level : Level) (up_bound clock : ℕ) (row : AccountRow) → IsSound shape room k → find (is_kept_of chan) k.rows ≡ Some row → Is.Relaxed clock ≡ kept_reply (whole shape) k (Relax chan level up_bound) → slots_of shape.bounds (committed level up_bound row.terms) ≤ slots_of shape.bounds row.terms
+pub relaxed-slots : (shape : LinkShape) (room : ℕ) (k : Account) (chan : ChanNo) (level : Level) (up_bound clock : ℕ) (row : AccountRow) → IsSound shape room k → find (is_account_of chan) k.rows ≡ Some row → Is.Relaxed clock ≡ account_reply (whole shape) k (Relax chan level up_bound) → slots_of shape.bounds (committed level up_bound row.terms) ≤ slots_of shape.bounds row.terms
 relaxed-slots shape room k chan level up_bound clock row sound found same =
-    let each = Each-find (IsSoundRow (length shape.bounds) k.clock k.taken) (is_kept_of chan) k.rows row sound.rows found in
+    let each = Each-find (IsSoundRow (length shape.bounds) k.clock k.taken) (is_account_of chan) k.rows row sound.rows found in
     relax-slots shape row.terms level up_bound each.contract each.reach_most (relax-tells k.clock row.terms level up_bound clock (same ∙ relax-found shape k chan level up_bound row found))
 
-pub sound-relax : (shape : LinkShape) (room : ℕ) (k : Account) (chan : ChanNo) (level : Level) (up_bound : ℕ) (reply : Reply) → RelaxFits (length shape.bounds) (level_number level) up_bound → IsSound shape room k → reply ≡ kept_reply (whole shape) k (Relax chan level up_bound) → IsSound shape room (kept_after shape k (Relax chan level up_bound) reply)
-unfolding kept_after
+pub sound-relax : (shape : LinkShape) (room : ℕ) (k : Account) (chan : ChanNo) (level : Level) (up_bound : ℕ) (reply : Reply) → RelaxFits (length shape.bounds) (level_number level) up_bound → IsSound shape room k → reply ≡ account_reply (whole shape) k (Relax chan level up_bound) → IsSound shape room (account_after shape k (Relax chan level up_bound) reply)
+unfolding account_after
 sound-relax shape room k chan level up_bound (Is.Relaxed clock) fits sound same =
-    sound-changed shape room k (is_kept_of chan) (kept_relaxed level up_bound) sound (λ row. refl)
+    sound-changed shape room k (is_account_of chan) (account_relaxed level up_bound) sound (λ row. refl)
     (λ row found each. record {
       contract = each.contract;
       level_most = fits.level_most;
@@ -136,19 +136,19 @@ sound-relax shape room k chan level up_bound _ fits sound same = sound
 
 -- ---- a submit
 
-submit-found : (shape : LinkShape) (k : Account) (chan : ChanNo) (count gap size : ℕ) (row : AccountRow) → find (is_kept_at_hop chan true) k.rows ≡ Some row → kept_reply (whole shape) k (Submit chan count gap size) ≡ submit_reply k.clock size row.terms (length row.left)
-unfolding kept_reply
-submit-found shape k chan count gap size row found = ap (kept_submit k.clock size) found
+submit-found : (shape : LinkShape) (k : Account) (chan : ChanNo) (count gap size : ℕ) (row : AccountRow) → find (is_account_at_hop chan true) k.rows ≡ Some row → account_reply (whole shape) k (Submit chan count gap size) ≡ submit_reply k.clock size row.terms (length row.left)
+unfolding account_reply
+submit-found shape k chan count gap size row found = ap (account_submit k.clock size) found
 
 -- what a row plans of which nothing is left lies ahead
 submit-ahead : (t count gap size : ℕ) (left : List SourcePacket) → SubmitFits count gap size → length left ≡ 0 → AreAhead t (left ++ planned_from t gap size count)
 submit-ahead t count gap size [] fits none = planned-ahead t t gap size count (omega arith) fits.gap_least fits.size_least fits.size_most
 submit-ahead t count gap size (p ∷ left) fits none = absurd (omega arith)
 
-pub sound-submit : (shape : LinkShape) (room : ℕ) (k : Account) (chan : ChanNo) (count gap size : ℕ) (reply : Reply) → SubmitFits count gap size → IsSound shape room k → reply ≡ kept_reply (whole shape) k (Submit chan count gap size) → IsSound shape room (kept_after shape k (Submit chan count gap size) reply)
-unfolding kept_after
+pub sound-submit : (shape : LinkShape) (room : ℕ) (k : Account) (chan : ChanNo) (count gap size : ℕ) (reply : Reply) → SubmitFits count gap size → IsSound shape room k → reply ≡ account_reply (whole shape) k (Submit chan count gap size) → IsSound shape room (account_after shape k (Submit chan count gap size) reply)
+unfolding account_after
 sound-submit shape room k chan count gap size (Is.Planned clock) fits sound same =
-    sound-changed shape room k (is_kept_at_hop chan true) (kept_planned k.clock count gap size) sound (λ row. refl)
+    sound-changed shape room k (is_account_at_hop chan true) (account_planned k.clock count gap size) sound (λ row. refl)
     (λ row found each. record {
       contract = each.contract;
       level_most = each.level_most;
@@ -164,8 +164,8 @@ sound-submit shape room k chan count gap size _ fits sound same = sound
 
 -- ---- a pour
 
-pub sound-pour : (shape : LinkShape) (room : ℕ) (k : Account) (count gap size : ℕ) (reply : Reply) → SubmitFits count gap size → IsSound shape room k → reply ≡ kept_reply (whole shape) k (Pour count gap size) → IsSound shape room (kept_after shape k (Pour count gap size) reply)
-unfolding kept_after kept_reply
+pub sound-pour : (shape : LinkShape) (room : ℕ) (k : Account) (count gap size : ℕ) (reply : Reply) → SubmitFits count gap size → IsSound shape room k → reply ≡ account_reply (whole shape) k (Pour count gap size) → IsSound shape room (account_after shape k (Pour count gap size) reply)
+unfolding account_after account_reply
 sound-pour shape room k count gap size (Is.Planned clock) fits sound same = record {
   taken_most = sound.taken_most;
   numbered = sound.numbered;
@@ -181,14 +181,14 @@ sound-pour shape room k count gap size _ fits sound same = sound
 
 -- ---- a release
 
-release-found : (shape : LinkShape) (k : Account) (chan : ChanNo) (upstream : Option ℕ) (row : AccountRow) → find (is_kept_at_hop chan (names_first_hop upstream)) k.rows ≡ Some row → kept_reply (whole shape) k (Release chan upstream) ≡ release_reply upstream row.terms row.taken (length row.left)
-unfolding kept_reply
-release-found shape k chan upstream row found = ap (kept_release upstream) found
+release-found : (shape : LinkShape) (k : Account) (chan : ChanNo) (upstream : Option ℕ) (row : AccountRow) → find (is_account_at_hop chan (names_first_hop upstream)) k.rows ≡ Some row → account_reply (whole shape) k (Release chan upstream) ≡ release_reply upstream row.terms row.taken (length row.left)
+unfolding account_reply
+release-found shape k chan upstream row found = ap (account_release upstream) found
 
-pub sound-release : (shape : LinkShape) (room : ℕ) (k : Account) (chan : ChanNo) (upstream : Option ℕ) (reply : Reply) → IsSound shape room k → reply ≡ kept_reply (whole shape) k (Release chan upstream) → IsSound shape room (kept_after shape k (Release chan upstream) reply)
-unfolding kept_after
+pub sound-release : (shape : LinkShape) (room : ℕ) (k : Account) (chan : ChanNo) (upstream : Option ℕ) (reply : Reply) → IsSound shape room k → reply ≡ account_reply (whole shape) k (Release chan upstream) → IsSound shape room (account_after shape k (Release chan upstream) reply)
+unfolding account_after
 sound-release shape room k chan upstream (Is.Closing count cancelled) sound same =
-    sound-changed shape room k (is_kept_at_hop chan (names_first_hop upstream)) (kept_closed count) sound (λ row. refl)
+    sound-changed shape room k (is_account_at_hop chan (names_first_hop upstream)) (account_closed count) sound (λ row. refl)
     (λ row found each. record {
       contract = each.contract;
       level_most = each.level_most;
@@ -212,7 +212,7 @@ unfolding places most_places
 places-most bounds here rows = omega (arith, both-count bounds here, total-le (places_of bounds (of_channels bounds here)) (all_places_of bounds) rows (λ k d inside. omega arith))
 
 -- a new row is sound
-new-sound : (levels clock taken : ℕ) (chan : ChanNo) (contract : Traffic) (kind : Kind) (first : Bool) (next : Option LinkNo) (up_reach : ℕ) (level reach : Level) → ReserveFits contract up_reach first → level_number level ≤ levels → level_number reach ≤ levels → IsSoundRow levels clock taken (new_kept (tentative chan contract kind first next up_reach level reach))
+new-sound : (levels clock taken : ℕ) (chan : ChanNo) (contract : Traffic) (kind : Kind) (first : Bool) (next : Option LinkNo) (up_reach : ℕ) (level reach : Level) → ReserveFits contract up_reach first → level_number level ≤ levels → level_number reach ≤ levels → IsSoundRow levels clock taken (new_account (tentative chan contract kind first next up_reach level reach))
 new-sound levels clock taken chan contract kind first next up_reach level reach fits level_most reach_most = record {
   contract = fits.is_contract;
   level_most = level_most;
@@ -225,10 +225,10 @@ new-sound levels clock taken chan contract kind first next up_reach level reach 
 }
 
 -- the account with a row more, at an offer that the link may make, where its places are made room for
-pub sound-reserve : (shape : LinkShape) (room : ℕ) (k : Account) (chan : ChanNo) (contract : Traffic) (kind : Kind) (delay up_reach : ℕ) (first : Bool) (next : Option LinkNo) (level reach : Level) → ReserveFits contract up_reach first → IsSound shape room k → MayOffer shape (map kept_terms k.rows) chan contract delay up_reach level reach → most_places shape.bounds k.here (k.rows ++ new_kept (tentative chan contract kind first next up_reach level reach) ∷ []) + suc shape.best ≤ room → IsSound shape room (with_kept_rows k (k.rows ++ new_kept (tentative chan contract kind first next up_reach level reach) ∷ []))
+pub sound-reserve : (shape : LinkShape) (room : ℕ) (k : Account) (chan : ChanNo) (contract : Traffic) (kind : Kind) (delay up_reach : ℕ) (first : Bool) (next : Option LinkNo) (level reach : Level) → ReserveFits contract up_reach first → IsSound shape room k → MayOffer shape (map account_terms k.rows) chan contract delay up_reach level reach → most_places shape.bounds k.here (k.rows ++ new_account (tentative chan contract kind first next up_reach level reach) ∷ []) + suc shape.best ≤ room → IsSound shape room (with_account_rows k (k.rows ++ new_account (tentative chan contract kind first next up_reach level reach) ∷ []))
 sound-reserve shape room k chan contract kind delay up_reach first next level reach fits sound may enough =
-    let row : AccountRow = new_kept (tentative chan contract kind first next up_reach level reach) in
+    let row : AccountRow = new_account (tentative chan contract kind first next up_reach level reach) in
     sound-rows shape room room k (k.rows ++ row ∷ []) sound
     (AreApart-push k.rows row refl sound.apart)
-    (Each-append (IsSoundRow (length shape.bounds) k.clock k.taken) k.rows (row ∷ []) sound.rows (new-sound (length shape.bounds) k.clock k.taken chan contract kind first next up_reach level reach fits may.level_most (may-reach shape (map kept_terms k.rows) chan contract delay up_reach level reach may), tt))
+    (Each-append (IsSoundRow (length shape.bounds) k.clock k.taken) k.rows (row ∷ []) sound.rows (new-sound (length shape.bounds) k.clock k.taken chan contract kind first next up_reach level reach fits may.level_most (may-reach shape (map account_terms k.rows) chan contract delay up_reach level reach may), tt))
     (omega (arith, places-most shape.bounds k.here (k.rows ++ row ∷ []), enough))

@@ -9,7 +9,7 @@ use Rattle.link_server.proofs.Words.{find, total, Arrive, Packet, Reply, LinkSha
 use Rattle.traffic_contract.proofs.AdmissionTest.{total-le}
 use Rattle.traffic_contract.specs.Eligible.{eligible}
 use Rattle.link_steps.specs.declared.replies.Reply.TheVariants as Is
-use Rattle.link_steps.specs.Account.{Account, AccountRow, kept_with, is_kept_of, kept_arrive, kept_arrived_tick, kept_arrived_row, kept_arrived, kept_with_arrival, kept_reply, kept_after}
+use Rattle.link_steps.specs.Account.{Account, AccountRow, account_with, is_account_of, account_arrive, account_arrived_tick, account_arrived_row, account_arrived, account_with_arrival, account_reply, account_after}
 use Rattle.link_steps.specs.Legal.{PacketFits}
 use Rattle.link_steps.specs.Lists.{change_first, Each}
 use Rattle.link_steps.proofs.SearchAndFilter.{Each-append, Each-find, Each-if}
@@ -37,7 +37,7 @@ lead_with-least lead place some =
 -- ---- a row that takes a packet
 
 -- it stays sound
-pub taken-sound : (levels clock taken more place e : ℕ) (row : AccountRow) → taken ≤ more → place ≤ more → suc row.taken ≤ more → IsSoundRow levels clock taken row → IsSoundRow levels clock more (kept_with place e row)
+pub taken-sound : (levels clock taken more place e : ℕ) (row : AccountRow) → taken ≤ more → place ≤ more → suc row.taken ≤ more → IsSoundRow levels clock taken row → IsSoundRow levels clock more (account_with place e row)
 taken-sound levels clock taken more place e row less upto counted sound = record {
   contract = sound.contract;
   level_most = sound.level_most;
@@ -88,7 +88,7 @@ packet-sound levels clock taken more place number size t e row less some upto le
 }
 
 -- it takes one of the row's free slots
-pub places-taken : (bounds : List ℕ) (here all : List Arrival) (place e : ℕ) (row : AccountRow) → held_packets row.lead here < slots_of bounds row.terms → suc (held_packets row.lead here) ≤ held_packets (lead_with row.lead place) all → suc (places_of bounds all (kept_with place e row)) ≤ places_of bounds here row
+pub places-taken : (bounds : List ℕ) (here all : List Arrival) (place e : ℕ) (row : AccountRow) → held_packets row.lead here < slots_of bounds row.terms → suc (held_packets row.lead here) ≤ held_packets (lead_with row.lead place) all → suc (places_of bounds all (account_with place e row)) ≤ places_of bounds here row
 places-taken bounds here all place e row slot one = omega arith
 
 -- other rows have no more free slots than before
@@ -137,38 +137,38 @@ total-change_drop f g test change x (y ∷ xs) less found drop =
 -- ---- an arrive
 
 -- the account with the packet taken
-arrival-sound : (shape : LinkShape) (room : ℕ) (k : Account) (packet : Packet) (clock eligible : ℕ) (found : Option AccountRow) → PacketFits packet → IsSound shape room k → find (is_kept_of packet.chan) k.rows ≡ found → Is.Taken clock eligible ≡ kept_arrive shape k.clock k.here packet found → IsSound shape room (kept_with_arrival packet k found)
-unfolding kept_with_arrival places
+arrival-sound : (shape : LinkShape) (room : ℕ) (k : Account) (packet : Packet) (clock eligible : ℕ) (found : Option AccountRow) → PacketFits packet → IsSound shape room k → find (is_account_of packet.chan) k.rows ≡ found → Is.Taken clock eligible ≡ account_arrive shape k.clock k.here packet found → IsSound shape room (account_with_arrival packet k found)
+unfolding account_with_arrival places
 arrival-sound shape room k packet clock eligible None fits sound found same = sound
 arrival-sound shape room k packet clock eligible (Some row) fits sound found same =
     let levels : ℕ = length shape.bounds in
     let place : ℕ = suc k.taken in
-    let new : Arrival = kept_arrived k.clock place packet row in
+    let new : Arrival = account_arrived k.clock place packet row in
     let longer = length_push k.here new in
     let leads = packets-lead levels k.taken k.here sound.packets in
-    let one = Each-find (IsSoundRow levels k.clock k.taken) (is_kept_of packet.chan) k.rows row sound.rows found in
-    let tells = arrive-tells shape.bounds k.clock packet row.terms row.taken (held_packets row.lead k.here) (kept_arrived_tick k.clock packet row) clock eligible same in
+    let one = Each-find (IsSoundRow levels k.clock k.taken) (is_account_of packet.chan) k.rows row sound.rows found in
+    let tells = arrive-tells shape.bounds k.clock packet row.terms row.taken (held_packets row.lead k.here) (account_arrived_tick k.clock packet row) clock eligible same in
     let chans : List Arrival = of_channels shape.bounds k.here in
     let held = held-taken row.lead place chans [] new [] (channels-lead shape.bounds k.here leads) refl in
     record {
       taken_most = omega (arith, sound.taken_most, longer);
       numbered = numbered-append 0 k.taken place k.here (new ∷ []) sound.numbered (omega arith, omega arith);
       packets = Each-append (IsSoundPacket levels place) k.here (new ∷ []) (packets-more levels k.taken place k.here (omega arith) sound.packets)
-          (packet-sound levels k.clock k.taken place place packet.number packet.size k.clock (kept_arrived_tick k.clock packet row) row (omega arith) (omega arith) (omega arith) fits.size_least fits.size_most one, tt);
-      apart = AreApart-taken (is_kept_of packet.chan) (kept_arrived_row k.clock place packet) place (λ r. refl) k.rows (Each-if (IsSoundRow levels k.clock k.taken) (λ r. r.lead < place) k.rows (λ r each. omega (arith, each.lead_most)) sound.rows) sound.apart;
-      rows = Each-change_both (IsSoundRow levels k.clock k.taken) (IsSoundRow levels k.clock place) (is_kept_of packet.chan) (kept_arrived_row k.clock place packet) k.rows
+          (packet-sound levels k.clock k.taken place place packet.number packet.size k.clock (account_arrived_tick k.clock packet row) row (omega arith) (omega arith) (omega arith) fits.size_least fits.size_most one, tt);
+      apart = AreApart-taken (is_account_of packet.chan) (account_arrived_row k.clock place packet) place (λ r. refl) k.rows (Each-if (IsSoundRow levels k.clock k.taken) (λ r. r.lead < place) k.rows (λ r each. omega (arith, each.lead_most)) sound.rows) sound.apart;
+      rows = Each-change_both (IsSoundRow levels k.clock k.taken) (IsSoundRow levels k.clock place) (is_account_of packet.chan) (account_arrived_row k.clock place packet) k.rows
           (λ r each. more-sound levels k.clock k.taken place r (omega arith) each)
-          (λ r is each. taken-sound levels k.clock k.taken place place (kept_arrived_tick k.clock packet r) r (omega arith) (omega arith) (omega (arith, each.taken_most)) each)
+          (λ r is each. taken-sound levels k.clock k.taken place place (account_arrived_tick k.clock packet r) r (omega arith) (omega arith) (omega (arith, each.taken_most)) each)
           sound.rows;
-      fits = (let drop = total-change_drop (places_of shape.bounds chans) (places_of shape.bounds (chans ++ new ∷ [])) (is_kept_of packet.chan) (kept_arrived_row k.clock place packet) row k.rows (places-more shape.bounds chans (new ∷ [])) found (places-taken shape.bounds chans (chans ++ new ∷ []) place (kept_arrived_tick k.clock packet row) row (omega (arith, tells.free, held-channels shape.bounds k.here row.lead)) held) in
+      fits = (let drop = total-change_drop (places_of shape.bounds chans) (places_of shape.bounds (chans ++ new ∷ [])) (is_account_of packet.chan) (account_arrived_row k.clock place packet) row k.rows (places-more shape.bounds chans (new ∷ [])) found (places-taken shape.bounds chans (chans ++ new ∷ []) place (account_arrived_tick k.clock packet row) row (omega (arith, tells.free, held-channels shape.bounds k.here row.lead)) held) in
           rw (channels-more shape.bounds k.here (new ∷ []) (one.level_most, tt)) (omega (arith, drop, length_push chans new, sound.fits)));
       best_few = omega (arith, best-more shape.bounds k.here (new ∷ []) (one.level_most, tt), sound.best_few);
       best_ahead = sound.best_ahead;
       running = λ start on. running-more shape.rate k.clock k.here (new ∷ []) start (sound.running start on);
     }
 
-pub sound-arrive : (shape : LinkShape) (room : ℕ) (k : Account) (packet : Packet) (reply : Reply) → PacketFits packet → IsSound shape room k → reply ≡ kept_reply (whole shape) k (Arrive packet) → IsSound shape room (kept_after shape k (Arrive packet) reply)
-unfolding kept_after kept_reply
+pub sound-arrive : (shape : LinkShape) (room : ℕ) (k : Account) (packet : Packet) (reply : Reply) → PacketFits packet → IsSound shape room k → reply ≡ account_reply (whole shape) k (Arrive packet) → IsSound shape room (account_after shape k (Arrive packet) reply)
+unfolding account_after account_reply
 sound-arrive shape room k packet (Is.Taken clock eligible) fits sound same =
-    arrival-sound shape room k packet clock eligible (find (is_kept_of packet.chan) k.rows) fits sound refl same
+    arrival-sound shape room k packet clock eligible (find (is_account_of packet.chan) k.rows) fits sound refl same
 sound-arrive shape room k packet _ fits sound same = sound

@@ -3,7 +3,7 @@
 use Rattle.std.proofs.Common.{◌≡◌, ℕ, zero, suc, ◌+◌, ◌-◌, ◌<◌, ◌≤◌, Bool, true, false, List, [], ◌∷◌, ◌++◌, length, map, take, drop, get_or, set, refl, sym, ap, ◌∙◌, subst, arith}
 use Rattle.link_server.proofs.Words.{if◌then◌else◌, Each, Arrival, Rests, taken_by, dropped_by, row_in, ServedRow}
 use Rattle.std.proofs.lemmas.List.{drop_more, drop-drop, get_or-drop, set-get_or, drop-set-lt, take_more_set, map_push, append_assoc, length-append, append-nil, drop_all, take_all}
-use Rattle.link_steps.specs.Account.{AccountRow, kept_packet, kept_after_step, kept_packets, kept_rows_after, kept_lost}
+use Rattle.link_steps.specs.Account.{AccountRow, account_packet, account_after_step, account_packets, account_rows_after, account_dropped}
 use Rattle.link_server.specs.Plans.{IsQuiet}
 use Rattle.link_server.specs.Sources.{step_in, brought_by, served_rows_after, lost_by_rows, IsReady, AreReady}
 use Rattle.link_server.proofs.Calendars.Expiry.{a-row}
@@ -30,11 +30,11 @@ after-next old rows i after = sym (drop-drop 1 i old) ∙ ap (drop 1) (sym after
 -- the packets that they take are those of that one, and then those of the rows after it
 brought-from : (bounds : List ℕ) (was : List Arrival) (t taken : ℕ) (old : List ServedRow) (i : ℕ) (rows : List ServedRow) (d : ServedRow) → drop i rows ≡ drop i old → i < length rows
     → length (brought_by bounds was t taken (drop i old)) ≡ taken_by (step_in bounds was t (get_or rows i d)) + length (brought_by bounds was t (taken + taken_by (step_in bounds was t (get_or rows i d))) (drop (i + 1) old))
-unfolding kept_packets
+unfolding account_packets
 brought-from bounds was t taken old i rows d after inside =
     let step = step_in bounds was t (get_or rows i d) in
     ap (λ all. length (brought_by bounds was t taken all)) (sym after ∙ drop_more rows i d inside)
-    ∙ length-append (kept_packet step t (suc taken) (row_in (get_or rows i d))) (brought_by bounds was t (taken + taken_by step) (drop (i + 1) rows))
+    ∙ length-append (account_packet step t (suc taken) (row_in (get_or rows i d))) (brought_by bounds was t (taken + taken_by step) (drop (i + 1) rows))
     ∙ ap (λ n. n + length (brought_by bounds was t (taken + taken_by step) (drop (i + 1) rows))) (packet-length step t (suc taken) (row_in (get_or rows i d)))
     ∙ ap (λ all. taken_by step + length (brought_by bounds was t (taken + taken_by step) all)) (sym (after-next old rows i after))
 
@@ -59,12 +59,12 @@ ready-now t old i rows d after ready inside =
 pub one-stepped : (bounds : List ℕ) (was : List Arrival) (t before : ℕ) (old : List ServedRow) (i : ℕ) (rows : List ServedRow) (here : List Arrival) (taken lost : ℕ) (d new : ServedRow) (now : List Arrival) (taken' lost' : ℕ)
     → HaveStepped bounds was t before old i rows here taken lost
     → i < length rows
-    → row_in new ≡ kept_after_step (step_in bounds was t (get_or rows i d)) t (suc taken) (row_in (get_or rows i d))
-    → now ≡ here ++ kept_packet (step_in bounds was t (get_or rows i d)) t (suc taken) (row_in (get_or rows i d))
+    → row_in new ≡ account_after_step (step_in bounds was t (get_or rows i d)) t (suc taken) (row_in (get_or rows i d))
+    → now ≡ here ++ account_packet (step_in bounds was t (get_or rows i d)) t (suc taken) (row_in (get_or rows i d))
     → taken' ≡ taken + taken_by (step_in bounds was t (get_or rows i d))
     → lost' ≡ lost + dropped_by (step_in bounds was t (get_or rows i d))
     → HaveStepped bounds was t before old (i + 1) (set rows i new) now taken' lost'
-unfolding kept_packets kept_rows_after kept_lost
+unfolding account_packets account_rows_after account_dropped
 one-stepped bounds was t before old i rows here taken lost d new now taken' lost' so inside stepped brought more dropped =
     let row = get_or rows i d in
     let step = step_in bounds was t row in
@@ -81,15 +81,15 @@ one-stepped bounds was t before old i rows here taken lost d new now taken' lost
           ∙ ap (λ all. all ++ served_rows_after bounds was t taken' (drop (i + 1) old)) (map_push row_in (take i rows) new)
           ∙ append_assoc (map row_in (take i rows)) (row_in new ∷ []) (served_rows_after bounds was t taken' (drop (i + 1) old))
           ∙ ap (λ r. map row_in (take i rows) ++ (r ∷ served_rows_after bounds was t taken' (drop (i + 1) old))) stepped
-          ∙ ap (λ n. map row_in (take i rows) ++ (kept_after_step step t (suc taken) (row_in row) ∷ served_rows_after bounds was t n (drop (i + 1) old))) more
-          ∙ ap (λ after. map row_in (take i rows) ++ (kept_after_step step t (suc taken) (row_in row) ∷ served_rows_after bounds was t (taken + taken_by step) after)) front
+          ∙ ap (λ n. map row_in (take i rows) ++ (account_after_step step t (suc taken) (row_in row) ∷ served_rows_after bounds was t n (drop (i + 1) old))) more
+          ∙ ap (λ after. map row_in (take i rows) ++ (account_after_step step t (suc taken) (row_in row) ∷ served_rows_after bounds was t (taken + taken_by step) after)) front
           ∙ ap (λ all. map row_in (take i rows) ++ served_rows_after bounds was t taken all) (sym rest)
           ∙ so.front;
       here =
           ap (λ all. all ++ brought_by bounds was t taken' (drop (i + 1) old)) brought
-          ∙ append_assoc here (kept_packet step t (suc taken) (row_in row)) (brought_by bounds was t taken' (drop (i + 1) old))
-          ∙ ap (λ n. here ++ (kept_packet step t (suc taken) (row_in row) ++ brought_by bounds was t n (drop (i + 1) old))) more
-          ∙ ap (λ after. here ++ (kept_packet step t (suc taken) (row_in row) ++ brought_by bounds was t (taken + taken_by step) after)) front
+          ∙ append_assoc here (account_packet step t (suc taken) (row_in row)) (brought_by bounds was t taken' (drop (i + 1) old))
+          ∙ ap (λ n. here ++ (account_packet step t (suc taken) (row_in row) ++ brought_by bounds was t n (drop (i + 1) old))) more
+          ∙ ap (λ after. here ++ (account_packet step t (suc taken) (row_in row) ++ brought_by bounds was t (taken + taken_by step) after)) front
           ∙ ap (λ all. here ++ brought_by bounds was t taken all) (sym rest)
           ∙ so.here;
       taken = let all = so.taken in omega (arith, all, packets, same, more);
@@ -116,8 +116,8 @@ quiet-stepped bounds was t before old i rows here taken lost d so inside quiet =
     let rests : step_in bounds was t row ≡ Rests = quiet-step bounds was (suc t) t (row_in row) its (omega arith) in
     subst (λ all. HaveStepped bounds was t before old (i + 1) all here taken lost) (set-get_or rows i d)
     (one-stepped bounds was t before old i rows here taken lost d row here taken lost so inside
-    (sym (ap (λ step. kept_after_step step t (suc taken) (row_in row)) rests ∙ quiet-past bounds (suc t) t (row_in row) its (omega arith)))
-    (sym (ap (λ step. here ++ kept_packet step t (suc taken) (row_in row)) rests ∙ append-nil here))
+    (sym (ap (λ step. account_after_step step t (suc taken) (row_in row)) rests ∙ quiet-past bounds (suc t) t (row_in row) its (omega arith)))
+    (sym (ap (λ step. here ++ account_packet step t (suc taken) (row_in row)) rests ∙ append-nil here))
     (let none : taken_by (step_in bounds was t row) ≡ 0 = ap taken_by rests in omega (arith, none))
     (let none : dropped_by (step_in bounds was t row) ≡ 0 = ap dropped_by rests in omega (arith, none)))
 
@@ -149,7 +149,7 @@ pub record StandsStepped (bounds : List ℕ) (was : List Arrival) (t before : �
 
 pub all-stepped : (bounds : List ℕ) (was : List Arrival) (t before : ℕ) (old : List ServedRow) (i : ℕ) (rows : List ServedRow) (here : List Arrival) (taken lost : ℕ)
     → HaveStepped bounds was t before old i rows here taken lost → length old ≤ i → length rows ≤ i → StandsStepped bounds was t before old rows here taken lost
-unfolding kept_packets kept_rows_after kept_lost
+unfolding account_packets account_rows_after account_dropped
 all-stepped bounds was t before old i rows here taken lost so past end =
     let none : drop i old ≡ [] = drop_all i old past in
     let full : take i rows ≡ rows = take_all i rows end in

@@ -3,7 +3,7 @@ use Rattle.std.proofs.Common.{◌≡◌, ℕ, suc, ◌+◌, ◌-◌, ◌≤◌, 
 use Rattle.std.proofs.lemmas.Option.{none-some}
 use Rattle.std.specs.Prelude.{find, unwrap_or}
 use Rattle.link_server.proofs.Words.{nat_lt, slots_of, SourcePacket, is_for, Arrival, SourceStep, Rests, Brings, Drops, source_step, arrival_at, taken_by, dropped_by, reservation_in, row_in, ServedRow, HeldPacket}
-use Rattle.link_steps.specs.Account.{AccountRow, kept_step, kept_tick, kept_with, kept_packet, kept_after_step, past_tick}
+use Rattle.link_steps.specs.Account.{AccountRow, account_step, account_tick, account_with, account_packet, account_after_step, past_tick}
 use Rattle.link_server.specs.Departed.{IsCounted}
 use Rattle.link_server.specs.Planned.{left_in, size_of}
 use Rattle.link_server.specs.Sources.{own_step, step_in}
@@ -45,13 +45,13 @@ step-brings bounds t size free row next some departed same slot is =
 
 -- it is the account's, where the row's packets are counted
 pub step-counted : (bounds : List ℕ) (here : List Arrival) (t : ℕ) (row : ServedRow) → IsCounted here (row_in row) row.departed → own_step bounds t row ≡ step_in bounds here t row
-unfolding kept_step
+unfolding account_step
 step-counted bounds here t row counted =
     let all = counted.taken in
     ap (λ n. source_step (nat_lt n (slots_of bounds (reservation_in row))) (find (is_for t) (left_in row.planned))) (omega (arith, all))
 
 -- a step takes as many packets as it brings, and loses one at most
-pub packet-length : (step : SourceStep) (t place : ℕ) (row : AccountRow) → length (kept_packet step t place row) ≡ taken_by step
+pub packet-length : (step : SourceStep) (t place : ℕ) (row : AccountRow) → length (account_packet step t place row) ≡ taken_by step
 packet-length (Brings size) t place row = refl
 packet-length Rests t place row = refl
 packet-length Drops t place row = refl
@@ -63,20 +63,20 @@ lost_by-most Drops = omega arith
 
 -- the packet that a row takes whose packet for the tick is no longer left, after those here
 pub brought-here : (t size taken place : ℕ) (here : List Arrival) (packet : HeldPacket) (new old : ServedRow) → place ≡ taken + 1 → row_in new ≡ past_tick t (row_in old)
-    → arrival_in packet ≡ arrival_at (reservation_in new) new.lead place (suc new.taken) size t (kept_tick (row_in new) t)
-    → here ++ arrival_in packet ∷ [] ≡ here ++ kept_packet (Brings size) t (suc taken) (row_in old)
+    → arrival_in packet ≡ arrival_at (reservation_in new) new.lead place (suc new.taken) size t (account_tick (row_in new) t)
+    → here ++ arrival_in packet ∷ [] ≡ here ++ account_packet (Brings size) t (suc taken) (row_in old)
 brought-here t size taken place here packet new old number same taking =
     let next : place ≡ suc taken = omega (arith, number) in
     ap (λ p. here ++ p ∷ []) (taking
-    ∙ ap (λ row. arrival_at row.terms row.lead place (suc row.taken) size t (kept_tick row t)) same
-    ∙ ap (λ n. arrival_at (reservation_in old) old.lead n (suc old.taken) size t (kept_tick (row_in old) t)) next)
+    ∙ ap (λ row. arrival_at row.terms row.lead place (suc row.taken) size t (account_tick row t)) same
+    ∙ ap (λ n. arrival_at (reservation_in old) old.lead n (suc old.taken) size t (account_tick (row_in old) t)) next)
 
 -- and the row afterwards
 pub brought-row : (t size taken place : ℕ) (last new old : ServedRow) → place ≡ taken + 1 → row_in new ≡ past_tick t (row_in old)
-    → row_in last ≡ kept_with place (kept_tick (row_in new) t) (row_in new)
-    → row_in last ≡ kept_after_step (Brings size) t (suc taken) (row_in old)
+    → row_in last ≡ account_with place (account_tick (row_in new) t) (row_in new)
+    → row_in last ≡ account_after_step (Brings size) t (suc taken) (row_in old)
 brought-row t size taken place last new old number same taking =
     let next : place ≡ suc taken = omega (arith, number) in
     taking
-    ∙ ap (λ row. kept_with place (kept_tick row t) row) same
-    ∙ ap (λ n. kept_with n (kept_tick (row_in old) t) (past_tick t (row_in old))) next
+    ∙ ap (λ row. account_with place (account_tick row t) row) same
+    ∙ ap (λ n. account_with n (account_tick (row_in old) t) (past_tick t (row_in old))) next

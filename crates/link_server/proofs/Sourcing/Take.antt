@@ -3,7 +3,7 @@ use Rattle.std.proofs.Common.{◌≡◌, ℕ, suc, ◌+◌, Bool, true, false, L
 use Rattle.std.specs.Prelude.{max}
 use Rattle.net_units.specs.declared.Kind.{Kind}
 use Rattle.net_units.specs.declared.Kind.TheVariants.{Rate, Jitter}
-use Rattle.link_server.proofs.Words.{level_number, AccountRow, kept_with, Reservation, SourcePacket, Arrival, lead_with, arrival_at}
+use Rattle.link_server.proofs.Words.{level_number, AccountRow, account_with, Reservation, SourcePacket, Arrival, lead_with, arrival_at}
 use Rattle.traffic_contract.specs.Contract.{burst_of}
 use Rattle.traffic_contract.specs.Eligible.{eligible, earliest_tick}
 use Rattle.regulator_core.specs.Kept.{KeptTicks, regulator_with}
@@ -52,7 +52,7 @@ abbrev row-of : Reservation → ℕ → ℕ → List ℕ → List SourcePacket �
 row-of terms lead taken recent left = record { terms = terms; lead = lead; taken = taken; recent = recent; left = left }
 
 pub row-taken : (terms : Reservation) (lead new_lead place taken : ℕ) (left : List SourcePacket) (old new : KeptTicks) (e answered : ℕ) → new_lead ≡ lead_with lead place → old.contract ≡ terms.contract → new ≡ regulator_with old answered → answered ≡ e
-    → row-of terms new_lead (taken + 1) new.recent left ≡ kept_with place e (record { terms = terms; lead = lead; taken = taken; recent = old.recent; left = left })
+    → row-of terms new_lead (taken + 1) new.recent left ≡ account_with place e (record { terms = terms; lead = lead; taken = taken; recent = old.recent; left = left })
 row-taken terms lead new_lead place taken left old new e answered same contract kept tick =
     let recent : new.recent ≡ take (burst_of terms.contract) (e ∷ old.recent) =
     ap (λ k. k.recent) kept ∙ ap (λ c. take (burst_of c) (answered ∷ old.recent)) contract ∙ ap (λ n. take (burst_of terms.contract) (n ∷ old.recent)) tick in

@@ -2,7 +2,7 @@
 use Rattle.std.proofs.Common.{◌≡◌, ◌≢◌, ℕ, suc, ◌+◌, ◌-◌, ◌<◌, ◌≤◌, Bool, true, false, inl, inr, ⊎_elim, List, [], ◌∷◌, length, map, get_or, set, drop, refl, sym, ap, ◌∙◌, subst, All, arith}
 use Rattle.std.proofs.lemmas.Bool.{cases_Bool, cases_lt, eqb-true, eq-eqb, leb-true, false≢true}
 use Rattle.std.proofs.lemmas.List.{drop_more, drop_all, get_or_past, get_or_default, get_or-set_same, get_or-set_other, length-set}
-use Rattle.link_server.proofs.Words.{nat_eq, nat_le, if◌then◌else◌, AccountRow, kept_after_step, Each, SourcePacket, left_at, Arrival, SourceStep, Rests, Brings, Drops, Entry, Schedule, row_in, ServedRow}
+use Rattle.link_server.proofs.Words.{nat_eq, nat_le, if◌then◌else◌, AccountRow, account_after_step, Each, SourcePacket, left_at, Arrival, SourceStep, Rests, Brings, Drops, Entry, Timetable, row_in, ServedRow}
 use Rattle.link_server.specs.Planned.{IsPlannedFrom}
 use Rattle.link_server.specs.KeyedList.{AreRising}
 use Rattle.link_server.specs.Plans.{IsTold, idle_count, idle_in, is_turn, ArePlanned, AreCalled, IsQuiet}
@@ -15,7 +15,7 @@ use Rattle.link_server.proofs.Sourcing.Rows.{HaveStepped, none-stepped, quiet-up
 -- ---- the packets
 
 -- the rows without a turn have no packet for the tick
-pub others-quiet : (clock : ℕ) (plans : Schedule) (turns : List ℕ) (rows : List ServedRow) → AreCalled clock plans turns rows → All (λ entry. clock < entry.0) plans.entries → (place : ℕ) (d : ServedRow) → place < length rows → is_turn turns place ≡ false → IsQuiet (suc clock) (row_in (get_or rows place d))
+pub others-quiet : (clock : ℕ) (plans : Timetable) (turns : List ℕ) (rows : List ServedRow) → AreCalled clock plans turns rows → All (λ entry. clock < entry.0) plans.entries → (place : ℕ) (d : ServedRow) → place < length rows → is_turn turns place ≡ false → IsQuiet (suc clock) (row_in (get_or rows place d))
 others-quiet clock plans turns rows called later place d inside not =
     told-quiet clock plans.entries (get_or rows place d) later (called.told place d inside not)
 
@@ -27,7 +27,7 @@ turn-within high turns k rising = elim (cases_lt k (length turns)) [
 ]
 
 -- so the rows before it have made their steps as they are
-pub first-turn : (bounds : List ℕ) (was : List Arrival) (t before : ℕ) (plans : Schedule) (turns : List ℕ) (rows : List ServedRow) → AreCalled t plans turns rows → All (λ entry. t < entry.0) plans.entries
+pub first-turn : (bounds : List ℕ) (was : List Arrival) (t before : ℕ) (plans : Timetable) (turns : List ℕ) (rows : List ServedRow) → AreCalled t plans turns rows → All (λ entry. t < entry.0) plans.entries
     → HaveStepped bounds was t before rows (get_or turns 0 (length rows)) rows was before 0
 first-turn bounds was t before plans turns rows called later =
     let within = turn-within (length rows) turns 0 called.rising in
@@ -35,7 +35,7 @@ first-turn bounds was t before plans turns rows called later =
     (λ place d from below. others-quiet t plans turns rows called later place d (omega (arith, below, within)) (none-first 0 (length rows) turns place called.rising below))
 
 -- and those between one turn and the next
-pub next-turn : (bounds : List ℕ) (was : List Arrival) (t before : ℕ) (plans : Schedule) (turns : List ℕ) (old : List ServedRow) (k : ℕ) (rows : List ServedRow) (here : List Arrival) (taken lost : ℕ) → AreCalled t plans turns old → All (λ entry. t < entry.0) plans.entries → length rows ≡ length old → k < length turns
+pub next-turn : (bounds : List ℕ) (was : List Arrival) (t before : ℕ) (plans : Timetable) (turns : List ℕ) (old : List ServedRow) (k : ℕ) (rows : List ServedRow) (here : List Arrival) (taken lost : ℕ) → AreCalled t plans turns old → All (λ entry. t < entry.0) plans.entries → length rows ≡ length old → k < length turns
     → HaveStepped bounds was t before old (get_or turns k 0 + 1) rows here taken lost → HaveStepped bounds was t before old (get_or turns (k + 1) (length old)) rows here taken lost
 next-turn bounds was t before plans turns old k rows here taken lost called later same inside so =
     let next : k + 1 ≡ suc k = omega arith in
@@ -64,12 +64,12 @@ later-left t (p ∷ left) = from (nat_le (suc t) p.tick) refl (later-left t left
   from true is rest = (leb-true (suc t) p.tick is, rest)
   from false is rest = rest
 
-left-after : (step : SourceStep) (t place : ℕ) (row : AccountRow) → (kept_after_step step t place row).left ≡ left_at (suc t) row.left
+left-after : (step : SourceStep) (t place : ℕ) (row : AccountRow) → (account_after_step step t place row).left ≡ left_at (suc t) row.left
 left-after Rests t place row = refl
 left-after (Brings size) t place row = refl
 left-after Drops t place row = refl
 
-pub stepped-later : (step : SourceStep) (t place : ℕ) (new row : AccountRow) → new ≡ kept_after_step step t place row → Each (IsPlannedFrom (suc t)) new.left
+pub stepped-later : (step : SourceStep) (t place : ℕ) (new row : AccountRow) → new ≡ account_after_step step t place row → Each (IsPlannedFrom (suc t)) new.left
 stepped-later step t place new row same =
     subst (Each (IsPlannedFrom (suc t))) (sym (ap (λ r. r.left) same ∙ left-after step t place row)) (later-left t row.left)
 
@@ -91,13 +91,13 @@ told-after turns k old new rows row inside within told others own place d below 
     (cases_Bool (nat_eq place (get_or turns k 0)))
 
 -- and there is room for the rest
-pub room-after : (turns place : ℕ) (old new : Schedule) (rows : List ServedRow) (i : ℕ) (row d : ServedRow) → place < turns → i < length rows → idle_in (map row_in rows) + (turns - place) ≤ old.spare → idle_count (row_in row) + old.spare ≤ new.spare + 1 → idle_in (map row_in (set rows i row)) + (turns - (place + 1)) ≤ new.spare
+pub room-after : (turns place : ℕ) (old new : Timetable) (rows : List ServedRow) (i : ℕ) (row d : ServedRow) → place < turns → i < length rows → idle_in (map row_in rows) + (turns - place) ≤ old.spare → idle_count (row_in row) + old.spare ≤ new.spare + 1 → idle_in (map row_in (set rows i row)) + (turns - (place + 1)) ≤ new.spare
 room-after turns place old new rows i row d inside within room spare =
     let all = row-set idle_count rows i row d within in
     omega (arith, inside, room, spare, all)
 
 -- at the end all are told of
-pub all-turned : (clock : ℕ) (plans : Schedule) (turns : List ℕ) (k : ℕ) (rows : List ServedRow) → plans.clock ≤ clock → length turns ≤ k → ((place : ℕ) (d : ServedRow) → place < length rows → is_turn (drop k turns) place ≡ false → IsTold plans.entries (row_in (get_or rows place d)))
+pub all-turned : (clock : ℕ) (plans : Timetable) (turns : List ℕ) (k : ℕ) (rows : List ServedRow) → plans.clock ≤ clock → length turns ≤ k → ((place : ℕ) (d : ServedRow) → place < length rows → is_turn (drop k turns) place ≡ false → IsTold plans.entries (row_in (get_or rows place d)))
     → idle_in (map row_in rows) + (length turns - k) ≤ plans.spare → ArePlanned clock plans (map row_in rows)
 all-turned clock plans turns k rows begun past told room = record {
   begun = begun;

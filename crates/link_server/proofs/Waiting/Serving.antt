@@ -1,7 +1,7 @@
 -- The packet that occupies the link in a tick can go on in it, and departs at its end if that is its last tick.
 use Rattle.std.proofs.Common.{◌≡◌, ℕ, suc, ◌+◌, ◌<◌, ◌≤◌, Bool, true, false, cond, not, List, [], ◌∷◌, Option, Some, None, refl, sym, ap, ◌∙◌, subst, arith}
 use Rattle.std.proofs.lemmas.Bool.{leb-true, lt-leb, le-leb, eq-eqb, cond_both}
-use Rattle.link_server.proofs.Words.{filter, LinkShape, is_best, Each, KeptQueue}
+use Rattle.link_server.proofs.Words.{filter, LinkShape, is_best, Each, QueueAccount}
 use Rattle.link_steps.specs.declared.replies.Sent.{Sent}
 use Rattle.link_steps.specs.Account.{is_eligible_by, is_other, start_at, served, departs, best_departs, still_here, still_on}
 use Rattle.link_steps.specs.Replies.{sent_of}
@@ -65,20 +65,20 @@ best-departs-now shape clock occupies occupant running best goes same is last ma
 -- ---- the queue once the tick is served
 
 -- the queue in which this packet occupies the link, if one does
-abbrev pub occupied : KeptQueue → Option Start → ℕ → KeptQueue
+abbrev pub occupied : QueueAccount → Option Start → ℕ → QueueAccount
 occupied queue on looked = record queue { on = on; looked = looked }
 
 -- the queue at the end of the tick in which it did, on a link of this rate
-abbrev pub served-queue : ℕ → ℕ → KeptQueue → Option Start → ℕ → KeptQueue
+abbrev pub served-queue : ℕ → ℕ → QueueAccount → Option Start → ℕ → QueueAccount
 served-queue rate clock queue on looked = record queue { here = still_here rate clock on queue.here; on = still_on rate clock on; looked = looked }
 
 -- where none does, nothing departs
-pub none-served : (rate clock looked : ℕ) (queue : KeptQueue) (occupant : Option Running) (on : Option Start) → on_in occupant ≡ on → None ≡ occupant → occupied queue (on_in occupant) looked ≡ served-queue rate clock queue on looked
+pub none-served : (rate clock looked : ℕ) (queue : QueueAccount) (occupant : Option Running) (on : Option Start) → on_in occupant ≡ on → None ≡ occupant → occupied queue (on_in occupant) looked ≡ served-queue rate clock queue on looked
 none-served rate clock looked queue None on same none = ap (λ o. served-queue rate clock queue o looked) same
 none-served rate clock looked queue (Some running) on same none = cc
 
 -- one that leaves later stays on
-pub goes-on-served : (rate clock looked : ℕ) (queue : KeptQueue) (occupant : Option Running) (on : Option Start) (running : Running) → on_in occupant ≡ on → occupant ≡ Some running → clock + 1 < leaves_at rate (start_in running)
+pub goes-on-served : (rate clock looked : ℕ) (queue : QueueAccount) (occupant : Option Running) (on : Option Start) (running : Running) → on_in occupant ≡ on → occupant ≡ Some running → clock + 1 < leaves_at rate (start_in running)
     → occupied queue (on_in occupant) looked ≡ served-queue rate clock queue on looked
 goes-on-served rate clock looked queue occupant on running same is later =
     let start = start_in running in
@@ -87,7 +87,7 @@ goes-on-served rate clock looked queue occupant on running same is later =
     rw (same, on_is, stays) refl
 
 -- and one whose last tick is over departs
-pub departs-served : (rate clock looked : ℕ) (queue : KeptQueue) (occupant : Option Running) (on : Option Start) (running : Running) → on_in occupant ≡ on → occupant ≡ Some running → leaves_at rate (start_in running) ≤ clock + 1
+pub departs-served : (rate clock looked : ℕ) (queue : QueueAccount) (occupant : Option Running) (on : Option Start) (running : Running) → on_in occupant ≡ on → occupant ≡ Some running → leaves_at rate (start_in running) ≤ clock + 1
     → record queue { here = filter (is_other (start_in running)) queue.here; on = None; looked = looked } ≡ served-queue rate clock queue on looked
 departs-served rate clock looked queue occupant on running same is last =
     let start = start_in running in

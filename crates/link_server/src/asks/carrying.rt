@@ -2,9 +2,9 @@
 ghost use Rattle.std.specs.Prelude.{◌≡◌, ◌^◌, ◌<◌, ◌≤◌};
 ghost use Rattle.link_steps.specs.declared.asks.Ask.TheVariants.{Submit as AskSubmit, Release as AskRelease, Arrive as AskArrive, Pour as AskPour};
 ghost use Rattle.link_steps.specs.Split.{whole};
-ghost use Rattle.link_steps.specs.Account.{kept_reply, kept_after};
+ghost use Rattle.link_steps.specs.Account.{account_reply, account_after};
 ghost use Rattle.link_steps.specs.Legal.{SubmitFits, PacketFits};
-ghost use Rattle.link_server.specs.State.{kept_in};
+ghost use Rattle.link_server.specs.State.{account_in};
 
 use crate::link_state::LinkState;
 use crate::planned::Planned;
@@ -19,8 +19,8 @@ impl LinkState {
         requires early { self.old.clock < 2 ^ 61 }
         ensures shape { self.new.shape ≡ self.old.shape }
         ensures clock { self.new.clock ≡ self.old.clock }
-        ensures reply { result ≡ kept_reply (whole self.old.shape) (kept_in self.old) (AskSubmit chan count gap size) }
-        ensures kept { kept_in self.new ≡ kept_after self.old.shape (kept_in self.old) (AskSubmit chan count gap size) result }
+        ensures reply { result ≡ account_reply (whole self.old.shape) (account_in self.old) (AskSubmit chan count gap size) }
+        ensures kept { account_in self.new ≡ account_after self.old.shape (account_in self.old) (AskSubmit chan count gap size) result }
     {
         let Some(row) = self.table.row_at_hop(chan, true) else {
             return Reply::Refused(Refusal::NoSuch);
@@ -50,8 +50,8 @@ impl LinkState {
         requires early { self.old.clock < 2 ^ 61 }
         ensures shape { self.new.shape ≡ self.old.shape }
         ensures clock { self.new.clock ≡ self.old.clock }
-        ensures reply { result ≡ kept_reply (whole self.old.shape) (kept_in self.old) (AskRelease chan upstream) }
-        ensures kept { kept_in self.new ≡ kept_after self.old.shape (kept_in self.old) (AskRelease chan upstream) result }
+        ensures reply { result ≡ account_reply (whole self.old.shape) (account_in self.old) (AskRelease chan upstream) }
+        ensures kept { account_in self.new ≡ account_after self.old.shape (account_in self.old) (AskRelease chan upstream) result }
     {
         let Some(row) = self.table.row_at_hop(chan, upstream.is_none()) else {
             return Reply::Refused(Refusal::NoSuch);
@@ -72,8 +72,8 @@ impl LinkState {
         requires early { self.old.clock < 2 ^ 61 }
         ensures shape { self.new.shape ≡ self.old.shape }
         ensures clock { self.new.clock ≡ self.old.clock }
-        ensures reply { result ≡ kept_reply (whole self.old.shape) (kept_in self.old) (AskArrive packet.now) }
-        ensures kept { kept_in self.new ≡ kept_after self.old.shape (kept_in self.old) (AskArrive packet.now) result }
+        ensures reply { result ≡ account_reply (whole self.old.shape) (account_in self.old) (AskArrive packet.now) }
+        ensures kept { account_in self.new ≡ account_after self.old.shape (account_in self.old) (AskArrive packet.now) result }
     {
         let Some(row) = self.table.row_of(packet.chan) else {
             return Reply::Refused(Refusal::Stray { why: Why::NoRow });
@@ -103,8 +103,8 @@ impl LinkState {
         requires early { self.old.clock < 2 ^ 61 }
         ensures shape { self.new.shape ≡ self.old.shape }
         ensures clock { self.new.clock ≡ self.old.clock }
-        ensures reply { result ≡ kept_reply (whole self.old.shape) (kept_in self.old) (AskPour count gap size) }
-        ensures kept { kept_in self.new ≡ kept_after self.old.shape (kept_in self.old) (AskPour count gap size) result }
+        ensures reply { result ≡ account_reply (whole self.old.shape) (account_in self.old) (AskPour count gap size) }
+        ensures kept { account_in self.new ≡ account_after self.old.shape (account_in self.old) (AskPour count gap size) result }
     {
         if let Some(refusal) = busy_with(self.queue.best_left()) {
             return Reply::Refused(refusal);

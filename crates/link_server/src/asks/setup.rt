@@ -8,11 +8,11 @@ ghost use Rattle.link_steps.specs.Admissible.{IsAdmissible};
 ghost use Rattle.link_steps.specs.HopGuarantee.{HopGuarantee};
 ghost use Rattle.link_steps.specs.Replies.{reply_to};
 ghost use Rattle.link_steps.specs.Split.{whole};
-ghost use Rattle.link_steps.specs.Account.{kept_reply, kept_after};
+ghost use Rattle.link_steps.specs.Account.{account_reply, account_after};
 ghost use Rattle.link_steps.specs.Legal.{AskFits, ReserveFits, RelaxFits};
 ghost use Rattle.link_server.specs.Asks.{IsOffer};
 ghost use Rattle.link_server.specs.Held.{reservations_held, reach_at, MayReserve, IsBestFor};
-ghost use Rattle.link_server.specs.State.{kept_in, LinkStands};
+ghost use Rattle.link_server.specs.State.{account_in, LinkStands};
 ghost use Rattle.link_server.specs.Wants.{ask_for, offer_reply, MayHold};
 
 use crate::link_state::LinkState;
@@ -27,10 +27,10 @@ impl LinkState {
         requires fits { ReserveFits wanted.now.contract wanted.now.up_reach wanted.now.first }
         ensures shape { self.new.shape ≡ self.old.shape }
         ensures clock { self.new.clock ≡ self.old.clock }
-        ensures reply { IfOk result (λ reply. reply ≡ kept_reply (whole self.old.shape) (kept_in self.old) (ask_for wanted.now)) }
-        ensures kept { IfOk result (λ reply. kept_in self.new ≡ kept_after self.old.shape (kept_in self.old) (ask_for wanted.now) reply) }
-        ensures memory { OnErr result (kept_in self.new ≡ kept_in self.old) }
-        ensures instead { OnErr result (IsOffer (kept_reply (whole self.old.shape) (kept_in self.old) (ask_for wanted.now))) }
+        ensures reply { IfOk result (λ reply. reply ≡ account_reply (whole self.old.shape) (account_in self.old) (ask_for wanted.now)) }
+        ensures kept { IfOk result (λ reply. account_in self.new ≡ account_after self.old.shape (account_in self.old) (ask_for wanted.now) reply) }
+        ensures memory { OnErr result (account_in self.new ≡ account_in self.old) }
+        ensures instead { OnErr result (IsOffer (account_reply (whole self.old.shape) (account_in self.old) (ask_for wanted.now))) }
     {
         match self.offer(wanted) {
             Ok(offer) => {
@@ -92,7 +92,7 @@ impl LinkState {
     // The offer that a reserve gets, or its refusal.
     fn offer(&self, wanted: &Wanted) -> Result<Offered, Refusal>
         requires fits { ReserveFits wanted.now.contract wanted.now.up_reach wanted.now.first }
-        ensures reply { offer_reply result ≡ kept_reply (whole self.now.shape) (kept_in self.now) (ask_for wanted.now) }
+        ensures reply { offer_reply result ≡ account_reply (whole self.now.shape) (account_in self.now) (ask_for wanted.now) }
         ensures may { IfOk result (MayHold self.now.shape (reservations_held self.now) wanted.now) }
     {
         let smax = wanted.contract.smax();
@@ -128,8 +128,8 @@ impl LinkState {
         requires may { MayHold self.old.shape (reservations_held self.old) wanted.now offer.now }
         ensures shape { self.new.shape ≡ self.old.shape }
         ensures clock { self.new.clock ≡ self.old.clock }
-        ensures kept { OnOk result (kept_in self.new ≡ kept_after self.old.shape (kept_in self.old) (ask_for wanted.now) (Offer offer.now.level offer.now.reach)) }
-        ensures memory { OnErr result (kept_in self.new ≡ kept_in self.old) }
+        ensures kept { OnOk result (account_in self.new ≡ account_after self.old.shape (account_in self.old) (ask_for wanted.now) (Offer offer.now.level offer.now.reach)) }
+        ensures memory { OnErr result (account_in self.new ≡ account_in self.old) }
     {
         let row = ServedRow::new(self.alloc, wanted, offer)?;
         let places = self.table.places_with(&row) + u64::from(self.shape.best) + 1;
@@ -144,8 +144,8 @@ impl LinkState {
         requires fits { RelaxFits (length self.old.shape.bounds) (level_number level) up_bound }
         ensures shape { self.new.shape ≡ self.old.shape }
         ensures clock { self.new.clock ≡ self.old.clock }
-        ensures reply { result ≡ kept_reply (whole self.old.shape) (kept_in self.old) (AskRelax chan level up_bound) }
-        ensures kept { kept_in self.new ≡ kept_after self.old.shape (kept_in self.old) (AskRelax chan level up_bound) result }
+        ensures reply { result ≡ account_reply (whole self.old.shape) (account_in self.old) (AskRelax chan level up_bound) }
+        ensures kept { account_in self.new ≡ account_after self.old.shape (account_in self.old) (AskRelax chan level up_bound) result }
     {
         let Some(row) = self.table.row_of(chan) else {
             return Reply::Refused(Refusal::NoSuch);
@@ -165,8 +165,8 @@ impl LinkState {
     pub(crate) fn deny(&mut self, chan: ChanNo) -> Reply
         ensures shape { self.new.shape ≡ self.old.shape }
         ensures clock { self.new.clock ≡ self.old.clock }
-        ensures reply { result ≡ kept_reply (whole self.old.shape) (kept_in self.old) (AskDeny chan) }
-        ensures kept { kept_in self.new ≡ kept_after self.old.shape (kept_in self.old) (AskDeny chan) result }
+        ensures reply { result ≡ account_reply (whole self.old.shape) (account_in self.old) (AskDeny chan) }
+        ensures kept { account_in self.new ≡ account_after self.old.shape (account_in self.old) (AskDeny chan) result }
     {
         let Some(row) = self.table.row_of(chan) else {
             return Reply::Refused(Refusal::NoSuch);

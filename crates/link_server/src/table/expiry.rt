@@ -1,7 +1,7 @@
 //! Rows expire once their hold has ended: a calendar tells which, and in which tick.
 ghost use Rattle.std.specs.Prelude.{◌≡◌, ◌+◌, ◌^◌, ◌<◌, ◌≤◌, List, length, map, filter, IfNone, IfSome};
 ghost use Rattle.buffer_budget.specs.Parts.{whole_of};
-ghost use Rattle.link_steps.specs.Account.{AccountRow, kept_stays};
+ghost use Rattle.link_steps.specs.Account.{AccountRow, account_stays};
 ghost use Rattle.link_steps.specs.Lists.{Each};
 ghost use Rattle.link_steps.specs.Service.{Arrival};
 ghost use Rattle.link_server.specs.Departed.{AreCounted, departed_in};
@@ -51,7 +51,7 @@ pub(crate) fn expire(
     requires ready { AreReady clock rows.old.items }
     requires parts { AreParts (whole_of keeping.old.budget) bounds.now rows.old.items sums.old keeping.old }
     requires indexed { IsIndex index.now.keys.items rows.old.keys (channels_in rows.old.items) }
-    ensures rows { map row_in rows.new.items ≡ filter (kept_stays bounds.now clock) (map row_in rows.old.items) }
+    ensures rows { map row_in rows.new.items ≡ filter (account_stays bounds.now clock) (map row_in rows.old.items) }
     ensures counted { (here : List Arrival) → AreCounted here (map row_in rows.old.items) (map departed_in rows.old.items) → AreCounted here (map row_in rows.new.items) (map departed_in rows.new.items) }
     ensures listed { AreListed bounds.now clock holds.new (map row_in rows.new.items) }
     ensures parts { AreParts (whole_of keeping.old.budget) bounds.now rows.new.items sums.new keeping.new }

@@ -1,7 +1,7 @@
 //! What the rows of a link keep together. These are running numbers, so that no row is looked at to tell them.
 ghost use Rattle.std.specs.Prelude.{◌≡◌, ◌+◌, ◌-◌, ◌^◌, ◌<◌, ◌≤◌, length};
 ghost use Rattle.buffer_budget.specs.Parts.{with_held, with_freed};
-ghost use Rattle.link_steps.specs.Buffer.{kept_units};
+ghost use Rattle.link_steps.specs.Buffer.{held_units};
 ghost use Rattle.link_server.specs.Rows.{reservation_in, IsWithinLevels};
 
 use crate::table::served_row::ServedRow;
@@ -34,9 +34,9 @@ impl Keeping {
     // A row holds what it keeps.
     pub(crate) fn hold(&mut self, row: &ServedRow, bounds: &Bounds)
         requires within { IsWithinLevels (length bounds.now) row.now }
-        requires free { kept_units bounds.now (reservation_in row.now) ≤ self.old.budget.free }
+        requires free { held_units bounds.now (reservation_in row.now) ≤ self.old.budget.free }
         requires few { self.old.places + places_for bounds.now (reservation_in row.now) < 2 ^ 55 }
-        ensures budget { self.new.budget ≡ with_held self.old.budget (kept_units bounds.now (reservation_in row.now)) }
+        ensures budget { self.new.budget ≡ with_held self.old.budget (held_units bounds.now (reservation_in row.now)) }
         ensures places { self.new.places ≡ self.old.places + places_for bounds.now (reservation_in row.now) }
     {
         if self.budget.try_hold(row.units(bounds)).is_err() {
@@ -48,9 +48,9 @@ impl Keeping {
     // A row gives back what it keeps.
     pub(crate) fn give_back(&mut self, row: &ServedRow, bounds: &Bounds)
         requires within { IsWithinLevels (length bounds.now) row.now }
-        requires held { kept_units bounds.now (reservation_in row.now) ≤ self.old.budget.held }
+        requires held { held_units bounds.now (reservation_in row.now) ≤ self.old.budget.held }
         requires places { places_for bounds.now (reservation_in row.now) ≤ self.old.places }
-        ensures budget { self.new.budget ≡ with_freed self.old.budget (kept_units bounds.now (reservation_in row.now)) }
+        ensures budget { self.new.budget ≡ with_freed self.old.budget (held_units bounds.now (reservation_in row.now)) }
         ensures places { self.new.places ≡ self.old.places - places_for bounds.now (reservation_in row.now) }
     {
         self.budget.give_back(row.units(bounds));

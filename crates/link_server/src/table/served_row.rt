@@ -75,10 +75,10 @@ pub(crate) struct ServedRow {
 }
 
 impl ServedRow {
-    ghost use Rattle.link_steps.specs.Buffer.{stay_of, slots_of, kept_units};
+    ghost use Rattle.link_steps.specs.Buffer.{stay_of, slots_of, held_units};
     ghost use Rattle.link_steps.specs.declared.replies.Phase.TheVariants.{Tentative, Committed};
     ghost use Rattle.link_steps.specs.Refusals.{not_in_phase, unfit, too_big, full};
-    ghost use Rattle.link_steps.specs.Account.{new_kept, kept_relaxed, kept_planned, kept_closed, past_tick, kept_with};
+    ghost use Rattle.link_steps.specs.Account.{new_account, account_relaxed, account_planned, account_closed, past_tick, account_with};
     ghost use Rattle.link_steps.specs.Regulator.{eligible_next};
     ghost use Rattle.link_steps.specs.Replies.{count_at_release, cancelled_at_release};
     ghost use Rattle.link_steps.specs.Hold.{hold_ended};
@@ -99,7 +99,7 @@ impl ServedRow {
     ) -> Result<ServedRow, OutOfMemory>
         requires contract { IsContract wanted.now.contract }
         requires reach { wanted.now.up_reach ≤ most_bound }
-        ensures row { IfOk result (λ row. row_in row ≡ new_kept (tentative wanted.now.chan wanted.now.contract wanted.now.kind wanted.now.first wanted.now.next wanted.now.up_reach offer.now.level offer.now.reach)) }
+        ensures row { IfOk result (λ row. row_in row ≡ new_account (tentative wanted.now.chan wanted.now.contract wanted.now.kind wanted.now.first wanted.now.next wanted.now.up_reach offer.now.level offer.now.reach)) }
         ensures departed { IfOk result (λ row. row.departed ≡ 0) }
     {
         let regulator = Regulator::new(alloc, wanted.contract, wanted.kind)?;
@@ -164,7 +164,7 @@ impl ServedRow {
     pub(crate) fn commit(&mut self, level: Level, up_bound: u64, bounds: &Bounds)
         requires bound { up_bound ≤ most_bound }
         requires within { level_number level ≤ length bounds.now }
-        ensures row { row_in self.new ≡ kept_relaxed level up_bound (row_in self.old) }
+        ensures row { row_in self.new ≡ account_relaxed level up_bound (row_in self.old) }
         ensures departed { self.new.departed ≡ self.old.departed }
     {
         let stay = up_bound + u64::from(bounds.at(level));
@@ -209,7 +209,7 @@ impl ServedRow {
     // Plans packets where none are left.
     pub(crate) fn plan(&mut self, planned: Planned)
         requires { length (left_in self.old.planned) ≡ 0 }
-        ensures row { row_in self.new ≡ kept_planned planned.tick planned.count planned.gap planned.size (row_in self.old) }
+        ensures row { row_in self.new ≡ account_planned planned.tick planned.count planned.gap planned.size (row_in self.old) }
         ensures departed { self.new.departed ≡ self.old.departed }
     {
         self.planned = planned;
@@ -237,7 +237,7 @@ impl ServedRow {
 
     // Closes it, with the count of its packets. Nothing is planned any more.
     pub(crate) fn close(&mut self, count: u64)
-        ensures row { row_in self.new ≡ kept_closed count (row_in self.old) }
+        ensures row { row_in self.new ≡ account_closed count (row_in self.old) }
         ensures departed { self.new.departed ≡ self.old.departed }
     {
         self.phase = Phase::Closing;
@@ -325,7 +325,7 @@ impl ServedRow {
         requires last { newest (row_in self.old).recent < 2 ^ 63 }
         requires few { self.old.taken + 1 < 2 ^ 64 }
         ensures packet { arrival_in result ≡ arrival_at (reservation_in self.old) self.old.lead place (suc self.old.taken) size clock (eligible_next (reservation_in self.old) (row_in self.old).recent clock due) }
-        ensures row { row_in self.new ≡ kept_with place (eligible_next (reservation_in self.old) (row_in self.old).recent clock due) (row_in self.old) }
+        ensures row { row_in self.new ≡ account_with place (eligible_next (reservation_in self.old) (row_in self.old).recent clock due) (row_in self.old) }
         ensures departed { self.new.departed ≡ self.old.departed }
     {
         let eligible = self.regulator.admit(clock, due);
@@ -392,7 +392,7 @@ impl ServedRow {
     // The units that it keeps.
     pub(crate) fn units(&self, bounds: &Bounds) -> u64
         requires { IsWithinLevels (length bounds.now) self.now }
-        ensures { result ≡ kept_units bounds.now (reservation_in self.now) }
+        ensures { result ≡ held_units bounds.now (reservation_in self.now) }
     {
         units_for(&self.contract, self.stay(bounds))
     }

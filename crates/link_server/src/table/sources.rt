@@ -1,6 +1,6 @@
 //! The sources' part of a tick: the packets that are planned for it arrive.
 ghost use Rattle.std.specs.Prelude.{◌≡◌, ◌+◌, ◌^◌, ◌<◌, ◌≤◌, ◌++◌, suc, if◌then◌else◌, All, length, map};
-ghost use Rattle.link_steps.specs.Account.{kept_packet, kept_after_step};
+ghost use Rattle.link_steps.specs.Account.{account_packet, account_after_step};
 ghost use Rattle.link_steps.specs.Sources.{taken_by, dropped_by};
 ghost use Rattle.link_server.specs.Plans.{ArePlanned, AreCalled};
 ghost use Rattle.link_server.specs.Departed.{AreCounted, departed_in};
@@ -59,8 +59,8 @@ fn take_source_packet(row: &mut ServedRow, queue: &mut Queue, bounds: &Bounds, c
     requires room { length queue.old.here + taken_by (own_step bounds.now clock row.old) ≤ queue.old.room }
     requires numbers { queue.old.taken + taken_by (own_step bounds.now clock row.old) < 2 ^ 64 }
     ensures lost { (if result then 1 else 0) ≡ dropped_by (own_step bounds.now clock row.old) }
-    ensures row { row_in row.new ≡ kept_after_step (own_step bounds.now clock row.old) clock (suc queue.old.taken) (row_in row.old) }
-    ensures kept { queue.new ≡ record queue.old { taken = queue.old.taken + taken_by (own_step bounds.now clock row.old); here = queue.old.here ++ kept_packet (own_step bounds.now clock row.old) clock (suc queue.old.taken) (row_in row.old); looked = queue.new.looked } }
+    ensures row { row_in row.new ≡ account_after_step (own_step bounds.now clock row.old) clock (suc queue.old.taken) (row_in row.old) }
+    ensures kept { queue.new ≡ record queue.old { taken = queue.old.taken + taken_by (own_step bounds.now clock row.old); here = queue.old.here ++ account_packet (own_step bounds.now clock row.old) clock (suc queue.old.taken) (row_in row.old); looked = queue.new.looked } }
     ensures looked { queue.new.looked ≤ clock }
     ensures departed { row.new.departed ≡ row.old.departed }
 {

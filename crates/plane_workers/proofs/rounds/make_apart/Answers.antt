@@ -2,7 +2,7 @@
 use Rattle.std.proofs.Common.{◌≡◌, ◌≤◌, length, map, ap, ◌∙◌, arith}
 use Rattle.std.proofs.lemmas.List.{with_items_is}
 use Rattle.link_quota.specs.declared.any_link.AnyLink.{AnyLink}
-use Rattle.tick_plane.specs.Kept.{KeptPlane}
+use Rattle.tick_plane.specs.PlaneAccount.{PlaneAccount}
 use Rattle.plane_workers.specs.declared.desk.Desk.{Desk}
 use Rattle.plane_workers.proofs.LinksAtDesks.{engine-again, plane-actor, seen-first}
 use Rattle.plane_workers.proofs.rounds.make_apart.Goals as goal
@@ -18,14 +18,14 @@ make_window-requires-clause-between g c κs within = (
 )
 
 pub make_window-requires-clause-early : goal.make_window-requires-clause-early
-make_window-requires-clause-early g c κs within = (let same = ap (λ (p : KeptPlane). p.at.round) c.into_parts-links.ensures.plane in let early = c.requires.early in omega (arith, same, early))
+make_window-requires-clause-early g c κs within = (let same = ap (λ (p : PlaneAccount). p.at.round) c.into_parts-links.ensures.plane in let early = c.requires.early in omega (arith, same, early))
 
 pub make_window-requires-clause-near : goal.make_window-requires-clause-near
-make_window-requires-clause-near g c κs within = (let same = ap (λ (p : KeptPlane). p.at.round) c.into_parts-links.ensures.plane in let near = c.requires.near in omega (arith, same, near))
+make_window-requires-clause-near g c κs within = (let same = ap (λ (p : PlaneAccount). p.at.round) c.into_parts-links.ensures.plane in let near = c.requires.near in omega (arith, same, near))
 
 pub make_window-requires-clause-all : goal.make_window-requires-clause-all
 make_window-requires-clause-all g c κs within =
-    let same = ap (λ (p : KeptPlane). p.rounds) c.into_parts-links.ensures.plane in
+    let same = ap (λ (p : PlaneAccount). p.rounds) c.into_parts-links.ensures.plane in
     let rounds = c.requires.stand.1.stands.actors.plane.rounds in
     let all = c.requires.all in
     omega (arith, same, rounds, all)
@@ -48,4 +48,4 @@ returns-clause-plays g c = λ past stand.
     c.from_parts.ensures.plane c.from_parts.ensures.callers goes
 
 pub returns-clause-at : goal.returns-clause-at
-returns-clause-at g c = (let at = c.in_ok-busy.ensures.at in let same = ap (λ (p : KeptPlane). p.at.round) c.from_parts.ensures.plane in omega (arith, at, same))
+returns-clause-at g c = (let at = c.in_ok-busy.ensures.at in let same = ap (λ (p : PlaneAccount). p.at.round) c.from_parts.ensures.plane in omega (arith, at, same))

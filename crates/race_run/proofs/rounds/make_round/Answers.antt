@@ -1,5 +1,5 @@
 use Rattle.std.proofs.Common.{◌≡◌, ◌+◌, ◌⊎◌, ◌∙◌, subst, arith}
-use Rattle.tick_plane.specs.Kept.{KeptPlane}
+use Rattle.tick_plane.specs.PlaneAccount.{PlaneAccount}
 use Rattle.call_script.specs.Tasks.{network_of}
 use Rattle.race_run.proofs.PlaneWithPass.{early-next}
 use Rattle.shared_network.proofs.CallsInTurn.{goes-both, above-both}
@@ -9,7 +9,7 @@ pub loop-plane-preserved : goal.loop-plane-preserved
 loop-plane-preserved g c =
     let so = c.loop-plane.invariant in
     let made = c.in_ok-make_step.ensures in
-    let plane : KeptPlane = c.make_step.new.plane in
+    let plane : PlaneAccount = c.make_step.new.plane in
     let here : c.loop-plane.plane.at.round ≡ c.round-round.result = omega (arith, c.round.ensures, c.loop-plane-test.true) in
     record {
       on = made.on;

@@ -1,6 +1,6 @@
 -- One entry more, at the end.
 use Rattle.std.proofs.Common.{◌≡◌, ◌+◌, ◌-◌, ◌++◌, ◌∷◌, [], List, ap, ◌∙◌, subst, arith}
-use Rattle.tick_calendar.specs.Calendar.{Schedule, Entry}
+use Rattle.tick_calendar.specs.Calendar.{Timetable, Entry}
 use Rattle.tick_calendar.specs.Wheel.{entries_in, AreAllFrom}
 use Rattle.tick_calendar.proofs.TakesWhatIsDue.{put-kept, put-from}
 use Rattle.tick_calendar.proofs.Calendar.put.Goals as goal
@@ -16,12 +16,12 @@ clear_if_full-requires-clause-ahead c = c.self.invariant.0.ahead
 
 pub clear_if_full-requires-clause-fits : goal.clear_if_full-requires-clause-fits
 clear_if_full-requires-clause-fits c =
-    let clock = ap (λ (s : Schedule). s.clock) c.self.view_is in
+    let clock = ap (λ (s : Timetable). s.clock) c.self.view_is in
     omega (arith, c.self.invariant.0.begun, c.requires.ahead, c.ranges.tick, clock)
 
 pub clear_if_full-requires-clause-room : goal.clear_if_full-requires-clause-room
 clear_if_full-requires-clause-room c =
-    let spare = ap (λ (s : Schedule). s.spare) c.self.view_is in
+    let spare = ap (λ (s : Timetable). s.spare) c.self.view_is in
     omega (arith, c.self.invariant.0.counted, c.self.invariant.0.roomy, c.requires.room, spare)
 
 pub append-requires-clause-wheel : goal.append-requires-clause-wheel
@@ -29,7 +29,7 @@ append-requires-clause-wheel c = c.clear_if_full.ensures.wheel
 
 pub append-requires-clause-ahead : goal.append-requires-clause-ahead
 append-requires-clause-ahead c =
-    let clock = ap (λ (s : Schedule). s.clock) c.self.view_is in
+    let clock = ap (λ (s : Timetable). s.clock) c.self.view_is in
     omega (arith, c.clear_if_full.ensures.begun, c.self.invariant.0.begun, c.requires.ahead, clock)
 
 pub append-requires-clause-room : goal.append-requires-clause-room
@@ -37,13 +37,13 @@ append-requires-clause-room c = c.clear_if_full.ensures.room
 
 pub overflow_add-self : goal.overflow_add-self
 overflow_add-self c =
-    let spare = ap (λ (s : Schedule). s.spare) c.self.view_is in
+    let spare = ap (λ (s : Timetable). s.spare) c.self.view_is in
     omega (arith, spare, c.requires.room)
 
 pub invariant_of-self : goal.invariant_of-self
 invariant_of-self c =
-    let spare = ap (λ (s : Schedule). s.spare) c.self.view_is in
-    let clock = ap (λ (s : Schedule). s.clock) c.self.view_is in
+    let spare = ap (λ (s : Timetable). s.spare) c.self.view_is in
+    let clock = ap (λ (s : Timetable). s.clock) c.self.view_is in
     let begun : c.self.inside.wheel.base + c.self.inside.wheel.slot ≡ c.append.new.self.base + c.append.new.self.slot = omega (arith, c.clear_if_full.ensures.begun, c.append.ensures.base, c.append.ensures.slot) in (
       put-kept c.append.new.self.places.items (entries_in c.self.inside.wheel.places.items) c.append.new.self.firsts.items c.append.new.self.lasts.items c.append.new.self.base c.append.new.self.slot
           c.self.inside.waiting c.self.inside.room c.self.inside.clock _ c.args.tick c.args.key c.append.ensures.wheel (omega (arith, c.append.ensures.slot, c.clear_if_full.ensures.slot))
@@ -55,9 +55,9 @@ invariant_of-self c =
 
 pub returns : goal.returns
 returns c =
-    let entries = ap (λ (s : Schedule). s.entries) c.self.view_is in
-    let spare = ap (λ (s : Schedule). s.spare) c.self.view_is in
-    let clock = ap (λ (s : Schedule). s.clock) c.self.view_is in
+    let entries = ap (λ (s : Timetable). s.entries) c.self.view_is in
+    let spare = ap (λ (s : Timetable). s.spare) c.self.view_is in
+    let clock = ap (λ (s : Timetable). s.clock) c.self.view_is in
     let more : entries_in c.append.new.self.places.items ≡ c.args.self.now.entries ++ (c.args.tick, c.args.key) ∷ [] =
     c.append.ensures.entries ∙ ap (λ (es : List Entry). es ++ (c.args.tick, c.args.key) ∷ []) (c.clear_if_full.ensures.entries ∙ entries) in
     let less : c.self.inside.room - (c.self.inside.waiting + 1) ≡ c.args.self.now.spare - 1 = omega (arith, spare) in

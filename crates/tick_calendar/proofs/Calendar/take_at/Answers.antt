@@ -1,6 +1,6 @@
 -- The wheel's first due entry is the calendar's.
 use Rattle.std.proofs.Common.{◌≡◌, ◌+◌, suc, length, refl, ap, sym, ◌∙◌, subst, arith}
-use Rattle.tick_calendar.specs.Calendar.{Schedule}
+use Rattle.tick_calendar.specs.Calendar.{Timetable}
 use Rattle.tick_calendar.specs.Wheel.{entries_in, AreAllFrom, RemovesFirst}
 use Rattle.tick_calendar.proofs.TakesWhatIsDue.{all-later, due-none, left-all, taken-not_ahead, takes-due, removes-one, removes-due, take-kept, taken-from}
 use Rattle.tick_calendar.proofs.Calendar.take_at.Goals as goal
@@ -13,7 +13,7 @@ first_due-requires-clause-slot c = c.self.invariant.0.slot_most
 
 pub first_due-requires-clause-begun : goal.first_due-requires-clause-begun
 first_due-requires-clause-begun c =
-    let clock = ap (λ (s : Schedule). s.clock) c.self.view_is in
+    let clock = ap (λ (s : Timetable). s.clock) c.self.view_is in
     omega (arith, c.self.invariant.0.begun, c.requires, clock)
 
 pub first_due-requires-clause-ahead : goal.first_due-requires-clause-ahead
@@ -35,24 +35,24 @@ invariant_of-self c = (
 
 pub returns-in_err-first-clause-key : goal.returns-in_err-first-clause-key
 returns-in_err-first-clause-key c =
-    let seen = ap (λ (s : Schedule). s.entries) c.self.view_is in
+    let seen = ap (λ (s : Timetable). s.entries) c.self.view_is in
     let ahead : AreAllFrom (suc c.args.now) c.args.self.now.entries = subst (AreAllFrom (suc c.args.now)) (c.first_due.ensures.entries ∙ seen) (c.first_due.ensures.none c.in_err-first.was) in
     c.from_residual.ensures ∙ sym (due-none c.args.now c.args.self.now.entries ahead)
 
 pub returns-in_err-first-clause-left : goal.returns-in_err-first-clause-left
 returns-in_err-first-clause-left c =
-    let seen = ap (λ (s : Schedule). s.entries) c.self.view_is in
+    let seen = ap (λ (s : Timetable). s.entries) c.self.view_is in
     let ahead : AreAllFrom (suc c.args.now) c.args.self.now.entries = subst (AreAllFrom (suc c.args.now)) (c.first_due.ensures.entries ∙ seen) (c.first_due.ensures.none c.in_err-first.was) in
     c.first_due.ensures.entries ∙ seen ∙ sym (left-all c.args.now c.args.self.now.entries ahead)
 
 pub returns-in_err-first-clause-spare : goal.returns-in_err-first-clause-spare
 returns-in_err-first-clause-spare c =
-    let spare = ap (λ (s : Schedule). s.spare) c.self.view_is in
+    let spare = ap (λ (s : Timetable). s.spare) c.self.view_is in
     rw c.from_residual.ensures (omega (arith, spare))
 
 pub returns-in_err-first-clause-none : goal.returns-in_err-first-clause-none
 returns-in_err-first-clause-none c =
-    let seen = ap (λ (s : Schedule). s.entries) c.self.view_is in
+    let seen = ap (λ (s : Timetable). s.entries) c.self.view_is in
     let ahead : AreAllFrom (suc c.args.now) c.args.self.now.entries = subst (AreAllFrom (suc c.args.now)) (c.first_due.ensures.entries ∙ seen) (c.first_due.ensures.none c.in_err-first.was) in
     (λ _. all-later c.args.now c.args.self.now.entries ahead, λ _. rw c.from_residual.ensures refl)
 
@@ -86,29 +86,29 @@ invariant_of-self-2 c =
 
 pub returns-clause-key : goal.returns-clause-key
 returns-clause-key c =
-    let seen = ap (λ (s : Schedule). s.entries) c.self.view_is in
+    let seen = ap (λ (s : Timetable). s.entries) c.self.view_is in
     let due = removes-due (c.first_due.new.self.base + c.first_due.new.self.slot) c.args.now c.take-key.result c.args.self.now.entries c.first_due.new.self.places.items c.take-key.new.self.places.items c.take-key.ensures.entries (c.first_due.ensures.entries ∙ seen) c.first_due.ensures.ahead c.first_due.ensures.begun in
     sym due.0
 
 pub returns-clause-left : goal.returns-clause-left
 returns-clause-left c =
-    let seen = ap (λ (s : Schedule). s.entries) c.self.view_is in
+    let seen = ap (λ (s : Timetable). s.entries) c.self.view_is in
     let due = removes-due (c.first_due.new.self.base + c.first_due.new.self.slot) c.args.now c.take-key.result c.args.self.now.entries c.first_due.new.self.places.items c.take-key.new.self.places.items c.take-key.ensures.entries (c.first_due.ensures.entries ∙ seen) c.first_due.ensures.ahead c.first_due.ensures.begun in
     sym due.1
 
 pub returns-clause-spare : goal.returns-clause-spare
 returns-clause-spare c =
-    let spare = ap (λ (s : Schedule). s.spare) c.self.view_is in
+    let spare = ap (λ (s : Timetable). s.spare) c.self.view_is in
     omega (arith, spare, c.self.invariant.0.within, c.self.invariant.0.counted, ap length c.first_due.ensures.entries, removes-one (c.first_due.new.self.base + c.first_due.new.self.slot) c.take-key.result c.first_due.new.self.places.items c.take-key.new.self.places.items c.take-key.ensures.entries)
 
 pub returns-clause-none : goal.returns-clause-none
 returns-clause-none c =
-    let seen = ap (λ (s : Schedule). s.entries) c.self.view_is in
+    let seen = ap (λ (s : Timetable). s.entries) c.self.view_is in
     let due = removes-due (c.first_due.new.self.base + c.first_due.new.self.slot) c.args.now c.take-key.result c.args.self.now.entries c.first_due.new.self.places.items c.take-key.new.self.places.items c.take-key.ensures.entries (c.first_due.ensures.entries ∙ seen) c.first_due.ensures.ahead c.first_due.ensures.begun in
     (λ none. absurd (cc (none)), λ ahead. absurd (taken-not_ahead c.args.self.now.entries c.args.now c.take-key.result due.0 ahead))
 
 pub returns-clause-taken : goal.returns-clause-taken
 returns-clause-taken c =
-    let seen = ap (λ (s : Schedule). s.entries) c.self.view_is in
+    let seen = ap (λ (s : Timetable). s.entries) c.self.view_is in
     let due = removes-due (c.first_due.new.self.base + c.first_due.new.self.slot) c.args.now c.take-key.result c.args.self.now.entries c.first_due.new.self.places.items c.take-key.new.self.places.items c.take-key.ensures.entries (c.first_due.ensures.entries ∙ seen) c.first_due.ensures.ahead c.first_due.ensures.begun in
     takes-due c.args.self.now.entries (entries_in c.take-key.new.self.places.items) c.args.now c.take-key.result due.0 due.1

@@ -1,6 +1,6 @@
 -- The numbers of a plan's links and rounds are those of a plane.
 use Rattle.std.proofs.Common.{ap, ◌∙◌, length, arith}
-use Rattle.tick_plane.specs.Kept.{KeptPlane}
+use Rattle.tick_plane.specs.PlaneAccount.{PlaneAccount}
 use Rattle.interleave_core.proofs.Keeping.KeptActors.{plane-made}
 use Rattle.interleave_core.proofs.Keeping.CoreStep.{has-few}
 use Rattle.interleave_core.proofs.actors.Actors.new.Goals as goal
@@ -26,7 +26,7 @@ returns-clause-stand c =
     record {
       callers = c.in_ok-callers.ensures.stand;
       plane = plane-made c.args.plan.now c.in_ok-plane.plane
-          (ap (λ (p : KeptPlane). p.links) is ∙ ap length c.links.ensures.value)
-          (ap (λ (p : KeptPlane). p.rounds) is ∙ omega (arith, c.rounds.ensures.value, c.tail.ensures.value))
-          (ap (λ (p : KeptPlane). p.at) is);
+          (ap (λ (p : PlaneAccount). p.links) is ∙ ap length c.links.ensures.value)
+          (ap (λ (p : PlaneAccount). p.rounds) is ∙ omega (arith, c.rounds.ensures.value, c.tail.ensures.value))
+          (ap (λ (p : PlaneAccount). p.at) is);
     }

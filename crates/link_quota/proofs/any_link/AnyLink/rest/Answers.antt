@@ -5,14 +5,14 @@ use Rattle.link_steps.specs.declared.replies.Entry.{Entry}
 use Rattle.link_steps.specs.Quiet.{RestsUntil, quiet_reply, quiet_ticks}
 use Rattle.link_steps.specs.Replies.{reply_to}
 use Rattle.link_server.specs.State.{LinkStands}
-use Rattle.link_quota.specs.Any.{any_clock, any_kept, any_rules, AnyStands}
+use Rattle.link_quota.specs.Any.{any_clock, any_account, any_rules, AnyStands}
 use Rattle.link_quota.specs.State.{QuotaStands}
 use Rattle.link_quota.specs.declared.any_link.AnyLink.{AnyLink}
 use Rattle.link_quota.proofs.any_link.AnyLink.rest.Goals as goal
 
 -- so many ticks before one until which it rests
 abbrev RestsFor : AnyLink → ℕ → Type 0
-RestsFor any ticks = (until : ℕ) × (RestsUntil (any_rules any).shape until (any_kept any) × (any_clock any + ticks ≤ until))
+RestsFor any ticks = (until : ℕ) × (RestsUntil (any_rules any).shape until (any_account any) × (any_clock any + ticks ≤ until))
 
 pub rest-requires-clause-rests : goal.rest-requires-clause-rests
 rest-requires-clause-rests c = subst (λ any. RestsFor any c.args.ticks) c.in-Plain.is c.requires.rests

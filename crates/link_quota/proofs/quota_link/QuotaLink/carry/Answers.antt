@@ -3,7 +3,7 @@ use Rattle.std.proofs.Common.{sym, ap, subst}
 use Rattle.std.specs.Vec.{vec_capacity}
 use Rattle.link_steps.specs.Split.{Link, SplitFits}
 use Rattle.link_server.specs.Held.{reservations_held}
-use Rattle.link_server.specs.State.{kept_in}
+use Rattle.link_server.specs.State.{account_in}
 use Rattle.link_quota.specs.Closing.{AreClosing}
 use Rattle.link_quota.specs.Shares.{AreShares}
 use Rattle.link_quota.specs.State.{rules_of}
@@ -29,11 +29,11 @@ invariant_of-self c =
     record {
       fits = subst (λ s. SplitFits (record { shape = s; split = c.args.self.now.split })) (sym shape) c.args.self.now.fits;
       shared = subst (λ s. AreShares (record { shape = s; split = c.args.self.now.split }) (reservations_held c.step.new.self) c.args.self.now.shares.items) (sym shape)
-          (carried-all (rules_of c.args.self.now) (kept_in c.args.self.now.link) (kept_in c.step.new.self) c.args.ask.now c.step.result c.args.self.now.shares.items goes same c.requires.carries c.args.self.now.stood c.args.self.now.shared);
+          (carried-all (rules_of c.args.self.now) (account_in c.args.self.now.link) (account_in c.step.new.self) c.args.ask.now c.step.result c.args.self.now.shares.items goes same c.requires.carries c.args.self.now.stood c.args.self.now.shared);
       listed = subst (λ s. AreClosing (record { shape = s; split = c.args.self.now.split }) (reservations_held c.step.new.self) c.args.self.now.closing.items) (sym shape)
-          (closing-carried (rules_of c.args.self.now) (kept_in c.args.self.now.link) (kept_in c.step.new.self) c.args.ask.now c.step.result c.args.self.now.closing.items goes same c.requires.carries c.args.self.now.stood c.args.self.now.listed);
-      room = room-carried (rules_of c.args.self.now) (kept_in c.args.self.now.link) (kept_in c.step.new.self) c.args.ask.now c.step.result (vec_capacity c.args.self.now.closing) goes same c.requires.carries c.args.self.now.stood c.args.self.now.room;
-      stood = subst (λ s. IsLegallyStood (record { shape = s; split = c.args.self.now.split }) (kept_in c.step.new.self)) (sym shape)
-          (stood-all (rules_of c.args.self.now) (kept_in c.args.self.now.link) (kept_in c.step.new.self) c.args.ask.now c.step.result goes same c.args.self.now.stood);
-      rests = due-now c.step.new.self.shape (kept_in c.step.new.self);
+          (closing-carried (rules_of c.args.self.now) (account_in c.args.self.now.link) (account_in c.step.new.self) c.args.ask.now c.step.result c.args.self.now.closing.items goes same c.requires.carries c.args.self.now.stood c.args.self.now.listed);
+      room = room-carried (rules_of c.args.self.now) (account_in c.args.self.now.link) (account_in c.step.new.self) c.args.ask.now c.step.result (vec_capacity c.args.self.now.closing) goes same c.requires.carries c.args.self.now.stood c.args.self.now.room;
+      stood = subst (λ s. IsLegallyStood (record { shape = s; split = c.args.self.now.split }) (account_in c.step.new.self)) (sym shape)
+          (stood-all (rules_of c.args.self.now) (account_in c.args.self.now.link) (account_in c.step.new.self) c.args.ask.now c.step.result goes same c.args.self.now.stood);
+      rests = due-now c.step.new.self.shape (account_in c.step.new.self);
     }

@@ -2,7 +2,7 @@
 use Rattle.std.proofs.lemmas.List.{length_push}
 use Rattle.link_quota.specs.declared.share.Share.{Share}
 use Rattle.std.proofs.Common.{◌≡◌, ◌∙◌, List, [], ◌∷◌, ◌++◌, ◌+◌, length, rules, sym, ap, subst, arith}
-use Rattle.link_server.specs.State.{kept_in}
+use Rattle.link_server.specs.State.{account_in}
 use Rattle.traffic_contract.specs.Admission.{total}
 use Rattle.link_quota.specs.Closing.{closing_part}
 use Rattle.link_quota.specs.Shares.{AreShares}
@@ -26,8 +26,8 @@ invariant_of-result c =
           (shares-none (record { shape = c.in_ok-link.link.shape; split = c.args.split }) c.loop.shares.items c.loop.index (omega (arith, long)) (omega (arith, long, past, end, quotas)) c.loop.invariant.1);
       listed = λ splits f. ap (total f) (let empty : c.new-2.result.items ≡ [] = search rules in empty) ∙ ap (total (closing_part c.in_ok-link.link.shape.bounds f)) (sym (held-new c.in_ok-link.link stands));
       room = λ splits. (let none = ap length (held-new c.in_ok-link.link stands) in omega (arith, none));
-      stood = stood-new (record { shape = c.in_ok-link.link.shape; split = c.args.split }) (kept_in c.in_ok-link.link) stands;
-      rests = due-now c.in_ok-link.link.shape (kept_in c.in_ok-link.link);
+      stood = stood-new (record { shape = c.in_ok-link.link.shape; split = c.args.split }) (account_in c.in_ok-link.link) stands;
+      rests = due-now c.in_ok-link.link.shape (account_in c.in_ok-link.link);
     }
 
 pub loop-preserved : goal.loop-preserved

@@ -12,7 +12,7 @@ use Rattle.link_steps.specs.Replies.{reserve_reply, reserve_reply_in}
 use Rattle.link_steps.specs.Reservation.{is_of}
 use Rattle.link_steps.proofs.LevelByNumber.{level_of-level}
 use Rattle.link_server.specs.Held.{reservations_held}
-use Rattle.link_server.specs.State.{kept_in}
+use Rattle.link_server.specs.State.{account_in}
 use Rattle.std.specs.List.{slice_index}
 use Rattle.link_quota.specs.Best.{best_of, load_of}
 use Rattle.link_quota.specs.Places.{IsQuotaOf}
@@ -63,7 +63,7 @@ returns-in-Some c =
 pub overflow_sub-free : goal.overflow_sub-free
 overflow_sub-free c =
     let here = goal.at.overflow_sub-free c in
-    let within = stood-within (rules_of c.args.self.now) (kept_in c.args.self.now.link) c.args.self.now.fits c.requires.splits c.args.self.now.stood in
+    let within = stood-within (rules_of c.args.self.now) (account_in c.args.self.now.link) c.args.self.now.fits c.requires.splits c.args.self.now.stood in
     let most = within.buffer c.group_of-group.result in
     let units = c.of_group.ensures.share.units in
     let quota = c.of_group.ensures.quota.buffer in

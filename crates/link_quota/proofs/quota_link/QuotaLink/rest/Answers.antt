@@ -4,7 +4,7 @@ use Rattle.link_steps.specs.Account.{Account}
 use Rattle.link_steps.specs.Split.{Link, SplitFits}
 use Rattle.link_steps.proofs.QuietTicks.{later-rests, quiet-ticks}
 use Rattle.link_server.specs.Resting.{RestsFromClock}
-use Rattle.link_server.specs.State.{kept_in}
+use Rattle.link_server.specs.State.{account_in}
 use Rattle.link_server.proofs.EveryHistoryAgrees.{rows-have}
 use Rattle.std.specs.Vec.{vec_capacity}
 use Rattle.link_quota.specs.Closing.{AreClosing, HasRoomToClose}
@@ -22,15 +22,15 @@ invariant_of-self c =
     let rests = c.requires.rests in
     record {
       fits = subst (λ s. SplitFits (record { shape = s; split = quota.split })) (sym shape) quota.fits;
-      shared = subst (λ s. AreShares (record { shape = s; split = quota.split }) (held_in (kept_in c.rest.new.self)) quota.shares.items) (sym shape)
+      shared = subst (λ s. AreShares (record { shape = s; split = quota.split }) (held_in (account_in c.rest.new.self)) quota.shares.items) (sym shape)
           (subst (λ (k : Account). AreShares (rules_of quota) (held_in k) quota.shares.items) (sym c.rest.ensures.kept) quota.shared);
-      listed = subst (λ s. AreClosing (record { shape = s; split = quota.split }) (held_in (kept_in c.rest.new.self)) quota.closing.items) (sym shape)
+      listed = subst (λ s. AreClosing (record { shape = s; split = quota.split }) (held_in (account_in c.rest.new.self)) quota.closing.items) (sym shape)
           (subst (λ (k : Account). AreClosing (rules_of quota) (held_in k) quota.closing.items) (sym c.rest.ensures.kept) quota.listed);
       room = subst (λ (k : Account). HasRoomToClose quota.split (held_in k) (vec_capacity quota.closing)) (sym c.rest.ensures.kept) quota.room;
-      stood = subst (λ s. IsLegallyStood (record { shape = s; split = quota.split }) (kept_in c.rest.new.self)) (sym shape)
-          (subst (IsLegallyStood (rules_of quota)) (sym c.rest.ensures.kept) (later-stood (rules_of quota) rests.0 c.args.ticks (kept_in quota.link) (rows-have quota.link) rests.1.0 rests.1.1 quota.stood));
-      rests = subst (λ s. RestsFromClock s quota.due (kept_in c.rest.new.self)) (sym shape)
-          (subst (RestsFromClock quota.link.shape quota.due) (sym c.rest.ensures.kept) (λ before. later-rests quota.link.shape quota.due c.args.ticks (kept_in quota.link) (quota.rests (omega (arith, before)))));
+      stood = subst (λ s. IsLegallyStood (record { shape = s; split = quota.split }) (account_in c.rest.new.self)) (sym shape)
+          (subst (IsLegallyStood (rules_of quota)) (sym c.rest.ensures.kept) (later-stood (rules_of quota) rests.0 c.args.ticks (account_in quota.link) (rows-have quota.link) rests.1.0 rests.1.1 quota.stood));
+      rests = subst (λ s. RestsFromClock s quota.due (account_in c.rest.new.self)) (sym shape)
+          (subst (RestsFromClock quota.link.shape quota.due) (sym c.rest.ensures.kept) (λ before. later-rests quota.link.shape quota.due c.args.ticks (account_in quota.link) (quota.rests (omega (arith, before)))));
     }
 
 pub returns-clause-same : goal.returns-clause-same
@@ -40,4 +40,4 @@ pub returns-clause-legal : goal.returns-clause-legal
 returns-clause-legal c = λ m h few stands.
     let quota = c.args.self.now in
     let rests = c.requires.rests in
-    (quiet-ticks (rules_of quota) rests.0 c.args.ticks (kept_in quota.link) h (rows-have quota.link) stands rests.1.0 rests.1.1).replied m few
+    (quiet-ticks (rules_of quota) rests.0 c.args.ticks (account_in quota.link) h (rows-have quota.link) stands rests.1.0 rests.1.1).replied m few

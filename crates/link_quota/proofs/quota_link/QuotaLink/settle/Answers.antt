@@ -4,7 +4,7 @@ use Rattle.std.specs.Prelude.{IfSome}
 use Rattle.std.specs.Vec.{vec_capacity}
 use Rattle.link_steps.specs.Split.{Link, SplitFits}
 use Rattle.link_server.specs.Held.{reservations_held, seen_of}
-use Rattle.link_server.specs.State.{kept_in}
+use Rattle.link_server.specs.State.{account_in}
 use Rattle.link_quota.specs.Places.{HavePart, AreSmall, AreChangedBy, value_of}
 use Rattle.traffic_contract.specs.Admission.{total}
 use Rattle.link_quota.specs.Closing.{AreClosing, HasRoomToClose, is_closing, if_closing}
@@ -21,12 +21,12 @@ use Rattle.link_server.proofs.LinkRests.{due-now}
 use Rattle.link_quota.proofs.quota_link.QuotaLink.settle.Goals as goal
 use Rattle.link_quota.proofs.quota_link.QuotaLink.settle.Goals.{In_ok-reply, After-shape-shape, After-held_of-after}
 
-goes : (c : In_ok-reply) → GoesOn (rules_of c.args.self.now) (kept_in c.args.self.now.link) (kept_in c.step.new.self) c.args.ask.now c.in_ok-reply.reply
+goes : (c : In_ok-reply) → GoesOn (rules_of c.args.self.now) (account_in c.args.self.now.link) (account_in c.step.new.self) c.args.ask.now c.in_ok-reply.reply
 goes c =
     goes-on c.args.self.now.split c.args.self.now.link c.step.new.self c.args.ask.now c.in_ok-reply.reply (settling-other c.args.chan c.args.ask.now c.requires.settles) c.requires.fits (ap (λ (l : Link). l.shape) c.step.ensures.same) c.in_ok-reply.ensures.legal c.in_ok-reply.ensures.entered
 
-stood : (c : In_ok-reply) → IsLegallyStood (rules_of c.args.self.now) (kept_in c.step.new.self)
-stood c = stood-goes (rules_of c.args.self.now) (kept_in c.args.self.now.link) (kept_in c.step.new.self) c.args.ask.now c.in_ok-reply.reply (goes c) c.args.self.now.stood
+stood : (c : In_ok-reply) → IsLegallyStood (rules_of c.args.self.now) (account_in c.step.new.self)
+stood c = stood-goes (rules_of c.args.self.now) (account_in c.args.self.now.link) (account_in c.step.new.self) c.args.ask.now c.in_ok-reply.reply (goes c) c.args.self.now.stood
 
 -- the shape is as it was
 shape : (c : After-shape-shape) → c.shape-shape.result ≡ c.args.self.now.link.shape
@@ -44,7 +44,7 @@ change_row-requires-clause-few c =
     let here = goal.at.change_row-requires-clause-few c in
     subst (λ s. AreSmall (record { shape = s; split = c.args.self.now.split }) c.deref_mut.result.now) (sym (shape here.After-shape-shape))
     (subst (λ (items : List Share). AreSmall (rules_of c.args.self.now) items) (sym c.deref_mut.ensures.value)
-    (small-shares (rules_of c.args.self.now) (kept_in c.args.self.now.link) c.args.self.now.shares.items c.args.self.now.fits c.requires.splits c.args.self.now.stood c.args.self.now.shared))
+    (small-shares (rules_of c.args.self.now) (account_in c.args.self.now.link) c.args.self.now.shares.items c.args.self.now.fits c.requires.splits c.args.self.now.stood c.args.self.now.shared))
 
 -- what is seen of the channel afterwards
 after : (c : After-held_of-after) → c.held_of-after.result ≡ seen_of c.args.self.now.link.shape.bounds (reservations_held c.step.new.self) c.args.chan
@@ -53,14 +53,14 @@ after c = c.held_of-after.ensures.row ∙ ap (λ s. seen_of s.bounds (reservatio
 pub change_row-requires-clause-small : goal.change_row-requires-clause-small
 change_row-requires-clause-small c =
     let here = goal.at.change_row-requires-clause-small c in
-    small-after (rules_of c.args.self.now) (kept_in c.step.new.self) c.args.chan c.held_of-after.result c.args.self.now.fits c.requires.splits (stood here.In_ok-reply) (after here.After-held_of-after)
+    small-after (rules_of c.args.self.now) (account_in c.step.new.self) c.args.chan c.held_of-after.result c.args.self.now.fits c.requires.splits (stood here.In_ok-reply) (after here.After-held_of-after)
 
 pub list_released-requires : goal.list_released-requires
 list_released-requires c =
     let here = goal.at.list_released-requires c in
     record {
       room = λ apart closes.
-          place-to-close (rules_of c.args.self.now) (kept_in c.args.self.now.link) (kept_in c.step.new.self) c.args.ask.now c.in_ok-reply.reply c.args.chan c.args.self.now.closing.items (vec_capacity c.args.self.now.closing) c.args.self.now.fits c.requires.splits (goes here.In_ok-reply) c.requires.settles c.args.self.now.stood c.args.self.now.listed c.args.self.now.room
+          place-to-close (rules_of c.args.self.now) (account_in c.args.self.now.link) (account_in c.step.new.self) c.args.ask.now c.in_ok-reply.reply c.args.chan c.args.self.now.closing.items (vec_capacity c.args.self.now.closing) c.args.self.now.fits c.requires.splits (goes here.In_ok-reply) c.requires.settles c.args.self.now.stood c.args.self.now.listed c.args.self.now.room
           (sym (ap is_closing c.held_of-before.ensures.row) ∙ apart) (sym (ap is_closing (after here.After-held_of-after)) ∙ closes);
     }
 
@@ -83,15 +83,15 @@ invariant_of-self-2 c =
       shared =
           subst (λ (items : List Share). AreShares (record { shape = c.step.new.self.shape; split = c.args.self.now.split }) (reservations_held c.step.new.self) items) (sym back)
           (subst (λ s. AreShares (record { shape = s; split = c.args.self.now.split }) (reservations_held c.step.new.self) c.change_row.new.shares) (sym same)
-          (shares-setup (rules_of c.args.self.now) (kept_in c.args.self.now.link) (kept_in c.step.new.self) c.args.ask.now c.in_ok-reply.reply c.args.chan c.args.self.now.shares.items c.change_row.new.shares c.args.self.now.fits (goes here.In_ok-reply) (settling-setup c.args.chan c.args.ask.now c.requires.settles) (λ h stands. settling-new c.args.chan c.args.ask.now c.in_ok-reply.reply _ c.requires.settles) c.args.self.now.stood c.args.self.now.shared changed));
+          (shares-setup (rules_of c.args.self.now) (account_in c.args.self.now.link) (account_in c.step.new.self) c.args.ask.now c.in_ok-reply.reply c.args.chan c.args.self.now.shares.items c.change_row.new.shares c.args.self.now.fits (goes here.In_ok-reply) (settling-setup c.args.chan c.args.ask.now c.requires.settles) (λ h stands. settling-new c.args.chan c.args.ask.now c.in_ok-reply.reply _ c.requires.settles) c.args.self.now.stood c.args.self.now.shared changed));
       listed = subst (λ s. AreClosing (record { shape = s; split = c.args.self.now.split }) (reservations_held c.step.new.self) c.list_released.new.closing.items) (sym same)
-          (closing-settled (rules_of c.args.self.now) (kept_in c.args.self.now.link) (kept_in c.step.new.self) c.args.ask.now c.in_ok-reply.reply c.args.chan c.args.self.now.closing.items c.list_released.new.closing.items c.args.self.now.fits (goes here.In_ok-reply) c.requires.settles c.args.self.now.stood
+          (closing-settled (rules_of c.args.self.now) (account_in c.args.self.now.link) (account_in c.step.new.self) c.args.ask.now c.in_ok-reply.reply c.args.chan c.args.self.now.closing.items c.list_released.new.closing.items c.args.self.now.fits (goes here.In_ok-reply) c.requires.settles c.args.self.now.stood
           (λ apart f. c.list_released.ensures.new (ap is_closing c.held_of-before.ensures.row ∙ apart) f
           ∙ ap (λ row. total f c.args.self.now.closing.items + value_of (if_closing f) row) (after here.After-held_of-after))
           (λ was. c.list_released.ensures.old (ap is_closing c.held_of-before.ensures.row ∙ was))
           c.args.self.now.listed);
       room = subst (HasRoomToClose c.args.self.now.split (reservations_held c.step.new.self)) (sym c.list_released.ensures.capacity)
-          (room-settled (rules_of c.args.self.now) (kept_in c.args.self.now.link) (kept_in c.step.new.self) c.args.ask.now c.in_ok-reply.reply c.args.chan (vec_capacity c.args.self.now.closing) (goes here.In_ok-reply) c.requires.settles c.args.self.now.stood c.args.self.now.room);
-      stood = subst (λ s. IsLegallyStood (record { shape = s; split = c.args.self.now.split }) (kept_in c.step.new.self)) (sym same) (stood here.In_ok-reply);
-      rests = due-now c.step.new.self.shape (kept_in c.step.new.self);
+          (room-settled (rules_of c.args.self.now) (account_in c.args.self.now.link) (account_in c.step.new.self) c.args.ask.now c.in_ok-reply.reply c.args.chan (vec_capacity c.args.self.now.closing) (goes here.In_ok-reply) c.requires.settles c.args.self.now.stood c.args.self.now.room);
+      stood = subst (λ s. IsLegallyStood (record { shape = s; split = c.args.self.now.split }) (account_in c.step.new.self)) (sym same) (stood here.In_ok-reply);
+      rests = due-now c.step.new.self.shape (account_in c.step.new.self);
     }

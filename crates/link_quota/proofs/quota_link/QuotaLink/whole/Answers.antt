@@ -2,7 +2,7 @@
 use Rattle.std.proofs.Common.{◌≡◌, true, false, sym, ap, ◌∙◌, subst}
 use Rattle.link_steps.specs.Split.{Link, SplitFits}
 use Rattle.link_server.specs.Held.{reservations_held}
-use Rattle.link_server.specs.State.{kept_in}
+use Rattle.link_server.specs.State.{account_in}
 use Rattle.link_quota.specs.Shares.{AreShares}
 use Rattle.link_quota.specs.State.{rules_of}
 use Rattle.link_quota.specs.Stood.{IsLegallyStood}
@@ -29,7 +29,7 @@ invariant_of-self c =
           (shares-unsplit (rules_of c.args.self.now) (reservations_held c.args.self.now.link) (reservations_held c.step.new.self) c.args.self.now.shares.items c.requires.whole c.args.self.now.shared);
       listed = λ splits. absurd (let clash : true ≡ false = sym splits ∙ c.requires.whole in cc);
       room = λ splits. absurd (let clash : true ≡ false = sym splits ∙ c.requires.whole in cc);
-      stood = subst (λ s. IsLegallyStood (record { shape = s; split = c.args.self.now.split }) (kept_in c.step.new.self)) (sym shape)
-          (stood-all (rules_of c.args.self.now) (kept_in c.args.self.now.link) (kept_in c.step.new.self) c.args.ask.now c.step.result goes same c.args.self.now.stood);
-      rests = due-now c.step.new.self.shape (kept_in c.step.new.self);
+      stood = subst (λ s. IsLegallyStood (record { shape = s; split = c.args.self.now.split }) (account_in c.step.new.self)) (sym shape)
+          (stood-all (rules_of c.args.self.now) (account_in c.args.self.now.link) (account_in c.step.new.self) c.args.ask.now c.step.result goes same c.args.self.now.stood);
+      rests = due-now c.step.new.self.shape (account_in c.step.new.self);
     }

@@ -1,7 +1,7 @@
 -- The rows are those of the account.
 use Rattle.std.proofs.Common.{◌≡◌, ◌≤◌, None, Some, ap, ◌∙◌, subst}
 use Rattle.link_server.specs.Held.{reservations_held, seen, seen_at}
-use Rattle.link_server.proofs.Words.{reservation_in, row_in, kept_in}
+use Rattle.link_server.proofs.Words.{reservation_in, row_in, account_in}
 use Rattle.link_server.proofs.ChosenLevel.{seen-stand, seen-row, seen-none}
 use Rattle.link_server.proofs.RowsOfTable.Parts.{at-levels}
 use Rattle.link_server.proofs.link_state.LinkState.held.Goals as goal
@@ -14,7 +14,7 @@ pub returns-then-place-len-clause-row : goal.returns-then-place-len-clause-row
 returns-then-place-len-clause-row c = past (goal.at.returns-then-place-len-clause-row c).Then-place-len
 
 pub returns-then-place-len-clause-stands : goal.returns-then-place-len-clause-stands
-returns-then-place-len-clause-stands c = seen-stand c.args.self.now.shape (kept_in c.args.self.now) c.args.place None (past (goal.at.returns-then-place-len-clause-stands c).Then-place-len)
+returns-then-place-len-clause-stands c = seen-stand c.args.self.now.shape (account_in c.args.self.now) c.args.place None (past (goal.at.returns-then-place-len-clause-stands c).Then-place-len)
 
 pub units-requires : goal.units-requires
 units-requires c = at-levels c.args.self.now c.row-row.result.now c.row-row.ensures.within
@@ -28,4 +28,4 @@ pub returns-clause-row : goal.returns-clause-row
 returns-clause-row c = here (goal.at.returns-clause-row c).After-units
 
 pub returns-clause-stands : goal.returns-clause-stands
-returns-clause-stands c = seen-stand c.args.self.now.shape (kept_in c.args.self.now) c.args.place _ (here (goal.at.returns-clause-stands c).After-units)
+returns-clause-stands c = seen-stand c.args.self.now.shape (account_in c.args.self.now) c.args.place _ (here (goal.at.returns-clause-stands c).After-units)

@@ -1,7 +1,7 @@
 -- There is room for the packets of the row, and the row comes into the table.
 use Rattle.std.proofs.Common.{◌≡◌, ◌+◌, ◌≤◌, suc, length, refl, sym, ap, ◌∙◌, subst, arith}
 use Rattle.std.specs.Prelude.{Result, Ok, Err, OnErr}
-use Rattle.link_server.proofs.Words.{AccountRow, total, Offer, slots_of, kept_after, account, KeptQueue, KeptTable, reservation_in, row_in, IsWithinLevels, kept_in}
+use Rattle.link_server.proofs.Words.{AccountRow, total, Offer, slots_of, account_after, account, QueueAccount, TableAccount, reservation_in, row_in, IsWithinLevels, account_in}
 use Rattle.link_steps.proofs.ReservationFound.{may-reach}
 use Rattle.link_server.specs.Held.{reservations_held}
 use Rattle.link_server.specs.Resting.{RestsFromClock}
@@ -31,7 +31,7 @@ places_with-requires c =
     let offer = c.args.offer.now in
     record {
       within =
-          subst (λ n. IsWithinLevels n c.in_ok-row.row) (sym (ap (λ (table : KeptTable). length table.server.bounds) link.of_shape))
+          subst (λ n. IsWithinLevels n c.in_ok-row.row) (sym (ap (λ (table : TableAccount). length table.server.bounds) link.of_shape))
           (within-reserved _ c.in_ok-row.row (held_terms wanted offer) c.in_ok-row.ensures.row c.requires.may.level_most
           (may-reach link.shape (reservations_held link) wanted.chan wanted.contract wanted.delay wanted.up_reach offer.level offer.reach c.requires.may));
     }
@@ -49,22 +49,22 @@ invariant_of-self c =
     let kept = c.reserve.ensures.kept in
     record {
       of_shape = link.of_shape;
-      looked = (link.looked.0, let was = link.looked.1 in let looked = ap (λ (queue : KeptQueue). queue.looked) kept in omega (arith, was, looked));
+      looked = (link.looked.0, let was = link.looked.1 in let looked = ap (λ (queue : QueueAccount). queue.looked) kept in omega (arith, was, looked));
       few = c.reserve.ensures.small link.few;
-      same_bounds = ap (λ (queue : KeptQueue). queue.bounds) kept ∙ link.same_bounds;
-      sound = subst (λ (queue : KeptQueue). IsSound link.shape c.reserve.new.self.room (account link.clock queue link.table.rows)) (sym kept) (sound-larger link.shape link.queue.room c.reserve.new.self.room (kept_in link) c.reserve.ensures.grows link.sound);
-      stood = subst (λ (queue : KeptQueue). IsStood link.shape (account link.clock queue link.table.rows)) (sym kept) link.stood;
-      counted = counted-still link c.reserve.new.self link.table (ap (λ (queue : KeptQueue). queue.here) kept) refl;
-      rests = subst (λ (queue : KeptQueue). RestsFromClock link.shape link.due (account link.clock queue link.table.rows)) (sym kept) link.rests;
+      same_bounds = ap (λ (queue : QueueAccount). queue.bounds) kept ∙ link.same_bounds;
+      sound = subst (λ (queue : QueueAccount). IsSound link.shape c.reserve.new.self.room (account link.clock queue link.table.rows)) (sym kept) (sound-larger link.shape link.queue.room c.reserve.new.self.room (account_in link) c.reserve.ensures.grows link.sound);
+      stood = subst (λ (queue : QueueAccount). IsStood link.shape (account link.clock queue link.table.rows)) (sym kept) link.stood;
+      counted = counted-still link c.reserve.new.self link.table (ap (λ (queue : QueueAccount). queue.here) kept) refl;
+      rests = subst (λ (queue : QueueAccount). RestsFromClock link.shape link.due (account link.clock queue link.table.rows)) (sym kept) link.rests;
     }
 
 -- what is kept once the row is held
-held : (c : In_ok-add) → account c.args.self.now.clock c.reserve.new.self c.add.new.self.rows ≡ kept_after c.args.self.now.shape (kept_in c.args.self.now) (ask_for c.args.wanted.now) (Offer c.args.offer.now.level c.args.offer.now.reach)
+held : (c : In_ok-add) → account c.args.self.now.clock c.reserve.new.self c.add.new.self.rows ≡ account_after c.args.self.now.shape (account_in c.args.self.now) (ask_for c.args.wanted.now) (Offer c.args.offer.now.level c.args.offer.now.reach)
 held c =
     let link = c.args.self.now in
-    ap (λ (queue : KeptQueue). account link.clock queue c.add.new.self.rows) c.reserve.ensures.kept
-    ∙ ap (λ (table : KeptTable). account link.clock link.queue table.rows) c.in_ok-add.ensures.added
-    ∙ reserve-kept link.shape (kept_in link) c.args.wanted.now c.args.offer.now.level c.args.offer.now.reach (row_in c.in_ok-row.row) c.in_ok-row.ensures.row
+    ap (λ (queue : QueueAccount). account link.clock queue c.add.new.self.rows) c.reserve.ensures.kept
+    ∙ ap (λ (table : TableAccount). account link.clock link.queue table.rows) c.in_ok-add.ensures.added
+    ∙ reserve-kept link.shape (account_in link) c.args.wanted.now c.args.offer.now.level c.args.offer.now.reach (row_in c.in_ok-row.row) c.in_ok-row.ensures.row
 
 pub invariant_of-self-2 : goal.invariant_of-self-2
 invariant_of-self-2 c =
@@ -74,28 +74,28 @@ invariant_of-self-2 c =
     let kept = c.reserve.ensures.kept in
     let room = c.reserve.new.self.room in
     let after = held (goal.at.invariant_of-self-2 c).In_ok-add in
-    let bounds = ap (λ (table : KeptTable). table.server.bounds) link.of_shape in
+    let bounds = ap (λ (table : TableAccount). table.server.bounds) link.of_shape in
     let places = ap (λ b. total (all_places_of b) link.table.rows) bounds in
     let own = ap (λ b. slots_of b (reservation_in row)) bounds in
     let all = most_places-are link.shape.bounds link.queue.here link.table.rows _ refl in
     let free = c.in_ok-reserve.ensures.room in
-    let here = ap (λ (queue : KeptQueue). length queue.here) kept in
+    let here = ap (λ (queue : QueueAccount). length queue.here) kept in
     let enough : most_places link.shape.bounds link.queue.here link.table.rows + suc (slots_of link.shape.bounds (reservation_in row)) + suc link.shape.best ≤ room =
     omega (arith, places, own, all, free, here, c.places_with.ensures.value, c.from.ensures) in
-    let larger = sound-larger link.shape link.queue.room room (kept_in link) c.reserve.ensures.grows link.sound in
+    let larger = sound-larger link.shape link.queue.room room (account_in link) c.reserve.ensures.grows link.sound in
     record {
-      of_shape = still-of link c.add.new.self (ap (λ (table : KeptTable). table.server) added) (ap (λ (table : KeptTable). table.buffer) added);
+      of_shape = still-of link c.add.new.self (ap (λ (table : TableAccount). table.server) added) (ap (λ (table : TableAccount). table.buffer) added);
       looked = (
-        let was = link.looked.0 in let looked = ap (λ (table : KeptTable). table.looked) added in omega (arith, was, looked),
-        let was = link.looked.1 in let looked = ap (λ (queue : KeptQueue). queue.looked) kept in omega (arith, was, looked),
+        let was = link.looked.0 in let looked = ap (λ (table : TableAccount). table.looked) added in omega (arith, was, looked),
+        let was = link.looked.1 in let looked = ap (λ (queue : QueueAccount). queue.looked) kept in omega (arith, was, looked),
       );
       few = c.reserve.ensures.small link.few;
-      same_bounds = ap (λ (queue : KeptQueue). queue.bounds) kept ∙ link.same_bounds;
-      sound = subst (IsSound link.shape room) (sym after) (sound-held link.shape room (kept_in link) c.args.wanted.now c.args.offer.now (row_in row) c.requires.fits larger c.requires.may c.in_ok-row.ensures.row enough);
-      stood = subst (IsStood link.shape) (sym after) (stood-offered link.shape (kept_in link) c.args.wanted.now c.args.offer.now (rows-have link) c.requires.fits c.requires.may link.stood);
+      same_bounds = ap (λ (queue : QueueAccount). queue.bounds) kept ∙ link.same_bounds;
+      sound = subst (IsSound link.shape room) (sym after) (sound-held link.shape room (account_in link) c.args.wanted.now c.args.offer.now (row_in row) c.requires.fits larger c.requires.may c.in_ok-row.ensures.row enough);
+      stood = subst (IsStood link.shape) (sym after) (stood-offered link.shape (account_in link) c.args.wanted.now c.args.offer.now (rows-have link) c.requires.fits c.requires.may link.stood);
       counted =
-          subst (λ (queue : KeptQueue). AreCounted queue.here c.add.new.self.rows c.add.new.self.departed) (sym kept)
-          (subst (λ (table : KeptTable). AreCounted link.queue.here table.rows table.departed) (sym added)
+          subst (λ (queue : QueueAccount). AreCounted queue.here c.add.new.self.rows c.add.new.self.departed) (sym kept)
+          (subst (λ (table : TableAccount). AreCounted link.queue.here table.rows table.departed) (sym added)
           (counted-added link.queue.here link.table.rows link.table.departed (row_in row) row.departed link.counted
           (new-counted link.queue.here (row_in row) row.departed (packets-lead _ link.queue.taken link.queue.here link.sound.packets) (ap (λ (r : AccountRow). r.lead) c.in_ok-row.ensures.row) (ap (λ (r : AccountRow). r.taken) c.in_ok-row.ensures.row) c.in_ok-row.ensures.departed)));
       rests = due-now _ _;
@@ -110,29 +110,29 @@ on-err (Ok x) fact = tt
 on-err (Err e) fact = fact
 
 pub returns-in_err-reserve-clause-memory : goal.returns-in_err-reserve-clause-memory
-returns-in_err-reserve-clause-memory c = on-err c.from_residual-in_err-reserve.result (ap (λ (queue : KeptQueue). account c.args.self.now.clock queue c.args.self.now.table.rows) c.reserve.ensures.kept)
+returns-in_err-reserve-clause-memory c = on-err c.from_residual-in_err-reserve.result (ap (λ (queue : QueueAccount). account c.args.self.now.clock queue c.args.self.now.table.rows) c.reserve.ensures.kept)
 
 pub returns-in_err-add-clause-memory : goal.returns-in_err-add-clause-memory
 returns-in_err-add-clause-memory c =
-    on-err c.from_residual-in_err-add.result (ap (λ (queue : KeptQueue). account c.args.self.now.clock queue c.add.new.self.rows) c.reserve.ensures.kept
-    ∙ ap (λ (table : KeptTable). account c.args.self.now.clock c.args.self.now.queue table.rows) c.in_err-add.ensures.same)
+    on-err c.from_residual-in_err-add.result (ap (λ (queue : QueueAccount). account c.args.self.now.clock queue c.add.new.self.rows) c.reserve.ensures.kept
+    ∙ ap (λ (table : TableAccount). account c.args.self.now.clock c.args.self.now.queue table.rows) c.in_err-add.ensures.same)
 
 pub invariant_of-self-in-Break-branch-3 : goal.invariant_of-self-in-Break-branch-3
 invariant_of-self-in-Break-branch-3 c =
     let link = c.args.self.now in
     let kept = c.reserve.ensures.kept in
     let same : c.add.new.self ≡ link.table = c.in_err-add.ensures.same in
-    let both = ap (λ (queue : KeptQueue). account link.clock queue c.add.new.self.rows) kept ∙ ap (λ (table : KeptTable). account link.clock link.queue table.rows) same in
+    let both = ap (λ (queue : QueueAccount). account link.clock queue c.add.new.self.rows) kept ∙ ap (λ (table : TableAccount). account link.clock link.queue table.rows) same in
     record {
-      of_shape = still-of link c.add.new.self (ap (λ (table : KeptTable). table.server) same) (ap (λ (table : KeptTable). table.buffer) same);
+      of_shape = still-of link c.add.new.self (ap (λ (table : TableAccount). table.server) same) (ap (λ (table : TableAccount). table.buffer) same);
       looked = (
-        let was = link.looked.0 in let looked = ap (λ (table : KeptTable). table.looked) same in omega (arith, was, looked),
-        let was = link.looked.1 in let looked = ap (λ (queue : KeptQueue). queue.looked) kept in omega (arith, was, looked),
+        let was = link.looked.0 in let looked = ap (λ (table : TableAccount). table.looked) same in omega (arith, was, looked),
+        let was = link.looked.1 in let looked = ap (λ (queue : QueueAccount). queue.looked) kept in omega (arith, was, looked),
       );
       few = c.reserve.ensures.small link.few;
-      same_bounds = ap (λ (queue : KeptQueue). queue.bounds) kept ∙ link.same_bounds;
-      sound = subst (IsSound link.shape c.reserve.new.self.room) (sym both) (sound-larger link.shape link.queue.room c.reserve.new.self.room (kept_in link) c.reserve.ensures.grows link.sound);
+      same_bounds = ap (λ (queue : QueueAccount). queue.bounds) kept ∙ link.same_bounds;
+      sound = subst (IsSound link.shape c.reserve.new.self.room) (sym both) (sound-larger link.shape link.queue.room c.reserve.new.self.room (account_in link) c.reserve.ensures.grows link.sound);
       stood = subst (IsStood link.shape) (sym both) link.stood;
-      counted = counted-still link c.reserve.new.self c.add.new.self (ap (λ (queue : KeptQueue). queue.here) kept) same;
+      counted = counted-still link c.reserve.new.self c.add.new.self (ap (λ (queue : QueueAccount). queue.here) kept) same;
       rests = subst (RestsFromClock link.shape link.due) (sym both) link.rests;
     }

@@ -1,6 +1,6 @@
 -- The plan and the size are judged, and then the packets are planned.
 use Rattle.std.proofs.Common.{◌≡◌, refl, sym, ap, ◌∙◌, subst, arith}
-use Rattle.link_server.proofs.Words.{account, KeptQueue, kept_after, busy, kept_in, Planned, Refused, Pour}
+use Rattle.link_server.proofs.Words.{account, QueueAccount, account_after, busy, account_in, Planned, Refused, Pour}
 use Rattle.link_server.specs.Sound.{IsSound}
 use Rattle.link_steps.specs.declared.replies.Refusal.TheVariants.{TooBig}
 use Rattle.link_server.proofs.Sound.Setup.{sound-pour}
@@ -29,9 +29,9 @@ pub returns-clause-reply : goal.returns-clause-reply
 returns-clause-reply c = pour-planned c.args.self.now.shape c.args.self.now.clock c.args.self.now.queue c.args.self.now.table.rows c.args.count c.args.gap c.args.size (c.in_default.ensures ∙ ap busy c.best_left.ensures) c.if-size-self.false
 
 -- what is kept is the account's
-kept : (c : After-plan_best) → account c.args.self.now.clock c.plan_best.new.self c.args.self.now.table.rows ≡ kept_after c.args.self.now.shape (kept_in c.args.self.now) (Pour c.args.count c.args.gap c.args.size) (Planned c.args.self.now.clock)
+kept : (c : After-plan_best) → account c.args.self.now.clock c.plan_best.new.self c.args.self.now.table.rows ≡ account_after c.args.self.now.shape (account_in c.args.self.now) (Pour c.args.count c.args.gap c.args.size) (Planned c.args.self.now.clock)
 kept c =
-    ap (λ (queue : KeptQueue). account c.args.self.now.clock queue c.args.self.now.table.rows) c.plan_best.ensures
+    ap (λ (queue : QueueAccount). account c.args.self.now.clock queue c.args.self.now.table.rows) c.plan_best.ensures
     ∙ pour-kept c.args.self.now.shape c.args.self.now.clock c.args.self.now.queue c.args.self.now.table.rows c.args.count c.args.gap c.args.size c.args.self.now.clock (c.in_default.ensures ∙ ap busy c.best_left.ensures)
 
 pub returns-clause-kept : goal.returns-clause-kept
@@ -42,18 +42,18 @@ invariant_of-self c =
     let l = c.args.self.now in
     let planned = pour-planned l.shape l.clock l.queue l.table.rows c.args.count c.args.gap c.args.size (c.in_default.ensures ∙ ap busy c.best_left.ensures) c.if-size-self.false in
     let kept = kept (goal.at.invariant_of-self c).After-plan_best in
-    let room : c.plan_best.new.self.room ≡ l.queue.room = ap (λ (queue : KeptQueue). queue.room) c.plan_best.ensures in
-    let looked : c.plan_best.new.self.looked ≡ l.queue.looked = ap (λ (queue : KeptQueue). queue.looked) c.plan_best.ensures in
+    let room : c.plan_best.new.self.room ≡ l.queue.room = ap (λ (queue : QueueAccount). queue.room) c.plan_best.ensures in
+    let looked : c.plan_best.new.self.looked ≡ l.queue.looked = ap (λ (queue : QueueAccount). queue.looked) c.plan_best.ensures in
     let few = l.few in
-    let sound = subst (IsSound l.shape l.queue.room) (sym kept) (sound-pour l.shape l.queue.room (kept_in l) c.args.count c.args.gap c.args.size (Planned l.clock) c.requires.fits l.sound planned) in
+    let sound = subst (IsSound l.shape l.queue.room) (sym kept) (sound-pour l.shape l.queue.room (account_in l) c.args.count c.args.gap c.args.size (Planned l.clock) c.requires.fits l.sound planned) in
     let stood = still-stood c.args.self.now (Pour c.args.count c.args.gap c.args.size) (Planned c.args.self.now.clock) _ (c.requires.some, c.requires.fits) planned kept in
     record {
       of_shape = l.of_shape;
       looked = (l.looked.0, let was = l.looked.1 in omega (arith, was, looked));
       sound = subst (λ n. IsSound l.shape n (account l.clock c.plan_best.new.self l.table.rows)) (sym room) sound;
       few = omega (arith, few, room);
-      same_bounds = ap (λ (queue : KeptQueue). queue.bounds) c.plan_best.ensures ∙ l.same_bounds;
+      same_bounds = ap (λ (queue : QueueAccount). queue.bounds) c.plan_best.ensures ∙ l.same_bounds;
       stood = stood;
-      counted = counted-still l c.plan_best.new.self l.table (ap (λ (queue : KeptQueue). queue.here) c.plan_best.ensures) refl;
+      counted = counted-still l c.plan_best.new.self l.table (ap (λ (queue : QueueAccount). queue.here) c.plan_best.ensures) refl;
       rests = due-now _ _;
     }

@@ -1,6 +1,6 @@
 -- The offer goes on with what is kept, and so with every history that the link stands for.
 use Rattle.std.proofs.Common.{◌≡◌, sym, ap, ◌∙◌, subst}
-use Rattle.link_server.proofs.Words.{level_number, reach_of, MayOffer, level_of, Offer, kept_in}
+use Rattle.link_server.proofs.Words.{level_number, reach_of, MayOffer, level_of, Offer, account_in}
 use Rattle.link_steps.proofs.HopHolds.{hop-guarantee}
 use Rattle.link_steps.proofs.LevelByNumber.{level_of-level}
 use Rattle.link_server.specs.Held.{reservations_held, reach_at, MayReserve}
@@ -28,18 +28,18 @@ returns-clause-offered c = ap (Offer c.args.level) (reach (goal.at.returns-claus
 
 pub returns-clause-entered : goal.returns-clause-entered
 returns-clause-entered c =
-    step-entered c.args.self.now.shape c.hold.new.self.shape (kept_in c.args.self.now) (kept_in c.hold.new.self) c.args.ask.now _ (Offer c.args.level c.reach_of-reach.result)
+    step-entered c.args.self.now.shape c.hold.new.self.shape (account_in c.args.self.now) (account_in c.hold.new.self) c.args.ask.now _ (Offer c.args.level c.reach_of-reach.result)
     (rows-have c.args.self.now) c.in-Reserve.is c.hold.ensures.shape c.in_ok-hold.ensures.kept
 
 pub returns-clause-admissible : goal.returns-clause-admissible
 returns-clause-admissible c =
-    offer-admissible c.args.self.now.shape (kept_in c.args.self.now) c.args.ask.now c.args.level c.reach_of-reach.result c.requires.fits c.requires.may (reach (goal.at.returns-clause-admissible c).After-hold)
+    offer-admissible c.args.self.now.shape (account_in c.args.self.now) c.args.ask.now c.args.level c.reach_of-reach.result c.requires.fits c.requires.may (reach (goal.at.returns-clause-admissible c).After-hold)
 
 pub returns-clause-guaranteed : goal.returns-clause-guaranteed
 returns-clause-guaranteed c = λ h stands before.
     hop-guarantee c.args.self.now.shape _
-    (offer-admissible c.args.self.now.shape (kept_in c.args.self.now) c.args.ask.now c.args.level c.reach_of-reach.result c.requires.fits c.requires.may (reach (goal.at.returns-clause-guaranteed c).After-hold) h stands before)
+    (offer-admissible c.args.self.now.shape (account_in c.args.self.now) c.args.ask.now c.args.level c.reach_of-reach.result c.requires.fits c.requires.may (reach (goal.at.returns-clause-guaranteed c).After-hold) h stands before)
 
 pub returns-clause-legal : goal.returns-clause-legal
 returns-clause-legal c =
-    offer-legal c.args.self.now.shape (kept_in c.args.self.now) c.args.ask.now c.args.level c.reach_of-reach.result (rows-have c.args.self.now) c.requires.may (reach (goal.at.returns-clause-legal c).After-hold)
+    offer-legal c.args.self.now.shape (account_in c.args.self.now) c.args.ask.now c.args.level c.reach_of-reach.result (rows-have c.args.self.now) c.requires.may (reach (goal.at.returns-clause-legal c).After-hold)

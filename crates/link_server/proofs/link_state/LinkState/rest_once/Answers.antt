@@ -1,7 +1,7 @@
 -- The account is as it was, but for its clock.
 use Rattle.std.proofs.Common.{sym, ap, ◌∙◌, arith}
-use Rattle.link_steps.specs.Account.{kept_reply, kept_after}
-use Rattle.link_server.proofs.Words.{kept_in}
+use Rattle.link_steps.specs.Account.{account_reply, account_after}
+use Rattle.link_server.proofs.Words.{account_in}
 use Rattle.link_steps.proofs.QuietTicks.{quiet-after, quiet-tick}
 use Rattle.link_server.proofs.link_state.LinkState.rest_once.Goals as goal
 
@@ -12,11 +12,11 @@ pub returns-clause-shape : goal.returns-clause-shape
 returns-clause-shape c = ap (λ link. link.shape) c.rest.ensures.same
 
 pub returns-clause-reply : goal.returns-clause-reply
-unfolding kept_reply
-returns-clause-reply c = let link = c.args.self.now in sym (quiet-tick link.shape link.due (kept_in link) (link.rests c.requires.rests) c.requires.rests)
+unfolding account_reply
+returns-clause-reply c = let link = c.args.self.now in sym (quiet-tick link.shape link.due (account_in link) (link.rests c.requires.rests) c.requires.rests)
 
 pub returns-clause-kept : goal.returns-clause-kept
-unfolding kept_after
+unfolding account_after
 returns-clause-kept c =
     let link = c.args.self.now in
-    c.rest.ensures.kept ∙ ap (λ clock. record (kept_in link) { clock = clock }) (omega arith) ∙ sym (quiet-after link.shape link.due (kept_in link) (link.rests c.requires.rests) c.requires.rests)
+    c.rest.ensures.kept ∙ ap (λ clock. record (account_in link) { clock = clock }) (omega arith) ∙ sym (quiet-after link.shape link.due (account_in link) (link.rests c.requires.rests) c.requires.rests)

@@ -1,6 +1,6 @@
 -- Where none is planned it doesn't matter how many wait, and else it fits where fewer do than may.
 use Rattle.std.proofs.Common.{◌≡◌, length, nat_lt, sym, ap, ◌∙◌, arith}
-use Rattle.link_server.proofs.Words.{filter, waits_here, KeptQueue}
+use Rattle.link_server.proofs.Words.{filter, waits_here, QueueAccount}
 use Rattle.std.proofs.lemmas.Bool.{ltb-true}
 use Rattle.link_server.specs.Packets.{here_in, on_in}
 use Rattle.link_server.specs.Line.{waiting_in}
@@ -16,7 +16,7 @@ waiting-counted : (c : After-self) → c.self.inside.best_waiting ≡ length (fi
 waiting-counted c =
     c.self.invariant.best_counted
     ∙ sym (best-waiting c.self.inside.bounds (on_in c.self.inside.on) (here_in (waiting_in c.self.inside.line)) c.self.inside.taken c.self.invariant.own c.self.invariant.numbered)
-    ∙ ap (λ (queue : KeptQueue). length (filter (waits_here queue.bounds queue.on) queue.here)) c.self.view_is
+    ∙ ap (λ (queue : QueueAccount). length (filter (waits_here queue.bounds queue.on) queue.here)) c.self.view_is
     ∙ ap (λ bounds. length (filter (waits_here bounds c.args.self.now.on) c.args.self.now.here)) c.requires.bounds
 
 pub returns-then-not-is_for-clause-step : goal.returns-then-not-is_for-clause-step

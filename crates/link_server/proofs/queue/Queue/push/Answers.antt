@@ -2,7 +2,7 @@
 use Rattle.std.proofs.Common.{◌≡◌, ◌+◌, ◌<◌, ◌≤◌, ◌++◌, ◌∷◌, [], length, refl, sym, ap, ◌∙◌, arith}
 use Rattle.std.proofs.lemmas.List.{length-map}
 use Rattle.std.proofs.lemmas.List.Sorted.{IsPermutation-map, length_permutation}
-use Rattle.link_server.proofs.Words.{IsPermutation, filter, is_best, KeptQueue}
+use Rattle.link_server.proofs.Words.{IsPermutation, filter, is_best, QueueAccount}
 use Rattle.link_steps.proofs.SearchAndFilter.{Each-if, Each-mapped}
 use Rattle.link_server.specs.Arrived.{all_here, arrived, IsNumbered}
 use Rattle.link_server.specs.Line.{waiting_in}
@@ -19,14 +19,14 @@ use Rattle.link_server.proofs.queue.Queue.push.Goals.{After-self, After-push}
 -- there is room for it
 free : (c : After-self) → length (packets_of c.self.inside) + 1 ≤ c.self.inside.room
 free c =
-    let here = ap (λ (queue : KeptQueue). length queue.here) c.self.view_is in
+    let here = ap (λ (queue : QueueAccount). length queue.here) c.self.view_is in
     let long = long-arrived (packets_of c.self.inside) c.self.inside.taken c.self.invariant.numbered in
-    let room = ap (λ (queue : KeptQueue). queue.room) c.self.view_is in
+    let room = ap (λ (queue : QueueAccount). queue.room) c.self.view_is in
     omega (arith, here, long, room, c.requires.room)
 
 -- and it is the next one
 next : (c : After-self) → c.args.packet.place ≡ c.self.inside.taken + 1
-next c = c.requires.next ∙ ap (λ (queue : KeptQueue). queue.taken + 1) (sym c.self.view_is)
+next c = c.requires.next ∙ ap (λ (queue : QueueAccount). queue.taken + 1) (sym c.self.view_is)
 
 -- those that wait arrived before it
 newest : (c : After-self) → IsNewest (waiting_in c.self.inside.line) c.args.packet
@@ -60,7 +60,7 @@ push-requires c =
     let few = few at in
     let free = free at in
     let room = c.self.invariant.lines_up in
-    let looked = ap (λ (queue : KeptQueue). queue.looked) c.self.view_is in
+    let looked = ap (λ (queue : QueueAccount). queue.looked) c.self.view_is in
     record {
       room = omega (arith, few, free, room);
       on = omega (arith, looked, c.requires.looked);
@@ -69,7 +69,7 @@ push-requires c =
     }
 
 pub overflow_add-self-2 : goal.overflow_add-self-2
-overflow_add-self-2 c = (let taken = ap (λ (queue : KeptQueue). queue.taken) c.self.view_is in omega (arith, taken, c.requires.countable))
+overflow_add-self-2 c = (let taken = ap (λ (queue : QueueAccount). queue.taken) c.self.view_is in omega (arith, taken, c.requires.countable))
 
 -- those here with it
 came : (c : After-push) → IsPermutation (arrival_in c.args.packet ∷ packets_of c.self.inside) (all_here (on_in c.self.inside.on) (here_in (waiting_in c.push.new.self)))

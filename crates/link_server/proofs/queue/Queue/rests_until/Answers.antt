@@ -1,6 +1,6 @@
 -- The lesser of two ticks is before each of them.
 use Rattle.std.proofs.Common.{ap, subst, arith}
-use Rattle.link_server.proofs.Words.{Each, KeptQueue}
+use Rattle.link_server.proofs.Words.{Each, QueueAccount}
 use Rattle.link_server.specs.Planned.{IsPlannedFrom}
 use Rattle.link_server.proofs.LinkRests.{plans-from, service-from}
 use Rattle.link_server.proofs.queue.Queue.rests_until.Goals as goal
@@ -11,5 +11,5 @@ returns-clause-service c =
 
 pub returns-clause-best : goal.returns-clause-best
 returns-clause-best c =
-    subst (Each (IsPlannedFrom c.min.result)) (ap (λ (queue : KeptQueue). queue.best) c.self.view_is)
+    subst (Each (IsPlannedFrom c.min.result)) (ap (λ (queue : QueueAccount). queue.best) c.self.view_is)
     (plans-from c.min.result c.rests_until.result _ (omega (arith, c.min.ensures)) c.rests_until.ensures)

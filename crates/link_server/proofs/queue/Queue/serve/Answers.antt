@@ -1,6 +1,6 @@
 -- The packet that occupies the link can go on, so where it doesn't it departs.
 use Rattle.std.proofs.Common.{◌≡◌, ◌≤◌, ◌∷◌, List, None, Some, length, sym, ap, ◌∙◌, subst, arith}
-use Rattle.link_server.proofs.Words.{filter, is_other, Arrival, KeptQueue}
+use Rattle.link_server.proofs.Words.{filter, is_other, Arrival, QueueAccount}
 use Rattle.link_server.specs.Arrived.{all_here, arrived, HaveOwnNumbers, AreNumberedUpTo}
 use Rattle.link_server.specs.Line.{waiting_in}
 use Rattle.link_server.specs.Packets.{start_in, here_in, on_in}
@@ -40,7 +40,7 @@ returns-clause-best_sent c =
 
 -- the one that departs is the first of those here
 here-with : (c : After-self) → on_in c.self.inside.on ≡ Some (start_in c.in-Some.running)
-here-with c = ap (λ (queue : KeptQueue). queue.on) (c.self.view_is ∙ c.occupant.ensures.kept) ∙ ap on_in c.in-Some.is
+here-with c = ap (λ (queue : QueueAccount). queue.on) (c.self.view_is ∙ c.occupant.ensures.kept) ∙ ap on_in c.in-Some.is
 
 with-it : (c : After-self) → (P : List Arrival → Type 0) → P (packets_of c.self.inside) → P ((start_in c.in-Some.running).packet ∷ here_in (waiting_in c.self.inside.line))
 with-it c P all = subst (λ on. P (all_here on (here_in (waiting_in c.self.inside.line)))) (here-with c) all
@@ -55,7 +55,7 @@ returns-clause-kept c =
     let left : arrived waiting q.taken ≡ filter (is_other start) (arrived (packets_of q) q.taken) =
     sym (arrived-departed start waiting q.taken (with-it at HaveOwnNumbers c.self.invariant.own)) ∙ ap (λ on. filter (is_other start) (arrived (all_here on waiting) q.taken)) (sym (here-with at)) in
     ap (λ all. record { taken = q.taken; here = all; on = None; best = left_in q.best; room = q.room; looked = looked; bounds = q.bounds }) left
-    ∙ ap (λ (queue : KeptQueue). record queue { here = filter (is_other start) queue.here; on = None; looked = looked }) (c.self.view_is ∙ c.occupant.ensures.kept)
+    ∙ ap (λ (queue : QueueAccount). record queue { here = filter (is_other start) queue.here; on = None; looked = looked }) (c.self.view_is ∙ c.occupant.ensures.kept)
     ∙ departs-served c.args.shape.now.rate c.args.clock looked c.args.self.now c.occupant.result _ c.in-Some.running c.occupant.ensures.occupant c.in-Some.is (omega (arith, c.leaves_at.ensures.value, c.if-leaves_at-clock.false))
 
 pub invariant_of-self : goal.invariant_of-self

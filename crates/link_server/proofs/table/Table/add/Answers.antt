@@ -1,7 +1,7 @@
 -- There is room in each part, and the row comes to the end of each.
 use Rattle.std.proofs.Common.{inl, true, None, ◌≡◌, ◌-◌, ◌≤◌, ◌++◌, ◌∷◌, [], length, map, refl, sym, ap, ◌∙◌, subst, arith}
 use Rattle.std.proofs.lemmas.List.{length-append, map_push}
-use Rattle.link_server.proofs.Words.{find, whole_of, level_number, Sums, kept_units, is_kept_of, kept_terms, admitted, KeptTable, ServedRow}
+use Rattle.link_server.proofs.Words.{find, whole_of, level_number, Sums, held_units, is_account_of, account_terms, admitted, TableAccount, ServedRow}
 use Rattle.traffic_contract.specs.Admission.{admits, total}
 use Rattle.link_server.specs.Departed.{departed_in}
 use Rattle.link_server.specs.Holds.{AreListed}
@@ -48,12 +48,12 @@ invariant_of-self c =
     }
 
 -- its units are free, and its places can be counted
-free : (c : After-self) → kept_units c.self.inside.bounds (reservation_in c.args.row) ≤ c.self.inside.keeping.budget.free
+free : (c : After-self) → held_units c.self.inside.bounds (reservation_in c.args.row) ≤ c.self.inside.keeping.budget.free
 free c =
     let t = c.self.inside in
     let own = reservation_in c.args.row in
-    let seen = subst (λ (table : KeptTable). kept_units table.server.bounds own ≤ table.buffer - total (kept_units table.server.bounds) (map kept_terms table.rows)) (sym c.self.view_is) c.requires.may.free in
-    let fits = subst (λ bounds. kept_units bounds own ≤ whole_of t.keeping.budget - total (kept_units bounds) (map kept_terms (map row_in t.rows.items))) c.self.invariant.same_bounds seen in
+    let seen = subst (λ (table : TableAccount). held_units table.server.bounds own ≤ table.buffer - total (held_units table.server.bounds) (map account_terms table.rows)) (sym c.self.view_is) c.requires.may.free in
+    let fits = subst (λ bounds. held_units bounds own ≤ whole_of t.keeping.budget - total (held_units bounds) (map account_terms (map row_in t.rows.items))) c.self.invariant.same_bounds seen in
     let left = keeping-free (whole_of t.keeping.budget) t.bounds t.keeping t.rows.items c.self.invariant.parts.keeps in
     omega (arith, fits, left)
 
@@ -77,21 +77,21 @@ pub add-requires-clause-new : goal.add-requires-clause-new
 add-requires-clause-new c =
     let t = c.self.inside in
     key-new t.rows.items c.make_room.new.sums c.args.row c.get.result (ap (λ (sums : Sums). sums.rows) c.make_room.ensures.sums ∙ c.self.invariant.parts.same) c.get.ensures.value
-    (subst (λ (table : KeptTable). find (is_kept_of c.args.row.chan) table.rows ≡ None) (sym c.self.view_is) c.requires.may.new)
+    (subst (λ (table : TableAccount). find (is_account_of c.args.row.chan) table.rows ≡ None) (sym c.self.view_is) c.requires.may.new)
 
 pub add-requires-clause-passes : goal.add-requires-clause-passes
 add-requires-clause-passes c =
     let t = c.self.inside in
     let server = ap (λ (sums : Sums). sums.server) c.make_room.ensures.sums in
-    let seen = subst (λ (table : KeptTable). admits table.server (map admitted (map kept_terms table.rows)) c.args.row.contract (level_number c.args.row.level) ≡ true) (sym c.self.view_is) c.requires.may.passes in
+    let seen = subst (λ (table : TableAccount). admits table.server (map admitted (map account_terms table.rows)) c.args.row.contract (level_number c.args.row.level) ≡ true) (sym c.self.view_is) c.requires.may.passes in
     sums-pass t.rows.items c.make_room.new.sums c.args.row (ap (λ (sums : Sums). sums.rows) c.make_room.ensures.sums ∙ c.self.invariant.parts.same)
-    (ap (λ s. admits s (map admitted (map kept_terms (map row_in t.rows.items))) c.args.row.contract (level_number c.args.row.level)) server ∙ seen)
+    (ap (λ s. admits s (map admitted (map account_terms (map row_in t.rows.items))) c.args.row.contract (level_number c.args.row.level)) server ∙ seen)
 
 -- the rows then, and what they keep
 pushed : (c : After-push-key) → c.push-key.new.self.items ≡ c.self.inside.rows.items ++ c.args.row ∷ []
 pushed c = ap (λ (list : Listed ServedRow). list.items) c.push-key.ensures.list ∙ ap (λ (list : Listed ServedRow). list.items ++ c.args.row ∷ []) c.make_room.ensures.rows
 
-keeps : (c : After-push-key) → kept_units c.self.inside.bounds (reservation_in c.args.row) ≤ c.self.inside.keeping.budget.free → IsKeeping (whole_of c.self.inside.keeping.budget) c.self.inside.bounds c.hold.new.self (map reservation_in (c.self.inside.rows.items ++ c.args.row ∷ []))
+keeps : (c : After-push-key) → held_units c.self.inside.bounds (reservation_in c.args.row) ≤ c.self.inside.keeping.budget.free → IsKeeping (whole_of c.self.inside.keeping.budget) c.self.inside.bounds c.hold.new.self (map reservation_in (c.self.inside.rows.items ++ c.args.row ∷ []))
 keeps c fits =
     let t = c.self.inside in
     keeps-pushed (whole_of t.keeping.budget) t.bounds t.keeping c.hold.new.self t.rows.items c.args.row c.self.invariant.parts.keeps fits c.hold.ensures.budget c.hold.ensures.places
@@ -113,7 +113,7 @@ invariant_of-self-2 c =
     let near = may.level in
     let far = may.reach in
     let levels : IsWithinLevels (length t.bounds) row = record { level = omega (arith, bounds, near); reach = omega (arith, bounds, far) } in
-    let absent = subst (λ (table : KeptTable). find (is_kept_of row.chan) table.rows ≡ None) (sym c.self.view_is) may.new in
+    let absent = subst (λ (table : TableAccount). find (is_account_of row.chan) table.rows ≡ None) (sym c.self.view_is) may.new in
     let same_rows = ap (λ (list : Listed ServedRow). list.items) room.rows in
     let list : c.push-key.new.self ≡ record { items = t.rows.items ++ row ∷ []; keys = t.rows.keys ++ c.push-key.result ∷ []; spare = c.make_room.new.rows.spare - 1 } = c.push-key.ensures.list ∙ ap (λ (list : Listed ServedRow). record { items = list.items ++ row ∷ []; keys = list.keys ++ c.push-key.result ∷ []; spare = list.spare - 1 }) room.rows in
     let own-key = subst (λ (list : Listed ServedRow). IsNoneOf list.keys c.push-key.result) room.rows c.push-key.ensures.own in

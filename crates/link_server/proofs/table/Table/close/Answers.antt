@@ -3,7 +3,7 @@ use Rattle.std.proofs.Common.{inr, true, ◌≡◌, ◌^◌, ◌<◌, ◌≤◌,
 use Rattle.std.proofs.lemmas.List.{length-set}
 use Rattle.std.proofs.Math.Seq.{map-set_same}
 use Rattle.link_server.specs.KeyedList.{position}
-use Rattle.link_server.proofs.Words.{whole_of, newest, Committed, Closing, kept_closed, is_phase, KeptTable, row_in, ServedRow}
+use Rattle.link_server.proofs.Words.{whole_of, newest, Committed, Closing, account_closed, is_phase, TableAccount, row_in, ServedRow}
 use Rattle.link_server.specs.Changes.{MayClose}
 use Rattle.link_server.specs.Departed.{departed_in}
 use Rattle.link_server.specs.Holds.{is_open}
@@ -33,8 +33,8 @@ opened : (c : After-index_mut-row) → is_open (row_in (was c)) ≡ true
 opened c = open-in-phase Committed (row_in (was c)) (inr refl) (may c).is.phase
 
 -- as it is changed
-same : (c : After-close) → row_in c.close.new.self ≡ kept_closed c.args.count (row_in (get_or c.self.inside.rows.items (position c.self.inside.rows.keys c.held_key-key.result) c.index_mut-row.result.now))
-same c = c.close.ensures.row ∙ ap (λ row. kept_closed c.args.count (row_in row)) c.index_mut-row.ensures.value
+same : (c : After-close) → row_in c.close.new.self ≡ account_closed c.args.count (row_in (get_or c.self.inside.rows.items (position c.self.inside.rows.keys c.held_key-key.result) c.index_mut-row.result.now))
+same c = c.close.ensures.row ∙ ap (λ row. account_closed c.args.count (row_in row)) c.index_mut-row.ensures.value
 
 pub put_hold-requires-clause-room : goal.put_hold-requires-clause-room
 put_hold-requires-clause-room c =
@@ -57,7 +57,7 @@ invariant_of-self c =
     let i = (position c.self.inside.rows.keys c.held_key-key.result) in
     let new = c.close.new.self in
     let d = c.index_mut-row.result.now in
-    let seen = ap (λ (table : KeptTable). table.looked) c.self.view_is in
+    let seen = ap (λ (table : TableAccount). table.looked) c.self.view_is in
     let later : t.looked ≤ c.args.clock = omega (arith, seen, c.requires.looked) in
     let turns = is.turns in
     let long = length-set items i new in
@@ -81,4 +81,4 @@ invariant_of-self c =
 pub returns : goal.returns
 returns c =
     let at = goal.at.returns c in
-    rw (← c.self.view_is) (table-same _ _ (changed-mapped c.args.chan (kept_closed c.args.count) c.self.inside.rows.items (position c.self.inside.rows.keys c.held_key-key.result) c.close.new.self c.index_mut-row.result.now c.held_key-key.ensures (same at.After-close)) (map-set_same departed_in c.self.inside.rows.items (position c.self.inside.rows.keys c.held_key-key.result) c.close.new.self c.index_mut-row.result.now (c.close.ensures.departed ∙ ap departed_in c.index_mut-row.ensures.value)) refl refl refl)
+    rw (← c.self.view_is) (table-same _ _ (changed-mapped c.args.chan (account_closed c.args.count) c.self.inside.rows.items (position c.self.inside.rows.keys c.held_key-key.result) c.close.new.self c.index_mut-row.result.now c.held_key-key.ensures (same at.After-close)) (map-set_same departed_in c.self.inside.rows.items (position c.self.inside.rows.keys c.held_key-key.result) c.close.new.self c.index_mut-row.result.now (c.close.ensures.departed ∙ ap departed_in c.index_mut-row.ensures.value)) refl refl refl)

@@ -5,7 +5,7 @@ use Rattle.std.proofs.lemmas.List.Elements.{All-set}
 use Rattle.std.proofs.Math.Seq.{map-set_same}
 use Rattle.buffer_budget.specs.Parts.{whole_of, with_freed}
 use Rattle.link_server.specs.KeyedList.{position}
-use Rattle.link_server.proofs.Words.{channel_number, level_number, Tentative, Closing, slots_of, kept_units, kept_relaxed, is_phase, reservation_in, row_in, summed, IsPlaceOf, IsWithinLevels}
+use Rattle.link_server.proofs.Words.{channel_number, level_number, Tentative, Closing, slots_of, held_units, account_relaxed, is_phase, reservation_in, row_in, summed, IsPlaceOf, IsWithinLevels}
 use Rattle.rcsp_admission.specs.Sums.{HoldsUpTo, moved}
 use Rattle.link_server.specs.Changes.{HasRow, MayCommit}
 use Rattle.link_server.specs.Departed.{departed_in}
@@ -40,7 +40,7 @@ only c = place-only c.self.inside.rows.items (position c.self.inside.rows.keys c
 pub give_back-requires-clause-held : goal.give_back-requires-clause-held
 give_back-requires-clause-held c =
     let t = c.self.inside in
-    subst (λ row. kept_units t.bounds (reservation_in row) ≤ t.keeping.budget.held) (sym c.index_mut-row.ensures.value)
+    subst (λ row. held_units t.bounds (reservation_in row) ≤ t.keeping.budget.held) (sym c.index_mut-row.ensures.value)
     (row-held (whole_of t.keeping.budget) t.bounds t.keeping t.rows.items (position c.self.inside.rows.keys c.held_key-key.result) c.index_mut-row.result.now c.self.invariant.parts.keeps (may (goal.at.give_back-requires-clause-held c).After-index_mut-row).inside)
 
 pub give_back-requires-clause-places : goal.give_back-requires-clause-places
@@ -58,19 +58,19 @@ move_to-requires-clause-held c =
     (subst (λ n. HoldsUpTo (map summed t.rows.items) n (level_number c.args.level)) (sym c.get.ensures.value) held)
 
 -- as it is changed: it has no more slots than before, and so keeps no more units
-same : (c : After-commit) → row_in c.commit.new.self ≡ kept_relaxed c.args.level c.args.up_bound (row_in (get_or c.self.inside.rows.items (position c.self.inside.rows.keys c.held_key-key.result) c.index_mut-row.result.now))
-same c = c.commit.ensures.row ∙ ap (λ row. kept_relaxed c.args.level c.args.up_bound (row_in row)) c.index_mut-row.ensures.value
+same : (c : After-commit) → row_in c.commit.new.self ≡ account_relaxed c.args.level c.args.up_bound (row_in (get_or c.self.inside.rows.items (position c.self.inside.rows.keys c.held_key-key.result) c.index_mut-row.result.now))
+same c = c.commit.ensures.row ∙ ap (λ row. account_relaxed c.args.level c.args.up_bound (row_in row)) c.index_mut-row.ensures.value
 
 fewer : (c : After-commit) → IsRowAt (MayCommit c.self.inside.bounds c.args.level c.args.up_bound) c.self.inside (position c.self.inside.rows.keys c.held_key-key.result) c.index_mut-row.result.now
     → slots_of c.self.inside.bounds (reservation_in c.commit.new.self) ≤ slots_of c.self.inside.bounds (reservation_in (get_or c.self.inside.rows.items (position c.self.inside.rows.keys c.held_key-key.result) c.index_mut-row.result.now))
 fewer c row = subst (λ new. slots_of c.self.inside.bounds new.terms ≤ slots_of c.self.inside.bounds (reservation_in (get_or c.self.inside.rows.items (position c.self.inside.rows.keys c.held_key-key.result) c.index_mut-row.result.now))) (sym (same c)) row.is.fewer
 
-fits-again : (c : After-commit) → IsRowAt (MayCommit c.self.inside.bounds c.args.level c.args.up_bound) c.self.inside (position c.self.inside.rows.keys c.held_key-key.result) c.index_mut-row.result.now → kept_units c.self.inside.bounds (reservation_in c.commit.new.self) ≤ c.give_back.new.self.budget.free
+fits-again : (c : After-commit) → IsRowAt (MayCommit c.self.inside.bounds c.args.level c.args.up_bound) c.self.inside (position c.self.inside.rows.keys c.held_key-key.result) c.index_mut-row.result.now → held_units c.self.inside.bounds (reservation_in c.commit.new.self) ≤ c.give_back.new.self.budget.free
 fits-again c row =
     let t = c.self.inside in
     let less = relaxed-units t.bounds c.args.level c.args.up_bound c.commit.new.self (get_or t.rows.items (position c.self.inside.rows.keys c.held_key-key.result) c.index_mut-row.result.now) (same c) (fewer c row) in
-    let freed : c.give_back.new.self.budget.free ≡ t.keeping.budget.free + kept_units t.bounds (reservation_in c.index_mut-row.result.now) = ap (λ p. p.free) c.give_back.ensures.budget in
-    let own = ap (λ row. kept_units t.bounds (reservation_in row)) c.index_mut-row.ensures.value in
+    let freed : c.give_back.new.self.budget.free ≡ t.keeping.budget.free + held_units t.bounds (reservation_in c.index_mut-row.result.now) = ap (λ p. p.free) c.give_back.ensures.budget in
+    let own = ap (λ row. held_units t.bounds (reservation_in row)) c.index_mut-row.ensures.value in
     omega (arith, less, freed, own)
 
 pub hold-requires-clause-free : goal.hold-requires-clause-free
@@ -88,13 +88,13 @@ hold-requires-clause-few c =
     omega (arith, less, first, own, few, c.give_back.ensures.places)
 
 -- what the rows keep then
-keeps : (c : After-hold) → IsRowAt (MayCommit c.self.inside.bounds c.args.level c.args.up_bound) c.self.inside (position c.self.inside.rows.keys c.held_key-key.result) c.index_mut-row.result.now → kept_units c.self.inside.bounds (reservation_in c.commit.new.self) ≤ c.give_back.new.self.budget.free
+keeps : (c : After-hold) → IsRowAt (MayCommit c.self.inside.bounds c.args.level c.args.up_bound) c.self.inside (position c.self.inside.rows.keys c.held_key-key.result) c.index_mut-row.result.now → held_units c.self.inside.bounds (reservation_in c.commit.new.self) ≤ c.give_back.new.self.budget.free
     → IsKeeping (whole_of c.self.inside.keeping.budget) c.self.inside.bounds c.hold.new.self (map reservation_in (set c.self.inside.rows.items (position c.self.inside.rows.keys c.held_key-key.result) c.commit.new.self))
 keeps c row fits =
     let t = c.self.inside in
     let at = c.index_mut-row.ensures.value in
     keeps-changed (whole_of t.keeping.budget) t.bounds t.keeping c.give_back.new.self c.hold.new.self t.rows.items (position c.self.inside.rows.keys c.held_key-key.result) c.commit.new.self c.index_mut-row.result.now c.self.invariant.parts.keeps row.inside
-    (c.give_back.ensures.budget ∙ ap (λ row. with_freed t.keeping.budget (kept_units t.bounds (reservation_in row))) at)
+    (c.give_back.ensures.budget ∙ ap (λ row. with_freed t.keeping.budget (held_units t.bounds (reservation_in row))) at)
     (c.give_back.ensures.places ∙ ap (λ row. t.keeping.places - places_for t.bounds (reservation_in row)) at)
     fits c.hold.ensures.budget c.hold.ensures.places
 
@@ -146,4 +146,4 @@ returns c =
     let at = goal.at.returns c in
     let row = may at.After-index_mut-row in
     rw (← c.self.view_is)
-    (table-same _ _ (changed-mapped c.args.chan (kept_relaxed c.args.level c.args.up_bound) c.self.inside.rows.items (position c.self.inside.rows.keys c.held_key-key.result) c.commit.new.self c.index_mut-row.result.now c.held_key-key.ensures (same at.After-commit)) (map-set_same departed_in c.self.inside.rows.items (position c.self.inside.rows.keys c.held_key-key.result) c.commit.new.self c.index_mut-row.result.now (c.commit.ensures.departed ∙ ap departed_in c.index_mut-row.ensures.value)) c.move_to.ensures.server (keeps at.After-hold row (fits-again at.After-commit row)).whole refl)
+    (table-same _ _ (changed-mapped c.args.chan (account_relaxed c.args.level c.args.up_bound) c.self.inside.rows.items (position c.self.inside.rows.keys c.held_key-key.result) c.commit.new.self c.index_mut-row.result.now c.held_key-key.ensures (same at.After-commit)) (map-set_same departed_in c.self.inside.rows.items (position c.self.inside.rows.keys c.held_key-key.result) c.commit.new.self c.index_mut-row.result.now (c.commit.ensures.departed ∙ ap departed_in c.index_mut-row.ensures.value)) c.move_to.ensures.server (keeps at.After-hold row (fits-again at.After-commit row)).whole refl)

@@ -3,7 +3,7 @@ use Rattle.std.proofs.Common.{length, inr, ◌≡◌, get_or, refl, set, sym, ap
 use Rattle.std.proofs.lemmas.List.{length-set}
 use Rattle.std.proofs.Math.Seq.{map-set_same}
 use Rattle.link_server.specs.KeyedList.{position}
-use Rattle.link_server.proofs.Words.{whole_of, Committed, Closing, kept_planned, Each, is_phase, KeptTable, reservation_in, row_in, ServedRow}
+use Rattle.link_server.proofs.Words.{whole_of, Committed, Closing, account_planned, Each, is_phase, TableAccount, reservation_in, row_in, ServedRow}
 use Rattle.link_server.specs.Changes.{MayPlan}
 use Rattle.link_server.specs.Departed.{departed_in}
 use Rattle.link_server.specs.Keeping.{IsKeeping}
@@ -31,8 +31,8 @@ idle : (c : After-index_mut-row) → idle_count (row_in (was c)) ≡ 1
 idle c = (let is = (may c).is in idle-one (row_in (was c)) is.none_left (ap (λ phase. is_phase phase Closing) (in-phase Committed (row_in (was c)) is.phase)))
 
 -- as it is changed
-same : (c : After-plan) → row_in c.plan.new.self ≡ kept_planned c.args.planned.tick c.args.planned.count c.args.planned.gap c.args.planned.size (row_in (get_or c.self.inside.rows.items (position c.self.inside.rows.keys c.held_key-key.result) c.index_mut-row.result.now))
-same c = c.plan.ensures.row ∙ ap (λ row. kept_planned c.args.planned.tick c.args.planned.count c.args.planned.gap c.args.planned.size (row_in row)) c.index_mut-row.ensures.value
+same : (c : After-plan) → row_in c.plan.new.self ≡ account_planned c.args.planned.tick c.args.planned.count c.args.planned.gap c.args.planned.size (row_in (get_or c.self.inside.rows.items (position c.self.inside.rows.keys c.held_key-key.result) c.index_mut-row.result.now))
+same c = c.plan.ensures.row ∙ ap (λ row. account_planned c.args.planned.tick c.args.planned.count c.args.planned.gap c.args.planned.size (row_in row)) c.index_mut-row.ensures.value
 
 pub plan-requires : goal.plan-requires
 plan-requires c = subst (λ (row : ServedRow). length (row_in row).left ≡ 0) (sym c.index_mut-row.ensures.value) (may (goal.at.plan-requires c).After-index_mut-row).is.none_left
@@ -42,7 +42,7 @@ put_plan-requires-clause-ahead c =
     let t = c.self.inside in
     let at = goal.at.put_plan-requires-clause-ahead c in
     let begun = c.self.invariant.planned.begun in
-    let looked = ap (λ (table : KeptTable). table.looked) c.self.view_is in
+    let looked = ap (λ (table : TableAccount). table.looked) c.self.view_is in
     subst (Each (IsPlannedFrom t.plans.calendar.clock)) (sym (ap (λ row. row.left) (same at.After-plan)))
     (plan-ahead t.plans.calendar.clock c.args.planned.tick c.args.planned.gap c.args.planned.size c.args.planned.count (row_in (was at.After-index_mut-row)).left (may at.After-index_mut-row).is.none_left (omega (arith, begun, looked, c.requires.looked)))
 
@@ -87,4 +87,4 @@ pub returns : goal.returns
 returns c =
     let at = goal.at.returns c in
     rw (← c.self.view_is)
-    (table-same _ _ (changed-mapped c.args.chan (kept_planned c.args.planned.tick c.args.planned.count c.args.planned.gap c.args.planned.size) c.self.inside.rows.items (position c.self.inside.rows.keys c.held_key-key.result) c.plan.new.self c.index_mut-row.result.now c.held_key-key.ensures (same at.After-plan)) (map-set_same departed_in c.self.inside.rows.items (position c.self.inside.rows.keys c.held_key-key.result) c.plan.new.self c.index_mut-row.result.now (c.plan.ensures.departed ∙ ap departed_in c.index_mut-row.ensures.value)) refl refl refl)
+    (table-same _ _ (changed-mapped c.args.chan (account_planned c.args.planned.tick c.args.planned.count c.args.planned.gap c.args.planned.size) c.self.inside.rows.items (position c.self.inside.rows.keys c.held_key-key.result) c.plan.new.self c.index_mut-row.result.now c.held_key-key.ensures (same at.After-plan)) (map-set_same departed_in c.self.inside.rows.items (position c.self.inside.rows.keys c.held_key-key.result) c.plan.new.self c.index_mut-row.result.now (c.plan.ensures.departed ∙ ap departed_in c.index_mut-row.ensures.value)) refl refl refl)

@@ -4,7 +4,7 @@ use Rattle.std.proofs.lemmas.List.Edits.{length-remove}
 use Rattle.link_server.specs.KeyedList.{position, Listed}
 use Rattle.link_server.specs.Index.{channels_in, IsIndex}
 use Rattle.link_server.proofs.RowsOfTable.Index.{index-distinct, index-without}
-use Rattle.link_server.proofs.Words.{KeptTable, ServedRow, row_in}
+use Rattle.link_server.proofs.Words.{TableAccount, ServedRow, row_in}
 use Rattle.link_server.specs.Departed.{AreCounted, departed_in}
 use Rattle.link_server.proofs.Departed.Rows.{counted-removed}
 use Rattle.link_server.proofs.Calendars.HoldRows.{listed-removed}
@@ -48,6 +48,6 @@ pub returns-clause-counted : goal.returns-clause-counted
 returns-clause-counted c = λ here each.
     let rows = c.self.inside.rows.items in
     let i = (position c.self.inside.rows.keys c.held_key-key.result) in
-    let was = subst (λ (table : KeptTable). AreCounted here table.rows table.departed) (sym c.self.view_is) each in
+    let was = subst (λ (table : TableAccount). AreCounted here table.rows table.departed) (sym c.self.view_is) each in
     let gone = ap (λ (list : Listed ServedRow). list.items) c.take_out.ensures.rows in
     rw gone (rw (removed-mapped row_in rows i, removed-mapped departed_in rows i) (counted-removed here (map row_in rows) (map departed_in rows) i was))

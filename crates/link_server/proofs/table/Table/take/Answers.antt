@@ -3,7 +3,7 @@ use Rattle.std.proofs.Common.{None, ℕ, suc, true, ◌≡◌, ◌+◌, ◌^◌,
 use Rattle.std.proofs.lemmas.List.{length-set}
 use Rattle.std.proofs.Math.Seq.{map-set_same}
 use Rattle.link_server.specs.KeyedList.{position}
-use Rattle.link_server.proofs.Words.{IfSome, find, is_kept_of, Packet, Reservation, whole_of, channel_number, newest, Closing, AccountRow, kept_arrived, kept_arrived_row, is_phase, arrival_at, KeptTable, reservation_in, row_in, ServedRow}
+use Rattle.link_server.proofs.Words.{IfSome, find, is_account_of, Packet, Reservation, whole_of, channel_number, newest, Closing, AccountRow, account_arrived, account_arrived_row, is_phase, arrival_at, TableAccount, reservation_in, row_in, ServedRow}
 use Rattle.link_steps.specs.Regulator.{eligible_next}
 use Rattle.link_server.specs.Changes.{MayTake}
 use Rattle.link_server.specs.Strays.{stray}
@@ -53,8 +53,8 @@ pub take-taken-requires-clause-few : goal.take-taken-requires-clause-few
 take-taken-requires-clause-few c = subst (λ (row : ServedRow). row.taken + 1 < 2 ^ 64) (sym c.index_mut-row.ensures.value) (may (goal.at.take-taken-requires-clause-few c).After-index_mut-row).is.few
 
 -- as it is changed
-same : (c : After-take-taken) → row_in c.take-taken.new.self ≡ kept_arrived_row c.args.clock c.args.number c.args.packet.now (row_in (get_or c.self.inside.rows.items (position c.self.inside.rows.keys c.held_key-key.result) c.index_mut-row.result.now))
-same c = c.take-taken.ensures.row ∙ ap (λ row. kept_arrived_row c.args.clock c.args.number c.args.packet.now (row_in row)) c.index_mut-row.ensures.value
+same : (c : After-take-taken) → row_in c.take-taken.new.self ≡ account_arrived_row c.args.clock c.args.number c.args.packet.now (row_in (get_or c.self.inside.rows.items (position c.self.inside.rows.keys c.held_key-key.result) c.index_mut-row.result.now))
+same c = c.take-taken.ensures.row ∙ ap (λ row. account_arrived_row c.args.clock c.args.number c.args.packet.now (row_in row)) c.index_mut-row.ensures.value
 
 pub put_hold-requires-clause-room : goal.put_hold-requires-clause-room
 put_hold-requires-clause-room c =
@@ -78,7 +78,7 @@ invariant_of-self c =
     let new = c.take-taken.new.self in
     let d = c.index_mut-row.result.now in
     let terms = ap (λ row. row.terms) changed in
-    let seen = ap (λ (table : KeptTable). table.looked) c.self.view_is in
+    let seen = ap (λ (table : TableAccount). table.looked) c.self.view_is in
     let later : t.looked ≤ c.args.clock = omega (arith, seen, c.requires.looked) in
     let turns = is.turns in
     let long = length-set items i new in
@@ -104,7 +104,7 @@ invariant_of-self c =
 pub returns-clause-table : goal.returns-clause-table
 returns-clause-table c =
     let at = goal.at.returns-clause-table c in
-    rw (← c.self.view_is) (table-same _ _ (changed-mapped c.args.packet.now.chan (kept_arrived_row c.args.clock c.args.number c.args.packet.now) c.self.inside.rows.items (position c.self.inside.rows.keys c.held_key-key.result) c.take-taken.new.self c.index_mut-row.result.now c.held_key-key.ensures (same at.After-take-taken)) (map-set_same departed_in c.self.inside.rows.items (position c.self.inside.rows.keys c.held_key-key.result) c.take-taken.new.self c.index_mut-row.result.now (c.take-taken.ensures.departed ∙ ap departed_in c.index_mut-row.ensures.value)) refl refl refl)
+    rw (← c.self.view_is) (table-same _ _ (changed-mapped c.args.packet.now.chan (account_arrived_row c.args.clock c.args.number c.args.packet.now) c.self.inside.rows.items (position c.self.inside.rows.keys c.held_key-key.result) c.take-taken.new.self c.index_mut-row.result.now c.held_key-key.ensures (same at.After-take-taken)) (map-set_same departed_in c.self.inside.rows.items (position c.self.inside.rows.keys c.held_key-key.result) c.take-taken.new.self c.index_mut-row.result.now (c.take-taken.ensures.departed ∙ ap departed_in c.index_mut-row.ensures.value)) refl refl refl)
 
 -- the packet is the account's
 pub returns-clause-packet : goal.returns-clause-packet
@@ -117,6 +117,6 @@ returns-clause-packet c =
     c.take-taken.ensures.packet
     ∙ ap (λ (row : ServedRow). arrival_at (reservation_in row) row.lead c.args.number (suc row.taken) packet.size c.args.clock (tick row)) c.index_mut-row.ensures.value
     ∙ ap (λ n. arrival_at (reservation_in was) was.lead c.args.number n packet.size c.args.clock (tick was)) (sym (next-number packet (reservation_in was) was.taken row.is.placed)) in
-    subst (λ (table : KeptTable). IfSome (find (is_kept_of packet.chan) table.rows) (λ row. arrival_in c.take-taken.result ≡ kept_arrived c.args.clock c.args.number packet row)) c.self.view_is
-    (subst (λ o. IfSome o (λ (row : AccountRow). arrival_in c.take-taken.result ≡ kept_arrived c.args.clock c.args.number packet row))
+    subst (λ (table : TableAccount). IfSome (find (is_account_of packet.chan) table.rows) (λ row. arrival_in c.take-taken.result ≡ account_arrived c.args.clock c.args.number packet row)) c.self.view_is
+    (subst (λ o. IfSome o (λ (row : AccountRow). arrival_in c.take-taken.result ≡ account_arrived c.args.clock c.args.number packet row))
     (sym (found-at packet.chan c.self.inside.rows.items (position c.self.inside.rows.keys c.held_key-key.result) c.index_mut-row.result.now c.held_key-key.ensures)) arrived)

@@ -1,7 +1,7 @@
 -- The rows that take their packets stay where they are.
 use Rattle.std.proofs.Common.{map, sym, ap, subst, arith}
 use Rattle.link_server.specs.Index.{channels_in, IsIndex}
-use Rattle.link_server.proofs.Words.{whole_of, KeptTable, row_in}
+use Rattle.link_server.proofs.Words.{whole_of, TableAccount, row_in}
 use Rattle.link_server.specs.Holds.{AreListed}
 use Rattle.link_server.specs.Keeping.{IsKeeping}
 use Rattle.link_server.proofs.Calendars.HoldSteps.{listed-stepped}
@@ -19,7 +19,7 @@ invariant_of-self c =
     let rows = c.take_turns.new.rows.items in
     let reservations = reservations-after t.bounds queue.here c.args.clock queue.taken t.rows.items rows made.rows in
     let fixed = fixed-same rows t.rows.items reservations in
-    let seen = ap (λ (table : KeptTable). table.looked) c.self.view_is in
+    let seen = ap (λ (table : TableAccount). table.looked) c.self.view_is in
     let turns = is.turns in
     let long = as-long rows t.rows.items fixed in
     record {

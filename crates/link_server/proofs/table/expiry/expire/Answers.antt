@@ -1,6 +1,6 @@
 -- The row of an entry that is due is taken out, once its hold has ended. Where none is due, all rows stay.
 use Rattle.std.proofs.Common.{map, refl, sym, ap, ◌∙◌, subst, arith}
-use Rattle.link_server.proofs.Words.{remove, filter, kept_stays, row_in, ServedRow}
+use Rattle.link_server.proofs.Words.{remove, filter, account_stays, row_in, ServedRow}
 use Rattle.link_server.specs.Departed.{departed_in}
 use Rattle.link_server.specs.Holds.{open_count, IsListed, AreListed}
 use Rattle.link_server.specs.Index.{channels_in, IsIndex}
@@ -35,7 +35,7 @@ loop-number-preserved-in-Some-ended_key c =
     let most = was.listed.room in
     let gone-rows = ap (λ (list : Listed ServedRow). list.items) made.rows in
     record {
-      stay = ap (λ all. filter (kept_stays bounds clock) (map row_in all)) gone-rows ∙ filter-without (kept_stays bounds clock) rows i d gone.inside (gone.ended d) ∙ was.stay;
+      stay = ap (λ all. filter (account_stays bounds clock) (map row_in all)) gone-rows ∙ filter-without (account_stays bounds clock) rows i d gone.inside (gone.ended d) ∙ was.stay;
       counted = λ here each. rw gone-rows (rw (removed-mapped row_in rows i, removed-mapped departed_in rows i) (counted-removed here (map row_in rows) (map departed_in rows) i (was.counted here each)));
       listed =
           subst (λ all. AreListed bounds clock c.take_due.new.self (map row_in all)) (sym gone-rows)

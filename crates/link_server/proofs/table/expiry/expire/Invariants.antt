@@ -1,6 +1,6 @@
 -- What stays while rows expire one by one.
 use Rattle.std.proofs.Common.{◌≡◌, List, length, map}
-use Rattle.link_server.proofs.Words.{Arrival, filter, whole_of, kept_stays, row_in}
+use Rattle.link_server.proofs.Words.{Arrival, filter, whole_of, account_stays, row_in}
 use Rattle.link_server.specs.Departed.{AreCounted, departed_in}
 use Rattle.link_server.specs.Holds.{AreListed}
 use Rattle.link_server.specs.Index.{channels_in, IsIndex}
@@ -11,7 +11,7 @@ use Rattle.link_server.proofs.table.expiry.expire.Given as goal
 -- no row that stays was taken out
 abbrev pub invariant-loop-number : goal.invariant-loop-number
 invariant-loop-number l = record {
-  stay : filter (kept_stays l.bounds l.clock) (map row_in l.rows.items) ≡ filter (kept_stays l.bounds l.clock) (map row_in l.fn.rows.items);
+  stay : filter (account_stays l.bounds l.clock) (map row_in l.rows.items) ≡ filter (account_stays l.bounds l.clock) (map row_in l.fn.rows.items);
   counted : (here : List Arrival) → AreCounted here (map row_in l.fn.rows.items) (map departed_in l.fn.rows.items) → AreCounted here (map row_in l.rows.items) (map departed_in l.rows.items);
   listed : AreListed l.bounds l.clock l.holds (map row_in l.rows.items);
   ready : AreReady l.clock l.rows.items;

@@ -1,6 +1,6 @@
 -- The row gives back its share of each part.
 use Rattle.std.proofs.Common.{◌≤◌, map, sym, ap, ◌∙◌, subst}
-use Rattle.link_server.proofs.Words.{whole_of, channel_number, kept_units, reservation_in, summed, IsPlaceOf, IsWithinLevels}
+use Rattle.link_server.proofs.Words.{whole_of, channel_number, held_units, reservation_in, summed, IsPlaceOf, IsWithinLevels}
 use Rattle.rcsp_admission.specs.Sums.{Holds, without_key}
 use Rattle.link_server.specs.KeyedList.{position}
 use Rattle.link_server.specs.Keeping.{IsKeeping, places_for}
@@ -17,7 +17,7 @@ only c = place-only c.args.rows.now.items (position c.args.rows.now.keys c.args.
 
 pub give_back-requires-clause-held : goal.give_back-requires-clause-held
 give_back-requires-clause-held c =
-    subst (λ row. kept_units c.args.bounds.now (reservation_in row) ≤ c.args.keeping.now.budget.held) (sym c.index-row.ensures)
+    subst (λ row. held_units c.args.bounds.now (reservation_in row) ≤ c.args.keeping.now.budget.held) (sym c.index-row.ensures)
     (row-held (whole_of c.args.keeping.now.budget) c.args.bounds.now c.args.keeping.now c.args.rows.now.items (position c.args.rows.now.keys c.args.key) c.index-row.result.now c.requires.parts.keeps c.requires.inside)
 
 pub give_back-requires-clause-places : goal.give_back-requires-clause-places

@@ -2,7 +2,7 @@
 -- the account.
 use Rattle.std.proofs.Common.{◌≡◌, ◌+◌, ◌++◌, [], ◌∷◌, suc, true, refl, sym, ap, ◌∙◌, arith}
 use Rattle.std.proofs.lemmas.List.{append-nil}
-use Rattle.link_server.proofs.Words.{dropped_by, taken_by, Arrival, KeptQueue, kept_packet, reservation_in, row_in}
+use Rattle.link_server.proofs.Words.{dropped_by, taken_by, Arrival, QueueAccount, account_packet, reservation_in, row_in}
 use Rattle.link_steps.specs.Sources.SourceStep.{Rests, Brings, Drops}
 use Rattle.link_steps.proofs.AccountOfRows.{eligible-from}
 use Rattle.link_server.specs.Packets.{arrival_in}
@@ -13,7 +13,7 @@ use Rattle.link_server.proofs.table.sources.take_source_packet.Goals as goal
 use Rattle.link_server.proofs.table.sources.take_source_packet.Goals.{After-has_slot}
 
 -- where it takes none, the queue is as it was
-same-kept : (queue : KeptQueue) → queue ≡ record queue { taken = queue.taken + 0; here = queue.here ++ []; looked = queue.looked }
+same-kept : (queue : QueueAccount) → queue ≡ record queue { taken = queue.taken + 0; here = queue.here ++ []; looked = queue.looked }
 same-kept queue =
     let same : queue.taken ≡ queue.taken + 0 = omega arith in
     queue-same queue (record queue { taken = queue.taken + 0; here = queue.here ++ [] }) same (sym (append-nil queue.here)) refl refl refl refl refl
@@ -73,6 +73,6 @@ pub returns-clause-kept : goal.returns-clause-kept
 returns-clause-kept c =
     let free = c.if-not-has_slot.false in
     let was = c.args.queue.now in
-    let here : was.here ++ arrival_in c.take-packet.result ∷ [] ≡ was.here ++ kept_packet (Brings c.in-Some.size) c.args.clock (suc was.taken) (row_in c.args.row.now) =
+    let here : was.here ++ arrival_in c.take-packet.result ∷ [] ≡ was.here ++ account_packet (Brings c.in-Some.size) c.args.clock (suc was.taken) (row_in c.args.row.now) =
     brought-here c.args.clock c.in-Some.size was.taken (c.taken.result + 1) was.here c.take-packet.result c.next_planned.new.self c.args.row.now (ap (λ n. n + 1) c.taken.ensures) c.next_planned.ensures.row c.take-packet.ensures.packet in
     rw (brings (goal.at.returns-clause-kept c).After-has_slot free) (c.push.ensures.kept ∙ ap (λ all. record was { taken = was.taken + 1; here = all; looked = c.push.new.self.looked }) here)

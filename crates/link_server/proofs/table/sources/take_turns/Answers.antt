@@ -1,6 +1,6 @@
 -- Each turn adds to what the rows before it have done.
 use Rattle.std.proofs.Common.{◌≡◌, ℕ, List, ◌+◌, ◌++◌, ◌<◌, ◌≤◌, suc, length, get_or, set, drop, refl, sym, ap, ◌∙◌, subst, arith}
-use Rattle.link_server.proofs.Words.{kept_packet, kept_after_step, SourceStep, taken_by, dropped_by, Arrival, KeptQueue, row_in, IsWithinLevels, ServedRow}
+use Rattle.link_server.proofs.Words.{account_packet, account_after_step, SourceStep, taken_by, dropped_by, Arrival, QueueAccount, row_in, IsWithinLevels, ServedRow}
 use Rattle.std.proofs.lemmas.List.{get_or_past, length-append, length-map, length-set}
 use Rattle.link_steps.proofs.SearchAndFilter.{Each-if}
 use Rattle.link_server.proofs.Replies.Account.{queue-same}
@@ -95,7 +95,7 @@ take_source_packet-requires-clause-room c =
     let all = ap length (so at).here in
     let now = length-append c.loop-place.queue.here (brought_by c.args.bounds.now here c.args.clock c.loop-place.queue.taken (drop (place at) c.args.rows.now.items)) in
     let whole = length-append here (brought_by c.args.bounds.now here c.args.clock c.args.queue.now.taken c.args.rows.now.items) in
-    let room = ap (λ (queue : KeptQueue). queue.room) c.loop-place.invariant.kept in
+    let room = ap (λ (queue : QueueAccount). queue.room) c.loop-place.invariant.kept in
     let most = c.requires.may.room in
     omega (arith, one, fits, all, now, whole, room, most)
 
@@ -131,14 +131,14 @@ put_plan-requires-clause-room c =
     omega (arith, room, c.loop-place-test.true)
 
 -- a turn changes no other part of the queue either
-still-kept : (first old new : KeptQueue) (taken : ℕ) (here : List Arrival) → old ≡ record first { taken = old.taken; here = old.here; looked = old.looked } → new ≡ record old { taken = taken; here = here; looked = new.looked }
+still-kept : (first old new : QueueAccount) (taken : ℕ) (here : List Arrival) → old ≡ record first { taken = old.taken; here = old.here; looked = old.looked } → new ≡ record old { taken = taken; here = here; looked = new.looked }
     → new ≡ record first { taken = new.taken; here = new.here; looked = new.looked }
 still-kept first old new taken here before kept =
     queue-same new (record first { taken = new.taken; here = new.here; looked = new.looked }) refl refl
-    (ap (λ (queue : KeptQueue). queue.on) kept ∙ ap (λ (queue : KeptQueue). queue.on) before)
-    (ap (λ (queue : KeptQueue). queue.best) kept ∙ ap (λ (queue : KeptQueue). queue.best) before)
-    (ap (λ (queue : KeptQueue). queue.room) kept ∙ ap (λ (queue : KeptQueue). queue.room) before) refl
-    (ap (λ (queue : KeptQueue). queue.bounds) kept ∙ ap (λ (queue : KeptQueue). queue.bounds) before)
+    (ap (λ (queue : QueueAccount). queue.on) kept ∙ ap (λ (queue : QueueAccount). queue.on) before)
+    (ap (λ (queue : QueueAccount). queue.best) kept ∙ ap (λ (queue : QueueAccount). queue.best) before)
+    (ap (λ (queue : QueueAccount). queue.room) kept ∙ ap (λ (queue : QueueAccount). queue.room) before) refl
+    (ap (λ (queue : QueueAccount). queue.bounds) kept ∙ ap (λ (queue : QueueAccount). queue.bounds) before)
 
 pub loop-place-preserved : goal.loop-place-preserved
 loop-place-preserved c =
@@ -152,11 +152,11 @@ loop-place-preserved c =
     let made = c.take_source_packet.ensures in
     let is = step-is at in
     let own = own at in
-    let changed : row_in new ≡ kept_after_step (step at) c.args.clock (suc queue.taken) (row_in (row at)) =
-    made.row ∙ ap (λ s. kept_after_step s c.args.clock (suc queue.taken) (row_in d)) is ∙ ap (λ r. kept_after_step (step at) c.args.clock (suc queue.taken) (row_in r)) own in
-    let brought : here ≡ queue.here ++ kept_packet (step at) c.args.clock (suc queue.taken) (row_in (row at)) =
-    ap (λ (q : KeptQueue). q.here) made.kept ∙ ap (λ s. queue.here ++ kept_packet s c.args.clock (suc queue.taken) (row_in d)) is ∙ ap (λ r. queue.here ++ kept_packet (step at) c.args.clock (suc queue.taken) (row_in r)) own in
-    let taken = ap (λ (q : KeptQueue). q.taken) made.kept ∙ ap (λ s. queue.taken + taken_by s) is in
+    let changed : row_in new ≡ account_after_step (step at) c.args.clock (suc queue.taken) (row_in (row at)) =
+    made.row ∙ ap (λ s. account_after_step s c.args.clock (suc queue.taken) (row_in d)) is ∙ ap (λ r. account_after_step (step at) c.args.clock (suc queue.taken) (row_in r)) own in
+    let brought : here ≡ queue.here ++ account_packet (step at) c.args.clock (suc queue.taken) (row_in (row at)) =
+    ap (λ (q : QueueAccount). q.here) made.kept ∙ ap (λ s. queue.here ++ account_packet s c.args.clock (suc queue.taken) (row_in d)) is ∙ ap (λ r. queue.here ++ account_packet (step at) c.args.clock (suc queue.taken) (row_in r)) own in
+    let taken = ap (λ (q : QueueAccount). q.taken) made.kept ∙ ap (λ s. queue.taken + taken_by s) is in
     let counted = made.lost ∙ ap dropped_by is in
     let lost : c.if-take_source_packet.lost ≡ c.loop-place.lost + dropped_by (step at) = elim c.if-take_source_packet.branch [
       | then-take_source_packet w ↦ lost-more c.take_source_packet.result c.loop-place.lost _ _ counted w.if-take_source_packet.true w.lost-is

@@ -12,12 +12,12 @@ use Rattle.traffic_contract.specs.declared.admission.Test.TheVariants.{Whole}
 use Rattle.link_steps.specs.declared.shape.LinkShape.{LinkShape}
 use Rattle.link_steps.specs.Admissible.{MayOffer}
 use Rattle.link_steps.specs.Buffer.{need_of, free_units}
-use Rattle.link_steps.specs.Account.{Account, StandsFor, kept_terms}
+use Rattle.link_steps.specs.Account.{Account, StandsFor, account_terms}
 use Rattle.link_steps.specs.Levels.{level_of}
 use Rattle.link_steps.specs.Scan.{scan_of}
 use Rattle.link_steps.specs.Shape.{server_of, IsShapeOf}
 use Rattle.link_server.specs.Held.{reservations_held}
-use Rattle.link_server.specs.State.{kept_in}
+use Rattle.link_server.specs.State.{account_in}
 use Rattle.link_server.proofs.ChosenLevel.{terms-stand}
 use Rattle.link_server_tests.proofs.tests.chosen.choose.Goals as goal
 
@@ -55,7 +55,7 @@ may-first number shape chan level is second =
     }
 
 -- nothing is held
-none-held : (shape : LinkShape) (k : Account) → StandsFor shape k [] → map kept_terms k.rows ≡ []
+none-held : (shape : LinkShape) (k : Account) → StandsFor shape k [] → map account_terms k.rows ≡ []
 unfolding scan_of
 none-held shape k stands = terms-stand shape k [] stands
 
@@ -73,4 +73,4 @@ reserve_at-requires-clause-may g =
     let alone = may-first number link.shape g.chan.result g.level-at.result is g.level-at.ensures in
     let far : Level = level_of (reach_of link.shape.bounds 50 (level_number g.level-at.result)) in
     subst (λ terms. MayOffer link.shape (reservations_held link) g.chan.result terms 50 0 g.level-at.result far) (sym g.in_ok-contract.ensures.value)
-    (subst (λ held. MayOffer link.shape held g.chan.result voice 50 0 g.level-at.result far) (sym (none-held link.shape (kept_in link) g.in_ok-link.ensures.stands)) alone)
+    (subst (λ held. MayOffer link.shape held g.chan.result voice 50 0 g.level-at.result far) (sym (none-held link.shape (account_in link) g.in_ok-link.ensures.stands)) alone)

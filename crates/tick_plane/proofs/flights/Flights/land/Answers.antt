@@ -3,7 +3,7 @@ use Rattle.std.proofs.Common.{◌≡◌, ℕ, ◌+◌, ◌++◌, if◌then◌els
 use Rattle.std.specs.List.{find}
 use Rattle.std.specs.Prelude.{IsSome}
 use Rattle.link_steps.specs.Lists.{Each, without_first}
-use Rattle.tick_calendar.specs.Calendar.{Entry, Schedule}
+use Rattle.tick_calendar.specs.Calendar.{Entry, Timetable}
 use Rattle.tick_plane.specs.Planes.{is_due}
 use Rattle.tick_plane.specs.Carried.{AreFlights, AreKeyed, IsFrom, IsDue, flights_at}
 use Rattle.tick_plane.proofs.FlightPerKey.{is-held, keyed-landed, flights-landed}
@@ -29,9 +29,9 @@ invariant_of-self c =
     let land = landed (goal.at.invariant_of-self c).After-unwrap-key in
     let round = c.self.inside.round in
     let left : List Entry = c.take_due.new.self.entries in
-    let same = ap (λ (s : Schedule). s.entries) c.look_due-self-inside.ensures.kept in
-    let clock = ap (λ (s : Schedule). s.clock) c.look_due-self-inside.ensures.kept in
-    let spare = ap (λ (s : Schedule). s.spare) c.look_due-self-inside.ensures.kept in
+    let same = ap (λ (s : Timetable). s.entries) c.look_due-self-inside.ensures.kept in
+    let clock = ap (λ (s : Timetable). s.clock) c.look_due-self-inside.ensures.kept in
+    let spare = ap (λ (s : Timetable). s.spare) c.look_due-self-inside.ensures.kept in
     let from : Each (IsFrom round) left = from-left round c.unwrap-key.result c.self.inside.rounds.entries left land c.self.invariant.punctual in
     let more : c.take_due.new.self.spare ≡ c.self.inside.rounds.spare + 1 = c.take_due.ensures.spare ∙ ap (λ (taken : Option ℕ). c.self.inside.rounds.spare + (if is_some taken then 1 else 0)) c.unwrap-key.ensures in
     let holds = c.self.invariant.holds in
@@ -53,7 +53,7 @@ returns c =
     let list = ap (λ (f : AreFlights). f.list) c.self.view_is in
     let now = ap (λ (f : AreFlights). f.round) c.self.view_is in
     let spare = ap (λ (f : AreFlights). f.spare) c.self.view_is in
-    let same = ap (λ (s : Schedule). s.entries) c.look_due-self-inside.ensures.kept in
+    let same = ap (λ (s : Timetable). s.entries) c.look_due-self-inside.ensures.kept in
     let flown : flights_at c.remove.new.self.slots c.look_due-self-inside.new.self.entries ≡ without_first (is_due c.args.self.now.round) c.args.self.now.list =
     ap (flights_at c.remove.new.self.slots) (same ∙ land.left_is)
     ∙ flights-landed c.self.inside.carried c.remove.new.self land.before land.after round c.unwrap-key.result (subst (AreKeyed c.self.inside.carried.slots) land.is c.self.invariant.keyed) c.remove.ensures.updates

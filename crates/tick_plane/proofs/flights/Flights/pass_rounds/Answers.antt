@@ -1,7 +1,7 @@
 -- The flights of that round and later ones are left, and the calendar tells the first of that round.
 use Rattle.std.proofs.Common.{◌+◌, List, sym, ap, subst, arith}
 use Rattle.link_steps.specs.Lists.{Each}
-use Rattle.tick_calendar.specs.Calendar.{Entry, Schedule}
+use Rattle.tick_calendar.specs.Calendar.{Entry, Timetable}
 use Rattle.tick_plane.specs.Carried.{AreFlights, AreKeyed, IsFrom, IsDue, flights_at}
 use Rattle.tick_plane.specs.Coming.{IsDueFrom}
 use Rattle.tick_plane.proofs.QuietRounds.{of-flights}
@@ -13,9 +13,9 @@ invariant_of-self c =
     let slots = c.self.inside.carried.slots in
     let entries : List Entry = c.self.inside.rounds.entries in
     let round = c.self.inside.round + c.args.rounds in
-    let same = ap (λ (s : Schedule). s.entries) c.look_due-self-inside.ensures.kept in
-    let clock = ap (λ (s : Schedule). s.clock) c.look_due-self-inside.ensures.kept in
-    let spare = ap (λ (s : Schedule). s.spare) c.look_due-self-inside.ensures.kept in
+    let same = ap (λ (s : Timetable). s.entries) c.look_due-self-inside.ensures.kept in
+    let clock = ap (λ (s : Timetable). s.clock) c.look_due-self-inside.ensures.kept in
+    let spare = ap (λ (s : Timetable). s.spare) c.look_due-self-inside.ensures.kept in
     let none : Each (IsDueFrom round) (flights_at slots entries) = subst (λ (f : AreFlights). Each (IsDueFrom (f.round + c.args.rounds)) f.list) (sym c.self.view_is) c.requires.none in
     let from : Each (IsFrom round) entries = of-flights slots round entries none in
     let puts = c.self.invariant.puts in

@@ -1,7 +1,7 @@
 -- The packet comes under a new key, which is put in the calendar.
 use Rattle.std.proofs.Common.{◌≡◌, ◌++◌, ◌∷◌, [], length, sym, ap, ◌∙◌, subst, arith}
 use Rattle.std.proofs.lemmas.List.{length-append}
-use Rattle.link_server.proofs.Words.{IsPermutation, Schedule}
+use Rattle.link_server.proofs.Words.{IsPermutation, Timetable}
 use Rattle.link_server.specs.Keys.{keys_of, packets_at, queues_at, AreKeyed, AreInOrder}
 use Rattle.link_server.specs.Queues.{joined}
 use Rattle.link_server.specs.Ready.{queues_of}
@@ -19,7 +19,7 @@ insert_reserved-key-requires c =
     omega (arith, counted, long, hold, c.requires.room)
 
 entries : (c : After-put) → c.put.new.self.entries ≡ c.args.self.now.later.entries ++ (c.args.packet.now.eligible, c.insert_reserved-key.result) ∷ []
-entries c = ap (λ (s : Schedule). s.entries) c.put.ensures
+entries c = ap (λ (s : Timetable). s.entries) c.put.ensures
 
 packets : (c : After-put) → packets_at c.insert_reserved-key.new.self.slots (keys_of c.put.new.self.entries) ≡ packets_at c.args.self.now.packets.slots (keys_of c.args.self.now.later.entries) ++ c.args.packet.now ∷ []
 packets c =
@@ -35,8 +35,8 @@ invariant_of-self c =
     let later = packets_at c.args.self.now.packets.slots (keys_of c.args.self.now.later.entries) in
     let ready = queues_at c.args.self.now.packets.slots (queues_of c.args.self.now.ready) in
     let come = entries c in
-    let spare = ap (λ (s : Schedule). s.spare) c.put.ensures in
-    let clock = ap (λ (s : Schedule). s.clock) c.put.ensures in
+    let spare = ap (λ (s : Timetable). s.spare) c.put.ensures in
+    let clock = ap (λ (s : Timetable). s.clock) c.put.ensures in
     let long = ap length come ∙ length-append c.args.self.now.later.entries ((c.args.packet.now.eligible, c.insert_reserved-key.result) ∷ []) in
     let looked = c.args.self.now.looked in
     let packets_hold = c.args.self.now.packets_hold in

@@ -7,7 +7,7 @@ use Rattle.link_steps.specs.Rows.{SourcePacket}
 use Rattle.link_steps.specs.Service.{Arrival, Start}
 
 -- what a contract sees of a queue
-pub record KeptQueue : Type 0 where
+pub record QueueAccount : Type 0 where
   pub taken : ℕ
   pub here : List Arrival
   pub on : Option Start

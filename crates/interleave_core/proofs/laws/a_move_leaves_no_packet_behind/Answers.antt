@@ -1,5 +1,5 @@
 use Rattle.interleave_core.proofs.Moves.MoveTotal.{none-lost-in-moves}
-use Rattle.interleave_core.proofs.laws.no_packet_is_lost_in_a_move.Goals as goal
+use Rattle.interleave_core.proofs.laws.a_move_leaves_no_packet_behind.Goals as goal
 
 pub returns : goal.returns
 returns c = none-lost-in-moves

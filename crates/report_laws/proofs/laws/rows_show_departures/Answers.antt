@@ -1,5 +1,5 @@
 use Rattle.report_laws.proofs.RowPacket.{rows-tell}
-use Rattle.report_laws.proofs.laws.rows_tell_departures.Goals as goal
+use Rattle.report_laws.proofs.laws.rows_show_departures.Goals as goal
 
 pub returns : goal.returns
 returns c = rows-tell

@@ -3,7 +3,7 @@ use Rattle.std.specs.Prelude.{ℕ}
 use Rattle.tick_plane.specs.Planes.{Plane}
 
 -- what a contract sees of a plane
-pub record KeptPlane : Type 0 where
+pub record PlaneAccount : Type 0 where
   pub links : ℕ
   pub rounds : ℕ
   pub at : Plane

@@ -6,7 +6,7 @@ use Rattle.traffic_contract.specs.Admission.{Server}
 use Rattle.link_steps.specs.Account.{AccountRow}
 
 -- what a contract sees of a table
-pub record KeptTable : Type 0 where
+pub record TableAccount : Type 0 where
   pub rows : List AccountRow
   pub departed : List ℕ
   pub server : Server
