@@ -238,7 +238,8 @@ function of_reach(    link, links) {
 
 # a byte or a space that may not stand there
 function of_shape() {
-  if ($0 ~ /\r$/) print "  it ends with a carriage return; tr -d '\\r' removes them"
+  if ($0 ~ /^\357\273\277/) print "  it begins with a byte order mark; save the file as UTF-8 without one, or as ASCII"
+  else if ($0 ~ /\r$/) print "  it ends with a carriage return; tr -d '\\r' removes them"
   else if ($0 ~ /\t/) print "  it has a tab; fields are separated by exactly one space"
   else if ($0 ~ /^ / || $0 ~ / $/) print "  it begins or ends with a space"
   else if ($0 ~ /  /) print "  it has two spaces in a row"

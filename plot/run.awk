@@ -4,7 +4,7 @@
 #   channels  place, name, least, worst, delay bound, end of the jitter bound
 #   packets   delay, place: each delay of a channel once
 #   requests  place, what it wants, the sum on offer where that denies it (or NaN), and what is said beside it; in percent of the delay wanted
-#   hops      place, hop, begin and end of its bound, begin and end of its worst (or NaN), in percent of the delay wanted
+#   hops      place, hop, begin and end of its bound, begin and end of what the worst packet took there (or NaN), in percent of the delay wanted
 #   names, names_of_requests, names_of_links      gnuplot's settings for the tics of channels, requests and links
 #   links     name, then for each of 8 levels the load in percent of its bound, and for each the load if all channels were held at once
 # settings gnuplot's settings for the numbers
@@ -72,16 +72,18 @@ file == 2 && has_table {
 }
 
 # a row: what the packet has taken at this hop, from its arrival there to the next, and from end to end
-function read_departure(    arrived, taken) {
+function read_departure(    arrived) {
   if ($3 == 1) came[$1, $2] = $6
   arrived = $8 + prop[$4]
-  taken = arrived - $6
-  if (!(($1, $3) in worst_hop) || taken > worst_hop[$1, $3]) worst_hop[$1, $3] = taken
-  if ($3 == hops[$1]) read_delay($1, arrived - came[$1, $2])
+  taken_at[$1, $2, $3] = arrived - $6
+  if ($3 == hops[$1]) read_delay($1, $2, arrived - came[$1, $2])
 }
 
-function read_delay(name, delay) {
-  if (!(name in most) || delay > most[name]) most[name] = delay
+function read_delay(name, packet, delay) {
+  if (!(name in most) || delay > most[name]) {
+    most[name] = delay
+    worst_packet[name] = packet
+  }
   if (!(name in fewest) || delay < fewest[name]) fewest[name] = delay
   if (!((name, delay) in drawn)) print delay, place_of[name] >(work "/packets")
   drawn[name, delay] = 1
@@ -131,14 +133,16 @@ function put_request(i, name,    why, sum, part) {
   if (name in promised) put_hops(i, name, 100 / wanted[name])
 }
 
-function put_hops(i, name, scale,    hop, link, from, taken, width) {
+function put_hops(i, name, scale,    hop, link, from, taken, width, part) {
   for (hop = 1; hop <= hops[name]; hop++) {
     link = route[name, hop]
     width = scale * (bound[link, level[name, hop]] + prop[link])
-    if ((name, hop) in worst_hop) print i, hop, from + 0, from + width, taken + 0, taken + scale * worst_hop[name, hop] >(work "/hops")
-    else print i, hop, from + 0, from + width, "NaN", "NaN" >(work "/hops")
+    if (name in worst_packet) {
+      part = scale * taken_at[name, worst_packet[name], hop]
+      print i, hop, from + 0, from + width, taken + 0, taken + part >(work "/hops")
+      taken += part
+    } else print i, hop, from + 0, from + width, "NaN", "NaN" >(work "/hops")
     from += width
-    taken += scale * worst_hop[name, hop]
   }
   if (taken > furthest) furthest = taken
   if (hops[name] > most_hops) most_hops = hops[name]
