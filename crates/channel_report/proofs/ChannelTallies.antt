@@ -9,8 +9,8 @@ use Rattle.hop_reservation.specs.declared.route.Hop.{Hop}
 use Rattle.link_steps.specs.declared.replies.Entry.{Entry}
 use Rattle.link_steps.specs.Scan.{clock_of}
 use Rattle.call_script.specs.declared.entries.RequestEntry.{RequestEntry}
-use Rattle.interleave_core.proofs.Keeping.Lookups.{get-set-same, get-set-other, get-push, held}
-use Rattle.interleave_core.proofs.Runs.RunLegal.{part-on, part-off}
+use Rattle.run_engine.proofs.Keeping.Lookups.{get-set-same, get-set-other, get-push, held}
+use Rattle.run_engine.proofs.Runs.RunLegal.{part-on, part-off}
 use Rattle.run_record.specs.Runs.{part_of}
 use Rattle.run_record.specs.declared.done.Done.{Done}
 use Rattle.channel_report.proofs.LinkTallies.{part-short}

@@ -10,7 +10,7 @@ use Rattle.hop_reservation.specs.declared.route.Hop.{Hop}
 use Rattle.call_script.specs.Parts.{PlanParts}
 use Rattle.call_script.specs.Plans.{IsPlan}
 use Rattle.call_script.specs.declared.entries.RequestEntry.{RequestEntry}
-use Rattle.interleave_core.proofs.Keeping.Lookups.{get-set-same, get-set-other, held}
+use Rattle.run_engine.proofs.Keeping.Lookups.{get-set-same, get-set-other, held}
 use Rattle.run_record.specs.declared.rows.HopRow.{HopRow}
 use Rattle.setup_protocol.specs.declared.request.Request.{Request}
 use Rattle.channel_report.specs.DelayTallies.{AreDelayTallies, delay_tally_of, with_delay}

@@ -15,9 +15,9 @@ use Rattle.call_script.proofs.OneOwner.{all-owned}
 use Rattle.call_script.specs.Parts.{PlanParts}
 use Rattle.call_script.specs.Plans.{IsPlan}
 use Rattle.call_script.specs.Tasks.{network_of}
-use Rattle.interleave_core.specs.replies.Answers.{IsReplyOf, IsReserveReply, IsRelaxed}
-use Rattle.interleave_core.specs.runs.Runs.{IsNext, IsRun}
-use Rattle.interleave_core.proofs.Replies.Replying.{asks-answered}
+use Rattle.run_engine.specs.replies.Answers.{IsReplyOf, IsReserveReply, IsRelaxed}
+use Rattle.run_engine.specs.runs.Runs.{IsNext, IsRun}
+use Rattle.run_engine.proofs.Replies.Replying.{asks-answered}
 use Rattle.channel_laws.proofs.SentInTime.{tick-answer}
 use Rattle.run_record.specs.Rows.{IsEarly}
 use Rattle.run_record.specs.Runs.{part_of}

@@ -9,8 +9,8 @@ use Rattle.link_steps.specs.declared.replies.Entry.{Entry}
 use Rattle.call_script.specs.Parts.{PlanParts}
 use Rattle.call_script.specs.Splits.{entry_link, groups_in}
 use Rattle.call_script.specs.Tasks.{network_of}
-use Rattle.interleave_core.specs.runs.Runs.{IsNext}
-use Rattle.interleave_core.proofs.Runs.RunLegal.{part-on, part-off}
+use Rattle.run_engine.specs.runs.Runs.{IsNext}
+use Rattle.run_engine.proofs.Runs.RunLegal.{part-on, part-off}
 use Rattle.run_record.specs.Runs.{entry_of, is_on, part_of}
 use Rattle.run_record.specs.declared.done.Done.{Done}
 use Rattle.channel_report.specs.Links.{total_in}

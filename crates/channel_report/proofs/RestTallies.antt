@@ -10,15 +10,15 @@ use Rattle.call_script.proofs.PlansFit.{plan-fits}
 use Rattle.call_script.specs.Parts.{PlanParts}
 use Rattle.call_script.specs.Tasks.{Network, network_of}
 use Rattle.call_script.specs.declared.entries.RequestEntry.{RequestEntry}
-use Rattle.interleave_core.specs.schedules.Quiet.{quiet_step, quiet_round, quiet_rounds, the_plane, rested, GoesOnAtRest}
-use Rattle.interleave_core.specs.runs.Runs.{plane_no, plane_at}
-use Rattle.interleave_core.specs.schedules.Watching.{IsRestSeen}
-use Rattle.interleave_core.proofs.Keeping.KeptActors.{plane-number}
-use Rattle.interleave_core.proofs.Watched.QuietRounds.{plane-is, quiet-rounds}
-use Rattle.interleave_core.proofs.Runs.RunLegal.{replies-by}
-use Rattle.interleave_core.proofs.Runs.RunLength.{run-short}
-use Rattle.interleave_core.proofs.Keeping.CoreStep.{callers-few}
-use Rattle.interleave_core.proofs.Watched.WatchedStrides.{links-are}
+use Rattle.run_engine.specs.schedules.Quiet.{quiet_step, quiet_round, quiet_rounds, the_plane, rested, GoesOnAtRest}
+use Rattle.run_engine.specs.runs.Runs.{plane_no, plane_at}
+use Rattle.run_engine.specs.schedules.Watching.{IsRestSeen}
+use Rattle.run_engine.proofs.Keeping.KeptActors.{plane-number}
+use Rattle.run_engine.proofs.Watched.QuietRounds.{plane-is, quiet-rounds}
+use Rattle.run_engine.proofs.Runs.RunLegal.{replies-by}
+use Rattle.run_engine.proofs.Runs.RunLength.{run-short}
+use Rattle.run_engine.proofs.Keeping.NextStep.{callers-few}
+use Rattle.run_engine.proofs.Watched.WatchedStrides.{links-are}
 use Rattle.run_record.specs.Hops.{AreHops, AreOffered, hops_at}
 use Rattle.run_record.specs.Rows.{links_of}
 use Rattle.run_record.specs.Runs.{part_of, replies_to}

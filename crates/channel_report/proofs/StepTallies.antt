@@ -3,7 +3,7 @@ use Rattle.std.proofs.Common.{◌≡◌, ℕ, ◌+◌, ◌<◌, ◌≤◌, List,
 use Rattle.std.proofs.lemmas.Bool.{cases_Bool, cases_eq}
 use Rattle.std.proofs.lemmas.List.{get_or-replicate, length-replicate}
 use Rattle.net_units.specs.Numbers.{actor_number}
-use Rattle.interleave_core.proofs.Runs.RunLegal.{replies-by, replies-off}
+use Rattle.run_engine.proofs.Runs.RunLegal.{replies-by, replies-off}
 use Rattle.run_record.specs.Runs.{is_by, replies_to}
 use Rattle.run_record.specs.declared.done.Done.{Done}
 use Rattle.channel_report.specs.StepCounts.{AreStepCounts}

@@ -28,9 +28,9 @@ use Rattle.call_script.specs.Scripts.{newest, standing, resumed, from_step, is_e
 use Rattle.call_script.specs.Tasks.{network_of, tasks_of}
 use Rattle.call_script.specs.declared.operations.Op.TheVariants.{Open, Send}
 use Rattle.call_script.specs.declared.version.Version.TheVariants.{One}
-use Rattle.interleave_core.specs.runs.Runs.{next_for, run_from}
-use Rattle.interleave_core.specs.replies.Verdicts.{setup_replies}
-use Rattle.interleave_core.proofs.Worked.Networks.{k1, chan0, wide_link, request_over}
+use Rattle.run_engine.specs.runs.Runs.{next_for, run_from}
+use Rattle.run_engine.specs.replies.Verdicts.{setup_replies}
+use Rattle.run_engine.proofs.Worked.Networks.{k1, chan0, wide_link, request_over}
 use Rattle.run_record.specs.Rows.{links_of, place_in, departures_in, put_row, in_order}
 use Rattle.run_record.specs.Runs.{replies_to, part_of}
 use Rattle.tick_plane.specs.Planes.{plane_of}

@@ -10,7 +10,7 @@ use Rattle.call_script.specs.declared.entries.CallerEntry.{CallerEntry}
 use Rattle.call_script.specs.declared.entries.RequestEntry.{RequestEntry}
 use Rattle.call_script.specs.declared.operations.Op.{Op}
 use Rattle.call_script.specs.declared.operations.Op.TheVariants.{Move}
-use Rattle.interleave_core.specs.channels.Moves.{moved_in}
+use Rattle.run_engine.specs.channels.Moves.{moved_in}
 use Rattle.run_record.specs.declared.done.Done.{Done}
 use Rattle.text_writer.specs.Lines.{whole_line}
 

@@ -11,7 +11,7 @@ use Rattle.setup_protocol.specs.Setup.{Outcome, Accepts, Denies, verdict_of}
 use Rattle.setup_protocol.specs.declared.verdict.Deny.{Deny}
 use Rattle.setup_protocol.specs.declared.verdict.Deny.TheVariants.{Hop, End}
 use Rattle.call_script.specs.declared.entries.RequestEntry.{RequestEntry}
-use Rattle.interleave_core.specs.replies.Verdicts.{setup_replies}
+use Rattle.run_engine.specs.replies.Verdicts.{setup_replies}
 use Rattle.run_record.specs.declared.done.Done.{Done}
 use Rattle.text_writer.specs.Lines.{whole_line}
 

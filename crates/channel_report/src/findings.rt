@@ -9,8 +9,8 @@ use crate::delay_tally::{DelayTally, tally_delays};
 use crate::link_tally::LinkTally;
 use crate::tally::Tally;
 use call_script::Plan;
-use interleave_core::Callers;
 use net_units::OutOfMemory;
+use run_engine::Callers;
 use run_record::HopRows;
 use std::alloc::Global;
 

@@ -2,7 +2,7 @@
 ghost use Rattle.std.specs.Prelude.{◌≡◌, ◌++◌, List, OnOk, string_bytes};
 ghost use Rattle.std.specs.List.{slice_get};
 ghost use Rattle.net_units.specs.Numbers.{channel_number};
-ghost use Rattle.interleave_core.specs.schedules.Standing.{CallersStand};
+ghost use Rattle.run_engine.specs.schedules.Standing.{CallersStand};
 ghost use Rattle.run_record.specs.declared.done.Done.{Done as Step};
 ghost use Rattle.channel_report.specs.Moves.{made_line, line_between, op_line, script_lines, move_lines};
 ghost use Rattle.text_writer.specs.Telling.{Tells};
@@ -10,8 +10,8 @@ ghost use Rattle.text_writer.specs.Telling.{Tells};
 use byte_ends::{Gather, Sink};
 use call_script::{Op, Plan};
 use channel_move::Shifted;
-use interleave_core::Callers;
 use net_units::{ChanNo, Name};
+use run_engine::Callers;
 use std::alloc::{AllocError, Global};
 use text_writer::{ReportFault, tell};
 

@@ -1,7 +1,7 @@
 //! The report of a run.
 ghost use Rattle.std.specs.Prelude.{◌++◌, List, length, reverse};
 ghost use Rattle.call_script.specs.Tasks.{network_of};
-ghost use Rattle.interleave_core.specs.runs.Runs.{IsRun};
+ghost use Rattle.run_engine.specs.runs.Runs.{IsRun};
 ghost use Rattle.run_record.specs.declared.done.Done.{Done as Step};
 ghost use Rattle.run_record.specs.Rows.{rows_of};
 ghost use Rattle.channel_report.specs.Channels.{channel_lines};
@@ -23,7 +23,7 @@ use crate::table::tell_table;
 use crate::tally::Tally;
 use byte_ends::{Gather, Sink};
 use call_script::Plan;
-use interleave_core::{Callers, replay_watched};
+use run_engine::{Callers, replay_watched};
 use run_record::Record;
 use std::alloc::Global;
 use text_writer::{ReportFault, finish};

@@ -22,9 +22,9 @@ use crate::channel_tally::ChannelTally;
 use crate::counts::{keep_source, new_tallies};
 use crate::link_tally::LinkTally;
 use call_script::Plan;
-use interleave_core::{Watch, plane_of};
 use link_steps::{Ask, Reply};
 use net_units::{ActorNo, LinkNo, OutOfMemory};
+use run_engine::{Watch, plane_of};
 use run_record::{Done, HopRow, HopTable};
 use std::alloc::Global;
 

@@ -4,18 +4,19 @@
 //! a few steps, and what is written is compared where neither is known.
 ghost use Rattle.std.specs.Prelude.{◌≤◌, IfOk, OnOk, reverse};
 ghost use Rattle.call_script.specs.Tasks.{network_of};
-ghost use Rattle.interleave_core.specs.runs.Runs.{IsRun};
-ghost use Rattle.interleave_core.specs.schedules.Standing.{CoreStands};
+ghost use Rattle.run_engine.specs.runs.Runs.{IsRun};
+ghost use Rattle.interleave_core.specs.Cores.{CoreStands};
 
 use byte_ends::MemSink;
 use call_script::{Do, Dos, Plan, Schedule, Version};
 use channel_report::{
     Tally, write_report, write_schedule, write_summary, write_tallied, write_tallied_summary,
 };
-use interleave_core::{Core, Watch, replay_watched};
+use interleave_core::Core;
 use net_units::{ActorNo, Name};
 use one_link_plans as plans;
 use one_link_plans::{link, name, request, sender};
+use run_engine::{Watch, replay_watched};
 use run_record::Record;
 use setup_protocol::Control;
 use std::alloc::Global;

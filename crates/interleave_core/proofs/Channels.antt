@@ -1,8 +1,4 @@
--- The rows and the packets of a channel at the links of its route, and what an accepted one is guaranteed.
-pub mod HopsAt
-pub mod RowsFollow
-pub mod ChannelsAt
-pub mod RowLevels
+-- The packets of an accepted channel at the links of its route, and what it is guaranteed.
 pub mod AcceptedPath
 pub mod KeptRequest
 pub mod FarHolds

@@ -1,5 +1,4 @@
 -- When a packet is eligible, and has left, at each hop of its route.
-pub mod HopStep
 pub mod HopLaw
 pub mod PathLaw
 pub mod PathDelays

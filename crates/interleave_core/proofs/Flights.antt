@@ -1,6 +1,4 @@
--- Packets on their way from one link to the next.
-pub mod FlightOrigins
-pub mod Punctual
+-- Packets on their way, taken by the link that they reach.
 pub mod FlightQueue
 pub mod QueueTicks
 pub mod LegLaw

@@ -1,11 +1,5 @@
-pub mod Runs
-pub mod Tasks
-pub mod Keeping
 pub mod Channels
 pub mod Flights
 pub mod Delays
 pub mod Moves
-pub mod Replies
-pub mod Schedules
-pub mod Watched
-pub mod Worked
+pub mod Cores

@@ -1,5 +1,4 @@
 -- Packets that are planned, offered, cancelled and shifted, and what a move makes of them.
-pub mod SizesKept
 pub mod MoveLaw
 pub mod TotalLaw
 pub mod Emptied

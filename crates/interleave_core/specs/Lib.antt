@@ -1,4 +1,2 @@
-pub mod runs
 pub mod channels
-pub mod replies
-pub mod schedules
+pub mod Cores

@@ -1,9 +1,6 @@
--- A channel in a run: its hops and its path, its packets on their way, what was sent, kept and moved, and what is guaranteed.
-pub mod Hops
-pub mod Paths
-pub mod Flights
+-- A channel in a run: what was sent, kept and shifted, what is guaranteed, and the laws.
 pub mod Kept
 pub mod Sent
 pub mod Guarantee
-pub mod Moves
 pub mod Shifting
+pub mod Laws

@@ -1,12 +1,13 @@
 //! Laws of every run, each as the contract of a function that does nothing.
-ghost use Rattle.interleave_core.specs.runs.Laws.{EveryPartIsLegal, EveryAskFits, ClocksFollowThePlane, HeldRowsPassOnEveryLink, EveryHopIsGuaranteed, NoFlightIsLate, EveryAskIsAnswered, EveryReplyIsExpected, VerdictsFollowTheReplies, EveryChannelIsAskedOnce, AcceptedRequestsAreKept, AcceptedChannelsKeepTheirDelays, EveryRunIsGuaranteed, RunsFollowTheirActors, FittingPartsMakeARun};
-ghost use Rattle.interleave_core.specs.schedules.Quiet.{QuietRoundsGoOn};
-ghost use Rattle.interleave_core.specs.channels.Moves.{EveryMoveKeeps, PlannedPacketsAreOfferedLeftOrCancelled, AMoveLeavesNoPacketBehind, EveryMoveTakesTheLast};
+ghost use Rattle.run_engine.specs.runs.Laws.{EveryPartIsLegal, EveryAskFits, ClocksFollowThePlane, HeldRowsPassOnEveryLink, EveryHopIsGuaranteed, NoFlightIsLate, EveryAskIsAnswered, EveryReplyIsExpected, VerdictsFollowTheReplies, RunsFollowTheirActors, FittingPartsMakeARun};
+ghost use Rattle.interleave_core.specs.channels.Laws.{EveryChannelIsAskedOnce, AcceptedRequestsAreKept, AcceptedChannelsKeepTheirDelays, EveryRunIsGuaranteed, EveryRunOfAPlanIsGuaranteed};
+ghost use Rattle.run_engine.specs.schedules.Quiet.{QuietRoundsGoOn};
+ghost use Rattle.run_engine.specs.channels.Moves.{EveryMoveKeeps, PlannedPacketsAreOfferedLeftOrCancelled, AMoveLeavesNoPacketBehind, EveryMoveTakesTheLast};
 ghost use Rattle.interleave_core.specs.channels.Shifting.{EveryMovePlansTheShifted, EveryMoveGivesTheShifted, EveryPlannedPacketIsCounted};
-ghost use Rattle.interleave_core.specs.schedules.Schedules.{SchedulesComeToOneEnd};
-ghost use Rattle.interleave_core.specs.runs.Turns.{StepsComeToAnEnd};
+ghost use Rattle.run_engine.specs.schedules.Schedules.{SchedulesComeToOneEnd};
+ghost use Rattle.run_engine.specs.runs.Turns.{StepsComeToAnEnd};
 ghost use Rattle.interleave_core.specs.channels.Sent.{TicksReportWhatHasLeft};
-ghost use Rattle.interleave_core.specs.runs.Weave.{JournalsWeaveToARun};
+ghost use Rattle.run_engine.specs.runs.Weave.{JournalsWeaveToARun};
 
 /// The part of every run on each link is a legal history of that link. So every law of legal and admissible histories holds
 /// of it.
@@ -103,6 +104,12 @@ pub fn accepted_channels_keep_their_delays()
 /// for the rules; that they hold over every order of the steps is ours.)
 pub fn every_run_is_guaranteed()
     ensures { EveryRunIsGuaranteed }
+{}
+
+/// So every run of a plan has the whole guarantee, whoever made it: the links of a plan fit its requests, and each of its channels has one
+/// owner.
+pub fn every_run_of_a_plan_is_guaranteed()
+    ensures { EveryRunOfAPlanIsGuaranteed }
 {}
 
 /// Each packet that a tick of a run tells as sent has left its link: the link's history has its start, which ended by the

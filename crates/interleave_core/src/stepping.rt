@@ -3,15 +3,16 @@ ghost use Rattle.std.specs.Prelude.{◌≡◌, ◌≤◌, ◌↔◌, [], ℕ, So
 ghost use Rattle.net_units.specs.Numbers.{actor_number};
 ghost use Rattle.call_script.specs.Parts.{PlanParts};
 ghost use Rattle.call_script.specs.Tasks.{network_of};
-ghost use Rattle.interleave_core.specs.runs.Runs.{next_for};
-ghost use Rattle.interleave_core.specs.schedules.Standing.{IsGuaranteedRun, IsLeft, IsRightRefusal, CoreStands, StepsTo, run_in};
+ghost use Rattle.run_engine.specs.runs.Runs.{next_for};
+ghost use Rattle.interleave_core.specs.channels.Laws.{IsGuaranteedRun};
+ghost use Rattle.interleave_core.specs.Cores.{IsLeft, IsRightRefusal, CoreStands, run_in};
+ghost use Rattle.run_engine.specs.schedules.Standing.{StepsTo};
 
-use crate::engine::Engine;
 use crate::refusal::CoreRefusal;
-use crate::watching::steps_among;
 use call_script::Plan;
 use link_steps::{Ask, Reply};
 use net_units::{ActorNo, LinkNo, OutOfMemory};
+use run_engine::{Engine, Watch};
 use run_record::Record;
 use std::alloc::Global;
 
@@ -78,7 +79,7 @@ impl Core {
     {
         match self.next_ask(plan, actor) {
             Some((link, ask)) => Ok(self.make(plan, actor, link, ask)?),
-            None => Err(self.refusal(actor)),
+            None => Err(self.refusal(plan, actor)),
         }
     }
 
@@ -112,18 +113,17 @@ impl Core {
     }
 
     // Why there is no step of this actor.
-    fn refusal(&self, actor: ActorNo) -> CoreRefusal
-        requires { length self.now.engine.actors.callers.by_number.items ≤ 64 }
-        ensures { IsLeft (length self.now.engine.actors.callers.by_number.items) (actor_number actor) (run_in self.now) result }
+    fn refusal(&self, plan: &Plan, actor: ActorNo) -> CoreRefusal
+        ensures { IsLeft (length plan.now.callers) (actor_number actor) (run_in self.now) result }
     {
-        let callers = self.engine.actors.callers.by_number.len();
+        let callers = plan.callers().len();
         if usize::from(actor.get()) > callers {
             return CoreRefusal::NoSuchActor {
                 actors: callers as u32 + 1,
             };
         }
         CoreRefusal::NoStepLeft {
-            made: steps_among(self.steps.entries(), actor),
+            made: self.steps.steps_of(actor),
         }
     }
 }

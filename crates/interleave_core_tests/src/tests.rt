@@ -1,9 +1,10 @@
 //! Runs of a plan over one link, in which the caller opens its request, worked by hand.
 use call_script::{Do, Dos, Plan, Schedule};
-use interleave_core::{Core, CoreRefusal, PlayFault, Watch, play, play_watched};
+use interleave_core::{Core, CoreRefusal, play};
 use link_steps::Reply;
 use net_units::{ActorNo, Level};
 use one_link_plans::opened;
+use run_engine::{PlayFault, Watch, play_watched};
 use run_record::Record;
 use setup_protocol::Verdict;
 use std::alloc::Global;

@@ -10,17 +10,17 @@ use Rattle.call_script.specs.Fits.{NetworkFits}
 use Rattle.call_script.specs.Parts.{PlanParts}
 use Rattle.call_script.specs.Scripts.{script_ask}
 use Rattle.call_script.specs.Tasks.{Network, network_of}
-use Rattle.interleave_core.specs.runs.Runs.{plane_no, next_for, IsRun, run_from, step}
-use Rattle.interleave_core.specs.schedules.Quiet.{the_plane}
-use Rattle.interleave_core.specs.schedules.Schedules.{repeated, HaveSteps}
-use Rattle.interleave_core.specs.schedules.Watching.{PlaysOut}
-use Rattle.interleave_core.specs.declared.engine.Engine.{Engine}
-use Rattle.interleave_core.proofs.Keeping.KeptActors.{plane-number}
-use Rattle.interleave_core.proofs.Keeping.CoreStep.{callers-few}
-use Rattle.interleave_core.proofs.Runs.RunLegal.{asked-caller, replies-off}
-use Rattle.interleave_core.proofs.Runs.RunOf.{step-run}
-use Rattle.interleave_core.proofs.Tasks.StepsRunOut.{steps-end}
-use Rattle.interleave_core.proofs.Watched.QuietRounds.{plane-is}
+use Rattle.run_engine.specs.runs.Runs.{plane_no, next_for, IsRun, run_from, step}
+use Rattle.run_engine.specs.schedules.Quiet.{the_plane}
+use Rattle.run_engine.specs.schedules.Schedules.{repeated, HaveSteps}
+use Rattle.run_engine.specs.schedules.Watching.{PlaysOut}
+use Rattle.run_engine.specs.declared.engine.Engine.{Engine}
+use Rattle.run_engine.proofs.Keeping.KeptActors.{plane-number}
+use Rattle.run_engine.proofs.Keeping.NextStep.{callers-few}
+use Rattle.run_engine.proofs.Runs.RunLegal.{asked-caller, replies-off}
+use Rattle.run_engine.proofs.Runs.RunOf.{step-run}
+use Rattle.run_engine.proofs.Tasks.StepsRunOut.{steps-end}
+use Rattle.run_engine.proofs.Watched.QuietRounds.{plane-is}
 use Rattle.load_maker.proofs.WatchedTurns.{TurnsSoFar}
 use Rattle.load_maker.proofs.TurnLaws.{beyond, goes-on-within}
 use Rattle.load_maker.specs.SeenTurns.{HaveTurned}

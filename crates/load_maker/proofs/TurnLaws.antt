@@ -14,15 +14,15 @@ use Rattle.call_script.specs.Plans.{IsPlan}
 use Rattle.call_script.specs.Scripts.{script_ask}
 use Rattle.call_script.specs.Tasks.{Network, network_of}
 use Rattle.call_script.specs.declared.entries.CallerEntry.{CallerEntry}
-use Rattle.interleave_core.proofs.Keeping.KeptActors.{plane-number}
-use Rattle.interleave_core.proofs.Schedules.CorePlaysSchedule.{step-some}
-use Rattle.interleave_core.proofs.Runs.RunLegal.{asked-caller}
-use Rattle.interleave_core.proofs.Runs.RunOf.{none-run, step-is, step-run}
-use Rattle.interleave_core.proofs.Keeping.CoreStep.{callers-few}
-use Rattle.interleave_core.proofs.Tasks.StepsRunOut.{steps-end}
-use Rattle.interleave_core.specs.runs.Runs.{plane_no, next_for, IsRun, step}
-use Rattle.interleave_core.specs.schedules.Standing.{StepsTo}
-use Rattle.interleave_core.specs.runs.Turns.{most_left}
+use Rattle.run_engine.proofs.Keeping.KeptActors.{plane-number}
+use Rattle.run_engine.proofs.Schedules.PlayedTurns.{step-some}
+use Rattle.run_engine.proofs.Runs.RunLegal.{asked-caller}
+use Rattle.run_engine.proofs.Runs.RunOf.{none-run, step-is, step-run}
+use Rattle.run_engine.proofs.Keeping.NextStep.{callers-few}
+use Rattle.run_engine.proofs.Tasks.StepsRunOut.{steps-end}
+use Rattle.run_engine.specs.runs.Runs.{plane_no, next_for, IsRun, step}
+use Rattle.run_engine.specs.schedules.Standing.{StepsTo}
+use Rattle.run_engine.specs.runs.Turns.{most_left}
 use Rattle.load_maker.proofs.LoadScripts.{actor-is}
 use Rattle.load_maker.specs.TurnRuns.{goes_on_at, further, IsItsTurn, NobodyIsLeft, GoesByTurns, IsTurnsRun, TurnsMakeOneRun}
 use Rattle.run_record.specs.Runs.{replies_to}

@@ -6,12 +6,12 @@ use Rattle.net_units.specs.declared.numbers.LinkNo.{LinkNo}
 use Rattle.link_steps.specs.declared.asks.Ask.{Ask}
 use Rattle.call_script.specs.Parts.{PlanParts}
 use Rattle.call_script.specs.Tasks.{network_of}
-use Rattle.interleave_core.specs.schedules.Watching.{GoesOn, WatchStands}
-use Rattle.interleave_core.specs.declared.engine.Engine.{Engine}
-use Rattle.interleave_core.proofs.Keeping.KeptActors.{plane-number}
-use Rattle.interleave_core.proofs.Runs.RunLength.{run-short}
-use Rattle.interleave_core.proofs.Keeping.CoreStep.{callers-few}
-use Rattle.interleave_core.proofs.Watched.WatchedSteps.{goes-steps}
+use Rattle.run_engine.specs.schedules.Watching.{GoesOn, WatchStands}
+use Rattle.run_engine.specs.declared.engine.Engine.{Engine}
+use Rattle.run_engine.proofs.Keeping.KeptActors.{plane-number}
+use Rattle.run_engine.proofs.Runs.RunLength.{run-short}
+use Rattle.run_engine.proofs.Keeping.NextStep.{callers-few}
+use Rattle.run_engine.proofs.Watched.WatchedSteps.{goes-steps}
 use Rattle.load_maker.specs.SeenTurns.{IsCircleAt, IsTurnOf}
 use Rattle.load_maker.specs.TurnRuns.{goes_on_at, GoesByTurns}
 use Rattle.load_maker.proofs.TurnLaws.{goes-on-within, none-by-turns, turn-made}

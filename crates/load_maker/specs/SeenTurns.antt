@@ -5,12 +5,13 @@ use Rattle.net_units.specs.declared.numbers.ActorNo.{ActorNo}
 use Rattle.net_units.specs.declared.numbers.LinkNo.{LinkNo}
 use Rattle.link_steps.specs.declared.asks.Ask.{Ask}
 use Rattle.call_script.specs.Parts.{PlanParts}
+use Rattle.call_script.specs.Plans.{IsPlan}
 use Rattle.call_script.specs.Tasks.{network_of}
-use Rattle.interleave_core.specs.runs.Runs.{next_for}
-use Rattle.interleave_core.specs.schedules.Standing.{EngineStands, IsGuaranteedRun}
-use Rattle.interleave_core.specs.schedules.Watching.{IsSeen, WatchStands}
-use Rattle.interleave_core.specs.declared.callers.Callers.{Callers}
-use Rattle.interleave_core.specs.declared.engine.Engine.{Engine}
+use Rattle.run_engine.specs.runs.Runs.{next_for}
+use Rattle.run_engine.specs.schedules.Standing.{EngineStands}
+use Rattle.run_engine.specs.schedules.Watching.{IsSeen, WatchStands}
+use Rattle.run_engine.specs.declared.callers.Callers.{Callers}
+use Rattle.run_engine.specs.declared.engine.Engine.{Engine}
 use Rattle.load_maker.specs.TurnRuns.{goes_on_at, GoesByTurns, IsItsTurn, IsTurnsRun, NobodyIsLeft}
 use Rattle.run_record.specs.declared.done.Done.{Done}
 
@@ -31,9 +32,9 @@ pub record HaveTurned {W : Type 0} (saw : W → PlanParts → List Done → Type
   pub over : NobodyIsLeft (network_of parts) run
   pub stand : WatchStands saw parts engine watch run
 
--- the run by turns was seen, with the whole guarantee at its beginning and after each of its entries
+-- the run of the plan by turns was seen
 pub record IsTurnsSeen {W : Type 0} (saw : W → PlanParts → List Done → Type 0) (parts : PlanParts) (callers : Callers) (watch : W) : Type 0 where
   pub run : List Done
+  pub plan : IsPlan parts
   pub turns : IsTurnsRun (network_of parts) run
-  pub guaranteed : IsGuaranteedRun parts run
   pub seen : IsSeen saw parts callers watch run

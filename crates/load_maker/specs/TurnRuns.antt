@@ -7,7 +7,7 @@ use Rattle.net_units.specs.Numbers.{actor_number}
 use Rattle.call_script.specs.Parts.{PlanParts}
 use Rattle.call_script.specs.Plans.{IsPlan}
 use Rattle.call_script.specs.Tasks.{Network, network_of}
-use Rattle.interleave_core.specs.runs.Runs.{plane_no, next_for, IsRun}
+use Rattle.run_engine.specs.runs.Runs.{plane_no, next_for, IsRun}
 use Rattle.run_record.specs.declared.done.Done.{Done}
 
 -- ---- whose turn it is

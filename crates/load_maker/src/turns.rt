@@ -2,26 +2,25 @@
 ghost use Rattle.std.specs.Prelude.{◌≡◌, ◌+◌, ◌%◌, ◌≤◌, ◌<◌, true, [], List, IfOk, IfSome, IfNone, OnOk, length, reverse};
 ghost use Rattle.net_units.specs.Numbers.{actor_number};
 ghost use Rattle.call_script.specs.Tasks.{network_of};
-ghost use Rattle.interleave_core.specs.schedules.Standing.{IsGuaranteedRun};
-ghost use Rattle.interleave_core.specs.schedules.Watching.{WatchStands};
+ghost use Rattle.run_engine.specs.schedules.Watching.{WatchStands};
 ghost use Rattle.load_maker.specs.TurnRuns.{IsTurnsRun, NobodyIsLeft, TurnsMakeOneRun};
 ghost use Rattle.load_maker.specs.SeenTurns.{HaveTurned, IsCircleAt, IsTurnOf, IsTurnsSeen};
 ghost use Rattle.run_record.specs.declared.done.Done.{Done as Entry};
 
 use call_script::Plan;
-use interleave_core::{Callers, Engine, Watch, actor_of, make_watched, play_plane};
 use link_steps::Ask;
 use net_units::{ActorNo, LinkNo, OutOfMemory};
+use run_engine::{Callers, Engine, Watch, actor_of, make_watched, play_plane};
 use run_record::Record;
 use std::alloc::Global;
 
 /// Lets the callers of a plan, in their order, and then the plane make one step each, again and again until nobody has a step left,
 /// and answers the record of that run. An actor that has no step left is passed over. An `Err` comes only for want of memory.
 ///
-/// The run has the whole guarantee at its beginning and after each of its entries.
+/// As a run of the plan it has the whole guarantee at its beginning and after each of its entries
+/// (`every_run_of_a_plan_is_guaranteed` of `interleave_core`).
 pub fn take_turns(alloc: Global, plan: &Plan) -> Result<Record, OutOfMemory>
-    ensures turns { IfOk result (λ made. IsTurnsRun (network_of plan.now) (reverse made.entries)) }
-    ensures guaranteed { IfOk result (λ made. IsGuaranteedRun plan.now (reverse made.entries)) }
+    ensures { IfOk result (λ made. IsTurnsRun (network_of plan.now) (reverse made.entries)) }
 {
     let mut record = Record::new(alloc);
     take_watched_turns(alloc, plan, &mut record)?;

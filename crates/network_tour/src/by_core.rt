@@ -1,12 +1,13 @@
 //! The network by `Core`: one value has its links, its actors and the record of the run, and whoever holds it makes the steps.
-ghost use Rattle.interleave_core.specs.schedules.Standing.{CoreStands};
+ghost use Rattle.interleave_core.specs.Cores.{CoreStands};
 
 use crate::told::{Told, note};
 use byte_ends::SureSource;
 use call_script::Plan;
-use interleave_core::{Core, replay};
+use interleave_core::Core;
 use link_steps::Sent;
 use net_units::{ActorNo, OutOfMemory};
+use run_engine::replay;
 use scenario_reader::{ReadRefusal, read_plan};
 use std::alloc::Global;
 

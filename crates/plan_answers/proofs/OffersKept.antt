@@ -6,8 +6,8 @@ use Rattle.net_units.specs.Numbers.{level_number}
 use Rattle.net_units.specs.declared.numbers.Level.{Level}
 use Rattle.link_steps.specs.declared.replies.Reply.{Reply}
 use Rattle.link_steps.specs.declared.replies.Reply.TheVariants.{Offer}
-use Rattle.interleave_core.specs.replies.Verdicts.{is_setup_ask, setup_replies}
-use Rattle.interleave_core.proofs.Runs.RunFronts.{front-more}
+use Rattle.run_engine.specs.replies.Verdicts.{is_setup_ask, setup_replies}
+use Rattle.run_engine.proofs.Runs.RunFronts.{front-more}
 use Rattle.run_record.specs.declared.done.Done.{Done}
 use Rattle.setup_protocol.specs.Setup.{is_offer, level_in, offers_in, after_offers}
 use Rattle.setup_protocol.proofs.SetupAdvances.{offers-other, after-other, offers-more, after-none}

@@ -11,10 +11,10 @@ use Rattle.setup_protocol.specs.declared.request.Request.{Request}
 use Rattle.setup_protocol.specs.declared.verdict.Verdict.{Verdict}
 use Rattle.call_script.specs.Parts.{PlanParts}
 use Rattle.call_script.specs.Tasks.{network_of}
-use Rattle.interleave_core.specs.replies.Verdicts.{setup_replies}
-use Rattle.interleave_core.specs.runs.Runs.{IsRun}
-use Rattle.interleave_core.specs.schedules.Schedules.{PlayedBy}
-use Rattle.interleave_core.specs.schedules.Standing.{CallersStand}
+use Rattle.run_engine.specs.replies.Verdicts.{setup_replies}
+use Rattle.run_engine.specs.runs.Runs.{IsRun}
+use Rattle.run_engine.specs.schedules.Schedules.{PlayedBy}
+use Rattle.run_engine.specs.schedules.Standing.{CallersStand}
 use Rattle.run_record.specs.declared.done.Done.{Done}
 use Rattle.plan_answers.specs.declared.trial.Trial.{Trial}
 

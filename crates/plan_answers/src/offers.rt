@@ -2,7 +2,7 @@
 ghost use Rattle.std.specs.Prelude.{◌≡◌, ◌++◌, ◌∷◌, [], List, IfOk, OnOk, map, reverse};
 ghost use Rattle.net_units.specs.Numbers.{channel_number, level_number};
 ghost use Rattle.setup_protocol.specs.Setup.{offers_in};
-ghost use Rattle.interleave_core.specs.replies.Verdicts.{is_setup_ask, setup_replies};
+ghost use Rattle.run_engine.specs.replies.Verdicts.{is_setup_ask, setup_replies};
 ghost use Rattle.link_steps.specs.declared.replies.Reply.{Reply as Replied};
 ghost use Rattle.run_record.specs.declared.done.Done.{Done as Entry};
 ghost use Rattle.plan_answers.specs.Offers.{AreOffersOf};

@@ -8,8 +8,8 @@ ghost use Rattle.plan_answers.specs.Trials.{IsTrial, is_acceptance_of, levels_of
 
 use crate::offers::offers_among;
 use call_script::{Dos, Plan, Schedule};
-use interleave_core::{Callers, PlayFault, play_watched};
 use net_units::{Level, OutOfMemory};
+use run_engine::{Callers, PlayFault, play_watched};
 use run_record::Record;
 use setup_protocol::Verdict;
 use std::alloc::Global;

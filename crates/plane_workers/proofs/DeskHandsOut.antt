@@ -13,11 +13,11 @@ use Rattle.call_script.specs.Tasks.{network_of}
 use Rattle.tick_plane.specs.PlaneAccount.{PlaneAccount}
 use Rattle.tick_plane.specs.Planes.{next_due, plane_after, plane_ask, plane_expects, IsDueLater}
 use Rattle.run_record.specs.declared.done.Done.{Done}
-use Rattle.interleave_core.specs.runs.Runs.{IsNext}
-use Rattle.interleave_core.specs.runs.Turns.{plane_most}
-use Rattle.interleave_core.specs.schedules.Watching.{IsNextSeen}
-use Rattle.interleave_core.proofs.Keeping.Lookups.{held}
-use Rattle.interleave_core.proofs.Runs.RunFronts.{run-more}
+use Rattle.run_engine.specs.runs.Runs.{IsNext}
+use Rattle.run_engine.specs.runs.Turns.{plane_most}
+use Rattle.run_engine.specs.schedules.Watching.{IsNextSeen}
+use Rattle.run_engine.proofs.Keeping.Lookups.{held}
+use Rattle.run_engine.proofs.Runs.RunFronts.{run-more}
 use Rattle.plane_workers.specs.Desks.{rules_at, stands_at, left_at}
 use Rattle.plane_workers.specs.Windows.{GoesOnBy, IsInWindow}
 use Rattle.plane_workers.specs.declared.desk.Desk.{Desk}

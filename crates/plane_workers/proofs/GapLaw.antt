@@ -35,12 +35,12 @@ use Rattle.tick_plane.specs.declared.flight.Flight.{Flight}
 use Rattle.tick_plane.proofs.PlaneFlights.{flight-in}
 use Rattle.run_record.specs.Runs.{replies_to, part_of}
 use Rattle.run_record.specs.declared.done.Done.{Done}
-use Rattle.interleave_core.specs.runs.Runs.{plane_no, plane_at, IsNext, IsRun}
-use Rattle.interleave_core.proofs.Replies.Replying.{replies-expected}
-use Rattle.interleave_core.proofs.Runs.RunLegal.{caller-next, plane-next, part-admissible, run-stands, by-part}
+use Rattle.run_engine.specs.runs.Runs.{plane_no, plane_at, IsNext, IsRun}
+use Rattle.run_engine.proofs.Replies.Replying.{replies-expected}
+use Rattle.run_engine.proofs.Runs.RunLegal.{caller-next, plane-next, part-admissible, run-stands, by-part}
 use Rattle.plane_workers.specs.Gaps.{IsSpaced, TaskSpaced, AreSpaced, PacketsTakeTheirTime}
-use Rattle.interleave_core.proofs.Runs.EachRun.{each-standing}
-use Rattle.interleave_core.proofs.Tasks.TaskAsks.{task-mild}
+use Rattle.run_engine.proofs.Runs.EachRun.{each-standing}
+use Rattle.run_engine.proofs.Tasks.TaskAsks.{task-mild}
 use Rattle.channel_laws.specs.Asks.{IsMild}
 
 -- where packets go on from a link, it takes the gap at least

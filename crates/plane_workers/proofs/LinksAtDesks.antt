@@ -27,17 +27,17 @@ use Rattle.tick_plane.specs.PlaneAccount.{PlaneAccount}
 use Rattle.tick_plane.specs.Planes.{Plane, ask_due, next_due, plane_ask}
 use Rattle.run_record.specs.Runs.{part_of}
 use Rattle.run_record.specs.declared.done.Done.{Done}
-use Rattle.interleave_core.specs.runs.Runs.{plane_no, plane_at, next_for}
-use Rattle.interleave_core.specs.schedules.Quiet.{the_plane}
-use Rattle.interleave_core.specs.schedules.Standing.{AreCallers, CallersStand, LinksStand, PlaneStands}
-use Rattle.interleave_core.specs.schedules.Watching.{WatchStands}
-use Rattle.interleave_core.specs.declared.callers.Callers.{Callers}
-use Rattle.interleave_core.specs.declared.engine.Engine.{Engine}
-use Rattle.interleave_core.proofs.Keeping.KeptActors.{plane-number}
-use Rattle.interleave_core.proofs.Keeping.CoreStep.{callers-few}
-use Rattle.interleave_core.proofs.Keeping.NextPlaneStep.{own-number}
-use Rattle.interleave_core.proofs.Watched.QuietRounds.{plane-is}
-use Rattle.interleave_core.proofs.Runs.RunLegal.{asked-plane}
+use Rattle.run_engine.specs.runs.Runs.{plane_no, plane_at, next_for}
+use Rattle.run_engine.specs.schedules.Quiet.{the_plane}
+use Rattle.run_engine.specs.schedules.Standing.{AreCallers, CallersStand, LinksStand, PlaneStands}
+use Rattle.run_engine.specs.schedules.Watching.{WatchStands}
+use Rattle.run_engine.specs.declared.callers.Callers.{Callers}
+use Rattle.run_engine.specs.declared.engine.Engine.{Engine}
+use Rattle.run_engine.proofs.Keeping.KeptActors.{plane-number}
+use Rattle.run_engine.proofs.Keeping.NextStep.{callers-few}
+use Rattle.run_engine.proofs.Keeping.NextPlaneStep.{own-number}
+use Rattle.run_engine.proofs.Watched.QuietRounds.{plane-is}
+use Rattle.run_engine.proofs.Runs.RunLegal.{asked-plane}
 use Rattle.plane_workers.specs.Gaps.{IsSpaced, TaskSpaced, AreSpaced}
 use Rattle.plane_workers.specs.Seen.{GoesTo, PlaysMore, SeenBetween}
 use Rattle.plane_workers.specs.Windows.{GoesOnBy, LinksKept, KeepsGap}

@@ -25,18 +25,18 @@ use Rattle.tick_plane.specs.declared.flight.Flight.{Flight}
 use Rattle.tick_plane.proofs.AskedInWindow.{window-goes, window-holds}
 use Rattle.run_record.specs.Runs.{part_of}
 use Rattle.run_record.specs.declared.done.Done.{Done}
-use Rattle.interleave_core.specs.runs.Linked.{IsLinkThere}
-use Rattle.interleave_core.specs.runs.Runs.{plane_no, plane_at, IsNext, IsRun}
-use Rattle.interleave_core.specs.schedules.Schedules.{repeated, FollowsTurns}
-use Rattle.interleave_core.specs.runs.Turns.{plane_most}
-use Rattle.interleave_core.proofs.Keeping.KeptActors.{plane-number}
-use Rattle.interleave_core.proofs.Tasks.LinksAsked.{asks-linked}
-use Rattle.interleave_core.proofs.Schedules.CorePlaysSchedule.{step-follows}
-use Rattle.interleave_core.proofs.Replies.Replying.{replies-expected}
-use Rattle.interleave_core.proofs.Runs.RunLegal.{asked-plane, plane-by, replies-off, run-stands}
-use Rattle.interleave_core.proofs.Runs.RunOf.{step-is}
-use Rattle.interleave_core.proofs.Schedules.ScheduleOutcome.{follows-none, follows-more}
-use Rattle.interleave_core.proofs.Tasks.StepsRunOut.{with-fewer}
+use Rattle.run_engine.specs.runs.Linked.{IsLinkThere}
+use Rattle.run_engine.specs.runs.Runs.{plane_no, plane_at, IsNext, IsRun}
+use Rattle.run_engine.specs.schedules.Schedules.{repeated, FollowsTurns}
+use Rattle.run_engine.specs.runs.Turns.{plane_most}
+use Rattle.run_engine.proofs.Keeping.KeptActors.{plane-number}
+use Rattle.run_engine.proofs.Tasks.LinksAsked.{asks-linked}
+use Rattle.run_engine.proofs.Schedules.PlayedTurns.{step-follows}
+use Rattle.run_engine.proofs.Replies.Replying.{replies-expected}
+use Rattle.run_engine.proofs.Runs.RunLegal.{asked-plane, plane-by, replies-off, run-stands}
+use Rattle.run_engine.proofs.Runs.RunOf.{step-is}
+use Rattle.run_engine.proofs.Schedules.ScheduleOutcome.{follows-none, follows-more}
+use Rattle.run_engine.proofs.Tasks.StepsRunOut.{with-fewer}
 use Rattle.plane_workers.specs.Answered.{replies_along}
 use Rattle.plane_workers.specs.Seen.{GoesTo}
 use Rattle.plane_workers.specs.Windows.{IsInWindow, GoesOnBy}

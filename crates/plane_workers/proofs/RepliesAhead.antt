@@ -20,11 +20,11 @@ use Rattle.tick_plane.specs.declared.flight.Flight.{Flight}
 use Rattle.tick_plane.proofs.AskedInWindow.{WindowGoes, IsLate, window-goes, window-over}
 use Rattle.run_record.specs.Runs.{part_of}
 use Rattle.run_record.specs.declared.done.Done.{Done}
-use Rattle.interleave_core.specs.runs.Runs.{plane_no, plane_at, IsNext, IsRun}
-use Rattle.interleave_core.proofs.Runs.RunLegal.{asked-plane, part-on, part-off, plane-by, run-stands}
+use Rattle.run_engine.specs.runs.Runs.{plane_no, plane_at, IsNext, IsRun}
+use Rattle.run_engine.proofs.Runs.RunLegal.{asked-plane, part-on, part-off, plane-by, run-stands}
 use Rattle.plane_workers.specs.Answered.{answered, replies_along, IsAnswered}
 use Rattle.plane_workers.specs.Windows.{LinksKept, LinkIsAhead, LinksAhead, KeepsGap}
-use Rattle.interleave_core.proofs.Keeping.Lookups.{head-same, tail-same}
+use Rattle.run_engine.proofs.Keeping.Lookups.{head-same, tail-same}
 
 each-late : (until from : ℕ) (flights : List Flight) → until ≤ from + 1 → Each (λ f. from < f.round) flights → Each (λ f. until ≤ f.round) flights
 each-late until from [] within each = tt

@@ -6,13 +6,13 @@ use Rattle.net_units.specs.declared.numbers.ActorNo.{ActorNo}
 use Rattle.call_script.specs.Parts.{PlanParts}
 use Rattle.call_script.specs.Tasks.{network_of}
 use Rattle.run_record.specs.declared.done.Done.{Done}
-use Rattle.interleave_core.specs.runs.Runs.{next_for}
-use Rattle.interleave_core.specs.schedules.Schedules.{repeated, FollowsTurns}
-use Rattle.interleave_core.specs.schedules.Watching.{GoesOn, PlaysOn, PlaysOut, WatchStands}
-use Rattle.interleave_core.specs.declared.engine.Engine.{Engine}
-use Rattle.interleave_core.proofs.Schedules.ScheduleOutcome.{follows-more}
-use Rattle.interleave_core.proofs.Watched.WatchedStrides.{plays-once}
-use Rattle.interleave_core.proofs.Watched.WatchedSteps.{never-ending, plays-none, plays-one, plays-out}
+use Rattle.run_engine.specs.runs.Runs.{next_for}
+use Rattle.run_engine.specs.schedules.Schedules.{repeated, FollowsTurns}
+use Rattle.run_engine.specs.schedules.Watching.{GoesOn, PlaysOn, PlaysOut, WatchStands}
+use Rattle.run_engine.specs.declared.engine.Engine.{Engine}
+use Rattle.run_engine.proofs.Schedules.ScheduleOutcome.{follows-more}
+use Rattle.run_engine.proofs.Watched.WatchedStrides.{plays-once}
+use Rattle.run_engine.proofs.Watched.WatchedSteps.{never-ending, plays-none, plays-one, plays-out}
 use Rattle.plane_workers.specs.Seen.{PlaysMore}
 use Rattle.plane_workers.proofs.NextWindowStep.{repeated-both}
 

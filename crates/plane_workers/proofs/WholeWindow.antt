@@ -22,9 +22,9 @@ use Rattle.tick_plane.specs.Windows.{window_at}
 use Rattle.tick_plane.specs.declared.flight.Flight.{Flight}
 use Rattle.run_record.specs.Runs.{part_of}
 use Rattle.run_record.specs.declared.done.Done.{Done}
-use Rattle.interleave_core.specs.runs.Runs.{plane_at}
-use Rattle.interleave_core.proofs.Keeping.Lookups.{held}
-use Rattle.interleave_core.proofs.Runs.RunLegal.{run-stands}
+use Rattle.run_engine.specs.runs.Runs.{plane_at}
+use Rattle.run_engine.proofs.Keeping.Lookups.{held}
+use Rattle.run_engine.proofs.Runs.RunLegal.{run-stands}
 use Rattle.plane_workers.specs.Answered.{IsAnswered, ticks_in}
 use Rattle.plane_workers.specs.Seen.{GoesTo, SeenBetween, SeenWithin}
 use Rattle.plane_workers.specs.Windows.{KeepsGap, IsInWindow, IsBetween}

@@ -9,9 +9,9 @@ use Rattle.call_script.specs.Parts.{PlanParts}
 use Rattle.call_script.specs.Tasks.{Network}
 use Rattle.tick_plane.specs.PlaneAccount.{PlaneAccount}
 use Rattle.run_record.specs.declared.done.Done.{Done}
-use Rattle.interleave_core.specs.schedules.Schedules.{repeated}
-use Rattle.interleave_core.specs.schedules.Watching.{PlaysOn}
-use Rattle.interleave_core.specs.declared.engine.Engine.{Engine}
+use Rattle.run_engine.specs.schedules.Schedules.{repeated}
+use Rattle.run_engine.specs.schedules.Watching.{PlaysOn}
+use Rattle.run_engine.specs.declared.engine.Engine.{Engine}
 use Rattle.plane_workers.specs.Windows.{GoesOnBy, IsBetween, IsInWindow}
 
 -- the run goes on by steps of one actor to one of which this holds

@@ -1,15 +1,15 @@
 //! Rounds that one thread makes, as a play without workers does.
 ghost use Rattle.std.specs.Prelude.{◌≡◌, ◌+◌, ◌<◌, ◌≤◌, List, OnOk};
 ghost use Rattle.call_script.specs.Tasks.{network_of};
-ghost use Rattle.interleave_core.specs.schedules.Quiet.{the_plane};
-ghost use Rattle.interleave_core.specs.schedules.Watching.{WatchStands};
+ghost use Rattle.run_engine.specs.schedules.Quiet.{the_plane};
+ghost use Rattle.run_engine.specs.schedules.Watching.{WatchStands};
 ghost use Rattle.plane_workers.specs.Seen.{PlaysMore};
 ghost use Rattle.run_record.specs.declared.done.Done.{Done as Step};
 
 use crate::desk::link_of;
 use call_script::Plan;
-use interleave_core::{Engine, Watch, make_plane_step, stride_watched};
 use net_units::{ActorNo, Gate, OutOfMemory};
+use run_engine::{Engine, Watch, make_plane_step, stride_watched};
 
 // Lets the plane make its steps until a round begins: rounds at rest in strides, and the others step by step. Answers how many of the
 // rounds weren't at rest.

@@ -1,23 +1,25 @@
 //! Runs that are played by a schedule, with the plane's rounds made by several workers.
 ghost use Rattle.std.specs.Prelude.{◌≡◌, ◌+◌, ◌<◌, ◌≤◌, [], List, IfOk, IfErr, OnOk, length, reverse};
 ghost use Rattle.call_script.specs.Tasks.{network_of};
-ghost use Rattle.interleave_core.specs.schedules.Schedules.{IsActorOf, IsFaultOf, IsPlayed};
-ghost use Rattle.interleave_core.specs.schedules.Standing.{IsGuaranteedRun};
-ghost use Rattle.interleave_core.specs.schedules.Watching.{HavePlayedOut, IsPlayedSeen, PlaysOut, WatchStands};
+ghost use Rattle.run_engine.specs.schedules.Schedules.{IsActorOf, IsFaultOf, IsPlayed};
+ghost use Rattle.run_engine.specs.runs.Runs.{IsRun};
+ghost use Rattle.run_engine.specs.schedules.Watching.{HavePlayedOut, IsPlayedSeen, PlaysOut, WatchStands};
 ghost use Rattle.link_steps.specs.Lists.{Each};
 ghost use Rattle.run_record.specs.declared.done.Done.{Done as Step};
 
 use crate::rounds::make_rounds;
 use call_script::{Plan, Schedule};
-use interleave_core::{Callers, Engine, PlayFault, Watch, actor_of, make_watched, play_watched};
 use net_units::{ActorNo, Gate, OutOfMemory};
+use run_engine::{Callers, Engine, PlayFault, Watch, actor_of, make_watched, play_watched};
 use run_record::Record;
 use std::alloc::Global;
 use std::thread::Threads;
 
-/// Plays a schedule of a plan, and answers the record of its run: that of [`play`](interleave_core::play), whatever the number of
-/// workers, with the same fault. Where no schedule is written the plane's rounds are made by 1 to 16 workers: by several where that
-/// pays, and otherwise by the thread of the call, as `play` makes them. A written one is played step by step.
+/// Plays a schedule of a plan, and answers the record of its run: that to which [`play_watched`](run_engine::play_watched) comes,
+/// whatever the number of workers, with the same fault. Where no schedule is written the plane's rounds are made by 1 to 16 workers: by
+/// several where that pays, and otherwise by the thread of the call, as `play_watched` makes them. A written one is played step by step.
+/// As a run of the plan it has the whole guarantee after each of its entries (`every_run_of_a_plan_is_guaranteed` of
+/// `interleave_core`).
 ///
 /// Where no schedule is written, whoever makes an ask of the plane calls the gate's `within` before it and `after` after it, once each,
 /// with the ask's link and the plane. The ticks of rounds at rest are made at once, after the calls for all of them.
@@ -32,7 +34,7 @@ pub fn played<R: Threads + Sync, G: Gate + Sync>(
     requires workers { (1 ≤ workers) × (workers ≤ 16) }
     requires actors { Each (IsActorOf plan.now) schedule.now.items }
     ensures played { IfOk result (λ made. IsPlayed (network_of plan.now) schedule.now (reverse made.entries)) }
-    ensures guaranteed { IfOk result (λ made. IsGuaranteedRun plan.now (reverse made.entries)) }
+    ensures run { IfOk result (λ made. IsRun (network_of plan.now) (reverse made.entries)) }
     ensures fault { IfErr result (IsFaultOf (network_of plan.now) schedule.now) }
 {
     let mut record = Record::new(alloc);
@@ -41,7 +43,7 @@ pub fn played<R: Threads + Sync, G: Gate + Sync>(
 }
 
 /// Plays a schedule of a plan as [`played`] does, shows the run to its watcher, and answers the callers after it: what
-/// [`play_watched`](interleave_core::play_watched) comes to, whatever the number of workers. The watcher sees the steps in the order
+/// [`play_watched`](run_engine::play_watched) comes to, whatever the number of workers. The watcher sees the steps in the order
 /// in which the plane asks for them, on the thread of the call. It has seen nothing before, and after an `Err` nothing is said of it.
 pub fn played_watched<R: Threads + Sync, W: Watch, G: Gate + Sync>(
     rt: &R,

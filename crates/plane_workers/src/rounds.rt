@@ -2,8 +2,8 @@
 ghost use Rattle.std.specs.Prelude.{◌≡◌, ◌^◌, ◌+◌, ◌<◌, ◌≤◌, List, IfOk, OnOk, length};
 ghost use Rattle.net_units.specs.Numbers.{actor_at};
 ghost use Rattle.call_script.specs.Tasks.{network_of};
-ghost use Rattle.interleave_core.specs.schedules.Quiet.{the_plane};
-ghost use Rattle.interleave_core.specs.schedules.Watching.{PlaysOut, WatchStands};
+ghost use Rattle.run_engine.specs.schedules.Quiet.{the_plane};
+ghost use Rattle.run_engine.specs.schedules.Watching.{PlaysOut, WatchStands};
 ghost use Rattle.plane_workers.specs.Seen.{PlaysMore};
 ghost use Rattle.plane_workers.specs.Windows.{KeepsGap};
 ghost use Rattle.run_record.specs.declared.done.Done.{Done as Step};
@@ -14,8 +14,8 @@ use crate::gap::least_gap;
 use crate::pace::{Pace, Part};
 use crate::window::make_window;
 use call_script::Plan;
-use interleave_core::{Engine, Watch, actor_of};
 use net_units::{ActorNo, Gate, OutOfMemory};
+use run_engine::{Engine, Watch, actor_of};
 use std::alloc::Global;
 use std::thread::Threads;
 

@@ -2,8 +2,8 @@
 ghost use Rattle.std.specs.Prelude.{◌≡◌, ◌≢◌, ℕ, ◌+◌, ◌<◌, ◌≤◌, ◌∷◌, List, length, drop, Some, OnOk};
 ghost use Rattle.std.specs.List.{slice_get};
 ghost use Rattle.call_script.specs.Tasks.{network_of};
-ghost use Rattle.interleave_core.specs.runs.Turns.{plane_most};
-ghost use Rattle.interleave_core.specs.schedules.Quiet.{the_plane};
+ghost use Rattle.run_engine.specs.runs.Turns.{plane_most};
+ghost use Rattle.run_engine.specs.schedules.Quiet.{the_plane};
 ghost use Rattle.plane_workers.specs.Desks.{rules_at, stands_at, left_at};
 ghost use Rattle.plane_workers.specs.Seen.{GoesTo, SeenWithin};
 ghost use Rattle.run_record.specs.declared.done.Done.{Done as Entry};
@@ -11,9 +11,9 @@ ghost use Rattle.run_record.specs.declared.done.Done.{Done as Entry};
 use crate::desk::Desk;
 use crate::pace::Busy;
 use call_script::Plan;
-use interleave_core::Watch;
 use link_steps::{LinkStep, Reply};
 use net_units::OutOfMemory;
+use run_engine::Watch;
 use tick_plane::Plane;
 
 // The plane's steps from where it stands until round `until` begins, each shown to the watcher of the run. Each link has answered

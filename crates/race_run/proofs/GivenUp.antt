@@ -16,8 +16,8 @@ use Rattle.shared_network.specs.Calls.{reply_in}
 use Rattle.shared_network.specs.Closing.{IsClosed, IsOfOne, HaveGivenUp, KeptPass, StandsIn, kept_pass}
 use Rattle.shared_network.specs.Gathering.{token_actor}
 use Rattle.call_script.specs.Tasks.{Network}
-use Rattle.interleave_core.specs.runs.Parts.{IsAsked, next_after}
-use Rattle.interleave_core.specs.runs.Runs.{plane_no}
+use Rattle.run_engine.specs.runs.Parts.{IsAsked, next_after}
+use Rattle.run_engine.specs.runs.Runs.{plane_no}
 use Rattle.race_run.specs.Whole.{HasMadeAll, IsWhole, own_done}
 use Rattle.link_steps.proofs.ListParts.{ComesFrom, comes-from, mapped-at}
 

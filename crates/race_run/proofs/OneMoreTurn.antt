@@ -11,13 +11,13 @@ use Rattle.net_units.specs.declared.numbers.ActorNo.{ActorNo}
 use Rattle.link_steps.specs.Lists.{Each}
 use Rattle.link_steps.proofs.SearchAndFilter.{Each-append}
 use Rattle.call_script.specs.declared.schedule.Do.{Do}
-use Rattle.interleave_core.specs.schedules.Schedules.{lined_turns, turns_of, repeated}
-use Rattle.interleave_core.proofs.Schedules.ScheduleOutcome.{turns-append, turns-one, repeated-more}
+use Rattle.run_engine.specs.schedules.Schedules.{lined_turns, turns_of, repeated}
+use Rattle.run_engine.proofs.Schedules.ScheduleOutcome.{turns-append, turns-one, repeated-more}
 use Rattle.race_run.specs.Turns.{BeginsOtherThan, Alternate, IsUnwritten, AreMaximalRuns, ends_with}
 use Rattle.call_script.proofs.Walks.{before-at}
 use Rattle.run_record.specs.declared.done.Done.{Done}
 use Rattle.race_run.specs.Turns.{actors_of}
-use Rattle.interleave_core.specs.runs.Laws.{actor_of}
+use Rattle.run_engine.specs.runs.Laws.{actor_of}
 use Rattle.net_units.proofs.KnownByNumber.{same-actor}
 
 abbrev pub one_more : Do → Do

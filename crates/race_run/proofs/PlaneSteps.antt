@@ -11,9 +11,9 @@ use Rattle.tick_plane.specs.Planes.{Plane, next_due, plane_ask, plane_of}
 use Rattle.link_ledger.specs.declared.entries.OwnEntry.{OwnEntry}
 use Rattle.shared_network.specs.Calls.{Follows, reply_in}
 use Rattle.shared_network.specs.Planes.{next_round}
-use Rattle.interleave_core.specs.runs.Turns.{plane_most}
+use Rattle.run_engine.specs.runs.Turns.{plane_most}
 use Rattle.tick_plane.proofs.TicksPerLink.{ticked-with}
-use Rattle.interleave_core.proofs.Tasks.StepsRunOut.{with-fewer}
+use Rattle.run_engine.proofs.Tasks.StepsRunOut.{with-fewer}
 
 -- ---- the links that have ticked in a round
 

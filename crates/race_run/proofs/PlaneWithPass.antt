@@ -24,14 +24,14 @@ use Rattle.shared_network.specs.Planes.{IsPlanes, MakesRound, is_round, next_rou
 use Rattle.shared_network.specs.Ready.{MayStep}
 use Rattle.call_script.specs.Fits.{NetworkFits}
 use Rattle.call_script.specs.Tasks.{Network}
-use Rattle.interleave_core.specs.runs.Parts.{IsAsked, next_after}
-use Rattle.interleave_core.specs.runs.Runs.{plane_no}
-use Rattle.interleave_core.specs.runs.Turns.{plane_most}
+use Rattle.run_engine.specs.runs.Parts.{IsAsked, next_after}
+use Rattle.run_engine.specs.runs.Runs.{plane_no}
+use Rattle.run_engine.specs.runs.Turns.{plane_most}
 use Rattle.race_run.specs.Rounds.{AddsOne, AreAskedBefore, PlaneIsOn, PlaneIsAt, IsStepped}
 use Rattle.race_run.specs.Whole.{HasMadeAll, own_done}
 use Rattle.race_run.proofs.EarlierRounds.{asked-one, none-asked}
 use Rattle.race_run.proofs.PlaneSteps.{asks-early, steps-few, ticked-within}
-use Rattle.interleave_core.proofs.Tasks.StepsRunOut.{with-fewer}
+use Rattle.run_engine.proofs.Tasks.StepsRunOut.{with-fewer}
 use Rattle.race_run.proofs.TaskEntries.{asked-more}
 
 -- ---- at the start

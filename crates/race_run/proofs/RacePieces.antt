@@ -21,13 +21,13 @@ use Rattle.shared_network.proofs.LinkNumbers.{numbered-at, numbered-length}
 use Rattle.tick_plane.specs.PlaneAccount.{PlaneAccount}
 use Rattle.call_script.specs.Parts.{PlanParts}
 use Rattle.call_script.specs.Tasks.{network_of}
-use Rattle.interleave_core.specs.runs.Runs.{plane_no}
+use Rattle.run_engine.specs.runs.Runs.{plane_no}
 use Rattle.race_run.specs.Pieces.{AreInOrder, AreNew, HasEnded, IsAtRound, IsMade, IsOfRounds, IsOfScript, MayBegin, Pairwise}
 use Rattle.race_run.specs.Whole.{HasMadeAll}
 use Rattle.race_run.specs.declared.pieces.Piece.{Piece}
 use Rattle.race_run.specs.declared.pieces.Piece.TheVariants.{Script, Rounds}
 use Rattle.link_steps.proofs.ListParts.{Each-at, Each-by_place, Each-parts}
-use Rattle.interleave_core.proofs.Keeping.KeptActors.{plane-number}
+use Rattle.run_engine.proofs.Keeping.KeptActors.{plane-number}
 
 -- ---- lists side by side
 

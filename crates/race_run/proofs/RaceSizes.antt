@@ -23,7 +23,7 @@ use Rattle.call_script.specs.Parts.{PlanParts}
 use Rattle.call_script.specs.Plans.{IsPlan}
 use Rattle.call_script.specs.Splits.{entry_link, groups_in}
 use Rattle.call_script.specs.Tasks.{network_of}
-use Rattle.interleave_core.specs.runs.Runs.{plane_no}
+use Rattle.run_engine.specs.runs.Runs.{plane_no}
 use Rattle.race_run.specs.Callers.{IsNetworkOf}
 use Rattle.race_run.specs.Pieces.{AreNew, IsAtRound}
 use Rattle.race_run.specs.Rounds.{PlaneIsAt}

@@ -7,24 +7,19 @@ use Rattle.net_units.specs.declared.numbers.ActorNo.{ActorNo}
 use Rattle.link_steps.specs.Lists.{Each}
 use Rattle.link_steps.proofs.SearchAndFilter.{Each-map}
 use Rattle.call_script.specs.Parts.{PlanParts}
-use Rattle.call_script.specs.Plans.{IsPlan}
 use Rattle.call_script.specs.Tasks.{Network, network_of}
 use Rattle.call_script.specs.declared.schedule.Do.{Do}
-use Rattle.call_script.proofs.PlansFit.{plan-fits}
-use Rattle.call_script.proofs.OneOwner.{all-owned}
 use Rattle.run_record.specs.declared.done.Done.{Done}
-use Rattle.interleave_core.specs.runs.Laws.{actor_of}
-use Rattle.interleave_core.specs.runs.Runs.{plane_no, next_for, IsRun}
-use Rattle.interleave_core.specs.schedules.Schedules.{FollowsTurns, IsActorOf, turns_of, repeated}
-use Rattle.interleave_core.specs.schedules.Standing.{IsGuaranteedRun}
-use Rattle.interleave_core.proofs.Channels.GuaranteeLaw.{guaranteed-throughout}
-use Rattle.interleave_core.proofs.Runs.RunLength.{asked-below}
-use Rattle.interleave_core.proofs.Runs.RunOf.{step-is}
-use Rattle.interleave_core.proofs.Schedules.ScheduleOutcome.{follows-none, follows-more, follows-one, turns-append, turns-one}
+use Rattle.run_engine.specs.runs.Laws.{actor_of}
+use Rattle.run_engine.specs.runs.Runs.{plane_no, next_for, IsRun}
+use Rattle.run_engine.specs.schedules.Schedules.{FollowsTurns, IsActorOf, turns_of, repeated}
+use Rattle.run_engine.proofs.Runs.RunLength.{asked-below}
+use Rattle.run_engine.proofs.Runs.RunOf.{step-is}
+use Rattle.run_engine.proofs.Schedules.ScheduleOutcome.{follows-none, follows-more, follows-one, turns-append, turns-one}
 use Rattle.race_run.specs.Turns.{AreMaximalRuns, IsUnwritten, actors_of}
 use Rattle.race_run.proofs.Lists.{turned-map}
 use Rattle.link_steps.proofs.ListParts.{Each-reverse}
-use Rattle.interleave_core.proofs.Keeping.KeptActors.{plane-number}
+use Rattle.run_engine.proofs.Keeping.KeptActors.{plane-number}
 
 -- ---- played
 
@@ -77,11 +72,3 @@ run-items parts entries items runs is =
     let P : ActorNo → Type 0 = λ actor. actor_number actor ≤ length parts.callers in
     let all : Each P (reverse (map actor_of (reverse entries))) = Each-reverse P (map actor_of (reverse entries)) (Each-map P actor_of (reverse entries) most) in
     turns-each P items runs.each (subst (Each P) (turned-actors entries ∙ sym runs.spelled) all)
-
--- ---- the guarantee
-
-pub run-guaranteed : (parts : PlanParts) (run : List Done) → IsPlan parts → IsRun (network_of parts) run → IsGuaranteedRun parts run
-run-guaranteed parts run plan is = record {
-  run_is = is;
-  guaranteed = guaranteed-throughout (network_of parts) run (plan-fits parts plan) (all-owned parts plan) is;
-}

@@ -14,11 +14,11 @@ use Rattle.call_script.specs.Parts.{PlanParts}
 use Rattle.call_script.specs.Plans.{IsPlan}
 use Rattle.call_script.specs.Tasks.{network_of}
 use Rattle.call_script.specs.declared.schedule.Do.{Do}
-use Rattle.interleave_core.specs.runs.Runs.{IsRun}
-use Rattle.interleave_core.specs.runs.Laws.{actor_of}
-use Rattle.interleave_core.specs.schedules.Schedules.{IsActorOf, repeated, turns_of}
-use Rattle.interleave_core.proofs.Schedules.ScheduleOutcome.{turns-append, turns-one}
-use Rattle.interleave_core.proofs.Tasks.StepCounts.{first-most, steps-most}
+use Rattle.run_engine.specs.runs.Runs.{IsRun}
+use Rattle.run_engine.specs.runs.Laws.{actor_of}
+use Rattle.run_engine.specs.schedules.Schedules.{IsActorOf, repeated, turns_of}
+use Rattle.run_engine.proofs.Schedules.ScheduleOutcome.{turns-append, turns-one}
+use Rattle.run_engine.proofs.Tasks.StepCounts.{first-most, steps-most}
 use Rattle.run_record.specs.Runs.{is_by, replies_to}
 use Rattle.run_record.specs.declared.done.Done.{Done}
 use Rattle.race_run.specs.Turns.{AreMaximalRuns, IsUnwritten, IsWritable, actors_of}

@@ -17,7 +17,7 @@ use Rattle.call_script.specs.Tasks.{network_of, request_of, tasks_of}
 use Rattle.call_script.specs.declared.entries.CallerEntry.{CallerEntry}
 use Rattle.call_script.specs.declared.entries.RequestEntry.{RequestEntry}
 use Rattle.call_script.specs.declared.tasks.Task.{Task}
-use Rattle.interleave_core.specs.runs.Parts.{IsAsked}
+use Rattle.run_engine.specs.runs.Parts.{IsAsked}
 use Rattle.race_run.specs.Callers.{StandsBetween, PacketsStand, CallerIsAt, HasOps}
 use Rattle.call_script.specs.Channels.{AreTold}
 use Rattle.call_script.specs.declared.channels.Channel.{Channel}

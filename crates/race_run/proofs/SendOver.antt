@@ -32,7 +32,7 @@ use Rattle.call_script.specs.declared.entries.RequestEntry.{RequestEntry}
 use Rattle.call_script.specs.declared.operations.Op.TheVariants.{Send}
 use Rattle.call_script.specs.declared.tasks.Task.{Task}
 use Rattle.call_script.specs.declared.tasks.Task.TheVariants.{Opens, Sends}
-use Rattle.interleave_core.proofs.Replies.ClosingStands.{planned-established}
+use Rattle.run_engine.proofs.Replies.ClosingStands.{planned-established}
 use Rattle.race_run.specs.Callers.{CallerIsAt, HasOp, IsNetworkOf}
 use Rattle.race_run.proofs.BetweenOperations.{Leaves, between-skipped, between-made}
 use Rattle.race_run.proofs.ChannelsInScript.{ASend, BySend, each-front, has-front, used-live}

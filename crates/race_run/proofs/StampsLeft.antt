@@ -2,7 +2,7 @@
 use Rattle.std.proofs.Common.{ℕ, ◌*◌, ◌-◌, ◌^◌, ◌<◌, ◌≤◌, arith}
 use Rattle.call_script.specs.Parts.{PlanParts}
 use Rattle.call_script.specs.Plans.{IsPlan}
-use Rattle.interleave_core.proofs.Tasks.OpsFew.{ops-few}
+use Rattle.run_engine.proofs.Tasks.OpsFew.{ops-few}
 use Rattle.race_run.specs.Callers.{HasLeft}
 
 -- at 32 stamps for each operation before it, a pass has stamps left for the next one

@@ -12,8 +12,8 @@ use Rattle.shared_network.specs.Calls.{Follows, reply_in}
 use Rattle.call_script.specs.Scripts.{Standing, Learnt, ask_at, begun, continued, replied, resumed, standing, task_ask, outcome_by}
 use Rattle.call_script.specs.Tasks.{Network}
 use Rattle.call_script.specs.declared.tasks.Task.{Task}
-use Rattle.interleave_core.specs.runs.Parts.{IsAsked, next_after, reply_of}
-use Rattle.interleave_core.specs.runs.Runs.{plane_no}
+use Rattle.run_engine.specs.runs.Parts.{IsAsked, next_after, reply_of}
+use Rattle.run_engine.specs.runs.Runs.{plane_no}
 use Rattle.race_run.specs.Whole.{own_done}
 use Rattle.race_run.proofs.Lists.{turned-map}
 

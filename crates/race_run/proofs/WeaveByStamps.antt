@@ -17,8 +17,8 @@ use Rattle.link_ledger.specs.declared.entries.Entry.{Entry}
 use Rattle.link_ledger.specs.declared.entries.Journal.{Journal}
 use Rattle.call_script.specs.Tasks.{Network}
 use Rattle.run_record.specs.declared.done.Done.{Done}
-use Rattle.interleave_core.specs.runs.Weave.{Stamped, put, put_all, woven_of, IsUnder, Falls, InOne, StandsIn, done_of}
-use Rattle.interleave_core.proofs.Runs.WeaveLaw.{journals-weave}
+use Rattle.run_engine.specs.runs.Weave.{Stamped, put, put_all, woven_of, IsUnder, Falls, InOne, StandsIn, done_of}
+use Rattle.run_engine.proofs.Runs.WeaveLaw.{journals-weave}
 use Rattle.race_run.specs.Merging.{is_before, places_from, sources_from, places_of, IsInside, IsThere, AreThere}
 use Rattle.race_run.specs.Whole.{IsWhole, stamped_on, stamped_in, weave_of}
 use Rattle.race_run.specs.declared.merging.EntryPlace.{EntryPlace}

@@ -26,10 +26,10 @@ use Rattle.shared_network.specs.Closing.{StandsIn as StandsAt, number_of}
 use Rattle.shared_network.specs.Gathering.{token_actor}
 use Rattle.shared_network.proofs.LinkNumbers.{numbered-length, numbered-at}
 use Rattle.call_script.specs.Tasks.{Network}
-use Rattle.interleave_core.specs.runs.Parts.{IsAsked, next_after, reply_of}
-use Rattle.interleave_core.specs.runs.Runs.{plane_no, IsRun, next_for}
-use Rattle.interleave_core.specs.runs.Weave.{Stamped, IsUnder, Falls, IsUnlike, AreStampedApart, PairsApart, AreOf, AreJournals, AreAsked, InOne, StandsIn, done_of, entry_in}
-use Rattle.interleave_core.proofs.Runs.WeaveLaw.{journals-weave}
+use Rattle.run_engine.specs.runs.Parts.{IsAsked, next_after, reply_of}
+use Rattle.run_engine.specs.runs.Runs.{plane_no, IsRun, next_for}
+use Rattle.run_engine.specs.runs.Weave.{Stamped, IsUnder, Falls, IsUnlike, AreStampedApart, PairsApart, AreOf, AreJournals, AreAsked, InOne, StandsIn, done_of, entry_in}
+use Rattle.run_engine.proofs.Runs.WeaveLaw.{journals-weave}
 use Rattle.race_run.specs.Whole.{IsWhole, HasMadeAll, own_done, stamped_on, stamped_in, weave_of}
 use Rattle.race_run.proofs.Lists.{turned-map, among-turned_map, turned_map-among}
 use Rattle.link_steps.proofs.ListParts.{Each-reverse, comes-from, mapped-at, Each-at, Each-by_place}

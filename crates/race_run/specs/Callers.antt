@@ -26,7 +26,7 @@ use Rattle.call_script.specs.declared.entries.RequestEntry.{RequestEntry}
 use Rattle.call_script.specs.declared.operations.Op.{Op}
 use Rattle.call_script.specs.declared.tasks.Task.{Task}
 use Rattle.call_script.specs.declared.tasks.Task.TheVariants.{Opens, Sends, Closes, Moves}
-use Rattle.interleave_core.specs.runs.Parts.{IsAsked}
+use Rattle.run_engine.specs.runs.Parts.{IsAsked}
 use Rattle.call_script.specs.Channels.{AreTold}
 use Rattle.race_run.specs.Whole.{own_done}
 use Rattle.call_script.specs.declared.channels.Channel.{Channel}

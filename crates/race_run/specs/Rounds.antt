@@ -10,8 +10,8 @@ use Rattle.link_ledger.specs.declared.entries.OwnEntry.{OwnEntry}
 use Rattle.shared_network.specs.Calls.{reply_in}
 use Rattle.shared_network.specs.Planes.{IsPlanes, rounds_in}
 use Rattle.call_script.specs.Tasks.{Network}
-use Rattle.interleave_core.specs.runs.Runs.{plane_no}
-use Rattle.interleave_core.specs.runs.Turns.{plane_most}
+use Rattle.run_engine.specs.runs.Runs.{plane_no}
+use Rattle.run_engine.specs.runs.Turns.{plane_most}
 
 -- the pass is the plane's, and has made the plane's steps so far and no others
 pub record PlaneIsOn (network : Network) (plane : PlaneAccount) (pass : Token) : Type 0 where

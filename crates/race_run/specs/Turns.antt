@@ -7,8 +7,8 @@ use Rattle.net_units.specs.declared.numbers.ActorNo.{ActorNo}
 use Rattle.link_steps.specs.Lists.{Each}
 use Rattle.call_script.specs.declared.schedule.Do.{Do}
 use Rattle.run_record.specs.declared.done.Done.{Done}
-use Rattle.interleave_core.specs.runs.Laws.{actor_of}
-use Rattle.interleave_core.specs.schedules.Schedules.{turns_of}
+use Rattle.run_engine.specs.runs.Laws.{actor_of}
+use Rattle.run_engine.specs.schedules.Schedules.{turns_of}
 
 -- the first item is of another actor
 abbrev pub BeginsOtherThan : ActorNo → List Do → Type 0

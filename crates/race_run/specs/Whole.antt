@@ -20,9 +20,9 @@ use Rattle.shared_network.specs.Closing.{IsClosed}
 use Rattle.shared_network.specs.Gathering.{token_actor}
 use Rattle.call_script.specs.Tasks.{Network}
 use Rattle.run_record.specs.declared.done.Done.{Done}
-use Rattle.interleave_core.specs.runs.Parts.{IsAsked, next_after}
-use Rattle.interleave_core.specs.runs.Runs.{plane_no}
-use Rattle.interleave_core.specs.runs.Weave.{Stamped, run_of}
+use Rattle.run_engine.specs.runs.Parts.{IsAsked, next_after}
+use Rattle.run_engine.specs.runs.Runs.{plane_no}
+use Rattle.run_engine.specs.runs.Weave.{Stamped, run_of}
 
 -- ---- the passes
 

@@ -10,9 +10,9 @@ ghost use Rattle.race_run.specs.Callers.{caller_of};
 ghost use Rattle.tick_plane.specs.Planes.{plane_start};
 
 use call_script::Plan;
-use interleave_core::new_link;
 use link_quota::AnyLink;
 use net_units::{ActorNo, OutOfMemory};
+use run_engine::new_link;
 use std::alloc::Global;
 use step_stamp::{LinkSeat, PassSeat, Stamps};
 use tick_plane::Plane;

@@ -6,7 +6,7 @@ ghost use Rattle.step_stamp.specs.Opening.{AreLinks, ArePasses};
 ghost use Rattle.step_stamp.specs.Seats.{stamps_table};
 ghost use Rattle.call_script.specs.Plans.{IsPlan};
 ghost use Rattle.call_script.specs.Tasks.{network_of};
-ghost use Rattle.interleave_core.specs.runs.Runs.{plane_no};
+ghost use Rattle.run_engine.specs.runs.Runs.{plane_no};
 ghost use Rattle.shared_network.specs.Gathering.{AreAll, token_actor};
 ghost use Rattle.race_run.specs.Callers.{IsNetworkOf};
 ghost use Rattle.race_run.specs.Pieces.{AreNew};

@@ -1,6 +1,6 @@
 //! The schedule that a run has followed.
 ghost use Rattle.std.specs.Prelude.{◌≡◌, ◌<◌, ◌^◌, ◌-◌, IfOk, OnOk, [], ◌∷◌, ◌++◌, length};
-ghost use Rattle.interleave_core.specs.schedules.Schedules.{turns_of};
+ghost use Rattle.run_engine.specs.schedules.Schedules.{turns_of};
 ghost use Rattle.race_run.specs.Turns.{AreMaximalRuns, actors_of, ends_with};
 
 use call_script::Do;

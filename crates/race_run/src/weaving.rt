@@ -1,9 +1,8 @@
 //! The run that journals and passes tell.
 ghost use Rattle.std.specs.Prelude.{◌≡◌, ℕ, IfOk, None, true, length, reverse};
 ghost use Rattle.call_script.specs.Tasks.{network_of};
-ghost use Rattle.interleave_core.specs.runs.Runs.{next_for};
-ghost use Rattle.interleave_core.specs.schedules.Schedules.{IsActorOf, IsPlayed};
-ghost use Rattle.interleave_core.specs.schedules.Standing.{IsGuaranteedRun};
+ghost use Rattle.run_engine.specs.runs.Runs.{next_for, IsRun};
+ghost use Rattle.run_engine.specs.schedules.Schedules.{IsActorOf, IsPlayed};
 ghost use Rattle.link_steps.specs.Lists.{Each};
 ghost use Rattle.race_run.specs.Turns.{AreMaximalRuns, IsWritable, actors_of};
 ghost use Rattle.race_run.specs.Whole.{IsWhole, weave_of};
@@ -27,7 +26,8 @@ pub struct Raced {
 
 /// The run that a closed network's journals tell: all their entries in order of stamp, with the schedule of their actors in maximal
 /// runs, written, with no line numbers. The journals and passes are whole for the plan. Then this is the run of the plan by that
-/// schedule, in it every actor makes all its steps, and it has the whole guarantee at its beginning and after each of its entries.
+/// schedule, and in it every actor makes all its steps. As a run of the plan it has the whole guarantee at its beginning and after each
+/// of its entries (`every_run_of_a_plan_is_guaranteed` of `interleave_core`).
 /// The scenario's language can write the schedule: its actors are the plan's, and each item has 1 to 1,048,576 steps (`language`). An
 /// `Err` comes only for want of memory. The call waits for nobody.
 pub fn woven(alloc: Global, plan: &Plan, closed: &Closed) -> Result<Raced, OutOfMemory>
@@ -39,7 +39,7 @@ pub fn woven(alloc: Global, plan: &Plan, closed: &Closed) -> Result<Raced, OutOf
     ensures language { IfOk result (λ raced. Each (IsWritable (length plan.now.callers)) raced.schedule.items) }
     ensures played { IfOk result (λ raced. IsPlayed (network_of plan.now) raced.schedule (reverse raced.run.entries)) }
     ensures over { IfOk result (λ raced. (actor : ℕ) → next_for (network_of plan.now) actor (reverse raced.run.entries) ≡ None) }
-    ensures guaranteed { IfOk result (λ raced. IsGuaranteedRun plan.now (reverse raced.run.entries)) }
+    ensures run { IfOk result (λ raced. IsRun (network_of plan.now) (reverse raced.run.entries)) }
 {
     // Read for what it says of every plan.
     let _valid = plan.links();

@@ -23,7 +23,7 @@ use Rattle.call_script.specs.Tasks.{network_of}
 use Rattle.run_record.specs.Rows.{rows_of}
 use Rattle.run_record.specs.Runs.{part_of}
 use Rattle.run_record.specs.declared.done.Done.{Done}
-use Rattle.interleave_core.specs.replies.Answers.{IsReplyOf}
+use Rattle.run_engine.specs.replies.Answers.{IsReplyOf}
 use Rattle.interleave_core.proofs.Flights.LegLaw.{quiet-clock}
 use Rattle.channel_report.specs.Channels.{channel_lines}
 use Rattle.channel_report.specs.Links.{one_if, one_if_some, sent_by, dropped_by, best_sent_by, best_lost_by, pours_refused_by, total_in, sent_in, dropped_in, best_sent_in, best_lost_in}

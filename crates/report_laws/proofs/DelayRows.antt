@@ -22,12 +22,12 @@ use Rattle.call_script.specs.Tasks.{Network, network_of}
 use Rattle.run_record.specs.Rows.{rows_of}
 use Rattle.run_record.specs.declared.done.Done.{Done}
 use Rattle.run_record.specs.declared.rows.HopRow.{HopRow}
-use Rattle.interleave_core.specs.runs.Runs.{IsRun}
-use Rattle.interleave_core.proofs.Channels.ChannelsAt.{packet-offered}
-use Rattle.interleave_core.proofs.Replies.RunCloses.{owned-once}
-use Rattle.interleave_core.proofs.Replies.RunGoes.{owned-asked}
-use Rattle.interleave_core.specs.channels.Hops.{packets_on, ChannelAsked}
-use Rattle.interleave_core.specs.channels.Paths.{HopAt, clock_at, packets_at, arrived_at}
+use Rattle.run_engine.specs.runs.Runs.{IsRun}
+use Rattle.run_engine.proofs.Channels.ChannelsAt.{packet-offered}
+use Rattle.run_engine.proofs.Replies.RunCloses.{owned-once}
+use Rattle.run_engine.proofs.Replies.RunGoes.{owned-asked}
+use Rattle.run_engine.specs.channels.Hops.{packets_on, ChannelAsked}
+use Rattle.run_engine.specs.channels.Paths.{HopAt, clock_at, packets_at, arrived_at}
 use Rattle.trace_audit.proofs.PacketOf.{fits-network}
 use Rattle.trace_audit.proofs.RunSound.{departures_of}
 use Rattle.trace_audit.proofs.SortedRows.{order-among}

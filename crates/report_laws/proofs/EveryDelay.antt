@@ -19,9 +19,9 @@ use Rattle.run_record.specs.Rows.{rows_of}
 use Rattle.run_record.specs.declared.done.Done.{Done}
 use Rattle.run_record.specs.declared.rows.HopRow.{HopRow}
 use Rattle.interleave_core.specs.channels.Guarantee.{HasLeft}
-use Rattle.interleave_core.specs.channels.Hops.{packets_on}
-use Rattle.interleave_core.specs.channels.Paths.{HopAt, clock_at, starts_at, departs_at, arrived_at, delay_of}
-use Rattle.interleave_core.proofs.Channels.ChannelsAt.{packets-numbered}
+use Rattle.run_engine.specs.channels.Hops.{packets_on}
+use Rattle.run_engine.specs.channels.Paths.{HopAt, clock_at, starts_at, departs_at, arrived_at, delay_of}
+use Rattle.run_engine.proofs.Channels.ChannelsAt.{packets-numbered}
 use Rattle.trace_audit.specs.Above.{is_at, rows_at}
 use Rattle.trace_audit.specs.Checks.{AllPass}
 use Rattle.trace_audit.proofs.TableInOrder.{at-parts}

@@ -24,10 +24,10 @@ use Rattle.call_script.specs.declared.entries.RequestEntry.{RequestEntry}
 use Rattle.call_script.proofs.PlansFit.{plan-fits}
 use Rattle.call_script.proofs.OneOwner.{owned-by}
 use Rattle.run_record.specs.declared.done.Done.{Done}
-use Rattle.interleave_core.specs.runs.Runs.{IsRun}
-use Rattle.interleave_core.specs.replies.Verdicts.{setup_replies}
+use Rattle.run_engine.specs.runs.Runs.{IsRun}
+use Rattle.run_engine.specs.replies.Verdicts.{setup_replies}
 use Rattle.interleave_core.proofs.Channels.KeptRequest.{accepted-kept}
-use Rattle.interleave_core.proofs.Replies.VerdictHolds.{verdicts-follow}
+use Rattle.run_engine.proofs.Replies.VerdictHolds.{verdicts-follow}
 use Rattle.trace_audit.specs.RunLevels.{AreLevelsFor, AreLevelsOf}
 use Rattle.trace_audit.proofs.PacketOf.{fits-network}
 

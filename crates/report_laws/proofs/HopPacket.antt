@@ -15,8 +15,8 @@ use Rattle.channel_laws.specs.Channels.{is_of_channel, AreNumberedAfter}
 use Rattle.call_script.specs.Tasks.{Network}
 use Rattle.run_record.specs.Runs.{part_of}
 use Rattle.run_record.specs.declared.done.Done.{Done}
-use Rattle.interleave_core.specs.channels.Hops.{packets_on}
-use Rattle.interleave_core.specs.channels.Paths.{HopAt, clock_at, starts_at, departs_at}
+use Rattle.run_engine.specs.channels.Hops.{packets_on}
+use Rattle.run_engine.specs.channels.Paths.{HopAt, clock_at, starts_at, departs_at}
 use Rattle.interleave_core.specs.channels.Guarantee.{HasLeft}
 use Rattle.trace_audit.proofs.RunDeparts.{numbers-above}
 

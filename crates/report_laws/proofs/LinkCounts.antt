@@ -32,12 +32,12 @@ use Rattle.call_script.specs.Owners.{AllOwned}
 use Rattle.call_script.specs.Tasks.{Network}
 use Rattle.run_record.specs.Runs.{part_of}
 use Rattle.run_record.specs.declared.done.Done.{Done}
-use Rattle.interleave_core.specs.replies.Answers.{IsReplyOf}
-use Rattle.interleave_core.specs.runs.Runs.{IsNext, IsRun}
+use Rattle.run_engine.specs.replies.Answers.{IsReplyOf}
+use Rattle.run_engine.specs.runs.Runs.{IsNext, IsRun}
 use Rattle.interleave_core.proofs.Channels.ChainLaw.{is-tick}
 use Rattle.interleave_core.proofs.Flights.LegLaw.{entry-tick}
-use Rattle.interleave_core.proofs.Replies.Replying.{asks-answered}
-use Rattle.interleave_core.proofs.Runs.RunLegal.{part-on, part-off, part-admissible}
+use Rattle.run_engine.proofs.Replies.Replying.{asks-answered}
+use Rattle.run_engine.proofs.Runs.RunLegal.{part-on, part-off, part-admissible}
 use Rattle.channel_report.specs.Links.{one_if, one_if_some}
 use Rattle.report_laws.specs.Counts.{has_left, left_in, is_best_start, is_channel_start}
 

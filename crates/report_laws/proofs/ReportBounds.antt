@@ -21,14 +21,14 @@ use Rattle.call_script.proofs.OneOwner.{owned-by}
 use Rattle.run_record.specs.Rows.{rows_of}
 use Rattle.run_record.specs.Runs.{part_of}
 use Rattle.interleave_core.specs.channels.Guarantee.{SourceKept, ChannelGuaranteed}
-use Rattle.interleave_core.specs.channels.Hops.{terms_at, ChannelAsked}
-use Rattle.interleave_core.specs.channels.Paths.{HopAt, bound_of}
+use Rattle.run_engine.specs.channels.Hops.{terms_at, ChannelAsked}
+use Rattle.run_engine.specs.channels.Paths.{HopAt, bound_of}
 use Rattle.interleave_core.proofs.Channels.GuaranteeLaw.{channel-guaranteed}
-use Rattle.interleave_core.proofs.Channels.HopsAt.{hop-at}
-use Rattle.interleave_core.proofs.Replies.RunCloses.{owned-once}
-use Rattle.interleave_core.proofs.Replies.RunGoes.{owned-asked}
-use Rattle.interleave_core.proofs.Runs.RunLegal.{part-admissible}
-use Rattle.interleave_core.proofs.Replies.VerdictHolds.{verdicts-follow}
+use Rattle.run_engine.proofs.Channels.HopsAt.{hop-at}
+use Rattle.run_engine.proofs.Replies.RunCloses.{owned-once}
+use Rattle.run_engine.proofs.Replies.RunGoes.{owned-asked}
+use Rattle.run_engine.proofs.Runs.RunLegal.{part-admissible}
+use Rattle.run_engine.proofs.Replies.VerdictHolds.{verdicts-follow}
 use Rattle.trace_audit.proofs.PacketOf.{fits-network}
 use Rattle.channel_report.specs.Sources.{first_link, offered_in}
 use Rattle.report_laws.specs.Bounds.{delays_told, ReportsKeepTheirBounds}

@@ -30,12 +30,12 @@ use Rattle.call_script.proofs.OneOwner.{owned-by, all-owned}
 use Rattle.run_record.specs.Rows.{rows_of}
 use Rattle.run_record.specs.declared.done.Done.{Done}
 use Rattle.run_record.specs.declared.rows.HopRow.{HopRow}
-use Rattle.interleave_core.specs.channels.Hops.{packets_on, terms_at, ChannelAsked}
-use Rattle.interleave_core.specs.channels.Paths.{HopAt, history_at, clock_at, starts_at, departs_at, packets_at}
-use Rattle.interleave_core.specs.runs.Runs.{IsRun}
-use Rattle.interleave_core.proofs.Channels.ChannelsAt.{packets-numbered}
-use Rattle.interleave_core.proofs.Replies.RunCloses.{owned-once}
-use Rattle.interleave_core.proofs.Replies.RunGoes.{owned-asked}
+use Rattle.run_engine.specs.channels.Hops.{packets_on, terms_at, ChannelAsked}
+use Rattle.run_engine.specs.channels.Paths.{HopAt, history_at, clock_at, starts_at, departs_at, packets_at}
+use Rattle.run_engine.specs.runs.Runs.{IsRun}
+use Rattle.run_engine.proofs.Channels.ChannelsAt.{packets-numbered}
+use Rattle.run_engine.proofs.Replies.RunCloses.{owned-once}
+use Rattle.run_engine.proofs.Replies.RunGoes.{owned-asked}
 use Rattle.trace_audit.specs.Above.{is_at, is_of, rows_at}
 use Rattle.trace_audit.specs.Departures.{AreCounted}
 use Rattle.trace_audit.proofs.TableInOrder.{at-parts}

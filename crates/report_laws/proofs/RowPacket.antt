@@ -29,13 +29,13 @@ use Rattle.run_record.specs.Rows.{row_of, hop_among, links_of}
 use Rattle.run_record.specs.Runs.{part_of}
 use Rattle.run_record.specs.declared.done.Done.{Done}
 use Rattle.run_record.specs.declared.rows.HopRow.{HopRow}
-use Rattle.interleave_core.specs.channels.Hops.{packets_on}
-use Rattle.interleave_core.specs.runs.Runs.{IsRun}
-use Rattle.interleave_core.specs.replies.Verdicts.{setup_replies}
-use Rattle.interleave_core.proofs.Channels.ChannelsAt.{packet-offered}
-use Rattle.interleave_core.proofs.Channels.HopsAt.{hop-at}
-use Rattle.interleave_core.proofs.Replies.RunCloses.{owned-once}
-use Rattle.interleave_core.proofs.Replies.RunGoes.{owned-asked}
+use Rattle.run_engine.specs.channels.Hops.{packets_on}
+use Rattle.run_engine.specs.runs.Runs.{IsRun}
+use Rattle.run_engine.specs.replies.Verdicts.{setup_replies}
+use Rattle.run_engine.proofs.Channels.ChannelsAt.{packet-offered}
+use Rattle.run_engine.proofs.Channels.HopsAt.{hop-at}
+use Rattle.run_engine.proofs.Replies.RunCloses.{owned-once}
+use Rattle.run_engine.proofs.Replies.RunGoes.{owned-asked}
 use Rattle.trace_audit.proofs.HopOrder.{offers-in-order, hop-number}
 use Rattle.trace_audit.proofs.PacketOf.{fits-network}
 use Rattle.trace_audit.proofs.RunRows.{departure-told, sent-at, run-split}

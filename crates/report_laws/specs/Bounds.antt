@@ -16,7 +16,7 @@ use Rattle.call_script.specs.Tasks.{network_of}
 use Rattle.call_script.specs.declared.entries.RequestEntry.{RequestEntry}
 use Rattle.run_record.specs.Rows.{rows_of}
 use Rattle.run_record.specs.declared.done.Done.{Done}
-use Rattle.interleave_core.specs.runs.Runs.{IsRun}
+use Rattle.run_engine.specs.runs.Runs.{IsRun}
 use Rattle.channel_report.specs.Channels.{offered_for}
 use Rattle.channel_report.specs.Delays.{delays_in, least_of, worst_of}
 use Rattle.channel_report.specs.Verdicts.{verdict_in}

@@ -24,7 +24,7 @@ use Rattle.call_script.specs.Tasks.{network_of}
 use Rattle.call_script.specs.declared.entries.RequestEntry.{RequestEntry}
 use Rattle.run_record.specs.Runs.{part_of}
 use Rattle.run_record.specs.declared.done.Done.{Done}
-use Rattle.interleave_core.specs.runs.Runs.{IsRun}
+use Rattle.run_engine.specs.runs.Runs.{IsRun}
 use Rattle.channel_report.specs.Channels.{sends_refused}
 use Rattle.channel_report.specs.Links.{sent_in, dropped_in, best_sent_in, best_lost_in, pours_refused_in}
 use Rattle.channel_report.specs.Report.{end_line, report_of, table_if}

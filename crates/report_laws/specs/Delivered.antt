@@ -17,8 +17,8 @@ use Rattle.call_script.specs.declared.entries.RequestEntry.{RequestEntry}
 use Rattle.run_record.specs.Rows.{rows_of}
 use Rattle.run_record.specs.declared.done.Done.{Done}
 use Rattle.interleave_core.specs.channels.Guarantee.{HasLeft}
-use Rattle.interleave_core.specs.channels.Paths.{HopAt, history_at, clock_at, starts_at, departs_at, delay_of}
-use Rattle.interleave_core.specs.runs.Runs.{IsRun}
+use Rattle.run_engine.specs.channels.Paths.{HopAt, history_at, clock_at, starts_at, departs_at, delay_of}
+use Rattle.run_engine.specs.runs.Runs.{IsRun}
 use Rattle.trace_audit.specs.Above.{is_of}
 use Rattle.channel_report.specs.Delays.{least_of, worst_of}
 use Rattle.channel_report.specs.Verdicts.{verdict_in}

@@ -16,8 +16,8 @@ use Rattle.call_script.specs.declared.entries.RequestEntry.{RequestEntry}
 use Rattle.run_record.specs.Rows.{rows_of}
 use Rattle.run_record.specs.declared.done.Done.{Done}
 use Rattle.run_record.specs.declared.rows.HopRow.{HopRow}
-use Rattle.interleave_core.specs.channels.Paths.{HopAt, clock_at, starts_at, departs_at}
-use Rattle.interleave_core.specs.runs.Runs.{IsRun}
+use Rattle.run_engine.specs.channels.Paths.{HopAt, clock_at, starts_at, departs_at}
+use Rattle.run_engine.specs.runs.Runs.{IsRun}
 use Rattle.channel_report.specs.Verdicts.{verdict_in}
 
 -- the row is of the packet with this start, which has left a hop of the request's route

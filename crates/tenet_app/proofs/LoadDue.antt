@@ -9,7 +9,7 @@ use Rattle.channel_report.specs.Summary.{summary_of}
 use Rattle.text_writer.specs.Telling.{WritesText}
 use Rattle.text_writer.specs.declared.fault.ReportFault.{ReportFault}
 use Rattle.text_writer.specs.declared.fault.ReportFault.TheVariants as fault
-use Rattle.interleave_core.specs.schedules.Standing.{IsGuaranteedRun}
+use Rattle.interleave_core.specs.channels.Laws.{IsGuaranteedRun}
 use Rattle.load_maker.proofs.TurnLaws.{turns-one-run}
 use Rattle.load_maker.specs.Made.{made_parts}
 use Rattle.load_maker.specs.TurnRuns.{IsTurnsRun}

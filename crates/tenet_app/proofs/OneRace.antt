@@ -6,7 +6,7 @@ use Rattle.link_steps.specs.Lists.{Each}
 use Rattle.call_script.specs.Parts.{PlanParts}
 use Rattle.call_script.specs.declared.schedule.Do.{Do}
 use Rattle.call_script.specs.declared.schedule.Schedule.{Schedule}
-use Rattle.interleave_core.specs.schedules.Schedules.{turns_of, repeated}
+use Rattle.run_engine.specs.schedules.Schedules.{turns_of, repeated}
 use Rattle.race_run.specs.Turns.{BeginsOtherThan, Alternate, IsUnwritten, AreMaximalRuns, actors_of}
 use Rattle.run_record.specs.declared.done.Done.{Done}
 use Rattle.shared_network.specs.declared.closing.Closed.{Closed}

@@ -4,7 +4,7 @@ use Rattle.call_script.specs.Parts.{PlanParts}
 use Rattle.call_script.specs.Tasks.{network_of}
 use Rattle.call_script.specs.declared.schedule.Schedule.{Schedule}
 use Rattle.channel_report.specs.Report.{report_of}
-use Rattle.interleave_core.proofs.Schedules.ScheduleOutcome.{one-end}
+use Rattle.run_engine.proofs.Schedules.ScheduleOutcome.{one-end}
 use Rattle.scenario_reader.specs.Reading.{Reading, PlanRead, BadLine, TooManyBytes, reading}
 use Rattle.scenario_reader.specs.declared.cause.Cause.TheVariants as cause
 use Rattle.scenario_reader.specs.declared.reader.TheConstants.{MOST_BYTES}

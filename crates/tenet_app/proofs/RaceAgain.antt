@@ -9,7 +9,7 @@ use Rattle.call_script.specs.declared.entries.CallerEntry.{CallerEntry}
 use Rattle.call_script.specs.declared.schedule.Do.{Do}
 use Rattle.call_script.specs.declared.schedule.Schedule.{Schedule}
 use Rattle.channel_report.specs.Report.{report_of}
-use Rattle.interleave_core.specs.schedules.Schedules.{turns_of, repeated, FollowsTurns, PlayedBy, IsPlayed}
+use Rattle.run_engine.specs.schedules.Schedules.{turns_of, repeated, FollowsTurns, PlayedBy, IsPlayed}
 use Rattle.race_run.specs.Turns.{IsWritable}
 use Rattle.race_run.proofs.OneMoreTurn.{turns-first}
 use Rattle.run_record.specs.declared.done.Done.{Done}

@@ -7,10 +7,10 @@ use Rattle.call_script.specs.Parts.{PlanParts}
 use Rattle.call_script.specs.Plans.{IsPlan}
 use Rattle.call_script.specs.Tasks.{network_of}
 use Rattle.call_script.specs.declared.schedule.Schedule.{Schedule}
-use Rattle.interleave_core.specs.schedules.Schedules.{IsPlayed, AsksTooMuch, IsFaultOf}
-use Rattle.interleave_core.specs.declared.playing.PlayFault.{PlayFault}
-use Rattle.interleave_core.specs.declared.playing.PlayFault.TheVariants.{Step}
-use Rattle.interleave_core.specs.schedules.Standing.{IsGuaranteedRun}
+use Rattle.run_engine.specs.schedules.Schedules.{IsPlayed, AsksTooMuch, IsFaultOf}
+use Rattle.run_engine.specs.declared.playing.PlayFault.{PlayFault}
+use Rattle.run_engine.specs.declared.playing.PlayFault.TheVariants.{Step}
+use Rattle.interleave_core.specs.channels.Laws.{IsGuaranteedRun}
 use Rattle.run_record.specs.declared.done.Done.{Done}
 use Rattle.tenet_app.specs.Playing.{Ends, refusal_line, Reports, Misses, IsDueFor, BytesComeTo, FrontOfDue, FrontOfPlan, AnswersPlan, WritesReport, ReportWritten, FrontWritten, LacksMemory, TellsRefusal, RefusalTold, FrontTold, NotTold, Plays}
 use Rattle.scenario_reader.specs.Reading.{Reading, PlanRead, BadLine}

@@ -7,7 +7,7 @@ use Rattle.call_script.specs.Plans.{IsPlan}
 use Rattle.call_script.specs.Tasks.{network_of}
 use Rattle.call_script.specs.declared.schedule.Schedule.{Schedule}
 use Rattle.channel_report.specs.Report.{report_of}
-use Rattle.interleave_core.specs.schedules.Schedules.{IsPlayed}
+use Rattle.run_engine.specs.schedules.Schedules.{IsPlayed}
 use Rattle.run_record.specs.declared.done.Done.{Done}
 use Rattle.scenario_reader.specs.BothWays.{AreNamed, HaveFoundRoutes}
 use Rattle.scenario_reader.specs.PlanText.{plan_text}

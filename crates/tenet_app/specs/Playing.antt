@@ -14,8 +14,8 @@ use Rattle.call_script.specs.declared.schedule.Schedule.{Schedule}
 use Rattle.byte_ends.specs.Gathering.{WritesPart}
 use Rattle.text_writer.specs.Lines.{whole_line}
 use Rattle.channel_report.specs.Report.{report_of}
-use Rattle.interleave_core.specs.schedules.Schedules.{IsPlayed, AsksTooMuch}
-use Rattle.interleave_core.specs.schedules.Standing.{IsGuaranteedRun}
+use Rattle.run_engine.specs.schedules.Schedules.{IsPlayed, AsksTooMuch}
+use Rattle.interleave_core.specs.channels.Laws.{IsGuaranteedRun}
 use Rattle.run_record.specs.declared.done.Done.{Done}
 use Rattle.scenario_reader.specs.Reading.{Reading, PlanRead, BadLine, TooManyBytes, reading, LetsPass}
 use Rattle.scenario_reader.specs.Words.{cause_word}

@@ -16,9 +16,9 @@ use Rattle.call_script.specs.declared.schedule.Schedule.{Schedule}
 use Rattle.text_writer.specs.Lines.{whole_line}
 use Rattle.channel_report.specs.Report.{report_of}
 use Rattle.channel_report.specs.Schedule.{schedule_of}
-use Rattle.interleave_core.specs.runs.Runs.{next_for}
-use Rattle.interleave_core.specs.schedules.Schedules.{IsPlayed}
-use Rattle.interleave_core.specs.schedules.Standing.{IsGuaranteedRun}
+use Rattle.run_engine.specs.runs.Runs.{next_for}
+use Rattle.run_engine.specs.schedules.Schedules.{IsPlayed}
+use Rattle.interleave_core.specs.channels.Laws.{IsGuaranteedRun}
 use Rattle.link_steps.specs.Lists.{Each}
 use Rattle.race_run.specs.Turns.{AreMaximalRuns, IsWritable, actors_of}
 use Rattle.race_run.specs.Whole.{IsWhole, weave_of}

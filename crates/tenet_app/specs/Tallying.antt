@@ -5,9 +5,9 @@ use Rattle.call_script.specs.Tasks.{network_of}
 use Rattle.call_script.specs.declared.schedule.Schedule.{Schedule}
 use Rattle.channel_report.specs.Tallied.{IsTalliedRun}
 use Rattle.channel_report.specs.declared.tally.Tally.{Tally}
-use Rattle.interleave_core.specs.schedules.Schedules.{IsPlayed}
-use Rattle.interleave_core.specs.schedules.Standing.{IsGuaranteedRun}
-use Rattle.interleave_core.specs.declared.callers.Callers.{Callers}
+use Rattle.run_engine.specs.schedules.Schedules.{IsPlayed}
+use Rattle.interleave_core.specs.channels.Laws.{IsGuaranteedRun}
+use Rattle.run_engine.specs.declared.callers.Callers.{Callers}
 use Rattle.run_record.specs.declared.done.Done.{Done}
 
 -- the callers and the tally after the schedule's run, which has the whole guarantee

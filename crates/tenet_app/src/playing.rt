@@ -1,7 +1,7 @@
 //! The word `play`: from the bytes of a scenario to the bytes of its report.
 ghost use Rattle.std.specs.Prelude.{◌≡◌, ◌≤◌, List, IfOk, IfErr, reverse, string_bytes};
 ghost use Rattle.call_script.specs.Tasks.{network_of};
-ghost use Rattle.interleave_core.specs.schedules.Schedules.{IsActorOf, IsFaultOf};
+ghost use Rattle.run_engine.specs.schedules.Schedules.{IsActorOf, IsFaultOf};
 ghost use Rattle.link_steps.specs.Lists.{Each};
 ghost use Rattle.tenet_app.specs.Playing.{AnswersPlan, CountsRise, Plays, TellsRefusal, WritesReport, refusal_line};
 ghost use Rattle.tenet_app.specs.Tallying.{IsTalliedPlay};
@@ -13,7 +13,7 @@ use crate::status::Status;
 use byte_ends::{Sink, Source, put_all};
 use call_script::{Plan, Schedule};
 use channel_report::{ReportFault, Tally, write_tallied};
-use interleave_core::{Callers, PlayFault, play_watched};
+use run_engine::{Callers, PlayFault, play_watched};
 use scenario_reader::{Cause, ReadRefusal, read_plan};
 use std::alloc::{AllocError, Global};
 

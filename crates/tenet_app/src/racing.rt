@@ -3,8 +3,8 @@
 ghost use Rattle.std.specs.Prelude.{◌≡◌, ◌≤◌, ◌↔◌, IsSome, OnOk, reverse};
 ghost use Rattle.call_script.specs.Tasks.{network_of};
 ghost use Rattle.text_writer.specs.Telling.{WritesText};
-ghost use Rattle.interleave_core.specs.runs.Runs.{IsRun};
-ghost use Rattle.interleave_core.specs.schedules.Schedules.{IsActorOf};
+ghost use Rattle.run_engine.specs.runs.Runs.{IsRun};
+ghost use Rattle.run_engine.specs.schedules.Schedules.{IsActorOf};
 ghost use Rattle.link_steps.specs.Lists.{Each};
 ghost use Rattle.race_run.specs.Whole.{IsWhole};
 ghost use Rattle.tenet_app.specs.Playing.{CountsRise};
@@ -100,6 +100,8 @@ fn tell<K: Sink>(alloc: Global, packets: bool, plan: &Plan, closed: Closed, sink
     ensures handed { IsSome result.raced ↔ (result.status ≡ Done) }
     ensures counts { K.faults sink.old ≤ K.faults sink.new }
 {
+    // Read for what it says of every plan.
+    let _valid = plan.links();
     let Ok(raced) = woven(alloc, plan, &closed) else {
         return Ended {
             status: Status::Memory,

@@ -1,7 +1,7 @@
 //! The words `play --workers N`: as `play`, with the rounds of the plane made by several workers.
 ghost use Rattle.std.specs.Prelude.{◌≡◌, ◌≤◌, IfErr, IfOk, IfSome, map, string_bytes};
 ghost use Rattle.call_script.specs.Tasks.{network_of};
-ghost use Rattle.interleave_core.specs.schedules.Schedules.{IsActorOf, IsFaultOf};
+ghost use Rattle.run_engine.specs.schedules.Schedules.{IsActorOf, IsFaultOf};
 ghost use Rattle.link_steps.specs.Lists.{Each};
 ghost use Rattle.tenet_app.specs.Making.{number_from};
 ghost use Rattle.tenet_app.specs.Playing.{AnswersPlan, CountsRise, Plays};
@@ -14,9 +14,9 @@ use crate::words::{is_word, number_from};
 use byte_ends::{Sink, Source};
 use call_script::{Plan, Schedule};
 use channel_report::Tally;
-use interleave_core::{Callers, PlayFault};
 use net_units::Gate;
 use plane_workers::played_watched;
+use run_engine::{Callers, PlayFault};
 use scenario_reader::{Cause, ReadRefusal, read_plan};
 use std::alloc::Global;
 use std::thread::Threads;

@@ -26,16 +26,16 @@ use Rattle.call_script.specs.declared.tasks.Task.{Task}
 use Rattle.run_record.specs.Rows.{offer_by, is_to, links_of, place_in, hop_among}
 use Rattle.run_record.specs.Runs.{replies_to}
 use Rattle.run_record.specs.declared.done.Done.{Done}
-use Rattle.interleave_core.specs.replies.Answers.{IsReplyOf}
-use Rattle.interleave_core.specs.runs.Runs.{IsNext, IsRun}
-use Rattle.interleave_core.specs.replies.Verdicts.{is_setup_ask, setup_replies}
-use Rattle.interleave_core.proofs.Replies.Replying.{asks-answered}
-use Rattle.interleave_core.proofs.Replies.RunCloses.{owned-once, others-off}
-use Rattle.interleave_core.proofs.Replies.VerdictHolds.{VerdictAt, verdict-run}
-use Rattle.interleave_core.proofs.Runs.RunLegal.{owner-asks}
-use Rattle.interleave_core.proofs.Tasks.EachSetup.{Before, Under, After, OpenedOnce, IsBegun}
-use Rattle.interleave_core.proofs.Tasks.SetupOnce.{reserves}
-use Rattle.interleave_core.proofs.Tasks.TaskAsks.{task-mild, mild-tasks}
+use Rattle.run_engine.specs.replies.Answers.{IsReplyOf}
+use Rattle.run_engine.specs.runs.Runs.{IsNext, IsRun}
+use Rattle.run_engine.specs.replies.Verdicts.{is_setup_ask, setup_replies}
+use Rattle.run_engine.proofs.Replies.Replying.{asks-answered}
+use Rattle.run_engine.proofs.Replies.RunCloses.{owned-once, others-off}
+use Rattle.run_engine.proofs.Replies.VerdictHolds.{VerdictAt, verdict-run}
+use Rattle.run_engine.proofs.Runs.RunLegal.{owner-asks}
+use Rattle.run_engine.proofs.Tasks.EachSetup.{Before, Under, After, OpenedOnce, IsBegun}
+use Rattle.run_engine.proofs.Tasks.SetupOnce.{reserves}
+use Rattle.run_engine.proofs.Tasks.TaskAsks.{task-mild, mild-tasks}
 
 -- ---- an offer to the channel
 

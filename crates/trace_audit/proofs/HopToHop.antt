@@ -16,8 +16,8 @@ use Rattle.traffic_contract.specs.Keeping.{Keeps}
 use Rattle.traffic_contract.proofs.BurstIsPositive.{burst-least}
 use Rattle.traffic_contract.proofs.LeastEligibleTick.{eligible-is}
 use Rattle.call_script.specs.Parts.{PlanParts}
-use Rattle.interleave_core.specs.channels.Paths.{IsBehind}
-use Rattle.interleave_core.proofs.Delays.HopStep.{eligible-after, after-more, after-longer}
+use Rattle.run_engine.specs.channels.Paths.{IsBehind}
+use Rattle.run_engine.proofs.Delays.HopStep.{eligible-after, after-more, after-longer}
 use Rattle.run_record.specs.declared.rows.HopRow.{HopRow}
 use Rattle.trace_audit.specs.Above.{is_at, rows_at, ticks_above, tick_of, hop_before}
 use Rattle.trace_audit.specs.Checks.{arrives, arrives_from, fits_size, has_size_of, is_eligible, is_within_bound, may_go_from, AllPass}

@@ -27,18 +27,18 @@ use Rattle.call_script.proofs.PlansFit.{request-fits, plan-fits}
 use Rattle.call_script.proofs.OperationTable.{tasks-hold}
 use Rattle.call_script.proofs.OneOwner.{owned-by}
 use Rattle.run_record.specs.declared.done.Done.{Done}
-use Rattle.interleave_core.specs.channels.Hops.{packets_on, ChannelAsked}
-use Rattle.interleave_core.specs.channels.Paths.{HopAt, packets_at}
-use Rattle.interleave_core.specs.runs.Runs.{IsRun}
-use Rattle.interleave_core.specs.replies.Verdicts.{setup_replies}
+use Rattle.run_engine.specs.channels.Hops.{packets_on, ChannelAsked}
+use Rattle.run_engine.specs.channels.Paths.{HopAt, packets_at}
+use Rattle.run_engine.specs.runs.Runs.{IsRun}
+use Rattle.run_engine.specs.replies.Verdicts.{setup_replies}
 use Rattle.interleave_core.proofs.Channels.AcceptedOnly.{taken-accepted}
-use Rattle.interleave_core.proofs.Channels.ChannelsAt.{packet-offered}
+use Rattle.run_engine.proofs.Channels.ChannelsAt.{packet-offered}
 use Rattle.interleave_core.proofs.Channels.GuaranteeLaw.{unnamed-packet, own-channel, some-there}
-use Rattle.interleave_core.proofs.Channels.HopsAt.{hop-at, HaveLevelsAt}
+use Rattle.run_engine.proofs.Channels.HopsAt.{hop-at, HaveLevelsAt}
 use Rattle.interleave_core.proofs.Flights.ReadyRun.{counts-first}
-use Rattle.interleave_core.proofs.Replies.RunCloses.{owned-once}
-use Rattle.interleave_core.proofs.Replies.RunGoes.{owned-asked, accepted-levels}
-use Rattle.interleave_core.proofs.Replies.VerdictHolds.{verdicts-follow}
+use Rattle.run_engine.proofs.Replies.RunCloses.{owned-once}
+use Rattle.run_engine.proofs.Replies.RunGoes.{owned-asked, accepted-levels}
+use Rattle.run_engine.proofs.Replies.VerdictHolds.{verdicts-follow}
 use Rattle.trace_audit.specs.RunLevels.{AreLevelsFor, AreLevelsOf}
 use Rattle.trace_audit.specs.Terms.{levels_given}
 

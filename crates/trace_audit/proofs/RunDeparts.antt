@@ -25,8 +25,8 @@ use Rattle.call_script.proofs.OneOwner.{all-owned}
 use Rattle.run_record.specs.Runs.{part_of}
 use Rattle.run_record.specs.declared.done.Done.{Done}
 use Rattle.run_record.specs.declared.rows.HopRow.{HopRow}
-use Rattle.interleave_core.specs.channels.Hops.{terms_at as asked_at}
-use Rattle.interleave_core.specs.runs.Runs.{IsRun}
+use Rattle.run_engine.specs.channels.Hops.{terms_at as asked_at}
+use Rattle.run_engine.specs.runs.Runs.{IsRun}
 use Rattle.trace_audit.specs.Above.{is_at, rows_at, tick_of}
 use Rattle.trace_audit.specs.Departures.{AreCounted}
 use Rattle.trace_audit.specs.RunLevels.{AreLevelsOf}

@@ -39,13 +39,13 @@ use Rattle.run_record.specs.Rows.{row_of, links_of, rows_of}
 use Rattle.run_record.specs.Runs.{part_of}
 use Rattle.run_record.specs.declared.done.Done.{Done}
 use Rattle.run_record.specs.declared.rows.HopRow.{HopRow}
-use Rattle.interleave_core.specs.channels.Hops.{packets_on, terms_at as asked_at}
-use Rattle.interleave_core.specs.channels.Paths.{packets_at}
-use Rattle.interleave_core.specs.runs.Runs.{IsRun}
+use Rattle.run_engine.specs.channels.Hops.{packets_on, terms_at as asked_at}
+use Rattle.run_engine.specs.channels.Paths.{packets_at}
+use Rattle.run_engine.specs.runs.Runs.{IsRun}
 use Rattle.interleave_core.proofs.Delays.HopLaw.{TwoHops}
-use Rattle.interleave_core.proofs.Channels.HopsAt.{hop-at}
+use Rattle.run_engine.proofs.Channels.HopsAt.{hop-at}
 use Rattle.interleave_core.proofs.Flights.LegLaw.{leg-near}
-use Rattle.interleave_core.proofs.Runs.RunLegal.{part-admissible}
+use Rattle.run_engine.proofs.Runs.RunLegal.{part-admissible}
 use Rattle.trace_audit.specs.Above.{is_at, rows_at, tick_of}
 use Rattle.trace_audit.specs.Checks.{IsSound}
 use Rattle.trace_audit.specs.Departures.{HasNear, ticks_before, IsDeparture, AreDepartures}

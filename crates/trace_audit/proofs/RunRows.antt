@@ -33,20 +33,20 @@ use Rattle.run_record.specs.declared.rows.HopRow.{HopRow}
 use Rattle.tick_plane.specs.declared.flight.Flight.{Flight}
 use Rattle.tick_plane.specs.Planes.{Plane, is_due, next_due, flight_to, flight_in, plane_with, plane_of}
 use Rattle.tick_plane.proofs.PlaneFlights.{made-flights}
-use Rattle.interleave_core.specs.runs.Runs.{plane_no, plane_at, IsNext, IsRun}
+use Rattle.run_engine.specs.runs.Runs.{plane_no, plane_at, IsNext, IsRun}
 use Rattle.interleave_core.proofs.Delays.HopLaw.{arrive-comes}
-use Rattle.interleave_core.proofs.Replies.Replying.{asks-answered}
+use Rattle.run_engine.proofs.Replies.Replying.{asks-answered}
 use Rattle.interleave_core.proofs.Channels.SentRows.{sent-by}
 use Rattle.channel_laws.proofs.NumberedPackets.{HasNumber, packets-have_numbers}
 use Rattle.channel_laws.proofs.DepartedCount.{more-legal, start-among, gone-quiet, offered-sends}
-use Rattle.interleave_core.specs.replies.Answers.{IsReplyOf}
+use Rattle.run_engine.specs.replies.Answers.{IsReplyOf}
 use Rattle.call_script.specs.Owners.{AllOwned}
 use Rattle.channel_laws.specs.Departing.{ticked, gone_of, TickSends, SendsOwn, SendsOther}
 use Rattle.channel_laws.proofs.SentInTime.{sent-facts, tick-answer}
 use Rattle.link_steps.specs.Replies.{sent_of, tick_reply}
 use Rattle.link_steps.specs.Scan.{starts_of}
 use Rattle.link_steps.specs.Service.{Start, leaves_at}
-use Rattle.interleave_core.proofs.Runs.RunLegal.{part-admissible, plane-off, plane-by, part-on, part-off}
+use Rattle.run_engine.proofs.Runs.RunLegal.{part-admissible, plane-off, plane-by, part-on, part-off}
 use Rattle.interleave_core.proofs.Channels.ChainLaw.{is-tick}
 use Rattle.interleave_core.proofs.Flights.LegLaw.{quiet-clock, entry-tick}
 use Rattle.channel_laws.specs.Channels.{HopTerms, AllOfferTerms, offers_to}

@@ -37,11 +37,11 @@ use Rattle.run_record.specs.Rows.{row_of, hop_among, links_of, departures_in}
 use Rattle.run_record.specs.Runs.{part_of}
 use Rattle.run_record.specs.declared.done.Done.{Done}
 use Rattle.run_record.specs.declared.rows.HopRow.{HopRow}
-use Rattle.interleave_core.specs.channels.Hops.{packets_on, terms_at as asked_at}
-use Rattle.interleave_core.specs.channels.Paths.{packets_at}
-use Rattle.interleave_core.specs.runs.Runs.{IsRun}
-use Rattle.interleave_core.specs.replies.Verdicts.{setup_replies}
-use Rattle.interleave_core.proofs.Runs.RunLegal.{part-admissible}
+use Rattle.run_engine.specs.channels.Hops.{packets_on, terms_at as asked_at}
+use Rattle.run_engine.specs.channels.Paths.{packets_at}
+use Rattle.run_engine.specs.runs.Runs.{IsRun}
+use Rattle.run_engine.specs.replies.Verdicts.{setup_replies}
+use Rattle.run_engine.proofs.Runs.RunLegal.{part-admissible}
 use Rattle.trace_audit.specs.Checks.{is_within_bound}
 use Rattle.trace_audit.specs.RunLevels.{AreLevelsOf}
 use Rattle.trace_audit.specs.Terms.{hop_terms, rate_of, terms_at, over_link, terms_of_row}

@@ -32,14 +32,14 @@ use Rattle.run_record.specs.Runs.{part_of}
 use Rattle.run_record.specs.SmallRows.{IsSmall}
 use Rattle.run_record.specs.declared.done.Done.{Done}
 use Rattle.run_record.specs.declared.rows.HopRow.{HopRow}
-use Rattle.interleave_core.specs.replies.Answers.{IsReplyOf}
-use Rattle.interleave_core.specs.runs.Runs.{plane_at, IsNext, IsRun}
+use Rattle.run_engine.specs.replies.Answers.{IsReplyOf}
+use Rattle.run_engine.specs.runs.Runs.{plane_at, IsNext, IsRun}
 use Rattle.interleave_core.proofs.Channels.ChainLaw.{is-tick}
 use Rattle.interleave_core.proofs.Flights.LegLaw.{quiet-clock}
-use Rattle.interleave_core.proofs.Replies.Replying.{asks-answered}
-use Rattle.interleave_core.proofs.Runs.PartLaws.{clocks-follow}
-use Rattle.interleave_core.proofs.Runs.RunLegal.{part-off, part-on, plane-due, by-part}
-use Rattle.interleave_core.proofs.Tasks.CallerAsksFit.{IsCallers}
+use Rattle.run_engine.proofs.Replies.Replying.{asks-answered}
+use Rattle.run_engine.proofs.Runs.PartLaws.{clocks-follow}
+use Rattle.run_engine.proofs.Runs.RunLegal.{part-off, part-on, plane-due, by-part}
+use Rattle.run_engine.proofs.Tasks.CallerAsksFit.{IsCallers}
 use Rattle.trace_audit.specs.Above.{is_at, rows_at}
 use Rattle.trace_audit.specs.RunLevels.{AreLevelsOf, EveryTickIsEarly, RowsOfRunsAreSmall}
 use Rattle.trace_audit.proofs.WholeRoute.{filter-append}

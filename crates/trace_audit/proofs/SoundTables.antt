@@ -38,7 +38,7 @@ use Rattle.trace_audit.proofs.TableInOrder.{numbered, at-parts}
 use Rattle.trace_audit.proofs.WholeRoute.{IsSettled, path, place-of, row-of-place, terms-given, delay-more, arrivals, at-once, filter-reverse}
 use Rattle.trace_audit.proofs.PassingRow.{passes-told}
 use Rattle.trace_audit.proofs.RowTerms.{hop-told, row-known}
-use Rattle.interleave_core.proofs.Keeping.Lookups.{map-reverse}
+use Rattle.run_engine.proofs.Keeping.Lookups.{map-reverse}
 
 -- a row of the table with those above it
 pub passing : (plan : PlanParts) (levels : List (Option Levels)) (rows : List HopRow) (row : HopRow) → AllPass plan levels rows → Among row rows → (above : List HopRow) × AllPass plan levels (row ∷ above)

@@ -22,7 +22,7 @@ use Rattle.trace_audit.proofs.WholeRoute.{filter-append, filter-reverse}
 use Rattle.trace_audit.proofs.SortedRows.{Climbs, AllRise, counted-above, counted-rise, rise-apart, order-climbs, order-among, among-order, rows-stay, not-both, one-place, is-own}
 use Rattle.trace_audit.proofs.KeptMatchesRows.{there-found}
 use Rattle.trace_audit.proofs.RowTerms.{row-known}
-use Rattle.interleave_core.proofs.Keeping.Lookups.{map-reverse}
+use Rattle.run_engine.proofs.Keeping.Lookups.{map-reverse}
 
 -- ---- a table cut at a row
 

@@ -24,7 +24,7 @@ use Rattle.link_steps.proofs.ListParts.{stands-at}
 use Rattle.setup_protocol.specs.Requests.{kind_of}
 use Rattle.setup_protocol.specs.declared.request.Request.{Request}
 use Rattle.call_script.specs.Parts.{PlanParts}
-use Rattle.interleave_core.specs.channels.Paths.{IsBehind}
+use Rattle.run_engine.specs.channels.Paths.{IsBehind}
 use Rattle.run_record.specs.declared.rows.HopRow.{HopRow}
 use Rattle.trace_audit.specs.Above.{is_at, rows_at, ticks_above, tick_of, hop_before}
 use Rattle.trace_audit.specs.Bounds.{delay_before, arrival_of}

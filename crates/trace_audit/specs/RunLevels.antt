@@ -8,11 +8,11 @@ use Rattle.net_units.specs.declared.levels.Levels.{Levels}
 use Rattle.setup_protocol.specs.Setup.{Outcome, Accepts, Denies, verdict_of}
 use Rattle.call_script.specs.Parts.{PlanParts}
 use Rattle.call_script.specs.declared.entries.RequestEntry.{RequestEntry}
-use Rattle.interleave_core.specs.replies.Verdicts.{setup_replies}
+use Rattle.run_engine.specs.replies.Verdicts.{setup_replies}
 use Rattle.run_record.specs.declared.done.Done.{Done}
 use Rattle.call_script.specs.Plans.{IsPlan}
 use Rattle.call_script.specs.Tasks.{network_of}
-use Rattle.interleave_core.specs.runs.Runs.{IsRun}
+use Rattle.run_engine.specs.runs.Runs.{IsRun}
 use Rattle.link_steps.specs.Lists.{Each}
 use Rattle.run_record.specs.Rows.{IsEarly, rows_of}
 use Rattle.run_record.specs.SmallRows.{AreSmall}

@@ -22,16 +22,16 @@ use Rattle.call_script.specs.declared.tasks.Task.{Task}
 use Rattle.run_record.specs.Runs.{part_of, replies_to}
 use Rattle.run_record.specs.declared.done.Done.{Done}
 use Rattle.interleave_core.specs.channels.Guarantee.{IsAccepted, AcceptedIn}
-use Rattle.interleave_core.specs.channels.Paths.{HopAt, count_at}
-use Rattle.interleave_core.specs.runs.Runs.{IsNext, IsRun}
+use Rattle.run_engine.specs.channels.Paths.{HopAt, count_at}
+use Rattle.run_engine.specs.runs.Runs.{IsNext, IsRun}
 use Rattle.interleave_core.proofs.Channels.ChainLaw.{open-or-not}
 use Rattle.interleave_core.proofs.Channels.FarHolds.{first-same}
-use Rattle.interleave_core.proofs.Channels.RowsFollow.{held_at_hop}
-use Rattle.interleave_core.proofs.Replies.RunCloses.{owned-once}
-use Rattle.interleave_core.proofs.Replies.RunGoes.{GoesAt, IsAfter, run-goes, owned-asked}
-use Rattle.interleave_core.proofs.Runs.EachRun.{each-resumed, entry-kept}
-use Rattle.interleave_core.proofs.Tasks.EachSetup.{Before, Under, After, other-outcome}
-use Rattle.interleave_core.proofs.Tasks.TaskAsks.{IsNoOpeningOf, ready-other}
+use Rattle.run_engine.proofs.Channels.RowsFollow.{held_at_hop}
+use Rattle.run_engine.proofs.Replies.RunCloses.{owned-once}
+use Rattle.run_engine.proofs.Replies.RunGoes.{GoesAt, IsAfter, run-goes, owned-asked}
+use Rattle.run_engine.proofs.Runs.EachRun.{each-resumed, entry-kept}
+use Rattle.run_engine.proofs.Tasks.EachSetup.{Before, Under, After, other-outcome}
+use Rattle.run_engine.proofs.Tasks.TaskAsks.{IsNoOpeningOf, ready-other}
 
 -- ---- once accepted it stays so
 

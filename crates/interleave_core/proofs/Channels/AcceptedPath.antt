@@ -11,14 +11,14 @@ use Rattle.call_script.specs.Fits.{NetworkFits}
 use Rattle.call_script.specs.declared.tasks.Task.{Task}
 use Rattle.call_script.specs.Tasks.{Network}
 use Rattle.run_record.specs.Runs.{replies_to}
-use Rattle.interleave_core.specs.runs.Runs.{IsRun}
+use Rattle.run_engine.specs.runs.Runs.{IsRun}
 use Rattle.call_script.specs.Scripts.{standing, outcome_in}
 use Rattle.interleave_core.proofs.Delays.PathLaw.{path-law}
 use Rattle.interleave_core.proofs.Delays.PathDelays.{path-exact, passed}
 use Rattle.call_script.specs.Owners.{OwnedFully}
-use Rattle.interleave_core.proofs.Replies.RunCloses.{owned-once}
-use Rattle.interleave_core.proofs.Replies.RunGoes.{owned-asked, accepted-levels}
-use Rattle.interleave_core.specs.channels.Paths.{packets_at, PathKept}
+use Rattle.run_engine.proofs.Replies.RunCloses.{owned-once}
+use Rattle.run_engine.proofs.Replies.RunGoes.{owned-asked, accepted-levels}
+use Rattle.run_engine.specs.channels.Paths.{packets_at, PathKept}
 
 pub accepted-path : (network : Network) (request : Request) (owner : ℕ) (run : List Done) (tasks : List Task) (levels : List ℕ) (delay : ℕ) → NetworkFits network → RequestFits network.links request → OwnedFully network request owner → IsRun network run → slice_get network.scripts owner ≡ Some tasks
     → outcome_in request.chan (standing tasks (replies_to owner run)).outcomes ≡ Some (Accepts levels delay) → PathKept network request levels run

@@ -22,30 +22,30 @@ use Rattle.setup_protocol.specs.declared.request.Request.{Request}
 use Rattle.run_record.specs.declared.done.Done.{Done}
 use Rattle.channel_laws.specs.Channels.{channel_packets, channel_of}
 use Rattle.call_script.specs.Fits.{NetworkFits}
-use Rattle.interleave_core.specs.channels.Hops.{packets_on, ChannelAsked}
+use Rattle.run_engine.specs.channels.Hops.{packets_on, ChannelAsked}
 use Rattle.call_script.specs.declared.tasks.Task.{Task}
 use Rattle.call_script.specs.Tasks.{Network}
 use Rattle.run_record.specs.Runs.{part_of, replies_to}
-use Rattle.interleave_core.specs.runs.Runs.{IsNext, IsRun}
+use Rattle.run_engine.specs.runs.Runs.{IsNext, IsRun}
 use Rattle.call_script.specs.Scripts.{Learnt, Standing, standing}
 use Rattle.channel_laws.proofs.ChannelRows.{own-count, find-passes}
 use Rattle.channel_laws.proofs.HoldFates.{Fate, FateOpen, TellsAll, NotCommitted, held-released, released-count}
 use Rattle.hop_reservation.proofs.DistinctLinks.{index-apart}
 use Rattle.setup_protocol.proofs.HopHolds.{IsComm, IsTail, HopStands, reserved_of}
-use Rattle.interleave_core.proofs.Channels.RowsFollow.{held_at_hop, held-here, hop-reply, same-held}
+use Rattle.run_engine.proofs.Channels.RowsFollow.{held_at_hop, held-here, hop-reply, same-held}
 use Rattle.call_script.specs.Owners.{OwnedFully}
-use Rattle.interleave_core.proofs.Replies.ClosingStands.{AllComm, comm-later, send-later}
-use Rattle.interleave_core.proofs.Replies.RunCloses.{owned-once, others-off, step-kind}
-use Rattle.interleave_core.proofs.Replies.RunGoes.{owned-asked, hop-comes}
-use Rattle.interleave_core.proofs.Runs.EachRun.{OwnStep, KeptByOthers, KeptBySteps, each-run}
-use Rattle.interleave_core.proofs.Keeping.Lookups.{held, head-same}
+use Rattle.run_engine.proofs.Replies.ClosingStands.{AllComm, comm-later, send-later}
+use Rattle.run_engine.proofs.Replies.RunCloses.{owned-once, others-off, step-kind}
+use Rattle.run_engine.proofs.Replies.RunGoes.{owned-asked, hop-comes}
+use Rattle.run_engine.proofs.Runs.EachRun.{OwnStep, KeptByOthers, KeptBySteps, each-run}
+use Rattle.run_engine.proofs.Keeping.Lookups.{held, head-same}
 use Rattle.channel_laws.specs.Reservations.{IsReleased, held_by}
 use Rattle.channel_laws.proofs.SendReplies.{release-committed}
 use Rattle.channel_laws.specs.Asks.{IsOff, IsMild}
 use Rattle.interleave_core.proofs.Channels.FarHolds.{hop-tells, hop-fate, first-same, committed-comes, Frozen, frozen-later}
-use Rattle.interleave_core.specs.channels.Paths.{HopAt, count_at}
-use Rattle.interleave_core.proofs.Tasks.TaskAsks.{off-mild}
-use Rattle.interleave_core.proofs.Replies.OwnerKinds.{NoRelease, IsLeaving, OwnKind, OwnOff, OwnAside, OwnSetup, OwnSend, OwnClose, opens-stay}
+use Rattle.run_engine.specs.channels.Paths.{HopAt, count_at}
+use Rattle.run_engine.proofs.Tasks.TaskAsks.{off-mild}
+use Rattle.run_engine.proofs.Replies.OwnerKinds.{NoRelease, IsLeaving, OwnKind, OwnOff, OwnAside, OwnSetup, OwnSend, OwnClose, opens-stay}
 
 pub record Chain (network : Network) (request : Request) (first : HopAt network request 0) (run : List Done) : Type 0 where
   pub fates : 1 ≤ count_at network request 0 first run → (i : ℕ) (at : HopAt network request i) → Fate (count_at network request 0 first run) (count_at network request i at run) (held_at_hop network request i at run)

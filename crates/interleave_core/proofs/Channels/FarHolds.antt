@@ -26,21 +26,21 @@ use Rattle.setup_protocol.specs.declared.request.Request.{Request}
 use Rattle.run_record.specs.declared.done.Done.{Done}
 use Rattle.channel_laws.specs.Channels.{is_of_channel, channel_packets, channel_of, offers_with, offers_to, RowTells, IsOnly, IsElsewhere}
 use Rattle.call_script.specs.Fits.{NetworkFits}
-use Rattle.interleave_core.specs.channels.Hops.{packets_on, terms_at, ChannelAsked}
+use Rattle.run_engine.specs.channels.Hops.{packets_on, terms_at, ChannelAsked}
 use Rattle.call_script.specs.Tasks.{Network}
 use Rattle.run_record.specs.Runs.{part_of}
-use Rattle.interleave_core.specs.runs.Runs.{IsNext, IsRun}
+use Rattle.run_engine.specs.runs.Runs.{IsNext, IsRun}
 use Rattle.channel_laws.proofs.ChannelRows.{own-count, legal-free}
-use Rattle.interleave_core.proofs.Flights.FlightOrigins.{part-grows}
+use Rattle.run_engine.proofs.Flights.FlightOrigins.{part-grows}
 use Rattle.channel_laws.proofs.HoldFates.{Fate, FateOpen, FateClosing, FateGone, NoSecond, TellsAll, NotCommitted, fate-after, first-quiet}
-use Rattle.interleave_core.proofs.Channels.ChannelsAt.{stands-at}
-use Rattle.interleave_core.proofs.Channels.RowsFollow.{held_at_hop, hop-may}
-use Rattle.interleave_core.proofs.Replies.RunGoes.{hop-comes}
-use Rattle.interleave_core.proofs.Runs.RunLegal.{part-admissible, by-part}
+use Rattle.run_engine.proofs.Channels.ChannelsAt.{stands-at}
+use Rattle.run_engine.proofs.Channels.RowsFollow.{held_at_hop, hop-may}
+use Rattle.run_engine.proofs.Replies.RunGoes.{hop-comes}
+use Rattle.run_engine.proofs.Runs.RunLegal.{part-admissible, by-part}
 use Rattle.channel_laws.specs.Asks.{IsMild}
 use Rattle.channel_laws.specs.Reservations.{held_by, ComesOf, Stays, Closed}
-use Rattle.interleave_core.specs.channels.Paths.{HopAt, packets_at, count_at}
-use Rattle.interleave_core.proofs.Runs.RunFronts.{run-more}
+use Rattle.run_engine.specs.channels.Paths.{HopAt, packets_at, count_at}
+use Rattle.run_engine.proofs.Runs.RunFronts.{run-more}
 
 -- ---- one hop
 

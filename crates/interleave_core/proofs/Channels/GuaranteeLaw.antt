@@ -32,12 +32,14 @@ use Rattle.setup_protocol.specs.Setup.{Accepts}
 use Rattle.setup_protocol.specs.declared.request.Request.{Request}
 use Rattle.run_record.specs.declared.done.Done.{Done}
 use Rattle.channel_laws.specs.Channels.{HopTerms, is_of_channel, tick_of_packet, offers_with, offers_to}
+use Rattle.call_script.proofs.OneOwner.{all-owned}
+use Rattle.call_script.proofs.PlansFit.{plan-fits}
 use Rattle.call_script.specs.Fits.{NetworkFits}
-use Rattle.interleave_core.specs.channels.Hops.{packets_on, terms_at, ChannelAsked}
+use Rattle.run_engine.specs.channels.Hops.{packets_on, terms_at, ChannelAsked}
 use Rattle.call_script.specs.declared.tasks.Task.{Task}
-use Rattle.call_script.specs.Tasks.{Network}
+use Rattle.call_script.specs.Tasks.{Network, network_of}
 use Rattle.run_record.specs.Runs.{part_of, replies_to}
-use Rattle.interleave_core.specs.runs.Runs.{IsNext, IsRun}
+use Rattle.run_engine.specs.runs.Runs.{IsNext, IsRun}
 use Rattle.call_script.specs.Scripts.{standing, outcome_in}
 use Rattle.interleave_core.proofs.Channels.AcceptedPath.{accepted-path}
 use Rattle.channel_laws.proofs.ChannelRows.{legal-free}
@@ -51,21 +53,21 @@ use Rattle.interleave_core.proofs.Delays.PathDelays.{passed, close-delays}
 use Rattle.interleave_core.proofs.Channels.AcceptedOnly.{taken-accepted}
 use Rattle.interleave_core.proofs.Flights.ReadyRun.{arrives-taken, counts-first}
 use Rattle.call_script.specs.Owners.{OwnedFully, IsOwned, IsUnnamed, AllOwned}
-use Rattle.interleave_core.proofs.Replies.RunCloses.{owned-once}
-use Rattle.interleave_core.proofs.Replies.RunGoes.{owned-asked, accepted-levels}
-use Rattle.interleave_core.proofs.Runs.RunLegal.{part-admissible, by-part}
+use Rattle.run_engine.proofs.Replies.RunCloses.{owned-once}
+use Rattle.run_engine.proofs.Replies.RunGoes.{owned-asked, accepted-levels}
+use Rattle.run_engine.proofs.Runs.RunLegal.{part-admissible, by-part}
 use Rattle.channel_laws.specs.Asks.{IsOff}
 use Rattle.interleave_core.proofs.Channels.KeptRequest.{accepted-kept}
-use Rattle.interleave_core.specs.channels.Paths.{HopAt, reaches_at, bound_of, packets_at, hop_ticks, arrival_ticks, eligible_at, arrived_at, delay_before, Passed}
+use Rattle.run_engine.specs.channels.Paths.{HopAt, reaches_at, bound_of, packets_at, hop_ticks, arrival_ticks, eligible_at, arrived_at, delay_before, Passed}
 use Rattle.interleave_core.specs.channels.Guarantee.{LeavesWithinBound, TakesArrive, IsOfAccepted, LinkGuaranteed, SourceKept, HasLeft, ChannelGuaranteed, Guaranteed}
 use Rattle.interleave_core.specs.channels.Kept.{VerdictSums}
-use Rattle.interleave_core.specs.runs.Laws.{EveryRunIsGuaranteed}
-use Rattle.interleave_core.proofs.Channels.HopsAt.{hop-at, HaveLevelsAt}
-use Rattle.interleave_core.proofs.Channels.ChannelsAt.{packets-numbered, packet-offered}
+use Rattle.interleave_core.specs.channels.Laws.{EveryRunIsGuaranteed, EveryRunOfAPlanIsGuaranteed}
+use Rattle.run_engine.proofs.Channels.HopsAt.{hop-at, HaveLevelsAt}
+use Rattle.run_engine.proofs.Channels.ChannelsAt.{packets-numbered, packet-offered}
 use Rattle.link_steps.proofs.FoundElements.{Each-from_among}
 use Rattle.hop_reservation.specs.Offers.{delay_over}
 use Rattle.hop_reservation.proofs.OneMoreOffer.{AreLevels-at}
-use Rattle.interleave_core.proofs.Tasks.TaskAsks.{entry-off}
+use Rattle.run_engine.proofs.Tasks.TaskAsks.{entry-off}
 
 -- ---- an accepted channel
 
@@ -278,3 +280,10 @@ pub guaranteed-throughout : EveryRunIsGuaranteed
 unfolding IsRun
 guaranteed-throughout network [] fits owned is = run-guaranteed network [] fits owned is
 guaranteed-throughout network (done ∷ past) fits owned is = (guaranteed-throughout network past fits owned is.0, run-guaranteed network (done ∷ past) fits owned is)
+
+-- and every run of a plan is one of such a network
+pub plan-guaranteed : EveryRunOfAPlanIsGuaranteed
+plan-guaranteed parts run plan is = record {
+  run_is = is;
+  guaranteed = guaranteed-throughout (network_of parts) run (plan-fits parts plan) (all-owned parts plan) is;
+}

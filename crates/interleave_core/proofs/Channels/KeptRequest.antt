@@ -21,12 +21,12 @@ use Rattle.call_script.specs.declared.tasks.Task.{Task}
 use Rattle.run_record.specs.Runs.{part_of, replies_to}
 use Rattle.run_record.specs.declared.done.Done.{Done}
 use Rattle.interleave_core.specs.channels.Kept.{VerdictSums}
-use Rattle.interleave_core.specs.runs.Runs.{IsRun}
-use Rattle.interleave_core.proofs.Replies.RunCloses.{owned-once}
-use Rattle.interleave_core.proofs.Replies.RunGoes.{opens-once}
-use Rattle.interleave_core.proofs.Runs.RunLegal.{answered-may}
-use Rattle.interleave_core.proofs.Tasks.CallerAsksFit.{offers-go-on}
-use Rattle.interleave_core.proofs.Tasks.EachSetup.{SetupAt, Before, Under, After, KeptBySetup, each-setup}
+use Rattle.run_engine.specs.runs.Runs.{IsRun}
+use Rattle.run_engine.proofs.Replies.RunCloses.{owned-once}
+use Rattle.run_engine.proofs.Replies.RunGoes.{opens-once}
+use Rattle.run_engine.proofs.Runs.RunLegal.{answered-may}
+use Rattle.run_engine.proofs.Tasks.CallerAsksFit.{offers-go-on}
+use Rattle.run_engine.proofs.Tasks.EachSetup.{SetupAt, Before, Under, After, KeptBySetup, each-setup}
 
 undone-sum : (left : ℕ) (deny : Deny) (levels : List ℕ) (delay : ℕ) → settled_in (undoing left deny) ≡ Some (Accepts levels delay) → ⊥
 undone-sum zero deny levels delay same = cc

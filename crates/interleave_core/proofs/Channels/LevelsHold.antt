@@ -14,23 +14,23 @@ use Rattle.setup_protocol.specs.Setup.{Progress, Reserving, Undoing, Relaxing, S
 use Rattle.setup_protocol.specs.declared.request.Request.{Request}
 use Rattle.run_record.specs.declared.done.Done.{Done}
 use Rattle.call_script.specs.Fits.{NetworkFits}
-use Rattle.interleave_core.specs.channels.Hops.{ChannelAsked}
+use Rattle.run_engine.specs.channels.Hops.{ChannelAsked}
 use Rattle.call_script.specs.Tasks.{Network}
 use Rattle.run_record.specs.Runs.{part_of}
-use Rattle.interleave_core.specs.runs.Runs.{IsNext, IsRun}
+use Rattle.run_engine.specs.runs.Runs.{IsNext, IsRun}
 use Rattle.interleave_core.proofs.Channels.ChainLaw.{is-tick, open-or-not, run-chain}
 use Rattle.interleave_core.proofs.Channels.FarHolds.{first-same}
 use Rattle.channel_laws.proofs.HoldFates.{Fate, FateOpen, FateClosing, FateGone}
 use Rattle.setup_protocol.proofs.HopHolds.{IsTail, HopStands, reserved_of}
-use Rattle.interleave_core.proofs.Channels.RowsFollow.{held_at_hop, AfterRows, comm-kept}
-use Rattle.interleave_core.proofs.Replies.ClosingStands.{AllComm, comm-later}
-use Rattle.interleave_core.proofs.Replies.RunCloses.{owned-once}
+use Rattle.run_engine.proofs.Channels.RowsFollow.{held_at_hop, AfterRows, comm-kept}
+use Rattle.run_engine.proofs.Replies.ClosingStands.{AllComm, comm-later}
+use Rattle.run_engine.proofs.Replies.RunCloses.{owned-once}
 use Rattle.call_script.specs.Owners.{OwnedFully}
-use Rattle.interleave_core.proofs.Replies.RunGoes.{HopLevels, levels-settled, levels-later, after-later, owned-asked}
+use Rattle.run_engine.proofs.Replies.RunGoes.{HopLevels, levels-settled, levels-later, after-later, owned-asked}
 use Rattle.channel_laws.specs.Asks.{IsOff, IsMild}
-use Rattle.interleave_core.specs.channels.Paths.{HopAt, count_at}
+use Rattle.run_engine.specs.channels.Paths.{HopAt, count_at}
 use Rattle.interleave_core.proofs.Channels.OwnerEntries.{EntryIs, MildOne, SetupOne, entry-is}
-use Rattle.interleave_core.proofs.Runs.RunFronts.{run-more}
+use Rattle.run_engine.proofs.Runs.RunFronts.{run-more}
 
 -- ---- the levels
 

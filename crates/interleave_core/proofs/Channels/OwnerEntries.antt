@@ -13,13 +13,13 @@ use Rattle.call_script.specs.Scripts.{Learnt}
 use Rattle.call_script.specs.Tasks.{Network}
 use Rattle.call_script.specs.declared.tasks.Task.{Task}
 use Rattle.run_record.specs.declared.done.Done.{Done}
-use Rattle.interleave_core.specs.runs.Runs.{IsNext, IsRun}
-use Rattle.interleave_core.proofs.Channels.RowsFollow.{SetupRows}
-use Rattle.interleave_core.proofs.Keeping.Lookups.{held}
-use Rattle.interleave_core.proofs.Replies.RunCloses.{others-off, step-kind}
-use Rattle.interleave_core.proofs.Runs.EachRun.{OwnStep, at-step}
-use Rattle.interleave_core.proofs.Tasks.TaskAsks.{off-mild}
-use Rattle.interleave_core.proofs.Replies.OwnerKinds.{OwnKind, OwnOff, OwnAside, OwnSetup, OwnSend, OwnClose}
+use Rattle.run_engine.specs.runs.Runs.{IsNext, IsRun}
+use Rattle.run_engine.proofs.Channels.RowsFollow.{SetupRows}
+use Rattle.run_engine.proofs.Keeping.Lookups.{held}
+use Rattle.run_engine.proofs.Replies.RunCloses.{others-off, step-kind}
+use Rattle.run_engine.proofs.Runs.EachRun.{OwnStep, at-step}
+use Rattle.run_engine.proofs.Tasks.TaskAsks.{off-mild}
+use Rattle.run_engine.proofs.Replies.OwnerKinds.{OwnKind, OwnOff, OwnAside, OwnSetup, OwnSend, OwnClose}
 
 pub data EntryOf (network : Network) (request : Request) (owner : ℕ) (past : List Done) (done : Done) : Type 0 where
   ByOther : actor_number done.actor ≢ owner → IsOff (channel_number request.chan) done.ask → EntryOf network request owner past done

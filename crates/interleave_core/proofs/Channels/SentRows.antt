@@ -20,11 +20,11 @@ use Rattle.run_record.specs.declared.done.Done.{Done}
 use Rattle.call_script.specs.Fits.{NetworkFits}
 use Rattle.call_script.specs.Tasks.{Network}
 use Rattle.run_record.specs.Runs.{entry_of, part_of}
-use Rattle.interleave_core.specs.runs.Runs.{IsNext, IsRun}
+use Rattle.run_engine.specs.runs.Runs.{IsNext, IsRun}
 use Rattle.interleave_core.proofs.Channels.ChainLaw.{is-tick}
 use Rattle.interleave_core.proofs.Flights.LegLaw.{quiet-clock, entry-tick}
 use Rattle.channel_laws.proofs.DepartedCount.{history-from}
-use Rattle.interleave_core.proofs.Runs.RunLegal.{part-on, part-admissible, by-part}
+use Rattle.run_engine.proofs.Runs.RunLegal.{part-on, part-admissible, by-part}
 use Rattle.channel_laws.specs.Departing.{ticked}
 use Rattle.channel_laws.proofs.SentInTime.{sent-facts, tick-answer}
 use Rattle.interleave_core.specs.channels.Sent.{SentBy, TicksReportWhatHasLeft}

@@ -30,10 +30,10 @@ use Rattle.setup_protocol.specs.declared.request.Request.{Request}
 use Rattle.run_record.specs.declared.done.Done.{Done}
 use Rattle.channel_laws.specs.Channels.{is_of_channel, channel_packets, tick_of_packet, channel_of}
 use Rattle.call_script.specs.Fits.{NetworkFits}
-use Rattle.interleave_core.specs.channels.Hops.{packets_on, ChannelAsked}
+use Rattle.run_engine.specs.channels.Hops.{packets_on, ChannelAsked}
 use Rattle.call_script.specs.Tasks.{Network}
 use Rattle.run_record.specs.Runs.{part_of}
-use Rattle.interleave_core.specs.runs.Runs.{IsNext, IsRun}
+use Rattle.run_engine.specs.runs.Runs.{IsNext, IsRun}
 use Rattle.link_steps.proofs.ListParts.{Each-at}
 use Rattle.channel_laws.proofs.ChannelRows.{row-of, find-passes}
 use Rattle.channel_laws.proofs.DepartedCount.{channel-few}
@@ -41,9 +41,9 @@ use Rattle.channel_laws.proofs.NumberedPackets.{HasNumber, packets-have_numbers}
 use Rattle.interleave_core.proofs.Delays.HopLaw.{TwoHops, near_ticks, arrive-comes, from-near, hop-law, far-row-at}
 use Rattle.channel_laws.proofs.Places.{tick-at, place-of, row-keeps}
 use Rattle.link_steps.proofs.PacketRows.{Among-passes}
-use Rattle.interleave_core.proofs.Channels.ChannelsAt.{packet-offered}
+use Rattle.run_engine.proofs.Channels.ChannelsAt.{packet-offered}
 use Rattle.channel_laws.proofs.LeadChannels.{held-channel}
-use Rattle.interleave_core.proofs.Runs.RunLegal.{part-admissible}
+use Rattle.run_engine.proofs.Runs.RunLegal.{part-admissible}
 
 -- ---- counting along two lists
 

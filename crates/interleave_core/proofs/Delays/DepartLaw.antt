@@ -21,29 +21,29 @@ use Rattle.setup_protocol.specs.declared.request.Request.{Request}
 use Rattle.run_record.specs.declared.done.Done.{Done}
 use Rattle.channel_laws.specs.Channels.{is_of_channel, tick_of_packet, offers_to}
 use Rattle.call_script.specs.Fits.{NetworkFits}
-use Rattle.interleave_core.specs.channels.Hops.{packets_on, terms_at, ChannelAsked, ComesFrom}
+use Rattle.run_engine.specs.channels.Hops.{packets_on, terms_at, ChannelAsked, ComesFrom}
 use Rattle.call_script.specs.Tasks.{Network}
 use Rattle.tick_plane.specs.declared.flight.Flight.{Flight}
 use Rattle.tick_plane.specs.Planes.{is_due}
 use Rattle.run_record.specs.Runs.{part_of}
-use Rattle.interleave_core.specs.runs.Runs.{plane_at, IsRun}
+use Rattle.run_engine.specs.runs.Runs.{plane_at, IsRun}
 use Rattle.channel_laws.proofs.ChannelRows.{legal-free}
-use Rattle.interleave_core.proofs.Flights.FlightOrigins.{run-flights}
+use Rattle.run_engine.proofs.Flights.FlightOrigins.{run-flights}
 use Rattle.interleave_core.proofs.Flights.FlightQueue.{IsQueue}
 use Rattle.channel_laws.proofs.Places.{place-of, tick-at}
-use Rattle.interleave_core.proofs.Channels.ChannelsAt.{packet-offered, stands-at}
+use Rattle.run_engine.proofs.Channels.ChannelsAt.{packet-offered, stands-at}
 use Rattle.link_steps.proofs.PacketRows.{Among-passes}
 use Rattle.interleave_core.proofs.Flights.LegLaw.{leg-near}
-use Rattle.interleave_core.proofs.Channels.HopsAt.{hop-at, HaveLevelsAt}
+use Rattle.run_engine.proofs.Channels.HopsAt.{hop-at, HaveLevelsAt}
 use Rattle.interleave_core.proofs.Delays.PathLaw.{delay-more, path-law}
-use Rattle.interleave_core.proofs.Flights.Punctual.{run-punctual}
+use Rattle.run_engine.proofs.Flights.Punctual.{run-punctual}
 use Rattle.interleave_core.proofs.Flights.QueueTicks.{leg}
 use Rattle.interleave_core.proofs.Flights.ReadyRun.{two_of, run-legs}
 use Rattle.call_script.specs.Owners.{OwnedFully}
-use Rattle.interleave_core.proofs.Replies.RunCloses.{owned-once}
-use Rattle.interleave_core.proofs.Replies.RunGoes.{owned-asked}
-use Rattle.interleave_core.proofs.Runs.RunLegal.{run-stands, part-admissible}
-use Rattle.interleave_core.specs.channels.Paths.{HopAt, packets_at, hop_ticks, delay_before, count_at}
+use Rattle.run_engine.proofs.Replies.RunCloses.{owned-once}
+use Rattle.run_engine.proofs.Replies.RunGoes.{owned-asked}
+use Rattle.run_engine.proofs.Runs.RunLegal.{run-stands, part-admissible}
+use Rattle.run_engine.specs.channels.Paths.{HopAt, packets_at, hop_ticks, delay_before, count_at}
 use Rattle.channel_laws.specs.Departing.{gone_of}
 use Rattle.channel_laws.proofs.DepartedCount.{channel-few}
 use Rattle.channel_laws.proofs.NumberedPackets.{HasNumber, packets-have_numbers}

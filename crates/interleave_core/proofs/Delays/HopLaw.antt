@@ -42,21 +42,21 @@ use Rattle.setup_protocol.specs.declared.request.Request.{Request}
 use Rattle.run_record.specs.declared.done.Done.{Done}
 use Rattle.channel_laws.specs.Channels.{is_of_channel, channel_packets, tick_of_packet, ticks_at, channel_of, offers_to, RowTells, IsElsewhere, IsOnly, HasOneRow}
 use Rattle.call_script.specs.Fits.{NetworkFits}
-use Rattle.interleave_core.specs.channels.Hops.{packets_on, terms_at, ChannelAsked, ComesFrom}
+use Rattle.run_engine.specs.channels.Hops.{packets_on, terms_at, ChannelAsked, ComesFrom}
 use Rattle.call_script.specs.Tasks.{Network}
 use Rattle.tick_plane.specs.declared.flight.Flight.{Flight}
 use Rattle.tick_plane.specs.Planes.{is_due, next_due, ask_due}
 use Rattle.run_record.specs.Runs.{part_of}
-use Rattle.interleave_core.specs.runs.Runs.{plane_at, IsNext, IsRun}
+use Rattle.run_engine.specs.runs.Runs.{plane_at, IsNext, IsRun}
 use Rattle.channel_laws.proofs.ChannelRows.{packets-on, packets-off, row-of, find-passes, arrive-number, tick-none, tick-free, legal-free}
-use Rattle.interleave_core.proofs.Channels.ChannelsAt.{stands-at, packet-offered}
+use Rattle.run_engine.proofs.Channels.ChannelsAt.{stands-at, packet-offered}
 use Rattle.hop_reservation.proofs.DistinctLinks.{index-apart}
 use Rattle.channel_laws.proofs.Places.{place-of, row-keeps}
 use Rattle.link_steps.proofs.PacketRows.{Among-passes}
-use Rattle.interleave_core.proofs.Flights.FlightOrigins.{part-grows, run-flights}
-use Rattle.interleave_core.proofs.Delays.HopStep.{IsTimed, eligible-after, timed-none, timed-later, timed-append, timed-more}
-use Rattle.interleave_core.proofs.Runs.RunLegal.{RunStands, clock_at, run-stands, part-admissible, by-part, arrive-due}
-use Rattle.interleave_core.specs.channels.Flights.{FlightsStand}
+use Rattle.run_engine.proofs.Flights.FlightOrigins.{part-grows, run-flights}
+use Rattle.run_engine.proofs.Delays.HopStep.{IsTimed, eligible-after, timed-none, timed-later, timed-append, timed-more}
+use Rattle.run_engine.proofs.Runs.RunLegal.{RunStands, clock_at, run-stands, part-admissible, by-part, arrive-due}
+use Rattle.run_engine.specs.channels.Flights.{FlightsStand}
 use Rattle.link_steps.proofs.ListParts.{Each-parts}
 use Rattle.link_steps.proofs.ClockAdvances.{clock_with-later}
 use Rattle.link_steps.proofs.EntryEffects.{packets-by}

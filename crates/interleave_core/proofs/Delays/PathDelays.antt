@@ -20,20 +20,20 @@ use Rattle.setup_protocol.specs.declared.request.Request.{Request}
 use Rattle.run_record.specs.declared.done.Done.{Done}
 use Rattle.channel_laws.specs.Channels.{is_of_channel, tick_of_packet}
 use Rattle.call_script.specs.Fits.{NetworkFits}
-use Rattle.interleave_core.specs.channels.Hops.{packets_on, ChannelAsked}
+use Rattle.run_engine.specs.channels.Hops.{packets_on, ChannelAsked}
 use Rattle.call_script.specs.Tasks.{Network}
 use Rattle.run_record.specs.Runs.{part_of}
 use Rattle.channel_laws.proofs.DepartedCount.{channel-few}
 use Rattle.channel_laws.proofs.NumberedPackets.{HasNumber, packets-have_numbers}
-use Rattle.interleave_core.specs.runs.Runs.{IsRun}
+use Rattle.run_engine.specs.runs.Runs.{IsRun}
 use Rattle.interleave_core.proofs.Delays.HopLaw.{TwoHops, hop-law}
 use Rattle.channel_laws.proofs.Places.{place-of}
 use Rattle.link_steps.proofs.PacketRows.{Among-passes}
-use Rattle.interleave_core.proofs.Channels.ChannelsAt.{packet-offered}
-use Rattle.interleave_core.proofs.Channels.HopsAt.{hop-at, HaveLevelsAt}
+use Rattle.run_engine.proofs.Channels.ChannelsAt.{packet-offered}
+use Rattle.run_engine.proofs.Channels.HopsAt.{hop-at, HaveLevelsAt}
 use Rattle.interleave_core.proofs.Delays.PathLaw.{delay-more, path-law, same-hop}
-use Rattle.interleave_core.proofs.Runs.RunLegal.{part-admissible}
-use Rattle.interleave_core.specs.channels.Paths.{HopAt, hop_ticks, packets_at, delay_before, Passed}
+use Rattle.run_engine.proofs.Runs.RunLegal.{part-admissible}
+use Rattle.run_engine.specs.channels.Paths.{HopAt, hop_ticks, packets_at, delay_before, Passed}
 use Rattle.std.proofs.lemmas.List.{length-map}
 
 -- under delay-jitter control the packets are exactly the shift later

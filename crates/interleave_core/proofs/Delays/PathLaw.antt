@@ -15,12 +15,12 @@ use Rattle.setup_protocol.specs.declared.request.Request.{Request}
 use Rattle.run_record.specs.declared.done.Done.{Done}
 use Rattle.channel_laws.specs.Channels.{ticks_at}
 use Rattle.call_script.specs.Fits.{NetworkFits}
-use Rattle.interleave_core.specs.channels.Hops.{packets_on, ChannelAsked}
-use Rattle.interleave_core.proofs.Channels.HopsAt.{hop-at, HaveLevelsAt}
+use Rattle.run_engine.specs.channels.Hops.{packets_on, ChannelAsked}
+use Rattle.run_engine.proofs.Channels.HopsAt.{hop-at, HaveLevelsAt}
 use Rattle.call_script.specs.Tasks.{Network}
-use Rattle.interleave_core.specs.runs.Runs.{IsRun}
+use Rattle.run_engine.specs.runs.Runs.{IsRun}
 use Rattle.interleave_core.proofs.Delays.HopLaw.{TwoHops, hop-law}
-use Rattle.interleave_core.specs.channels.Paths.{HopAt, hop_ticks, IsBehind, delay_before}
+use Rattle.run_engine.specs.channels.Paths.{HopAt, hop_ticks, IsBehind, delay_before}
 
 after-none : (ticks : List ℕ) → IsBehind 0 ticks ticks
 after-none ticks = record { fewer = omega arith; after = λ k within. omega arith }

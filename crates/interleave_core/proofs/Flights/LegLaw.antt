@@ -29,26 +29,26 @@ use Rattle.setup_protocol.specs.declared.request.Request.{Request}
 use Rattle.run_record.specs.declared.done.Done.{Done}
 use Rattle.channel_laws.specs.Channels.{is_of_channel, channel_packets, SizeWithin}
 use Rattle.call_script.specs.Fits.{NetworkFits}
-use Rattle.interleave_core.specs.channels.Hops.{packets_on, terms_at, ChannelAsked}
+use Rattle.run_engine.specs.channels.Hops.{packets_on, terms_at, ChannelAsked}
 use Rattle.call_script.specs.Tasks.{Network}
 use Rattle.tick_plane.specs.declared.flight.Flight.{Flight}
 use Rattle.tick_plane.specs.Planes.{Plane, is_due, next_due, ask_due, flight_to, flight_in, tick_made, plane_with, plane_of}
 use Rattle.run_record.specs.Runs.{entry_of, part_of, replies_to}
-use Rattle.interleave_core.specs.runs.Runs.{plane_at, IsNext, IsRun}
+use Rattle.run_engine.specs.runs.Runs.{plane_at, IsNext, IsRun}
 use Rattle.channel_laws.proofs.ChannelRows.{packets-off, row-of, find-passes}
-use Rattle.interleave_core.proofs.Tasks.CallerAsksFit.{IsCallers}
+use Rattle.run_engine.proofs.Tasks.CallerAsksFit.{IsCallers}
 use Rattle.interleave_core.proofs.Flights.FlightQueue.{IsQueue, queue-head, queue-skips, queue-other}
 use Rattle.channel_laws.proofs.SizeLaw.{legal-within}
 use Rattle.interleave_core.proofs.Delays.HopLaw.{TwoHops, arrive-comes, from-near, next-link, far-ticks, same-packet}
-use Rattle.interleave_core.proofs.Channels.ChannelsAt.{packet-offered}
+use Rattle.run_engine.proofs.Channels.ChannelsAt.{packet-offered}
 use Rattle.link_steps.proofs.PacketRows.{Among-passes}
 use Rattle.hop_reservation.proofs.DistinctLinks.{index-apart}
 use Rattle.channel_laws.proofs.DepartedCount.{gone-quiet, start-among, more-legal, level-channel}
 use Rattle.channel_laws.proofs.NumberedPackets.{HasNumber, packets-have_numbers}
-use Rattle.interleave_core.specs.channels.Flights.{IsPunctual}
-use Rattle.interleave_core.proofs.Flights.Punctual.{run-punctual}
+use Rattle.run_engine.specs.channels.Flights.{IsPunctual}
+use Rattle.run_engine.proofs.Flights.Punctual.{run-punctual}
 use Rattle.interleave_core.proofs.Flights.QueueTicks.{leg, QueueOf, SendsTo, queue-ticks}
-use Rattle.interleave_core.proofs.Runs.RunLegal.{part-on, part-off, run-stands, part-admissible, by-part, arrive-due, by-actor, caller-asks}
+use Rattle.run_engine.proofs.Runs.RunLegal.{part-on, part-off, run-stands, part-admissible, by-part, arrive-due, by-actor, caller-asks}
 use Rattle.channel_laws.specs.Departing.{ticked, gone_of}
 use Rattle.channel_laws.proofs.SentInTime.{sent-facts, tick-answer}
 use Rattle.link_steps.proofs.EntryEffects.{packets-by}

@@ -31,15 +31,15 @@ use Rattle.setup_protocol.specs.declared.request.Request.{Request}
 use Rattle.run_record.specs.declared.done.Done.{Done}
 use Rattle.channel_laws.specs.Channels.{channel_packets, channel_of}
 use Rattle.call_script.specs.Fits.{NetworkFits}
-use Rattle.interleave_core.specs.channels.Hops.{packets_on, ChannelAsked}
+use Rattle.run_engine.specs.channels.Hops.{packets_on, ChannelAsked}
 use Rattle.call_script.specs.Tasks.{Network}
 use Rattle.run_record.specs.Runs.{part_of}
-use Rattle.interleave_core.specs.runs.Runs.{IsNext, IsRun}
+use Rattle.run_engine.specs.runs.Runs.{IsNext, IsRun}
 use Rattle.interleave_core.proofs.Delays.BufferLaw.{slot-free}
 use Rattle.channel_laws.proofs.ChannelRows.{own-count, packets-on, row-of, find-passes}
 use Rattle.interleave_core.proofs.Delays.HopLaw.{TwoHops, far-row-at}
 use Rattle.interleave_core.proofs.Flights.LegLaw.{LegStands, ArriveCounts, arrive-in-turn, arrive-small}
-use Rattle.interleave_core.proofs.Runs.RunLegal.{part-on}
+use Rattle.run_engine.proofs.Runs.RunLegal.{part-on}
 
 -- the row that takes the packet
 pub record FarReady (network : Network) (request : Request) (i : ℕ) (two : TwoHops network request i) (past : List Done) (packet : Packet) (level : ℕ) : Type 0 where

@@ -32,10 +32,10 @@ use Rattle.setup_protocol.specs.declared.request.Request.{Request}
 use Rattle.run_record.specs.declared.done.Done.{Done}
 use Rattle.channel_laws.specs.Channels.{is_of_channel, channel_packets, tick_of_packet, channel_of, offers_to}
 use Rattle.call_script.specs.Fits.{NetworkFits}
-use Rattle.interleave_core.specs.channels.Hops.{packets_on, terms_at, ChannelAsked}
+use Rattle.run_engine.specs.channels.Hops.{packets_on, terms_at, ChannelAsked}
 use Rattle.call_script.specs.Tasks.{Network}
 use Rattle.run_record.specs.Runs.{part_of}
-use Rattle.interleave_core.specs.runs.Runs.{IsNext, IsRun}
+use Rattle.run_engine.specs.runs.Runs.{IsNext, IsRun}
 use Rattle.channel_laws.proofs.ChannelRows.{own-count, legal-free, row-of, find-passes}
 use Rattle.interleave_core.proofs.Delays.BufferLaw.{slot-free}
 use Rattle.interleave_core.proofs.Channels.ChainLaw.{run-chain, same-count}
@@ -43,19 +43,19 @@ use Rattle.interleave_core.proofs.Channels.FarHolds.{hop-tells}
 use Rattle.channel_laws.proofs.HoldFates.{Fate, FateOpen, FateClosing, FateGone}
 use Rattle.interleave_core.proofs.Delays.HopLaw.{TwoHops, arrive-comes, from-near, next-link, far-row-at, hop-law, same-packet}
 use Rattle.channel_laws.proofs.Places.{place-of}
-use Rattle.interleave_core.proofs.Channels.ChannelsAt.{packet-offered, stands-at}
+use Rattle.run_engine.proofs.Channels.ChannelsAt.{packet-offered, stands-at}
 use Rattle.link_steps.proofs.PacketRows.{Among-passes}
 use Rattle.interleave_core.proofs.Flights.LegLaw.{LegStands, leg-start, leg-step, arrive-in-turn, arrive-small}
 use Rattle.interleave_core.proofs.Channels.LevelsHold.{Levelled, run-levelled}
-use Rattle.interleave_core.proofs.Channels.HopsAt.{hop-at}
+use Rattle.run_engine.proofs.Channels.HopsAt.{hop-at}
 use Rattle.interleave_core.proofs.Flights.ReadyLaw.{FarReady, ready-counts, taken-reply, replied}
-use Rattle.interleave_core.proofs.Channels.RowsFollow.{held_at_hop}
+use Rattle.run_engine.proofs.Channels.RowsFollow.{held_at_hop}
 use Rattle.call_script.specs.Owners.{OwnedFully}
-use Rattle.interleave_core.proofs.Replies.RunCloses.{owned-once}
-use Rattle.interleave_core.proofs.Replies.RunGoes.{owned-asked}
-use Rattle.interleave_core.proofs.Runs.RunLegal.{part-admissible}
+use Rattle.run_engine.proofs.Replies.RunCloses.{owned-once}
+use Rattle.run_engine.proofs.Replies.RunGoes.{owned-asked}
+use Rattle.run_engine.proofs.Runs.RunLegal.{part-admissible}
 use Rattle.channel_laws.specs.Reservations.{held_by}
-use Rattle.interleave_core.specs.channels.Paths.{HopAt, packets_at, count_at}
+use Rattle.run_engine.specs.channels.Paths.{HopAt, packets_at, count_at}
 
 abbrev pub two_of : (network : Network) (request : Request) (i : ℕ) → HopAt network request i → HopAt network request (suc i) → TwoHops network request i
 two_of network request i near far = record { hop = near.hop; after = far.hop; stands = near.stands; follows = far.stands; near = near.link; far = far.link; linked = near.linked; far_linked = far.linked }

@@ -35,7 +35,7 @@ use Rattle.channel_laws.specs.Reservations.{held_by}
 use Rattle.channel_laws.proofs.ChannelRows.{find-passes, legal-free, others-elsewhere, row-at-hop}
 use Rattle.channel_laws.proofs.HoldFates.{released-count, relaxed-tent}
 use Rattle.channel_laws.proofs.SendReplies.{found-at-hop}
-use Rattle.interleave_core.specs.channels.Moves.{cancelled_with, cancelled_in, left_of, left_in}
+use Rattle.run_engine.specs.channels.Moves.{cancelled_with, cancelled_in, left_of, left_in}
 use Rattle.link_steps.specs.Effects.{Effect, Ticks, with_effect}
 use Rattle.link_steps.proofs.EntryEffects.{each-history}
 

@@ -27,22 +27,22 @@ use Rattle.call_script.specs.declared.tasks.Task.{Task}
 use Rattle.call_script.specs.declared.tasks.Task.TheVariants.{Moves}
 use Rattle.run_record.specs.Runs.{replies_to, part_of}
 use Rattle.run_record.specs.declared.done.Done.{Done}
-use Rattle.interleave_core.specs.channels.Paths.{HopAt}
-use Rattle.interleave_core.specs.channels.Moves.{planned_in, cancelled_in, offered_in, left_in}
+use Rattle.run_engine.specs.channels.Paths.{HopAt}
+use Rattle.run_engine.specs.channels.Moves.{planned_in, cancelled_in, offered_in, left_in}
 use Rattle.interleave_core.specs.channels.Shifting.{given_with, given_in, IsNotLeaving, cancelled_alone, EveryMoveGivesTheShifted, EveryPlannedPacketIsCounted}
-use Rattle.interleave_core.specs.runs.Runs.{IsRun}
+use Rattle.run_engine.specs.runs.Runs.{IsRun}
 use Rattle.interleave_core.proofs.Moves.LastPackets.{some-left}
 use Rattle.interleave_core.proofs.Moves.MoveLaw.{MoveTold, Was, Now, move-told, move-own, no-moves, run-moved}
 use Rattle.interleave_core.proofs.Moves.MoveSteps.{move-fits}
 use Rattle.interleave_core.proofs.Moves.MoveTotal.{begins-not, run-shifted}
 use Rattle.interleave_core.proofs.Moves.TotalLaw.{none-lost}
-use Rattle.interleave_core.proofs.Replies.Replying.{moves-plan}
-use Rattle.interleave_core.proofs.Runs.RunLegal.{part-admissible}
-use Rattle.interleave_core.proofs.Runs.EachRun.{each-run-resumed, OwnStep}
-use Rattle.interleave_core.proofs.Tasks.TaskAsks.{off-standing}
-use Rattle.interleave_core.proofs.Tasks.OwnTasks.{own-task}
-use Rattle.interleave_core.proofs.Replies.RunCloses.{step-kind}
-use Rattle.interleave_core.proofs.Keeping.Lookups.{head-same}
+use Rattle.run_engine.proofs.Replies.Replying.{moves-plan}
+use Rattle.run_engine.proofs.Runs.RunLegal.{part-admissible}
+use Rattle.run_engine.proofs.Runs.EachRun.{each-run-resumed, OwnStep}
+use Rattle.run_engine.proofs.Tasks.TaskAsks.{off-standing}
+use Rattle.run_engine.proofs.Tasks.OwnTasks.{own-task}
+use Rattle.run_engine.proofs.Replies.RunCloses.{step-kind}
+use Rattle.run_engine.proofs.Keeping.Lookups.{head-same}
 
 -- ---- what the move under way has given
 

@@ -33,18 +33,18 @@ use Rattle.call_script.specs.declared.tasks.Task.{Task}
 use Rattle.call_script.specs.declared.tasks.Task.TheVariants.{Opens, Sends, Closes, Moves}
 use Rattle.run_record.specs.Runs.{replies_to, part_of}
 use Rattle.run_record.specs.declared.done.Done.{Done}
-use Rattle.interleave_core.specs.channels.Moves.{last_with, last_planned, EveryMoveTakesTheLast}
-use Rattle.interleave_core.specs.channels.Paths.{HopAt}
-use Rattle.interleave_core.specs.runs.Runs.{IsRun}
-use Rattle.interleave_core.proofs.Tasks.SingleAskTask.{once-asked}
-use Rattle.interleave_core.proofs.Replies.Replying.{moves-plan}
-use Rattle.interleave_core.proofs.Replies.ClosingStands.{off-unsent, setup-unsent}
-use Rattle.interleave_core.proofs.Replies.RunCloses.{others-off}
-use Rattle.interleave_core.proofs.Runs.RunLegal.{run-stands, part-on, by-part}
-use Rattle.interleave_core.proofs.Runs.EachRun.{from-step-by, KeptBySteps, each-run, OwnStep}
-use Rattle.interleave_core.proofs.Tasks.OwnTasks.{OwnTask, own-task}
-use Rattle.interleave_core.proofs.Replies.RunGoes.{step-stands}
-use Rattle.interleave_core.proofs.Moves.SizesKept.{packets_if}
+use Rattle.run_engine.specs.channels.Moves.{last_with, last_planned, EveryMoveTakesTheLast}
+use Rattle.run_engine.specs.channels.Paths.{HopAt}
+use Rattle.run_engine.specs.runs.Runs.{IsRun}
+use Rattle.run_engine.proofs.Tasks.SingleAskTask.{once-asked}
+use Rattle.run_engine.proofs.Replies.Replying.{moves-plan}
+use Rattle.run_engine.proofs.Replies.ClosingStands.{off-unsent, setup-unsent}
+use Rattle.run_engine.proofs.Replies.RunCloses.{others-off}
+use Rattle.run_engine.proofs.Runs.RunLegal.{run-stands, part-on, by-part}
+use Rattle.run_engine.proofs.Runs.EachRun.{from-step-by, KeptBySteps, each-run, OwnStep}
+use Rattle.run_engine.proofs.Tasks.OwnTasks.{OwnTask, own-task}
+use Rattle.run_engine.proofs.Replies.RunGoes.{step-stands}
+use Rattle.run_engine.proofs.Moves.SizesKept.{packets_if}
 
 -- ---- what an entry plans
 

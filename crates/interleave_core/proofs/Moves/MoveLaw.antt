@@ -23,22 +23,22 @@ use Rattle.call_script.specs.declared.tasks.Task.TheVariants.{Opens, Moves}
 use Rattle.run_record.specs.Runs.{replies_to}
 use Rattle.run_record.specs.declared.done.Done.{Done}
 use Rattle.channel_laws.specs.Asks.{IsMild}
-use Rattle.interleave_core.specs.channels.Moves.{EveryMoveKeeps}
-use Rattle.interleave_core.specs.channels.Paths.{HopAt}
-use Rattle.interleave_core.specs.runs.Runs.{IsRun}
+use Rattle.run_engine.specs.channels.Moves.{EveryMoveKeeps}
+use Rattle.run_engine.specs.channels.Paths.{HopAt}
+use Rattle.run_engine.specs.runs.Runs.{IsRun}
 use Rattle.interleave_core.proofs.Channels.ChainLaw.{leaves-frozen}
-use Rattle.interleave_core.proofs.Channels.ChannelsAt.{packets-numbered}
+use Rattle.run_engine.proofs.Channels.ChannelsAt.{packets-numbered}
 use Rattle.interleave_core.proofs.Channels.FarHolds.{Frozen, frozen-later}
-use Rattle.interleave_core.proofs.Replies.RunCloses.{owned-once, others-off}
-use Rattle.interleave_core.proofs.Replies.RunGoes.{GoesAt, owned-asked, step-goes}
-use Rattle.interleave_core.proofs.Runs.EachRun.{KeptBySteps, each-run, OwnStep, from-step-by}
-use Rattle.interleave_core.proofs.Tasks.EachSetup.{Before, Under, After}
-use Rattle.interleave_core.proofs.Tasks.TaskAsks.{off-mild, mild-tasks}
-use Rattle.interleave_core.specs.channels.Hops.{ChannelAsked}
-use Rattle.interleave_core.proofs.Tasks.OwnTasks.{OwnTask, own-task}
-use Rattle.interleave_core.proofs.Replies.OwnerKinds.{IsLeaving, told-kept}
-use Rattle.interleave_core.proofs.Keeping.Lookups.{head-same}
-use Rattle.interleave_core.proofs.Tasks.TaskNotes.{once-over}
+use Rattle.run_engine.proofs.Replies.RunCloses.{owned-once, others-off}
+use Rattle.run_engine.proofs.Replies.RunGoes.{GoesAt, owned-asked, step-goes}
+use Rattle.run_engine.proofs.Runs.EachRun.{KeptBySteps, each-run, OwnStep, from-step-by}
+use Rattle.run_engine.proofs.Tasks.EachSetup.{Before, Under, After}
+use Rattle.run_engine.proofs.Tasks.TaskAsks.{off-mild, mild-tasks}
+use Rattle.run_engine.specs.channels.Hops.{ChannelAsked}
+use Rattle.run_engine.proofs.Tasks.OwnTasks.{OwnTask, own-task}
+use Rattle.run_engine.proofs.Replies.OwnerKinds.{IsLeaving, told-kept}
+use Rattle.run_engine.proofs.Keeping.Lookups.{head-same}
+use Rattle.run_engine.proofs.Tasks.TaskNotes.{once-over}
 
 -- ---- notes: a channel that was left was accepted
 

@@ -24,20 +24,20 @@ use Rattle.call_script.specs.declared.tasks.Task.{Task}
 use Rattle.call_script.specs.declared.tasks.Task.TheVariants.{Moves}
 use Rattle.run_record.specs.Runs.{replies_to}
 use Rattle.run_record.specs.declared.done.Done.{Done}
-use Rattle.interleave_core.specs.channels.Moves.{cancelled_with}
-use Rattle.interleave_core.specs.channels.Paths.{HopAt}
+use Rattle.run_engine.specs.channels.Moves.{cancelled_with}
+use Rattle.run_engine.specs.channels.Paths.{HopAt}
 use Rattle.interleave_core.specs.channels.Shifting.{MoveStep, Leaves, Joins, Frees, EveryMovePlansTheShifted}
-use Rattle.interleave_core.specs.runs.Runs.{IsRun}
+use Rattle.run_engine.specs.runs.Runs.{IsRun}
 use Rattle.interleave_core.proofs.Channels.ChainLaw.{leaves-frozen}
-use Rattle.interleave_core.proofs.Channels.HopsAt.{hop-at}
+use Rattle.run_engine.proofs.Channels.HopsAt.{hop-at}
 use Rattle.interleave_core.proofs.Moves.LastPackets.{moves-take-last}
 use Rattle.interleave_core.proofs.Moves.MoveTotal.{cancelled_at, own-release, entry-cancels, first-cancels, run-shifted}
-use Rattle.interleave_core.proofs.Replies.Replying.{moves-plan}
-use Rattle.interleave_core.proofs.Replies.RunCloses.{owned-once, step-kind}
-use Rattle.interleave_core.proofs.Replies.RunGoes.{owned-asked}
-use Rattle.interleave_core.proofs.Runs.RunLegal.{run-stands, owner-asks}
-use Rattle.interleave_core.proofs.Runs.EachRun.{OwnStep}
-use Rattle.interleave_core.proofs.Replies.OwnerKinds.{IsLeaving, stage-told}
+use Rattle.run_engine.proofs.Replies.Replying.{moves-plan}
+use Rattle.run_engine.proofs.Replies.RunCloses.{owned-once, step-kind}
+use Rattle.run_engine.proofs.Replies.RunGoes.{owned-asked}
+use Rattle.run_engine.proofs.Runs.RunLegal.{run-stands, owner-asks}
+use Rattle.run_engine.proofs.Runs.EachRun.{OwnStep}
+use Rattle.run_engine.proofs.Replies.OwnerKinds.{IsLeaving, stage-told}
 
 -- two hops at one place
 hop-link : (network : Network) (request : Request) (k : ℕ) (at : HopAt network request k) (to : _) → HopAsked request.route k to → link_number to ≡ link_number at.hop.link

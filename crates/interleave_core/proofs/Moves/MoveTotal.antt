@@ -34,22 +34,22 @@ use Rattle.call_script.specs.Tasks.{Network}
 use Rattle.call_script.specs.declared.tasks.Task.{Task}
 use Rattle.run_record.specs.Runs.{replies_to, part_of}
 use Rattle.run_record.specs.declared.done.Done.{Done}
-use Rattle.interleave_core.specs.channels.Hops.{terms_at, ChannelAsked}
-use Rattle.interleave_core.specs.channels.Moves.{cancelled_with, cancelled_in, AMoveLeavesNoPacketBehind}
-use Rattle.interleave_core.specs.channels.Paths.{HopAt}
-use Rattle.interleave_core.specs.runs.Runs.{IsNext, IsRun}
+use Rattle.run_engine.specs.channels.Hops.{terms_at, ChannelAsked}
+use Rattle.run_engine.specs.channels.Moves.{cancelled_with, cancelled_in, AMoveLeavesNoPacketBehind}
+use Rattle.run_engine.specs.channels.Paths.{HopAt}
+use Rattle.run_engine.specs.runs.Runs.{IsNext, IsRun}
 use Rattle.interleave_core.proofs.Moves.Emptied.{uncancelled, none-left-closing}
 use Rattle.interleave_core.proofs.Channels.FarHolds.{Frozen}
 use Rattle.interleave_core.proofs.Moves.MoveLaw.{MoveTold, Was, Now, move-own, no-moves, run-moved, move-told}
-use Rattle.interleave_core.proofs.Channels.RowsFollow.{held_at_hop, hop-may}
-use Rattle.interleave_core.proofs.Replies.RunCloses.{owned-once, others-off, step-kind}
-use Rattle.interleave_core.proofs.Replies.RunGoes.{owned-asked}
-use Rattle.interleave_core.proofs.Runs.RunLegal.{part-on, part-admissible, by-part}
+use Rattle.run_engine.proofs.Channels.RowsFollow.{held_at_hop, hop-may}
+use Rattle.run_engine.proofs.Replies.RunCloses.{owned-once, others-off, step-kind}
+use Rattle.run_engine.proofs.Replies.RunGoes.{owned-asked}
+use Rattle.run_engine.proofs.Runs.RunLegal.{part-on, part-admissible, by-part}
 use Rattle.interleave_core.proofs.Moves.TotalLaw.{none-lost, release-cancels}
-use Rattle.interleave_core.proofs.Runs.EachRun.{KeptBySteps, KeptByOthers, each-run, OwnStep}
-use Rattle.interleave_core.proofs.Tasks.OwnTasks.{own-task}
-use Rattle.interleave_core.proofs.Replies.OwnerKinds.{NoRelease, IsLeaving, OwnKind, OwnOff, OwnAside, OwnSetup, OwnSend, OwnClose}
-use Rattle.interleave_core.proofs.Keeping.Lookups.{head-same}
+use Rattle.run_engine.proofs.Runs.EachRun.{KeptBySteps, KeptByOthers, each-run, OwnStep}
+use Rattle.run_engine.proofs.Tasks.OwnTasks.{own-task}
+use Rattle.run_engine.proofs.Replies.OwnerKinds.{NoRelease, IsLeaving, OwnKind, OwnOff, OwnAside, OwnSetup, OwnSend, OwnClose}
+use Rattle.run_engine.proofs.Keeping.Lookups.{head-same}
 
 -- ---- what an entry cancels
 

@@ -33,7 +33,7 @@ use Rattle.link_steps.proofs.SearchAndFilter.{Each-find, find-map}
 use Rattle.link_steps.proofs.ReservationFound.{deny-tells}
 use Rattle.channel_laws.specs.Channels.{channel_of}
 use Rattle.channel_laws.proofs.ChannelRows.{find-passes}
-use Rattle.interleave_core.specs.channels.Moves.{planned_with, planned_in, cancelled_with, cancelled_in, offered_of, left_of, PlannedPacketsAreOfferedLeftOrCancelled}
+use Rattle.run_engine.specs.channels.Moves.{planned_with, planned_in, cancelled_with, cancelled_in, offered_of, left_of, PlannedPacketsAreOfferedLeftOrCancelled}
 use Rattle.channel_laws.proofs.PlanLaw.{On}
 use Rattle.channel_laws.proofs.UnsentPlans.{LaterEmpty, later-empty}
 use Rattle.channel_laws.proofs.FewLeft.{planned-count}

@@ -35,8 +35,8 @@ use Rattle.call_script.specs.Tasks.{Network}
 use Rattle.call_script.specs.declared.tasks.Task.{Task}
 use Rattle.run_record.specs.Runs.{part_of, replies_to}
 use Rattle.run_record.specs.declared.done.Done.{Done}
-use Rattle.interleave_core.specs.channels.Hops.{packets_on}
-use Rattle.interleave_core.specs.channels.Paths.{HopAt, clock_at, scan_at, starts_at, departs_at, reaches_at, bound_of, packets_at, count_at, eligible_at, arrived_at, delay_of, delay_before, PathKept}
+use Rattle.run_engine.specs.channels.Hops.{packets_on}
+use Rattle.run_engine.specs.channels.Paths.{HopAt, clock_at, scan_at, starts_at, departs_at, reaches_at, bound_of, packets_at, count_at, eligible_at, arrived_at, delay_of, delay_before, PathKept}
 
 -- ---- one link
 

@@ -17,7 +17,7 @@ use Rattle.call_script.specs.Fits.{NetworkFits}
 use Rattle.call_script.specs.Tasks.{Network}
 use Rattle.run_record.specs.Runs.{part_of}
 use Rattle.run_record.specs.declared.done.Done.{Done}
-use Rattle.interleave_core.specs.runs.Runs.{IsRun}
+use Rattle.run_engine.specs.runs.Runs.{IsRun}
 
 -- the start of a packet that was sent
 pub record SentBy (shape : LinkShape) (h : List Entry) (sent : Sent) : Type 0 where

@@ -24,9 +24,9 @@ use Rattle.call_script.specs.declared.tasks.Task.{Task}
 use Rattle.call_script.specs.declared.tasks.Task.TheVariants.{Moves}
 use Rattle.run_record.specs.Runs.{part_of, replies_to}
 use Rattle.run_record.specs.declared.done.Done.{Done}
-use Rattle.interleave_core.specs.channels.Moves.{planned_in, cancelled_in, offered_in, left_in, plan_at, last_planned}
-use Rattle.interleave_core.specs.channels.Paths.{HopAt, history_at, count_at}
-use Rattle.interleave_core.specs.runs.Runs.{IsNext, IsRun}
+use Rattle.run_engine.specs.channels.Moves.{planned_in, cancelled_in, offered_in, left_in, plan_at, last_planned}
+use Rattle.run_engine.specs.channels.Paths.{HopAt, history_at, count_at}
+use Rattle.run_engine.specs.runs.Runs.{IsNext, IsRun}
 
 -- ---- a step of a move
 

@@ -1,12 +1,13 @@
 //! Moves between two channels over that link, and what the callers of a run tell of them.
 ghost use Rattle.std.specs.Prelude.{OnOk};
-ghost use Rattle.interleave_core.specs.schedules.Standing.{CoreStands};
+ghost use Rattle.interleave_core.specs.Cores.{CoreStands};
 
 use call_script::Plan;
 use channel_move::Shifted;
-use interleave_core::{Core, replay};
+use interleave_core::Core;
 use net_units::ActorNo;
 use one_link_plans as plans;
+use run_engine::replay;
 use std::alloc::Global;
 use std::process::Abort;
 use std::test::Fail;

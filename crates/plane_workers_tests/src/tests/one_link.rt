@@ -2,10 +2,10 @@
 ghost use Rattle.std.specs.Prelude.{◌≤◌};
 
 use call_script::{Do, Dos, Plan, Schedule};
-use interleave_core::PlayFault;
 use net_units::{ActorNo, NoGate};
 use one_link_plans::opened;
 use plane_workers::{played, played_watched};
+use run_engine::PlayFault;
 use run_record::Record;
 use std::alloc::Global;
 use std::process::Abort;

@@ -4,7 +4,7 @@ use Rattle.std.specs.Prelude.{filter}
 use Rattle.traffic_contract.specs.Keeping.{keeps}
 use Rattle.channel_report.specs.Sources.{first_link, is_made}
 use Rattle.run_record.specs.Rows.{rows_of}
-use Rattle.interleave_core.proofs.Keeping.Lookups.{found-at}
+use Rattle.run_engine.proofs.Keeping.Lookups.{found-at}
 use Rattle.channel_report.specs.Channels.{established_line, told_channel}
 use Rattle.channel_report.proofs.EstablishedLine.{first-within, route-some, offered-is, refused-is, established-is}
 use Rattle.channel_report.proofs.LinesByItem.{found-item}

@@ -1,5 +1,5 @@
 use Rattle.std.proofs.Common.{◌<◌, length, reverse, refl}
-use Rattle.interleave_core.proofs.Keeping.Lookups.{held}
+use Rattle.run_engine.proofs.Keeping.Lookups.{held}
 use Rattle.run_record.specs.Rows.{rows_of}
 use Rattle.channel_report.specs.Channels.{channel_line}
 use Rattle.text_writer.proofs.TextsTold.{item-failed, item-told}

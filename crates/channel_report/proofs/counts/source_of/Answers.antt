@@ -3,7 +3,7 @@ use Rattle.std.proofs.lemmas.Option.{same_Some}
 use Rattle.std.specs.List.{slice_get}
 use Rattle.net_units.specs.Numbers.{channel_number}
 use Rattle.call_script.specs.declared.entries.RequestEntry.{RequestEntry}
-use Rattle.interleave_core.proofs.Keeping.Lookups.{found-at}
+use Rattle.run_engine.proofs.Keeping.Lookups.{found-at}
 use Rattle.channel_report.specs.Sources.{first_link}
 use Rattle.channel_report.proofs.ChannelTallies.{first-at}
 use Rattle.channel_report.proofs.counts.source_of.Goals as goal

@@ -1,6 +1,6 @@
 use Rattle.std.proofs.Common.{sym, ◌∙◌, [], ◌∷◌}
 use Rattle.net_units.specs.Numbers.{channel_number}
-use Rattle.interleave_core.proofs.Keeping.Lookups.{found-at}
+use Rattle.run_engine.proofs.Keeping.Lookups.{found-at}
 use Rattle.channel_report.proofs.DelaysRowByRow.{by-place, if-none, if-some}
 use Rattle.channel_report.proofs.delay_tally.delay_of.Goals as goal
 

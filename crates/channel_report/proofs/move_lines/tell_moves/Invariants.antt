@@ -1,7 +1,7 @@
 use Rattle.std.proofs.Common.{List, take}
 use Rattle.std.specs.List.{flat_map}
 use Rattle.text_writer.specs.Telling.{Told}
-use Rattle.interleave_core.specs.schedules.Standing.{CallersStand}
+use Rattle.run_engine.specs.schedules.Standing.{CallersStand}
 use Rattle.run_record.specs.declared.done.Done.{Done}
 use Rattle.channel_report.specs.Moves.{caller_lines}
 use Rattle.channel_report.proofs.move_lines.tell_moves.Given as goal

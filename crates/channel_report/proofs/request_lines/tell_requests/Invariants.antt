@@ -2,8 +2,8 @@ use Rattle.std.proofs.Common.{List, take}
 use Rattle.std.specs.List.{flat_map}
 use Rattle.text_writer.specs.Telling.{Told}
 use Rattle.call_script.specs.Tasks.{network_of}
-use Rattle.interleave_core.specs.runs.Runs.{IsRun}
-use Rattle.interleave_core.specs.schedules.Standing.{CallersStand}
+use Rattle.run_engine.specs.runs.Runs.{IsRun}
+use Rattle.run_engine.specs.schedules.Standing.{CallersStand}
 use Rattle.run_record.specs.declared.done.Done.{Done}
 use Rattle.channel_report.specs.Verdicts.{request_line}
 use Rattle.channel_report.proofs.request_lines.tell_requests.Given as goal

@@ -1,7 +1,7 @@
 -- One more request.
 use Rattle.std.proofs.Common.{◌<◌, length, reverse, ◌∙◌}
 use Rattle.std.specs.Prelude.{option_map}
-use Rattle.interleave_core.proofs.Keeping.Lookups.{held}
+use Rattle.run_engine.proofs.Keeping.Lookups.{held}
 use Rattle.run_record.specs.Rows.{rows_of}
 use Rattle.setup_protocol.specs.State.{outcome_of}
 use Rattle.channel_report.proofs.SumsOverRequests.{few-more, sums-more}

@@ -1,4 +1,4 @@
-use Rattle.interleave_core.proofs.Runs.PartLaws.{hops-guaranteed}
+use Rattle.run_engine.proofs.Runs.PartLaws.{hops-guaranteed}
 use Rattle.interleave_core.proofs.laws.every_hop_is_guaranteed.Goals as goal
 
 pub returns : goal.returns

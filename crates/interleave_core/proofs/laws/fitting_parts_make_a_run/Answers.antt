@@ -1,4 +1,4 @@
-use Rattle.interleave_core.proofs.Runs.PartsRun.{parts-run}
+use Rattle.run_engine.proofs.Runs.PartsRun.{parts-run}
 use Rattle.interleave_core.proofs.laws.fitting_parts_make_a_run.Goals as goal
 
 pub returns : goal.returns

@@ -1,4 +1,4 @@
-use Rattle.interleave_core.proofs.Runs.PartLaws.{rows-pass-everywhere}
+use Rattle.run_engine.proofs.Runs.PartLaws.{rows-pass-everywhere}
 use Rattle.interleave_core.proofs.laws.held_rows_pass_on_every_link.Goals as goal
 
 pub returns : goal.returns

@@ -1,7 +1,7 @@
 -- One more turn, until nobody has a step left, or the plane alone, which then makes its steps. A run is too short for the loop to end before.
 use Rattle.std.proofs.Common.{refl, ◌∙◌, arith}
 use Rattle.net_units.specs.Numbers.{actor_number}
-use Rattle.interleave_core.proofs.Watched.WatchedStrides.{on-ok}
+use Rattle.run_engine.proofs.Watched.WatchedStrides.{on-ok}
 use Rattle.load_maker.proofs.PlaneTurns.{plane-alone}
 use Rattle.load_maker.proofs.WatchedTurns.{circle-at, no-turns, one-turn, never-ending, next-within}
 use Rattle.load_maker.proofs.turns.make_turns.Goals as goal

@@ -2,8 +2,8 @@
 use Rattle.std.proofs.Common.{◌≡◌, None, subst, sym, ◌∙◌, arith}
 use Rattle.net_units.specs.Numbers.{actor_number}
 use Rattle.call_script.specs.Tasks.{network_of}
-use Rattle.interleave_core.specs.runs.Runs.{next_for}
-use Rattle.interleave_core.proofs.Schedules.CorePlaysSchedule.{step-some}
+use Rattle.run_engine.specs.runs.Runs.{next_for}
+use Rattle.run_engine.proofs.Schedules.PlayedTurns.{step-some}
 use Rattle.load_maker.proofs.TurnLaws.{nobody-left, circle-size, place-few, turn-place, one-more}
 use Rattle.load_maker.proofs.turns.turn.Goals as goal
 

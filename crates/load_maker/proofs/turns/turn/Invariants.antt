@@ -1,6 +1,6 @@
 use Rattle.std.proofs.Common.{◌≡◌, ℕ, ◌<◌, List, None}
 use Rattle.call_script.specs.Tasks.{network_of}
-use Rattle.interleave_core.specs.runs.Runs.{next_for}
+use Rattle.run_engine.specs.runs.Runs.{next_for}
 use Rattle.load_maker.specs.SeenTurns.{IsCircleAt}
 use Rattle.load_maker.specs.TurnRuns.{further}
 use Rattle.run_record.specs.declared.done.Done.{Done}

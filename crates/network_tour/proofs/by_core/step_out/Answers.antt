@@ -1,6 +1,7 @@
 use Rattle.call_script.specs.Tasks.{network_of}
-use Rattle.interleave_core.specs.schedules.Standing.{run_in}
-use Rattle.interleave_core.proofs.Schedules.CorePlaysSchedule.{step-follows, turn-fewer}
+use Rattle.interleave_core.specs.Cores.{run_in}
+use Rattle.run_engine.proofs.Schedules.PlayedTurns.{step-follows}
+use Rattle.interleave_core.proofs.Cores.{turn-fewer}
 use Rattle.network_tour.proofs.by_core.step_out.Goals as goal
 
 -- a step leaves the actor fewer

@@ -1,6 +1,6 @@
 use Rattle.call_script.specs.Tasks.{network_of}
-use Rattle.interleave_core.specs.schedules.Standing.{CoreStands, run_in}
-use Rattle.interleave_core.specs.runs.Turns.{most_left}
+use Rattle.interleave_core.specs.Cores.{CoreStands, run_in}
+use Rattle.run_engine.specs.runs.Turns.{most_left}
 use Rattle.net_units.specs.Numbers.{actor_number}
 use Rattle.network_tour.proofs.by_core.step_out.Given as goal
 

@@ -1,7 +1,7 @@
 use Rattle.std.proofs.Common.{false, List, reverse, refl, ap, ◌∙◌}
 use Rattle.std.proofs.lemmas.List.{take_all}
 use Rattle.net_units.specs.Numbers.{channel_number}
-use Rattle.interleave_core.specs.replies.Verdicts.{setup_replies}
+use Rattle.run_engine.specs.replies.Verdicts.{setup_replies}
 use Rattle.run_record.specs.declared.done.Done.{Done}
 use Rattle.setup_protocol.specs.Setup.{offers_in}
 use Rattle.plan_answers.specs.declared.offers.Offers.{Offers}

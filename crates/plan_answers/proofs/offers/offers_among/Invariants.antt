@@ -1,6 +1,6 @@
 use Rattle.std.proofs.Common.{reverse, take}
 use Rattle.net_units.specs.Numbers.{channel_number}
-use Rattle.interleave_core.specs.replies.Verdicts.{setup_replies}
+use Rattle.run_engine.specs.replies.Verdicts.{setup_replies}
 use Rattle.plan_answers.specs.Offers.{AreOffersOf}
 use Rattle.plan_answers.proofs.offers.offers_among.Given as goal
 

@@ -1,5 +1,5 @@
 use Rattle.std.proofs.Common.{◌≡◌, List}
-use Rattle.interleave_core.specs.schedules.Watching.{WatchStands}
+use Rattle.run_engine.specs.schedules.Watching.{WatchStands}
 use Rattle.plane_workers.specs.Seen.{PlaysMore}
 use Rattle.run_record.specs.declared.done.Done.{Done}
 use Rattle.plane_workers.proofs.alone.make_alone.Given as goal

@@ -11,7 +11,7 @@ use Rattle.call_script.proofs.Walks.{left-at, before-at}
 use Rattle.link_steps.proofs.ListParts.{Each-at}
 use Rattle.link_steps.specs.declared.asks.Ask.{Ask}
 use Rattle.link_steps.specs.declared.replies.Reply.{Reply}
-use Rattle.interleave_core.proofs.Keeping.Lookups.{held, found-at}
+use Rattle.run_engine.proofs.Keeping.Lookups.{held, found-at}
 use Rattle.plane_workers.specs.Batches.{AreAhead, MadeInTurn}
 use Rattle.plane_workers.specs.Desks.{rules_at, stands_at, left_at}
 use Rattle.plane_workers.specs.declared.desk.Desk.{Desk}

@@ -1,6 +1,6 @@
 -- One more step, until none is left. A run is too short for the loop to end before.
 use Rattle.std.proofs.Common.{refl, sym, ◌∙◌, arith}
-use Rattle.interleave_core.proofs.Watched.WatchedSteps.{never-ending, plays-again, plays-none, plays-one, plays-out}
+use Rattle.run_engine.proofs.Watched.WatchedSteps.{never-ending, plays-again, plays-none, plays-one, plays-out}
 use Rattle.plane_workers.proofs.playing.play_caller.Goals as goal
 
 pub loop-init : goal.loop-init

@@ -1,6 +1,6 @@
 use Rattle.std.proofs.Common.{◌≡◌, List}
-use Rattle.interleave_core.specs.schedules.Schedules.{repeated}
-use Rattle.interleave_core.specs.schedules.Watching.{PlaysOn, WatchStands}
+use Rattle.run_engine.specs.schedules.Schedules.{repeated}
+use Rattle.run_engine.specs.schedules.Watching.{PlaysOn, WatchStands}
 use Rattle.run_record.specs.declared.done.Done.{Done}
 use Rattle.plane_workers.proofs.playing.play_caller.Given as goal
 

@@ -1,7 +1,7 @@
 -- One more caller has played out, and then all.
 use Rattle.std.proofs.Common.{◌≡◌, length, refl, ap, ◌∙◌, arith}
-use Rattle.interleave_core.proofs.Keeping.CoreStep.{callers-few}
-use Rattle.interleave_core.proofs.Watched.WatchedSteps.{none-yet, one-out}
+use Rattle.run_engine.proofs.Keeping.NextStep.{callers-few}
+use Rattle.run_engine.proofs.Watched.WatchedSteps.{none-yet, one-out}
 use Rattle.plane_workers.proofs.playing.play_callers.Goals as goal
 
 pub loop-number-init : goal.loop-number-init

@@ -1,8 +1,8 @@
 -- The record has the run that was seen.
 use Rattle.std.proofs.Common.{sym, subst, reverse, ap}
 use Rattle.call_script.specs.Tasks.{network_of}
-use Rattle.interleave_core.specs.schedules.Schedules.{IsPlayed}
-use Rattle.interleave_core.specs.schedules.Standing.{IsGuaranteedRun}
+use Rattle.run_engine.specs.schedules.Schedules.{IsPlayed}
+use Rattle.run_engine.specs.runs.Runs.{IsRun}
 use Rattle.run_record.specs.Entries.{Entries}
 use Rattle.plane_workers.proofs.playing.played.Goals as goal
 
@@ -12,5 +12,5 @@ played_watched-requires-clause-fresh g c κs within = ap (λ (e : Entries). reve
 pub returns-clause-played : goal.returns-clause-played
 returns-clause-played g c = subst (IsPlayed (network_of c.args.plan.now) c.args.schedule.now) (sym c.in_ok-played_watched.ensures.played.seen.seen) c.in_ok-played_watched.ensures.played.played
 
-pub returns-clause-guaranteed : goal.returns-clause-guaranteed
-returns-clause-guaranteed g c = subst (IsGuaranteedRun c.args.plan.now) (sym c.in_ok-played_watched.ensures.played.seen.seen) c.in_ok-played_watched.ensures.played.guaranteed
+pub returns-clause-run : goal.returns-clause-run
+returns-clause-run g c = subst (IsRun (network_of c.args.plan.now)) (sym c.in_ok-played_watched.ensures.played.seen.seen) c.in_ok-played_watched.ensures.played.run_is

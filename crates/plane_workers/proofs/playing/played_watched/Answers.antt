@@ -1,7 +1,7 @@
 -- The callers have played out, and then the plane.
 use Rattle.std.proofs.Common.{length, refl, ◌∙◌}
 use Rattle.net_units.specs.Numbers.{actor_at}
-use Rattle.interleave_core.proofs.Watched.WatchedSteps.{one-out, played-all}
+use Rattle.run_engine.proofs.Watched.WatchedSteps.{one-out, played-all}
 use Rattle.plane_workers.proofs.playing.played_watched.Goals as goal
 
 pub make_rounds-requires-clause-stand : goal.make_rounds-requires-clause-stand

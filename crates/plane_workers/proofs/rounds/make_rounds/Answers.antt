@@ -3,8 +3,8 @@ use Rattle.std.proofs.Common.{◌≡◌, length, refl, ap, ◌∙◌, arith}
 use Rattle.net_units.specs.Numbers.{actor_at}
 use Rattle.call_script.proofs.PlansFit.{plan-fits}
 use Rattle.call_script.specs.Tasks.{network_of}
-use Rattle.interleave_core.specs.schedules.Quiet.{the_plane}
-use Rattle.interleave_core.proofs.Keeping.CoreStep.{callers-few, has-few}
+use Rattle.run_engine.specs.schedules.Quiet.{the_plane}
+use Rattle.run_engine.proofs.Keeping.NextStep.{callers-few, has-few}
 use Rattle.plane_workers.proofs.GapLaw.{packets-take}
 use Rattle.plane_workers.proofs.StepsAddUp.{none-more, more-again, more-out}
 use Rattle.plane_workers.proofs.LinksAtDesks.{plane-end, plane-of-callers, plan-spaced, rounds-of}

@@ -1,7 +1,7 @@
 -- No step yet, and then one more.
 use Rattle.std.proofs.Common.{refl, ◌∙◌}
 use Rattle.call_script.specs.Tasks.{network_of}
-use Rattle.interleave_core.specs.schedules.Quiet.{the_plane}
+use Rattle.run_engine.specs.schedules.Quiet.{the_plane}
 use Rattle.plane_workers.specs.Desks.{rules_at, stands_at, left_at}
 use Rattle.plane_workers.specs.Seen.{SeenWithin}
 use Rattle.plane_workers.proofs.NextWindowStep.{comes-none, comes-both}

@@ -1,7 +1,7 @@
 use Rattle.std.proofs.Common.{◌≡◌, List}
 use Rattle.call_script.specs.Tasks.{network_of}
-use Rattle.interleave_core.specs.runs.Turns.{plane_most}
-use Rattle.interleave_core.specs.schedules.Quiet.{the_plane}
+use Rattle.run_engine.specs.runs.Turns.{plane_most}
+use Rattle.run_engine.specs.schedules.Quiet.{the_plane}
 use Rattle.plane_workers.specs.Desks.{rules_at, stands_at, left_at}
 use Rattle.plane_workers.specs.Seen.{GoesTo, SeenWithin}
 use Rattle.run_record.specs.declared.done.Done.{Done}

@@ -5,8 +5,8 @@ use Rattle.net_units.specs.Numbers.{link_number}
 use Rattle.call_script.specs.Tasks.{network_of}
 use Rattle.tick_plane.specs.PlaneAccount.{PlaneAccount}
 use Rattle.tick_plane.specs.Planes.{next_due, plane_after, plane_ask, plane_expects, IsDueLater}
-use Rattle.interleave_core.proofs.Keeping.NextPlaneStep.{own-number}
-use Rattle.interleave_core.specs.schedules.Quiet.{the_plane}
+use Rattle.run_engine.proofs.Keeping.NextPlaneStep.{own-number}
+use Rattle.run_engine.specs.schedules.Quiet.{the_plane}
 use Rattle.plane_workers.specs.Desks.{rules_at, stands_at, left_at}
 use Rattle.plane_workers.proofs.DeskHandsOut.{handed, hand-expected, hand-later, hand-fewer, hand-within, hand-goes, hand-seen}
 use Rattle.plane_workers.proofs.NextWindowStep.{link-inside, has-reply, more-left, step-left}

@@ -1,5 +1,5 @@
 use Rattle.std.proofs.Common.{length, ap, arith}
-use Rattle.interleave_core.proofs.Keeping.CoreStep.{has-few}
+use Rattle.run_engine.proofs.Keeping.NextStep.{has-few}
 use Rattle.race_run.proofs.opening.plane_of.Goals as goal
 
 pub overflow_cast-links : goal.overflow_cast-links

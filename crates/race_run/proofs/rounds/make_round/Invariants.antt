@@ -1,6 +1,6 @@
 use Rattle.std.proofs.Common.{◌≡◌, ◌+◌, ◌⊎◌, length}
 use Rattle.call_script.specs.Tasks.{network_of}
-use Rattle.interleave_core.specs.runs.Turns.{plane_most}
+use Rattle.run_engine.specs.runs.Turns.{plane_most}
 use Rattle.link_ledger.specs.Tokens.{last_seen}
 use Rattle.shared_network.specs.Added.{AddsAbove}
 use Rattle.shared_network.specs.Ready.{PassGoesOn}

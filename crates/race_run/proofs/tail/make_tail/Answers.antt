@@ -1,5 +1,5 @@
 use Rattle.std.proofs.Common.{map, arith}
-use Rattle.interleave_core.proofs.Keeping.CoreStep.{has-few}
+use Rattle.run_engine.proofs.Keeping.NextStep.{has-few}
 use Rattle.race_run.specs.Tail.{own_in}
 use Rattle.shared_network.proofs.CallsInTurn.{goes-both}
 use Rattle.race_run.proofs.RaceSizes.{tail-left, tail-made}

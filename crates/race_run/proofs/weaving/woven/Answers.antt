@@ -1,12 +1,12 @@
 use Rattle.std.proofs.Common.{[], length, All, IsPermutation, IsSortedBy, reverse, sym, subst}
 use Rattle.link_steps.specs.Lists.{Each}
 use Rattle.call_script.specs.Tasks.{network_of}
-use Rattle.interleave_core.specs.runs.Runs.{IsRun}
-use Rattle.interleave_core.specs.schedules.Schedules.{FollowsTurns, IsActorOf, turns_of}
+use Rattle.run_engine.specs.runs.Runs.{IsRun}
+use Rattle.run_engine.specs.schedules.Schedules.{FollowsTurns, IsActorOf, turns_of}
 use Rattle.race_run.specs.Merging.{AreThere, is_before, places_of, sources_from}
 use Rattle.race_run.specs.Turns.{AreMaximalRuns, IsWritable, actors_of}
 use Rattle.race_run.proofs.WeaveByStamps.{merge-weaves, whole-sorted, places-all-inside}
-use Rattle.race_run.proofs.RunByActors.{run-follows, run-items, run-guaranteed}
+use Rattle.race_run.proofs.RunByActors.{run-follows, run-items}
 use Rattle.race_run.proofs.ScheduleCounts.{items-written}
 use Rattle.race_run.proofs.WeaveIsRun.{whole-run, whole-over}
 use Rattle.race_run.proofs.weaving.woven.Goals as goal
@@ -49,8 +49,6 @@ pub returns-clause-over : goal.returns-clause-over
 returns-clause-over c actor =
     rw (returns-clause-weave c) (whole-over (network_of c.args.plan.now) c.args.closed.now.passes c.args.closed.now.journals actor c.requires.whole)
 
-pub returns-clause-guaranteed : goal.returns-clause-guaranteed
-returns-clause-guaranteed c =
-    let weave = returns-clause-weave c in
-    let is = subst (IsRun (network_of c.args.plan.now)) (sym weave) (whole-run (network_of c.args.plan.now) c.args.closed.now.passes c.args.closed.now.journals c.requires.whole) in
-    run-guaranteed c.args.plan.now (reverse c.in_ok-run.run'.entries) c.links-valid.ensures.valid is
+pub returns-clause-run : goal.returns-clause-run
+returns-clause-run c =
+    subst (IsRun (network_of c.args.plan.now)) (sym (returns-clause-weave c)) (whole-run (network_of c.args.plan.now) c.args.closed.now.passes c.args.closed.now.journals c.requires.whole)

@@ -1,7 +1,7 @@
 use Rattle.std.proofs.Common.{length, refl, sym, ap, ◌∙◌, subst, arith}
 use Rattle.std.proofs.lemmas.Option.{slice_get_read}
 use Rattle.std.specs.List.{slice_get}
-use Rattle.interleave_core.proofs.Keeping.CoreStep.{has-few}
+use Rattle.run_engine.proofs.Keeping.NextStep.{has-few}
 use Rattle.link_ledger.specs.declared.entries.Entry.{Entry}
 use Rattle.link_steps.specs.Legal.{AskFits}
 use Rattle.link_steps.specs.Lists.{Each}

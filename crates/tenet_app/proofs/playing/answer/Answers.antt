@@ -3,8 +3,8 @@ use Rattle.std.proofs.Common.{reverse, sym, subst, ◌∙◌}
 use Rattle.std.proofs.lemmas.List.{reverse-reverse}
 use Rattle.call_script.specs.Tasks.{network_of}
 use Rattle.channel_report.specs.Report.{report_of}
-use Rattle.interleave_core.specs.schedules.Schedules.{IsPlayed}
-use Rattle.interleave_core.specs.schedules.Standing.{IsGuaranteedRun}
+use Rattle.run_engine.specs.schedules.Schedules.{IsPlayed}
+use Rattle.interleave_core.specs.channels.Laws.{IsGuaranteedRun}
 use Rattle.tenet_app.specs.Playing.{WritesReport}
 use Rattle.tenet_app.proofs.WrittenAnswers.{of-report, of-missing}
 use Rattle.tenet_app.proofs.playing.answer.Goals as goal

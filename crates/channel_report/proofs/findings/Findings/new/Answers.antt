@@ -2,9 +2,9 @@
 use Rattle.std.proofs.Common.{length, reverse, sym, subst, ◌∙◌, arith}
 use Rattle.std.proofs.lemmas.List.{length-reverse, reverse-reverse}
 use Rattle.call_script.specs.Tasks.{network_of}
-use Rattle.interleave_core.specs.runs.Runs.{IsRun}
-use Rattle.interleave_core.specs.schedules.Standing.{CallersStand}
-use Rattle.interleave_core.proofs.Runs.RunLength.{run-short}
+use Rattle.run_engine.specs.runs.Runs.{IsRun}
+use Rattle.run_engine.specs.schedules.Standing.{CallersStand}
+use Rattle.run_engine.proofs.Runs.RunLength.{run-short}
 use Rattle.channel_report.specs.ChannelTallies.{AreChannelTallies}
 use Rattle.channel_report.specs.Tallies.{AreLinkTallies}
 use Rattle.channel_report.proofs.RowsStayKept.{found-delays, kept-rows}

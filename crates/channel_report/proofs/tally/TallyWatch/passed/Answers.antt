@@ -5,8 +5,8 @@ use Rattle.net_units.specs.Numbers.{actor_number}
 use Rattle.link_steps.specs.declared.asks.Ask.TheVariants.{Tick}
 use Rattle.link_steps.specs.Quiet.{quiet_reply}
 use Rattle.call_script.specs.Tasks.{network_of}
-use Rattle.interleave_core.specs.schedules.PlaneSteps.{plane_step}
-use Rattle.interleave_core.proofs.Runs.RunLength.{run-short}
+use Rattle.run_engine.specs.schedules.PlaneSteps.{plane_step}
+use Rattle.run_engine.proofs.Runs.RunLength.{run-short}
 use Rattle.run_record.proofs.OfferPlaces.{hops-kept}
 use Rattle.run_record.specs.Hops.{AreHops}
 use Rattle.run_record.specs.Runs.{part_of}

@@ -1,7 +1,7 @@
 -- The clocks and the counts of steps go on, and all else stays.
 use Rattle.std.proofs.Common.{◌≡◌, ℕ, ◌+◌, ◌*◌, ◌^◌, ◌<◌, length, get_or, refl, sym, ap, ◌∙◌, subst, arith}
 use Rattle.std.proofs.lemmas.List.{get_or_default, with_items_is}
-use Rattle.interleave_core.proofs.Keeping.KeptActors.{plane-number}
+use Rattle.run_engine.proofs.Keeping.KeptActors.{plane-number}
 use Rattle.channel_report.specs.Tallies.{HaveRested}
 use Rattle.channel_report.specs.declared.link_tally.LinkTally.{LinkTally}
 use Rattle.channel_report.proofs.RestTallies.{clocks-small, counts-small, plane-few, rested-short, steps-rested, tally-rested}

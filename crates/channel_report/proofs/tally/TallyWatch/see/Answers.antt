@@ -1,7 +1,7 @@
 -- Each part of the tally has the new entry.
 use Rattle.std.proofs.Common.{◌≡◌, [], ◌∷◌, ◌++◌, refl, reverse, sym, subst, arith}
 use Rattle.std.proofs.lemmas.List.{reverse-append}
-use Rattle.interleave_core.proofs.Runs.RunLength.{run-short}
+use Rattle.run_engine.proofs.Runs.RunLength.{run-short}
 use Rattle.run_record.specs.Hops.{AreHops}
 use Rattle.channel_report.specs.Ends.{AreKept, is_kept}
 use Rattle.channel_report.specs.Tallies.{AreLinkTallies}

@@ -5,10 +5,10 @@ use Rattle.net_units.specs.Numbers.{actor_number}
 use Rattle.net_units.specs.declared.numbers.ActorNo.{ActorNo}
 use Rattle.net_units.specs.declared.numbers.ChanNo.{ChanNo}
 use Rattle.call_script.specs.Tasks.{network_of}
-use Rattle.interleave_core.specs.schedules.PlaneSteps.{plane_step}
+use Rattle.run_engine.specs.schedules.PlaneSteps.{plane_step}
 use Rattle.call_script.specs.Parts.{PlanParts}
-use Rattle.interleave_core.specs.schedules.Watching.{IsNextSeen}
-use Rattle.interleave_core.proofs.Runs.RunLength.{run-short}
+use Rattle.run_engine.specs.schedules.Watching.{IsNextSeen}
+use Rattle.run_engine.proofs.Runs.RunLength.{run-short}
 use Rattle.run_record.proofs.OfferPlaces.{hops-kept}
 use Rattle.run_record.specs.Hops.{AreHops}
 use Rattle.run_record.specs.Runs.{part_of}

@@ -1,4 +1,4 @@
-use Rattle.interleave_core.proofs.Schedules.CorePlaysSchedule.{run-guaranteed}
+use Rattle.interleave_core.proofs.Cores.{run-guaranteed}
 use Rattle.interleave_core.proofs.stepping.Core.finish.Goals as goal
 
 pub returns-clause-guaranteed : goal.returns-clause-guaranteed

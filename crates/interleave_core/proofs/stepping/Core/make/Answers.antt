@@ -1,10 +1,11 @@
 -- The engine makes the step for the run that is recorded, and it is recorded.
 use Rattle.std.proofs.Common.{◌-◌, ap, refl, sym, ◌∙◌}
 use Rattle.call_script.specs.Tasks.{network_of}
-use Rattle.interleave_core.specs.runs.Runs.{step}
-use Rattle.interleave_core.specs.schedules.Standing.{IsAboutTo, run_in}
-use Rattle.interleave_core.proofs.Runs.RunOf.{step-is}
-use Rattle.interleave_core.proofs.Keeping.CoreStep.{recorded}
+use Rattle.run_engine.specs.runs.Runs.{step}
+use Rattle.run_engine.specs.schedules.Standing.{IsAboutTo}
+use Rattle.interleave_core.specs.Cores.{run_in}
+use Rattle.run_engine.proofs.Runs.RunOf.{step-is}
+use Rattle.run_engine.proofs.Keeping.NextStep.{recorded}
 use Rattle.interleave_core.proofs.stepping.Core.make.Goals as goal
 
 pub returns-clause-made : goal.returns-clause-made

@@ -1,7 +1,7 @@
 -- Nothing is recorded yet.
 use Rattle.std.proofs.Common.{ap, [], reverse}
 use Rattle.run_record.specs.Entries.{Entries}
-use Rattle.interleave_core.proofs.Keeping.CoreStep.{stands-by}
+use Rattle.interleave_core.proofs.Cores.{stands-by}
 use Rattle.interleave_core.proofs.stepping.Core.new.Goals as goal
 
 pub returns-clause-stands : goal.returns-clause-stands

@@ -1,4 +1,4 @@
-use Rattle.interleave_core.specs.schedules.Standing.{run_in}
+use Rattle.interleave_core.specs.Cores.{run_in}
 use Rattle.interleave_core.proofs.stepping.Core.next_ask.Goals as goal
 
 pub returns : goal.returns

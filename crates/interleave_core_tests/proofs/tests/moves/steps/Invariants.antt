@@ -1,4 +1,4 @@
-use Rattle.interleave_core.specs.schedules.Standing.{CoreStands}
+use Rattle.interleave_core.specs.Cores.{CoreStands}
 use Rattle.interleave_core_tests.proofs.tests.moves.steps.Given as goal
 
 -- the core stands

@@ -1,8 +1,0 @@
--- What a core keeps of a run: its links and its actors, and each step of theirs.
-pub mod Lookups
-pub mod KeptLinks
-pub mod SplitLinks
-pub mod KeptActors
-pub mod CoreStep
-pub mod EngineStep
-pub mod NextPlaneStep

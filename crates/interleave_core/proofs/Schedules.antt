@@ -1,3 +1,0 @@
--- How a schedule is played.
-pub mod ScheduleOutcome
-pub mod CorePlaysSchedule

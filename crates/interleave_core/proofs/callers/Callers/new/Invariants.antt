@@ -1,7 +1,0 @@
-use Rattle.std.proofs.Common.{◌≡◌, length}
-use Rattle.interleave_core.proofs.Keeping.KeptActors.{CallersMade}
-use Rattle.interleave_core.proofs.callers.Callers.new.Given as goal
-
--- the callers so far
-abbrev pub invariant-loop-number : goal.invariant-loop-number
-invariant-loop-number l = record { count : length l.by_number.items ≡ l.number; made : CallersMade l.plan l.by_number.items }

@@ -1,8 +1,0 @@
-use Rattle.std.proofs.Common.{◌≤◌, take}
-use Rattle.link_steps.specs.Lists.{Each}
-use Rattle.interleave_core.specs.schedules.Resting.{RestsBy}
-use Rattle.interleave_core.proofs.links.ticks_at_rest.Given as goal
-
--- the links so far rest for so many
-abbrev pub invariant-loop-link : goal.invariant-loop-link
-invariant-loop-link l = record { most : l.ticks ≤ l.most; rests : 1 ≤ l.ticks → Each (RestsBy l.ticks) (take l.link-index l.links) }

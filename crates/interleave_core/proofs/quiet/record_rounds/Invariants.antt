@@ -1,7 +1,0 @@
-use Rattle.std.proofs.Common.{◌≡◌, reverse}
-use Rattle.interleave_core.specs.schedules.Quiet.{quiet_rounds}
-use Rattle.interleave_core.proofs.quiet.record_rounds.Given as goal
-
--- the rounds so far are recorded
-abbrev pub invariant-loop-passed : goal.invariant-loop-passed
-invariant-loop-passed l = reverse l.kept.entries ≡ quiet_rounds l.plane l.links l.first l.passed (reverse l.initial.kept.entries)

@@ -1,0 +1,2 @@
+-- From one hop to the next.
+pub mod HopStep

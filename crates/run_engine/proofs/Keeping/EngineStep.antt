@@ -1,0 +1,38 @@
+-- What is known where an engine makes the step that an actor is about to make, and what it then stands for.
+use Rattle.std.proofs.Common.{◌≡◌, ℕ, List, sym, subst, ◌∙◌}
+use Rattle.std.specs.Prelude.{Result, Ok, Err, IfOk, OnErr}
+use Rattle.net_units.specs.Numbers.{link_number}
+use Rattle.net_units.specs.declared.numbers.ActorNo.{ActorNo}
+use Rattle.net_units.specs.declared.numbers.LinkNo.{LinkNo}
+use Rattle.link_quota.specs.declared.any_link.AnyLink.{AnyLink}
+use Rattle.link_steps.specs.declared.asks.Ask.{Ask}
+use Rattle.call_script.specs.Parts.{PlanParts}
+use Rattle.call_script.specs.Tasks.{network_of}
+use Rattle.run_engine.specs.schedules.Standing.{IsAboutTo, LinksStand}
+use Rattle.run_engine.specs.declared.engine.Engine.{Engine}
+use Rattle.run_engine.proofs.Keeping.NextStep.{Asking}
+use Rattle.run_record.specs.declared.done.Done.{Done}
+
+pub asking-in : (parts : PlanParts) (engine : Engine) (links : List AnyLink) (run : List Done) (actor : ActorNo) (to : LinkNo) (ask : Ask) (own number : ℕ) → IsAboutTo parts engine run actor to ask → links ≡ engine.links.items → number ≡ own → own ≡ link_number to → Asking parts links run actor to ask number
+asking-in parts engine links run actor to ask own number about same from get = record {
+  plan = about.stands.plan;
+  run = about.stands.run;
+  stand = subst (λ ls. LinksStand (network_of parts).links ls run) (sym same) about.stands.links;
+  asked = about.asks;
+  is = sym (from ∙ get);
+}
+
+-- what holds anyway holds of an error
+pub on-err : {X E : Type 0} {P : Type 0} (result : Result X E) → P → OnErr result P
+on-err (Ok x) holds = tt
+on-err (Err e) holds = holds
+
+-- two facts of a result make a third
+pub both-ok : {X E : Type 0} {P Q R : X → Type 0} (result : Result X E) → ((x : X) → P x → Q x → R x) → IfOk result P → IfOk result Q → IfOk result R
+both-ok (Ok x) both one other = both x one other
+both-ok (Err e) both one other = tt
+
+-- and one of an error another
+pub more-err : {X E P Q : Type 0} (result : Result X E) → (P → Q) → OnErr result P → OnErr result Q
+more-err (Ok x) more holds = tt
+more-err (Err e) more holds = more holds

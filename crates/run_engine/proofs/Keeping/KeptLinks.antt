@@ -1,0 +1,121 @@
+-- The links of a run, as they are kept: before any step, and with one more step. Their clocks are small.
+use Rattle.std.proofs.Common.{◌≡◌, ◌≢◌, ℕ, suc, ◌+◌, ◌<◌, ◌≤◌, ◌^◌, Option, Some, None, List, [], ◌∷◌, ◌++◌, length, map, sym, ap, ◌∙◌, subst, inl, inr, option_map, nat_lt, arith}
+use Rattle.std.proofs.lemmas.Bool.{cases_Bool, eqb-true, eqb-false}
+use Rattle.std.proofs.lemmas.List.{length-map}
+use Rattle.std.proofs.lemmas.Option.{slice_get_within, slice_get-map}
+use Rattle.std.specs.List.{slice_get}
+use Rattle.std.specs.Prelude.{nat_eq}
+use Rattle.net_units.specs.Numbers.{actor_number}
+use Rattle.link_quota.specs.Any.{any_rules, any_clock, AnyStands, any-clock-is}
+use Rattle.link_quota.specs.declared.any_link.AnyLink.{AnyLink}
+use Rattle.link_steps.specs.Scan.{clock_of}
+use Rattle.link_steps.specs.Split.{Link}
+use Rattle.link_steps.specs.declared.replies.Reply.{Reply}
+use Rattle.call_script.specs.Fits.{NetworkFits}
+use Rattle.call_script.specs.Splits.{entry_link}
+use Rattle.call_script.specs.Tasks.{Network}
+use Rattle.call_script.specs.declared.entries.LinkEntry.{LinkEntry}
+use Rattle.run_engine.specs.runs.Runs.{plane_no, plane_at, IsRun}
+use Rattle.run_engine.specs.schedules.Standing.{LinksStand}
+use Rattle.run_engine.proofs.Keeping.Lookups.{get-push, held}
+use Rattle.run_engine.proofs.Runs.PartLaws.{clocks-follow}
+use Rattle.run_engine.proofs.Runs.RunLegal.{plane-next, plane-by, plane-off}
+use Rattle.run_record.specs.Runs.{replies_to, part_of}
+use Rattle.run_record.specs.declared.done.Done.{Done}
+use Rattle.tick_plane.specs.Planes.{Plane, plane_with, plane_of, next_due}
+use Rattle.tick_plane.specs.declared.flight.Flight.{Flight}
+
+-- ---- clocks
+
+with-most : (links rounds : ℕ) (plane : Plane) (found : Option Flight) (reply : Reply) → plane.round < rounds → (plane_with links plane found reply).round ≤ rounds
+with-most links rounds plane (Some flight) reply early = omega (arith, early)
+with-most links rounds plane None reply early =
+    elim (cases_Bool (nat_eq (suc plane.ticked) links)) [
+      | inl last ↦ rw last (omega (arith, early))
+      | inr more ↦ rw more (omega (arith, early))
+    ]
+
+-- the plane makes no more rounds than it has
+rounds-most : (network : Network) (run : List Done) → IsRun network run → (plane_at network run).round ≤ network.rounds
+unfolding IsRun plane_of replies_to
+rounds-most network [] run = omega arith
+rounds-most network (done ∷ past) run =
+    elim (cases_Bool (nat_eq (actor_number done.actor) (plane_no network))) [
+      | inl plane ↦
+          (let same = eqb-true (actor_number done.actor) (plane_no network) plane in
+          let asks = plane-next network past done run.1 same in
+          subst (λ (p : Plane). p.round ≤ network.rounds) (sym (plane-by network done past same)) (with-most (length network.links) network.rounds (plane_at network past) (next_due (plane_at network past)) done.reply asks.early))
+      | inr caller ↦ subst (λ (p : Plane). p.round ≤ network.rounds) (sym (plane-off network done past (eqb-false (actor_number done.actor) (plane_no network) caller))) (rounds-most network past run.0)
+    ]
+
+pub clock-small : (network : Network) (links : List AnyLink) (run : List Done) (n : ℕ) (link : AnyLink) → NetworkFits network → IsRun network run → LinksStand network.links links run → slice_get links n ≡ Some link → any_clock link < 2 ^ 61
+clock-small network links run n link fits is stand found =
+    let within : n < length network.links = slice_get_within network.links n (any_rules link) (stand.linked n link found) in
+    let clock : any_clock link ≡ clock_of (part_of n run) = any-clock-is link (part_of n run) (stand.parts n link found) in
+    let follows = clock ∙ clocks-follow network run n fits is within in
+    let most = rounds-most network run is in
+    let few = fits.rounds in
+    elim (cases_Bool (nat_lt n (plane_at network run).ticked)) [
+      | inl made ↦ (let at : any_clock link ≡ (plane_at network run).round + 1 = rw made at follows in omega (arith, at, most, few))
+      | inr left ↦ (let at : any_clock link ≡ (plane_at network run).round + 0 = rw left at follows in omega (arith, at, most, few))
+    ]
+
+-- ---- with one step more
+
+-- one link may have another state, which stands for its part; the parts of the others are the same
+pub links-with : (network : List Link) (old new : List AnyLink) (number : ℕ) (run more : List Done) → length new ≡ length old → ((n : ℕ) → n ≢ number → slice_get new n ≡ slice_get old n)
+    → ((link next : AnyLink) → slice_get old number ≡ Some link → slice_get new number ≡ Some next → any_rules next ≡ any_rules link)
+    → ((n : ℕ) → n ≢ number → part_of n more ≡ part_of n run)
+    → ((link next : AnyLink) → slice_get old number ≡ Some link → slice_get new number ≡ Some next → AnyStands link (part_of number run) → AnyStands next (part_of number more))
+    → LinksStand network old run → LinksStand network new more
+links-with network old new number run more long others same parts at stand = record {
+  same = long ∙ stand.same;
+  linked = λ n next found.
+      elim (cases_Bool (nat_eq n number)) [
+        | inl on ↦ linked-on n next (eqb-true n number on) found
+        | inr off ↦ stand.linked n next (sym (others n (eqb-false n number off)) ∙ found)
+      ];
+  parts = λ n next found.
+      elim (cases_Bool (nat_eq n number)) [
+        | inl on ↦ parts-on n next (eqb-true n number on) found
+        | inr off ↦ (let other = eqb-false n number off in subst (AnyStands next) (sym (parts n other)) (stand.parts n next (sym (others n other) ∙ found)))
+      ];
+} where
+  linked-on : (n : ℕ) (next : AnyLink) → n ≡ number → slice_get new n ≡ Some next → slice_get network n ≡ Some (any_rules next)
+  linked-on n next on found =
+      let there : slice_get new number ≡ Some next = ap (slice_get new) (sym on) ∙ found in
+      let was = held old number (let within = slice_get_within new number next there in omega (arith, within, long)) in
+      ap (slice_get network) on ∙ stand.linked number was.item was.found ∙ ap (λ link. Some link) (sym (same was.item next was.found there))
+
+  parts-on : (n : ℕ) (next : AnyLink) → n ≡ number → slice_get new n ≡ Some next → AnyStands next (part_of n more)
+  parts-on n next on found =
+      let there : slice_get new number ≡ Some next = ap (slice_get new) (sym on) ∙ found in
+      let was = held old number (let within = slice_get_within new number next there in omega (arith, within, long)) in
+      subst (λ m. AnyStands next (part_of m more)) (sym on) (at was.item next was.found there (stand.parts number was.item was.found))
+
+-- ---- before any step
+
+-- so many links of these entries are made
+pub record LinksMade (groups : List ℕ) (entries : List LinkEntry) (links : List AnyLink) : Type 0 where
+  pub linked : (n : ℕ) (link : AnyLink) → slice_get links n ≡ Some link → slice_get (map (entry_link groups) entries) n ≡ Some (any_rules link)
+  pub fresh : (n : ℕ) (link : AnyLink) → slice_get links n ≡ Some link → AnyStands link []
+
+pub one-made : (groups : List ℕ) (entries : List LinkEntry) (links : List AnyLink) (entry : LinkEntry) (link : AnyLink) → LinksMade groups entries links → slice_get entries (length links) ≡ Some entry → any_rules link ≡ entry_link groups entry → AnyStands link [] → LinksMade groups entries (links ++ link ∷ [])
+one-made groups entries links entry link made found shape stands = record {
+  linked = λ n at is.
+      elim (get-push links link n at is) [
+        | inl before ↦ made.linked n at before
+        | inr last ↦
+            slice_get-map (entry_link groups) entries n ∙ ap (λ m. option_map (entry_link groups) (slice_get entries m)) last.0 ∙ ap (option_map (entry_link groups)) found
+            ∙ ap (λ (l : Link). Some l) (sym shape) ∙ ap (λ (l : AnyLink). Some (any_rules l)) (sym last.1)
+      ];
+  fresh = λ n at is.
+      elim (get-push links link n at is) [
+        | inl before ↦ made.fresh n at before
+        | inr last ↦ subst (λ (l : AnyLink). AnyStands l []) (sym last.1) stands
+      ];
+}
+
+pub all-made : (groups : List ℕ) (entries : List LinkEntry) (links : List AnyLink) → length links ≡ length entries → LinksMade groups entries links → LinksStand (map (entry_link groups) entries) links []
+unfolding part_of
+all-made groups entries links long made = record { same = long ∙ sym (length-map entries (entry_link groups)); linked = made.linked; parts = made.fresh }

@@ -1,0 +1,11 @@
+pub mod Runs
+pub mod Tasks
+pub mod Keeping
+pub mod Channels
+pub mod Flights
+pub mod Delays
+pub mod Moves
+pub mod Replies
+pub mod Schedules
+pub mod Watched
+pub mod Worked

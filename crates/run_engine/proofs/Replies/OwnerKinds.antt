@@ -1,0 +1,94 @@
+-- What kinds of entry the owner of a channel makes: one of another channel, one of its setup, a submit on it, or a release of it.
+use Rattle.std.proofs.Common.{◌≡◌, ◌≢◌, ◌⊎◌, ℕ, suc, List, [], ◌∷◌, ◌++◌, length, Some, refl, ap, ◌∙◌, subst, inl, inr, sym}
+use Rattle.std.proofs.lemmas.Bool.{cases_Bool}
+use Rattle.std.specs.Prelude.{nat_eq}
+use Rattle.net_units.specs.Numbers.{link_number, channel_number}
+use Rattle.net_units.specs.declared.numbers.ChanNo.{ChanNo}
+use Rattle.net_units.specs.declared.numbers.LinkNo.{LinkNo}
+use Rattle.link_steps.specs.declared.asks.Ask.{Ask}
+use Rattle.link_steps.specs.declared.asks.Ask.TheVariants.{Submit, Release}
+use Rattle.link_steps.specs.declared.replies.Reply.{Reply}
+use Rattle.link_steps.specs.declared.replies.Reply.TheVariants as Is
+use Rattle.channel_laws.specs.Asks.{IsOff}
+use Rattle.channel_move.specs.Moving.{kept_in, shifted_in, told_by}
+use Rattle.channel_move.specs.Stages.{stage_after, joining_after}
+use Rattle.channel_move.specs.declared.mover.Stage.TheVariants.{Leaving, Releasing}
+use Rattle.channel_move.specs.declared.shifted.Shifted.{Shifted}
+use Rattle.setup_protocol.specs.Setup.{Progress, asked}
+use Rattle.setup_protocol.specs.Teardown.{first_count, told_count}
+use Rattle.setup_protocol.specs.declared.request.Request.{Request}
+use Rattle.setup_protocol.proofs.HopAsks.{of-setup}
+use Rattle.setup_protocol.proofs.HopHolds.{IsComm}
+use Rattle.call_script.specs.Owners.{TaskOff, IsMoveFrom}
+use Rattle.call_script.specs.Tasks.{Network}
+use Rattle.call_script.specs.declared.tasks.Task.{Task}
+use Rattle.call_script.specs.declared.tasks.Task.TheVariants.{Opens, Sends, Closes, Moves}
+use Rattle.run_record.specs.declared.done.Done.{Done}
+use Rattle.run_engine.specs.channels.Paths.{HopAt}
+use Rattle.run_engine.proofs.Channels.RowsFollow.{held_at_hop, SetupRows}
+
+pub not-own : (request : Request) (task own : Task) → TaskOff (channel_number request.chan) task → task ≡ own → (TaskOff (channel_number request.chan) own → ⊥) → ⊥
+not-own request task own off same none = none (subst (TaskOff (channel_number request.chan)) same off)
+
+abbrev pub NoRelease : Ask → Type 0
+NoRelease (Release chan upstream) = ⊥
+NoRelease _ = Unit {0}
+
+-- the task leaves the channel: it closes it, or moves from it
+abbrev pub IsLeaving : Request → Task → Type 0
+IsLeaving request task = (task ≡ Closes request) ⊎ IsMoveFrom request task
+
+pub off-leaving : (request : Request) (task : Task) → TaskOff (channel_number request.chan) task → IsLeaving request task → ⊥
+off-leaving request task off (inl is) = not-own request task (Closes request) off is (λ other. other refl)
+off-leaving request task off (inr own) = not-own request task (Moves request own.new own.gap own.size) off own.is (λ other. other.0 refl)
+
+pub data OwnKind (network : Network) (request : Request) (done : Done) (past : List Done) (task : Task) (replies : List Reply) : Type 0 where
+  OwnOff : (IsLeaving request task → ⊥) → IsOff (channel_number request.chan) done.ask → OwnKind network request done past task replies
+  OwnAside : (first : Reply) → replies ≡ first ∷ [] → IsOff (channel_number request.chan) done.ask → OwnKind network request done past task replies
+  OwnSetup : (later : List Reply) → later ≡ replies ++ done.reply ∷ [] → task ≡ Opens request → SetupRows network request later (done ∷ past) → NoRelease done.ask → OwnKind network request done past task replies
+  OwnSend : (count gap size : ℕ) → (IsLeaving request task → ⊥) → done.ask ≡ Submit request.chan count gap size → OwnKind network request done past task replies
+  OwnClose : (levels : List ℕ) → IsLeaving request task → (k : ℕ) → (here : HopAt network request k) → link_number done.link ≡ link_number here.hop.link → done.ask ≡ Release request.chan (first_count replies) → (replies ≡ [] → k ≡ 0) → IsComm Some request levels k (held_at_hop network request k here past) → OwnKind network request done past task replies
+
+-- an opening doesn't leave it, nor does a send, nor a move onto it
+pub opens-stay : (request : Request) (task : Task) → task ≡ Opens request → IsLeaving request task → ⊥
+opens-stay request task own (inl closes) = (let clash : Opens request ≡ Closes request = sym own ∙ closes in cc)
+opens-stay request task own (inr moves) = (let clash : Opens request ≡ Moves request moves.new moves.gap moves.size = sym own ∙ moves.is in cc)
+
+pub send-stays : (request : Request) (link : LinkNo) (chan : ChanNo) (count gap size : ℕ) → IsLeaving request (Sends link (Some chan) count gap size) → ⊥
+send-stays request link chan count gap size (inl closes) = (let clash : Sends link (Some chan) count gap size ≡ Closes request = closes in cc)
+send-stays request link chan count gap size (inr own) = (let clash : Sends link (Some chan) count gap size ≡ Moves request own.new own.gap own.size = own.is in cc)
+
+pub onto-stays : (request old : Request) (gap size : ℕ) → channel_number old.chan ≢ channel_number request.chan → IsLeaving request (Moves old request gap size) → ⊥
+onto-stays request old gap size other (inl closes) = (let clash : Moves old request gap size ≡ Closes request = closes in cc)
+onto-stays request old gap size other (inr own) = other (ap chan-left own.is) where
+  chan-left : Task → ℕ
+  chan-left (Moves left joined own_gap own_size) = channel_number left.chan
+  chan-left _ = channel_number old.chan
+
+-- an ask of a setup is no release
+pub setup-keeps : (request : Request) (p : Progress) (to : LinkNo) (ask : Ask) → asked request p ≡ Some (to, ask) → NoRelease ask
+setup-keeps request p to ask same = of-setup NoRelease request p to ask (λ offers reach. tt) tt (λ levels place. tt) same
+
+-- ---- what the first reply to a task that leaves tells
+
+pub stage-some : (told : Shifted) (made : ℕ) → Leaving ≡ Releasing told made → ⊥
+stage-some told made same = cc
+
+-- the count that the first reply tells
+pub told-kept : (reply : Reply) → told_count reply ≡ kept_in reply
+told-kept (Is.Closing count cancelled) = refl
+told-kept _ = refl
+
+pub stage-told : (replies : List Reply) (told : Shifted) (made : ℕ) → stage_after replies ≡ Releasing told made → first_count replies ≡ Some told.kept
+stage-told [] told made stage = cc
+stage-told (first ∷ replies) told made stage =
+    ap Some (told-kept first) ∙ ap (λ (t : Shifted). Some t.kept) (elim (cases_Bool (nat_eq (shifted_in first) 0)) [
+      | inl none ↦ told-same (told_by first) told (suc (length replies)) made (rw none at stage)
+      | inr some ↦ later replies (rw some at stage)
+    ]) where
+      told-same : (a b : Shifted) (n m : ℕ) → Releasing a n ≡ Releasing b m → a ≡ b
+      told-same a b n m same = cc
+
+      later : (rest : List Reply) → joining_after (told_by first) rest ≡ Releasing told made → told_by first ≡ told
+      later [] is = cc
+      later (planned ∷ rest) is = told-same (told_by first) told (suc (length rest)) made is

@@ -1,0 +1,315 @@
+-- In every run of a network whose channels each have one owner, each reply is one that its actor expects.
+use Rattle.std.proofs.Common.{◌++◌, Bool, arith, ◌≡◌, ℕ, true, List, [], ◌∷◌, length, Option, Some, None, refl, sym, ap, ◌∙◌, subst, inl, inr}
+use Rattle.std.proofs.lemmas.Option.{slice_get_within, same_Some}
+use Rattle.std.specs.Prelude.{find, nat_le, ◌≤◌, nat_eq}
+use Rattle.hop_reservation.specs.Routes.{link_of}
+use Rattle.channel_move.proofs.AskByStage.{HopAsked, MoveAsks, AsksFirst, AsksSubmit, AsksRest, move-asks, move-ask-is}
+use Rattle.channel_laws.proofs.ChannelRows.{find-passes}
+use Rattle.channel_laws.proofs.SendReplies.{found-at-hop, best-answered, of-released}
+use Rattle.channel_laws.specs.Reservations.{held_by, IsSendReply, IsReleased, IsArriveReply}
+use Rattle.link_steps.specs.declared.replies.Phase.TheVariants.{Committed}
+use Rattle.link_steps.specs.declared.shape.LinkShape.{LinkShape}
+use Rattle.link_steps.specs.Lists.{change_first, Each}
+use Rattle.link_steps.specs.Replies.{submit_reply, submit_to, tick_reply, reply_at, reply_to}
+use Rattle.link_steps.specs.Reservation.{Reservation, is_phase}
+use Rattle.link_steps.specs.Rows.{Row, left_at, planned_from}
+use Rattle.link_steps.specs.Scan.{Scan, plan_row, after, is_row_at_hop, clock_of, scan_of}
+use Rattle.setup_protocol.specs.Hops.{RequestFits}
+use Rattle.setup_protocol.proofs.HopHolds.{IsComm}
+use Rattle.run_engine.specs.channels.Moves.{plan_in, plan_at}
+use Rattle.run_engine.proofs.Channels.HopsAt.{hop-at}
+use Rattle.channel_laws.specs.Unsent.{IsPlanned}
+use Rattle.channel_laws.proofs.UnsentPlans.{unsent-left}
+use Rattle.run_engine.proofs.Replies.ClosingStands.{AllComm, Unsent, IsUnjoined, Denied, Closing, MovingFrom, MovingOnto, UnderWay, Aside, Opening, Sending}
+use Rattle.run_engine.proofs.Runs.RunLegal.{part-on, plane-next, caller-next}
+use Rattle.net_units.specs.declared.numbers.ChanNo.{ChanNo}
+use Rattle.channel_move.specs.Moving.{answers, answers_next, next_of_move}
+use Rattle.call_script.specs.Owners.{OwnedFully, TaskOff, AllOwned}
+use Rattle.call_script.specs.Scripts.{move_between, Standing, packets_ask, once_next, standing, answers_submit, first_expects, Learnt, is_established}
+use Rattle.run_engine.proofs.Moves.SizesKept.{first-small}
+use Rattle.std.proofs.lemmas.Bool.{cases_Bool, eqb-true, eqb-false}
+use Rattle.std.specs.List.{slice_get}
+use Rattle.net_units.specs.Numbers.{link_number, actor_number, channel_number}
+use Rattle.net_units.specs.declared.numbers.LinkNo.{LinkNo}
+use Rattle.hop_reservation.specs.Offers.{next_levels}
+use Rattle.link_steps.specs.declared.asks.Ask.{Ask}
+use Rattle.link_steps.specs.declared.asks.Ask.TheVariants.{Submit, Release, Arrive, Tick}
+use Rattle.link_steps.specs.declared.replies.Entry.{Entry}
+use Rattle.link_steps.specs.declared.replies.Refusal.TheVariants as Why
+use Rattle.link_steps.specs.declared.replies.Reply.{Reply}
+use Rattle.link_steps.specs.declared.replies.Reply.TheVariants as Is
+use Rattle.link_steps.specs.Effects.{effect_of}
+use Rattle.link_steps.specs.Split.{Link}
+use Rattle.setup_protocol.specs.Setup.{Progress, Reserving, Undoing, Relaxing, Settled, answers_reserve, answers_deny, answers_relax, is_expected, asked, next_ask, progress_of}
+use Rattle.setup_protocol.specs.Teardown.{is_closing, next_release}
+use Rattle.setup_protocol.specs.declared.request.Request.{Request}
+use Rattle.call_script.specs.Fits.{NetworkFits}
+use Rattle.call_script.specs.Tasks.{Network}
+use Rattle.call_script.specs.declared.tasks.Task.{Task}
+use Rattle.call_script.specs.declared.tasks.Task.TheVariants.{Opens, Sends, Closes, Moves}
+use Rattle.channel_laws.proofs.ArriveReplies.{arrive-told, of-arrive}
+use Rattle.run_engine.specs.replies.Answers.{IsReserveReply, IsRelaxed, IsTicked, IsReplyOf}
+use Rattle.run_engine.specs.runs.Laws.{EveryReplyIsExpected, EveryAskIsAnswered}
+use Rattle.run_engine.specs.runs.Runs.{plane_no, plane_at, IsNext, IsRun}
+use Rattle.run_record.specs.Runs.{replies_to, part_of}
+use Rattle.run_record.specs.declared.done.Done.{Done}
+use Rattle.tick_plane.specs.Planes.{next_due, ask_due, answers_arrive, answers_tick, plane_expects}
+use Rattle.tick_plane.specs.declared.flight.Flight.{Flight}
+use Rattle.run_engine.proofs.Replies.ClosingSteps.{IsUsualReply, IfReleased, IfPlanned}
+use Rattle.run_engine.proofs.Replies.RunCloses.{owned-once, step-usual, step-under}
+use Rattle.run_engine.proofs.Replies.RunGoes.{step-setup}
+use Rattle.setup_protocol.proofs.HopAsks.{of-hop}
+use Rattle.channel_laws.proofs.SentInTime.{tick-answer}
+use Rattle.run_engine.proofs.Tasks.SingleAskTask.{once-asked, packets-hold}
+use Rattle.run_engine.proofs.Runs.EachRun.{OwnStep, at-step}
+use Rattle.run_engine.proofs.Tasks.TaskAsks.{off-standing}
+use Rattle.run_engine.proofs.Tasks.OwnTasks.{own-task, OwnerIs, owner-is}
+
+-- ---- the tests and the facts say the same
+
+send-expected : (reply : Reply) → IsSendReply reply → answers_submit reply ≡ true
+send-expected (Is.Planned clock) is = refl
+send-expected (Is.Refused (Why.Busy left)) is = refl
+send-expected (Is.Refused (Why.TooBig size smax)) is = refl
+send-expected _ is = absurd is
+
+reserve-answered : (levels : ℕ) (reply : Reply) → answers_reserve levels reply ≡ true → IsReserveReply reply
+reserve-answered levels (Is.Offer level reach) is = tt
+reserve-answered levels (Is.Refused refusal) is = is
+reserve-answered levels _ is = cc
+
+deny-answered : (reply : Reply) → answers_deny reply ≡ true → reply ≡ Is.Denied
+deny-answered Is.Denied is = refl
+deny-answered _ is = cc
+
+relax-answered : (reply : Reply) → answers_relax reply ≡ true → IsRelaxed reply
+relax-answered (Is.Relaxed clock) is = tt
+relax-answered _ is = cc
+
+-- ---- the ask under way and its replies
+
+setup-answered : (request : Request) (p : Progress) (to : LinkNo) (ask : Ask) (reply : Reply) → asked request p ≡ Some (to, ask) → is_expected request p reply ≡ true → IsReplyOf ask reply
+setup-answered request (Reserving offers reach) to ask reply same is = of-hop (λ a. IsReplyOf a reply) (slice_get request.route (length offers)) _ to ask (λ hop. reserve-answered (next_levels request.route offers) reply is) same
+setup-answered request (Undoing left deny) to ask reply same is = of-hop (λ a. IsReplyOf a reply) _ _ to ask (λ hop. deny-answered reply is) same
+setup-answered request (Relaxing left levels) to ask reply same is = of-hop (λ a. IsReplyOf a reply) _ _ to ask (λ hop. relax-answered reply is) same
+setup-answered request (Settled outcome) to ask reply same is = cc
+
+-- what stands of a reply to a caller
+record Expected (tasks : List Task) (replies : List Reply) (ask : Ask) (reply : Reply) : Type 0 where
+  is : first_expects tasks replies reply ≡ true
+  answered : IsReplyOf ask reply
+
+opens-expected : (request : Request) (rest : List Task) (replies : List Reply) (to : LinkNo) (ask : Ask) (reply : Reply) → next_ask request replies ≡ Some (to, ask) → is_expected request (progress_of request replies) reply ≡ true → Expected (Opens request ∷ rest) replies ask reply
+opens-expected request rest replies to ask reply same is = record { is = is; answered = setup-answered request (progress_of request replies) to ask reply same is }
+
+sends-expected : (link : LinkNo) (chan : Option ChanNo) (count gap size : ℕ) (rest : List Task) (replies : List Reply) (to : LinkNo) (ask : Ask) (reply : Reply) → once_next link (packets_ask chan count gap size) replies ≡ Some (to, ask) → IsSendReply reply
+    → Expected (Sends link chan count gap size ∷ rest) replies ask reply
+sends-expected link chan count gap size rest replies to ask reply same is = record {
+  is = send-expected reply is;
+  answered = subst (λ a. IsReplyOf a reply) (once-asked link (packets_ask chan count gap size) replies to ask same).is (packets-hold (λ a. IsReplyOf a reply) chan count gap size (λ own. is) is);
+}
+
+closes-expected : (request : Request) (rest : List Task) (replies : List Reply) (to : LinkNo) (ask : Ask) (reply : Reply) → next_release request.chan request.route replies ≡ Some (to, ask) → IsReleased reply → Expected (Closes request ∷ rest) replies ask reply
+closes-expected request rest replies to ask reply same is = record { is = of-released (λ r. is_closing r ≡ true) reply (λ count cancelled. refl) is; answered = of-hop (λ a. IsReplyOf a reply) (slice_get request.route (length replies)) _ to ask (λ hop. is) same }
+
+best-reply : (link : Link) (h : List Entry) (ask : Ask) (count gap size : ℕ) → ask ≡ packets_ask None count gap size → IsSendReply (reply_to link h ask)
+unfolding effect_of
+best-reply link h ask count gap size same = best-answered link h ask 0 count gap size (ap (λ a. effect_of (scan_of link.shape h) a (Is.Planned 0)) same)
+
+planned-send : (reply : Reply) → IsPlanned reply → IsSendReply reply
+planned-send (Is.Planned clock) is = tt
+planned-send _ is = absurd is
+
+planned-answers : (chan own : ChanNo) (count gap size : ℕ) (reply : Reply) → IsPlanned reply → answers (Submit chan count gap size) reply ≡ true
+planned-answers chan own count gap size (Is.Planned clock) is = refl
+planned-answers chan own count gap size _ is = absurd is
+
+moves-expected : (old new : Request) (gap size : ℕ) (rest : List Task) (replies : List Reply) (to : LinkNo) (ask : Ask) (reply : Reply) → next_of_move (move_between old new gap size) replies ≡ Some (to, ask) → IfReleased ask reply → IfPlanned ask reply → Expected (Moves old new gap size ∷ rest) replies ask reply
+moves-expected old new gap size rest replies to ask reply same released planned = record {
+  is = ap (λ next. answers_next next reply) same ∙ move-ask-is (λ a. IfReleased a reply → IfPlanned a reply → answers a reply ≡ true) (move_between old new gap size) replies to ask (λ upstream is none. of-released (λ r. answers (Release old.chan upstream) r ≡ true) reply (λ count cancelled. refl) is) (λ count none is. planned-answers new.chan new.chan count gap size reply is) same released planned;
+  answered = move-ask-is (λ a. IfReleased a reply → IfPlanned a reply → IsReplyOf a reply) (move_between old new gap size) replies to ask (λ upstream is none. is) (λ count none is. planned-send reply is) same released planned;
+}
+
+-- ---- each reply to a caller
+
+module _ (network : Network) (owner : ℕ) (script : List Task) (past : List Done) (done : Done) (task : Task) (rest : List Task) (replies : List Reply) (outcomes : List Learnt) (fits : NetworkFits network) (all : AllOwned network) (step : OwnStep network owner script past done task rest replies outcomes) where
+  -- where its task names a channel, the caller owns it
+  named-own : (c : ℕ) → (TaskOff c task → ⊥) → OwnerIs network c owner
+  named-own c named = owner-is network c owner script all step.found (λ off. named (head (subst (λ (s : Standing). Each (TaskOff c) s.tasks) step.stands (off-standing c script (replies_to owner past) off)))) where
+    head : Each (TaskOff c) (task ∷ rest) → TaskOff c task
+    head each = each.0
+
+  own-step : (c : ℕ) → (is : OwnerIs network c owner) → OwnStep network is.own.owner script past done task rest replies outcomes
+  own-step c is = subst (λ o. OwnStep network o script past done task rest replies outcomes) is.same step
+
+  usual-reply : (c : ℕ) → (is : OwnerIs network c owner) → IsUsualReply is.own.request task done.ask done.reply
+  usual-reply c is = step-usual network is.own.request is.own.owner script past done task rest replies outcomes fits is.own.sound is.own.full (own-step c is)
+
+open-reply : (network : Network) (owner : ℕ) (script : List Task) (past : List Done) (done : Done) (request : Request) (rest : List Task) (replies : List Reply) (outcomes : List Learnt) → NetworkFits network → AllOwned network → OwnStep network owner script past done (Opens request) rest replies outcomes → is_expected request (progress_of request replies) done.reply ≡ true
+open-reply network owner script past done request rest replies outcomes fits all step =
+    let is = named-own network owner script past done (Opens request) rest replies outcomes fits all step (channel_number request.chan) (λ off. off refl) in
+    let own = own-step network owner script past done (Opens request) rest replies outcomes fits all step (channel_number request.chan) is in
+    let same : request ≡ is.own.request = (own-task network is.own.request is.own.owner script past done (Opens request) rest replies outcomes is.own.full own) (sym is.own.chan) in
+    subst (λ r. is_expected r (progress_of r replies) done.reply ≡ true) (sym same)
+    (step-setup network is.own.request is.own.owner script past done rest replies outcomes fits is.own.sound (owned-once network is.own.request is.own.owner is.own.full) (subst (λ r. OwnStep network is.own.owner script past done (Opens r) rest replies outcomes) same own)).expected
+
+-- the packets of a move are no larger than the contract of the channel that it joins
+moved-small : (network : Network) (owner : ℕ) (script : List Task) (past : List Done) (done : Done) (old new : Request) (gap size : ℕ) (rest : List Task) (replies : List Reply) (outcomes : List Learnt) → NetworkFits network → AllOwned network → OwnStep network owner script past done (Moves old new gap size) rest replies outcomes → (own : OwnerIs network (channel_number new.chan) owner) → size ≤ own.own.request.contract.smax
+moved-small network owner script past done old new gap size rest replies outcomes fits all step own =
+    first-small network past owner script old new gap size rest own.own.request fits all step.run step.found (subst (OwnedFully network own.own.request) (sym own.same) own.own.full) (sym own.own.chan) (ap (λ (s : Standing). s.tasks) step.stands)
+
+step-expected : (network : Network) (owner : ℕ) (script : List Task) (past : List Done) (done : Done) (task : Task) (rest : List Task) (replies : List Reply) (outcomes : List Learnt) → NetworkFits network → AllOwned network → OwnStep network owner script past done task rest replies outcomes → Expected (task ∷ rest) replies done.ask done.reply
+step-expected network owner script past done (Opens request) rest replies outcomes fits all step =
+    opens-expected request rest replies done.link done.ask done.reply step.asks (open-reply network owner script past done request rest replies outcomes fits all step)
+step-expected network owner script past done (Sends link (Some chan) count gap size) rest replies outcomes fits all step =
+    let task : Task = Sends link (Some chan) count gap size in
+    let own = named-own network owner script past done task rest replies outcomes fits all step (channel_number chan) (λ off. off refl) in
+    sends-expected link (Some chan) count gap size rest replies done.link done.ask done.reply step.asks (usual-reply network owner script past done task rest replies outcomes fits all step (channel_number chan) own (λ off. off (sym own.own.chan)))
+step-expected network owner script past done (Sends link None count gap size) rest replies outcomes fits all step =
+    sends-expected link None count gap size rest replies done.link done.ask done.reply step.asks
+    (subst IsSendReply (sym step.next.answered) (best-reply step.next.link (part_of (link_number done.link) past) done.ask count gap size (sym (once-asked link (packets_ask None count gap size) replies done.link done.ask step.asks).is)))
+step-expected network owner script past done (Closes request) rest replies outcomes fits all step =
+    let own = named-own network owner script past done (Closes request) rest replies outcomes fits all step (channel_number request.chan) (λ off. off refl) in
+    closes-expected request rest replies done.link done.ask done.reply step.asks (usual-reply network owner script past done (Closes request) rest replies outcomes fits all step (channel_number request.chan) own (sym own.own.chan))
+step-expected network owner script past done (Moves old new gap size) rest replies outcomes fits all step =
+    let task : Task = Moves old new gap size in
+    let own-old = named-own network owner script past done task rest replies outcomes fits all step (channel_number old.chan) (λ off. off.0 refl) in
+    let own-new = named-own network owner script past done task rest replies outcomes fits all step (channel_number new.chan) (λ off. off.1 refl) in
+    let released = (usual-reply network owner script past done task rest replies outcomes fits all step (channel_number old.chan) own-old).0 (sym own-old.own.chan) in
+    let planned = (usual-reply network owner script past done task rest replies outcomes fits all step (channel_number new.chan) own-new).1 (sym own-new.own.chan) (moved-small network owner script past done old new gap size rest replies outcomes fits all step own-new) in
+    moves-expected old new gap size rest replies done.link done.ask done.reply step.asks released planned
+
+caller-expected : (network : Network) (past : List Done) (done : Done) (tasks : List Task) → NetworkFits network → AllOwned network → IsRun network past → IsNext network past done → slice_get network.scripts (actor_number done.actor) ≡ Some tasks
+    → Expected (standing tasks (replies_to (actor_number done.actor) past)).tasks (standing tasks (replies_to (actor_number done.actor) past)).replies done.ask done.reply
+caller-expected network past done tasks fits all run next found =
+    at-step network (actor_number done.actor) tasks past done run next refl found (λ at. Expected at.tasks at.replies done.ask done.reply) (λ task rest replies outcomes step. step-expected network (actor_number done.actor) tasks past done task rest replies outcomes fits all step)
+
+-- ---- each reply to the plane
+
+due-expected : (link : Link) (h : List Entry) (found : Option Flight) (ticked : ℕ) (to : LinkNo) (ask : Ask) (reply : Reply) → ask_due ticked found ≡ (to, ask) → reply ≡ reply_to link h ask → (plane_expects found reply ≡ true) × IsReplyOf ask reply
+due-expected link h None ticked to ask reply asks same =
+    let tick : Tick ≡ ask = ap (λ pair. pair.1) asks in
+    let is : reply ≡ tick_reply link.shape (clock_of h) (scan_of link.shape h) = same ∙ ap (reply_to link h) (sym tick) ∙ tick-answer link h in
+    (ap answers_tick is, subst (λ a. IsReplyOf a reply) tick (subst IsTicked (sym is) tt))
+due-expected link h (Some flight) ticked to ask reply asks same =
+    let arrive : Arrive flight.packet ≡ ask = ap (λ pair. pair.1) asks in
+    let told : IsArriveReply reply = arrive-told link h flight.packet reply (same ∙ ap (reply_to link h) (sym arrive)) in
+    (of-arrive (λ r. answers_arrive r ≡ true) reply (λ clock eligible. refl) (λ held slots. refl) (λ why. refl) told, subst (λ a. IsReplyOf a reply) arrive told)
+
+plane-expected : (network : Network) (past : List Done) (done : Done) → (next : IsNext network past done) → actor_number done.actor ≡ plane_no network → (plane_expects (next_due (plane_at network past)) done.reply ≡ true) × IsReplyOf done.ask done.reply
+plane-expected network past done next same =
+    let asks = plane-next network past done next same in
+    due-expected next.link (part_of (link_number done.link) past) (next_due (plane_at network past)) (plane_at network past).ticked done.link done.ask done.reply asks.asks next.answered
+
+-- ---- every run
+
+pub replies-expected : EveryReplyIsExpected
+replies-expected = record {
+  callers = λ network past done tasks fits all run next other found. (caller-expected network past done tasks fits all run next found).is;
+  plane = λ network past done next same. (plane-expected network past done next same).0;
+}
+
+pub asks-answered : EveryAskIsAnswered
+asks-answered network past done fits all run next =
+    elim (cases_Bool (nat_eq (actor_number done.actor) (plane_no network))) [
+      | inl plane ↦ (plane-expected network past done next (eqb-true (actor_number done.actor) (plane_no network) plane)).1
+      | inr caller ↦
+          (let other = eqb-false (actor_number done.actor) (plane_no network) caller in
+          let asks = caller-next network past done next other in
+          (caller-expected network past done asks.tasks fits all run next asks.found).answered)
+    ]
+
+-- ---- the submit of a move
+
+-- a move onto the request: it is established at all hops, and nothing was submitted on it
+record IsJoined (network : Network) (new request : Request) (run : List Done) : Type 0 where
+  same : new ≡ request
+  levels : List ℕ
+  comm : AllComm network request levels 0 run
+  unsent : Unsent request run
+
+moved-onto : (a b c d : Request) (g s h t : ℕ) → Moves a b g s ≡ Moves c d h t → b ≡ d
+moved-onto a b c d g s h t is = cc
+
+move-joins-unsent : (network : Network) (request old new : Request) (gap size : ℕ) (rest : List Task) (run : List Done) (replies : List Reply) (established : Bool) → channel_number new.chan ≡ channel_number request.chan → IsUnjoined replies → UnderWay network request run (Moves old new gap size) rest replies established → IsJoined network new request run
+move-joins-unsent network request old new gap size rest run replies established chan early (Aside other left) = absurd (other.1 chan)
+move-joins-unsent network request old new gap size rest run replies established chan early (Opening own used none unsent) = absurd (let clash : Moves old new gap size ≡ Opens request = own in cc)
+move-joins-unsent network request old new gap size rest run replies established chan early (Sending levels own sends comm) = absurd (let clash : Moves old new gap size ≡ Sends own.hop.link (Some request.chan) own.count own.gap own.size = own.is in cc)
+move-joins-unsent network request old new gap size rest run replies established chan early (Closing levels own others comm) = absurd (let clash : Moves old new gap size ≡ Closes request = own in cc)
+move-joins-unsent network request old new gap size rest run replies established chan early (MovingFrom levels own closes comm) =
+    absurd (own.other (ap (λ r. channel_number r.chan) (sym (moved-onto old new request own.new gap size own.gap own.size own.is)) ∙ chan))
+move-joins-unsent network request old new gap size rest run replies established chan early (MovingOnto levels own sends comm unsent) = record {
+  same = moved-onto old new own.old request gap size own.gap own.size own.is;
+  levels = levels;
+  comm = comm;
+  unsent = unsent early;
+}
+
+-- a submit that is planned appends its packets to the plan
+find-changed : (test : Row → Bool) (change : Row → Row) (rows : List Row) (row : Row) → test (change row) ≡ true → find test rows ≡ Some row → find test (change_first test change rows) ≡ Some (change row)
+unfolding change_first
+find-changed test change [] row holds found = cc
+find-changed test change (r ∷ rows) row holds found =
+    elim (cases_Bool (test r)) [
+      | inl yes_it ↦ (let same : r ≡ row = same_Some r row (rw yes_it at found) in rw yes_it (rw (ap (λ x. test (change x)) same ∙ holds) (ap (λ x. Some (change x)) same)))
+      | inr other ↦ (let rest = find-changed test change rows row holds (rw other at found) in rw (other, other) rest)
+    ]
+
+plan-planned : (shape : LinkShape) (t count gap size clock : ℕ) (chan : ChanNo) (scan : Scan) (row : Row) → find (is_row_at_hop chan true) scan.rows ≡ Some row → row.plan ≡ [] → plan_in (find (is_row_at_hop chan true) (after shape t scan (Submit chan count gap size) (Is.Planned clock)).rows) ≡ planned_from t gap size count
+unfolding after
+plan-planned shape t count gap size clock chan scan row found empty =
+    ap plan_in (find-changed (is_row_at_hop chan true) (plan_row t count gap size) scan.rows row (find-passes (is_row_at_hop chan true) row scan.rows found) found) ∙ ap (λ plan. plan ++ planned_from t gap size count) empty
+
+planned-clock : (t size : ℕ) (terms : Reservation) (left : ℕ) → IsPlanned (submit_reply t size terms left) → submit_reply t size terms left ≡ Is.Planned t
+unfolding submit_reply
+planned-clock t size terms left is =
+    elim (cases_Bool (is_phase terms.phase Committed)) [
+      | inl phase ↦ elim (cases_Bool (nat_eq left 0)) [
+        | inl free ↦ elim (cases_Bool (nat_le size terms.contract.smax)) [
+          | inl small ↦ rw (phase, free, small) refl
+          | inr large ↦ absurd (rw (phase, free, large) at is)
+        ]
+        | inr busy ↦ absurd (rw (phase, busy) at is)
+      ]
+      | inr other ↦ absurd (rw other at is)
+    ]
+
+-- where the channel is committed at the first hop and nothing was submitted
+joined-plans : (network : Network) (past : List Done) (done : Done) (new request : Request) (gap size count : ℕ) → NetworkFits network → RequestFits network.links request → IsRun network past → (next : IsNext network past done) → IsJoined network new request past → HopAsked request.route 0 done.link → done.ask ≡ Submit new.chan count gap size → IsPlanned done.reply
+    → (done.reply ≡ Is.Planned (clock_of (part_of (link_number done.link) past))) × (plan_at new.chan next.link.shape (part_of (link_number done.link) (done ∷ past)) ≡ planned_from (clock_of (part_of (link_number done.link) past)) gap size count)
+unfolding reply_to reply_at scan_of
+joined-plans network past done new request gap size count fits sound run next joined at asked planned =
+    let t = clock_of (part_of (link_number done.link) past) in
+    let here = hop-at network request 0 sound (slice_get_within request.route 0 at.hop at.stands) in
+    let on : link_number done.link ≡ link_number here.hop.link = ap link_number at.at ∙ ap link_of (same_Some at.hop here.hop (sym at.stands ∙ here.stands)) in
+    let link : here.link ≡ next.link = same_Some here.link next.link (sym here.linked ∙ ap (slice_get network.links) (sym on) ∙ next.linked) in
+    let comm : IsComm Some request joined.levels 0 (held_by request.chan (scan_of next.link.shape (part_of (link_number done.link) past)).rows) = subst (λ n. IsComm Some request joined.levels 0 (held_by request.chan (scan_of next.link.shape (part_of n past)).rows)) (sym on) (subst (λ (l : Link). IsComm Some request joined.levels 0 (held_by request.chan (scan_of l.shape (part_of (link_number here.hop.link) past)).rows)) link (joined.comm 0 here (omega arith))) in
+    let found = found-at-hop request.chan true (scan_of next.link.shape (part_of (link_number done.link) past)).rows comm.terms comm.is comm.first in
+    let empty = unsent-left next.link.shape request.chan (part_of (link_number done.link) past) found.0 (joined.unsent (link_number done.link)) found.1 in
+    let own : done.ask ≡ Submit request.chan count gap size = asked ∙ ap (λ r. Submit r.chan count gap size) joined.same in
+    let reply : done.reply ≡ submit_reply (clock_of (part_of (link_number done.link) past)) size found.0.terms (length (left_at (clock_of (part_of (link_number done.link) past)) found.0.plan)) = next.answered ∙ ap (reply_to next.link (part_of (link_number done.link) past)) own ∙ ap (submit_to (clock_of (part_of (link_number done.link) past)) size) found.1 in
+    let clock : done.reply ≡ Is.Planned (clock_of (part_of (link_number done.link) past)) = reply ∙ planned-clock (clock_of (part_of (link_number done.link) past)) size found.0.terms _ (subst IsPlanned reply planned) in (
+      clock,
+      ap (λ r. plan_at r.chan next.link.shape (part_of (link_number done.link) (done ∷ past))) joined.same
+          ∙ ap (plan_at request.chan next.link.shape) (part-on (link_number done.link) done past refl)
+          ∙ ap (λ a. plan_in (find (is_row_at_hop request.chan true) (after next.link.shape (clock_of (part_of (link_number done.link) past)) (scan_of next.link.shape (part_of (link_number done.link) past)) a done.reply).rows)) own
+          ∙ ap (λ r. plan_in (find (is_row_at_hop request.chan true) (after next.link.shape (clock_of (part_of (link_number done.link) past)) (scan_of next.link.shape (part_of (link_number done.link) past)) (Submit request.chan count gap size) r).rows)) clock
+          ∙ plan-planned next.link.shape (clock_of (part_of (link_number done.link) past)) count gap size (clock_of (part_of (link_number done.link) past)) request.chan (scan_of next.link.shape (part_of (link_number done.link) past)) found.0 found.1 empty,
+    )
+
+-- the submit of a move is planned, and then its channel's plan has exactly its packets
+pub moves-plan : (network : Network) (owner : ℕ) (script : List Task) (past : List Done) (done : Done) (old new : Request) (gap size : ℕ) (rest : List Task) (replies : List Reply) (outcomes : List Learnt) (count : ℕ) → NetworkFits network → AllOwned network → (step : OwnStep network owner script past done (Moves old new gap size) rest replies outcomes) → done.ask ≡ Submit new.chan count gap size
+    → (done.reply ≡ Is.Planned (clock_of (part_of (link_number done.link) past))) × (plan_at new.chan step.next.link.shape (part_of (link_number done.link) (done ∷ past)) ≡ planned_from (clock_of (part_of (link_number done.link) past)) gap size count)
+moves-plan network owner script past done old new gap size rest replies outcomes count fits all step asked =
+    let task : Task = Moves old new gap size in
+    let own = named-own network owner script past done task rest replies outcomes fits all step (channel_number new.chan) (λ off. off.1 refl) in
+    let under = step-under network own.own.request own.own.owner script past done task rest replies outcomes fits own.own.sound own.own.full (own-step network owner script past done task rest replies outcomes fits all step (channel_number new.chan) own) in
+    let planned : IfPlanned done.ask done.reply = (usual-reply network owner script past done task rest replies outcomes fits all step (channel_number new.chan) own).1 (sym own.own.chan) (moved-small network owner script past done old new gap size rest replies outcomes fits all step own) in
+    by own under (subst (λ a. IfPlanned a done.reply) asked planned) (move-asks (move_between old new gap size) replies done.link done.ask step.asks) where
+      by : (own : OwnerIs network (channel_number new.chan) owner) → UnderWay network own.own.request past (Moves old new gap size) rest replies (is_established own.own.request.chan outcomes) → IsPlanned done.reply → MoveAsks (move_between old new gap size) replies done.link done.ask
+          → (done.reply ≡ Is.Planned (clock_of (part_of (link_number done.link) past))) × (plan_at new.chan step.next.link.shape (part_of (link_number done.link) (done ∷ past)) ≡ planned_from (clock_of (part_of (link_number done.link) past)) gap size count)
+      by own under planned (AsksFirst none at is) = absurd (let clash : Release old.chan None ≡ Submit new.chan count gap size = sym is ∙ asked in cc)
+      by own under planned (AsksRest told made stage at is) = absurd (let clash : Release old.chan (Some told.kept) ≡ Submit new.chan count gap size = sym is ∙ asked in cc)
+      by own under planned (AsksSubmit reply one some at is) =
+          (let joined = move-joins-unsent network own.own.request old new gap size rest past replies (is_established own.own.request.chan outcomes) (sym own.own.chan) (inr (reply, one)) under in
+          joined-plans network past done new own.own.request gap size count fits own.own.sound step.run step.next joined (subst (λ r. HopAsked r.route 0 done.link) joined.same at) asked planned)

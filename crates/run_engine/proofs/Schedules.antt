@@ -1,0 +1,3 @@
+-- How a schedule is played.
+pub mod ScheduleOutcome
+pub mod PlayedTurns

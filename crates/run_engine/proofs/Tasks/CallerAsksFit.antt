@@ -1,0 +1,323 @@
+-- Where a caller stands, its tasks and the offers of its setup fit, and what it asks meets the conditions on an ask.
+use Rattle.channel_move.proofs.AskByStage.{hop-asked, MoveAsks, AsksFirst, AsksSubmit, AsksRest, move-asks}
+use Rattle.channel_move.specs.Moving.{shifted_in}
+use Rattle.net_units.specs.Limits.{most_packets}
+use Rattle.net_units.specs.declared.numbers.ChanNo.{ChanNo}
+use Rattle.std.specs.Prelude.{nat_eq, not, ◌&&◌}
+use Rattle.std.proofs.Common.{arith, ◌≡◌, ℕ, zero, suc, ◌-◌, ◌≤◌, true, List, [], ◌∷◌, ◌++◌, length, Option, Some, None, refl, sym, ap, ◌∙◌, subst, inl, inr}
+use Rattle.std.proofs.lemmas.Bool.{cases_Bool, cases_lt, cond_both, eqb-false}
+use Rattle.std.proofs.lemmas.Option.{same_Some}
+use Rattle.std.specs.List.{slice_get}
+use Rattle.net_units.specs.Numbers.{link_number, level_number}
+use Rattle.net_units.specs.declared.numbers.LinkNo.{LinkNo}
+use Rattle.net_units.specs.declared.numbers.Level.{Level}
+use Rattle.hop_reservation.specs.Offers.{AreLevels, IsLevelOf}
+use Rattle.hop_reservation.specs.declared.route.Hop.{Hop}
+use Rattle.hop_reservation.proofs.OneMoreOffer.{AreLevels-push}
+use Rattle.link_steps.specs.declared.asks.Ask.{Ask}
+use Rattle.link_steps.specs.declared.asks.Ask.TheVariants.{Relax, Submit, Deny, Release, Arrive, Tick}
+use Rattle.link_steps.specs.declared.replies.Entry.{Entry}
+use Rattle.link_steps.specs.declared.replies.Reply.{Reply}
+use Rattle.link_steps.specs.declared.replies.Reply.TheVariants as Is
+use Rattle.link_steps.specs.declared.shape.LinkShape.{LinkShape}
+use Rattle.link_steps.specs.Split.{Link}
+use Rattle.link_steps.specs.Legal.{AskFits, SubmitFits}
+use Rattle.link_steps.specs.Lists.{Each}
+use Rattle.relaxation.specs.declared.EndDenial.{EndDenial}
+use Rattle.setup_protocol.specs.Setup.{Progress, Reserving, Settled, is_offer, level_in, offers_in, after_offers, reach_after, undoing, relaxing, on_the_way, after_test, at_destination, asked, asked_of, reserve_of, next_ask, progress_of}
+use Rattle.setup_protocol.specs.Teardown.{first_count}
+use Rattle.setup_protocol.specs.declared.request.Request.{Request}
+use Rattle.setup_protocol.specs.declared.verdict.Deny.{Deny as Denial}
+use Rattle.setup_protocol.proofs.SetupAsksFit.{ask-fits}
+use Rattle.setup_protocol.proofs.SetupAdvances.{offers-other, offers-more, progress-on_the_way, progress-tested}
+use Rattle.call_script.specs.Fits.{TaskFits}
+use Rattle.setup_protocol.specs.Hops.{IsHopOf, RequestFits}
+use Rattle.call_script.specs.declared.tasks.Task.{Task}
+use Rattle.call_script.specs.declared.tasks.Task.TheVariants.{Opens, Sends, Closes, Moves}
+use Rattle.call_script.specs.Scripts.{Learnt, Settles, PlannedOn, MovedTo, Standing, Packets, packets_ask, task_ask, takes_step, ready, from_step, begun, is_that, newest, or_before, packets_by, packets_in, last_packets, move_between, outcome_by, continued, resumed, replied, standing, first_ask, ask_at}
+use Rattle.channel_laws.specs.Unsent.{FewCancelled}
+use Rattle.channel_laws.specs.Asks.{MayReplyTo, IsReserve}
+use Rattle.link_steps.proofs.ListParts.{Each-at}
+use Rattle.channel_laws.proofs.OfferAnswers.{offer-answers}
+use Rattle.run_engine.proofs.Tasks.SingleAskTask.{once-asked, packets-hold}
+use Rattle.run_engine.proofs.Tasks.TaskNotes.{once-over}
+
+-- ---- what callers ask
+
+abbrev pub IsCallers : Ask → Type 0
+IsCallers (Arrive packet) = ⊥
+IsCallers Tick = ⊥
+IsCallers _ = Unit {0}
+
+asked-of : (found : Option Hop) (to : LinkNo) (ask : Ask) (own : Hop → Ask) → ((hop : Hop) → IsCallers (own hop)) → asked_of found own ≡ Some (to, ask) → IsCallers ask
+asked-of None to ask own is same = cc
+asked-of (Some hop) to ask own is same = subst IsCallers (ap (λ pair. pair.1) (same_Some (hop.link, own hop) (to, ask) same)) (is hop)
+
+caller-asked : (request : Request) (p : Progress) (to : LinkNo) (ask : Ask) → asked request p ≡ Some (to, ask) → IsCallers ask
+caller-asked request (Settled outcome) to ask same = cc
+caller-asked request _ to ask same = asked-of _ to ask _ (λ hop. tt) same
+
+-- an ask of a link of the network that meets its conditions there
+pub record AsksLink (links : List Link) (to : LinkNo) (ask : Ask) : Type 0 where
+  pub callers : IsCallers ask
+  pub fits : (link : Link) → slice_get links (link_number to) ≡ Some link → AskFits link.shape ask
+
+-- with the same link found
+same-link : (links : List Link) (hop : Hop) (to : LinkNo) (link : Link) → (is : IsHopOf links hop) → to ≡ hop.link → slice_get links (link_number to) ≡ Some link → link ≡ is.link
+same-link links hop to link is same found = same_Some link is.link (sym found ∙ ap (λ l. slice_get links (link_number l)) same ∙ is.linked)
+
+opens-asks : (links : List Link) (request : Request) (replies : List Reply) (to : LinkNo) (ask : Ask) → RequestFits links request → AreLevels request.route (offers_in replies) → next_ask request replies ≡ Some (to, ask) → AsksLink links to ask
+opens-asks links request replies to ask fits are same =
+    let asks = ask-fits request replies to ask fits.contract fits.bounds are same in
+    let hop = Each-at (IsHopOf links) request.route asks.index asks.hop fits.hops asks.stands in
+    record {
+      callers = caller-asked request (progress_of request replies) to ask same;
+      fits = λ link found. asks.fits link.shape (ap (λ l. l.shape.bounds) (same-link links asks.hop to link hop asks.is_asked found) ∙ sym hop.bounds);
+    }
+
+of-own : (links : List Link) (found : Option Hop) (to : LinkNo) (ask own : Ask) → IsCallers own → ((shape : LinkShape) → AskFits shape own) → asked_of found (λ hop. own) ≡ Some (to, ask) → AsksLink links to ask
+of-own links None to ask own is fits same = cc
+of-own links (Some hop) to ask own is fits same =
+    let e : own ≡ ask = ap (λ pair. pair.1) (same_Some (hop.link, own) (to, ask) same) in
+    record { callers = subst IsCallers e is; fits = λ link found. subst (AskFits link.shape) e (fits link.shape) }
+
+-- a reply tells of no more packets to shift than one submit may plan
+abbrev pub FewShifted : Reply → Type 0
+FewShifted reply = shifted_in reply ≤ most_packets
+
+pub few-told : (reply : Reply) → FewCancelled reply → FewShifted reply
+few-told (Is.Closing count cancelled) few = few
+few-told _ few = omega arith
+
+-- so does the first one to a move
+abbrev pub FirstFew : List Reply → Type 0
+FirstFew [] = Unit {0}
+FirstFew (first ∷ replies) = FewShifted first
+
+-- the offers of the setup under way are levels of their hops
+abbrev pub OffersFit : List Task → List Reply → Type 0
+OffersFit [] replies = Unit {0}
+OffersFit (Opens request ∷ tasks) replies = AreLevels request.route (offers_in replies)
+OffersFit (Sends link chan count gap size ∷ tasks) replies = Unit {0}
+OffersFit (Closes request ∷ tasks) replies = Unit {0}
+OffersFit (Moves old new gap size ∷ tasks) replies = FirstFew replies
+
+task-asks : (links : List Link) (task : Task) (replies : List Reply) (to : LinkNo) (ask : Ask) → TaskFits links task → OffersFit (task ∷ []) replies → task_ask task replies ≡ Some (to, ask) → AsksLink links to ask
+task-asks links (Opens request) replies to ask fits are same = opens-asks links request replies to ask fits are same
+task-asks links (Sends at chan count gap size) replies to ask fits are same =
+    let once = once-asked at (packets_ask chan count gap size) replies to ask same in
+    record {
+      callers = subst IsCallers once.is (packets-hold IsCallers chan count gap size (λ c. tt) tt);
+      fits = λ link found. (let is : fits.link ≡ link = same_Some fits.link link (sym fits.linked ∙ ap (λ l. slice_get links (link_number l)) once.at ∙ found) in
+          subst (AskFits link.shape) once.is (subst (λ l. AskFits l.shape (packets_ask chan count gap size)) is fits.packets));
+    }
+task-asks links (Moves old new gap size) replies to ask fits are same = by (move-asks (move_between old new gap size) replies to ask same) where
+  released : (own : Ask) → IsCallers own → ((shape : LinkShape) → AskFits shape own) → ask ≡ own → AsksLink links to ask
+  released own is fit e = record { callers = subst IsCallers (sym e) is; fits = λ link found. subst (AskFits link.shape) (sym e) (fit link.shape) }
+
+  by : MoveAsks (move_between old new gap size) replies to ask → AsksLink links to ask
+  by (AsksFirst none at is) = released (Release old.chan None) tt (λ shape. tt) is
+  by (AsksRest told made stage at is) = released (Release old.chan (Some told.kept)) tt (λ shape. tt) is
+  by (AsksSubmit first one some at is) =
+      (let few : FewShifted first = subst FirstFew one are in
+      let other = eqb-false (shifted_in first) 0 some in
+      let packets = fits.packets in
+      released (Submit new.chan (shifted_in first) gap size) tt (λ shape. record { count_least = omega (arith, other); count_most = few; gap_least = packets.gap_least; gap_most = packets.gap_most; size_least = packets.size_least; size_most = packets.size_most }) is)
+task-asks links (Closes request) replies to ask fits are same = of-own links (slice_get request.route (length replies)) to ask (Release request.chan (first_count replies)) tt (λ shape. tt) same
+
+-- what a caller has learnt of packets that were planned: they keep their limits
+abbrev pub NoteFits : Learnt → Type 0
+NoteFits (Settles chan outcome) = Unit {0}
+NoteFits (PlannedOn chan gap size) = SubmitFits 1 gap size
+NoteFits (MovedTo old new told gap size) = SubmitFits 1 gap size
+
+one-fits : SubmitFits 1 1 1
+one-fits = record { count_least = omega arith; count_most = omega arith; gap_least = omega arith; gap_most = omega arith; size_least = omega arith; size_most = omega arith }
+
+-- so do the last packets that were planned on a channel
+PacketsFit : Option Packets → Type 0
+PacketsFit None = Unit {0}
+PacketsFit (Some packets) = SubmitFits 1 packets.gap packets.size
+
+one-packets : (chan : ChanNo) (note : Learnt) → NoteFits note → PacketsFit (packets_by chan note)
+unfolding PacketsFit
+one-packets chan (Settles own outcome) fits = tt
+one-packets chan (PlannedOn own gap size) fits = cond_both (is_that chan own) (Some (record { gap = gap; size = size })) None PacketsFit (λ _. fits) (λ _. tt)
+one-packets chan (MovedTo old new told gap size) fits = cond_both (is_that chan new && not (nat_eq told.shifted 0)) (Some (record { gap = gap; size = size })) None PacketsFit (λ _. fits) (λ _. tt)
+
+or-fits : (found before : Option Packets) → PacketsFit found → PacketsFit before → PacketsFit (or_before found before)
+unfolding PacketsFit
+or-fits None before fits fit = fit
+or-fits (Some packets) before fits fit = fits
+
+newest-packets : (chan : ChanNo) (notes : List Learnt) → Each NoteFits notes → PacketsFit (newest (packets_by chan) notes)
+unfolding newest PacketsFit
+newest-packets chan [] each = tt
+newest-packets chan (note ∷ notes) each = or-fits (packets_by chan note) (newest (packets_by chan) notes) (one-packets chan note each.0) (newest-packets chan notes each.1)
+
+last-packets : (chan : ChanNo) (notes : List Learnt) → Each NoteFits notes → SubmitFits 1 (last_packets chan notes).gap (last_packets chan notes).size
+unfolding last_packets PacketsFit
+last-packets chan notes each = by (newest (packets_by chan) notes) (newest-packets chan notes each) where
+  by : (found : Option Packets) → PacketsFit found → SubmitFits 1 (packets_in found).gap (packets_in found).size
+  by None fits = one-fits
+  by (Some packets) fits = fits
+
+-- a task that begins fits
+ready-fits : (links : List Link) (outcomes : List Learnt) (task : Task) → Each NoteFits outcomes → TaskFits links task → TaskFits links (ready outcomes task)
+ready-fits links outcomes (Moves old new gap size) notes fits = record { of_old = fits.of_old; of_new = fits.of_new; same = fits.same; apart = fits.apart; packets = last-packets old.chan outcomes notes }
+ready-fits links outcomes _ notes fits = fits
+
+-- what a task tells fits
+one-of : (count gap size : ℕ) → SubmitFits count gap size → SubmitFits 1 gap size
+one-of count gap size fits = record { count_least = omega arith; count_most = omega arith; gap_least = fits.gap_least; gap_most = fits.gap_most; size_least = fits.size_least; size_most = fits.size_most }
+
+notes-by : (links : List Link) (task : Task) (replies : List Reply) (outcomes : List Learnt) → TaskFits links task → Each NoteFits outcomes → Each NoteFits (outcome_by task replies ++ outcomes)
+notes-by links task replies outcomes fits notes =
+    once-over (Each NoteFits) task replies outcomes
+    (λ request outcome is told. (tt, notes))
+    (λ link chan count gap size clock rest is told. (one-of count gap size (subst (TaskFits links) is fits).packets, notes))
+    (λ old new gap size told is first. ((subst (TaskFits links) is fits).packets, notes))
+    notes
+
+pub record StandingFits (links : List Link) (at : Standing) : Type 0 where
+  pub tasks : Each (TaskFits links) at.tasks
+  pub offers : OffersFit at.tasks at.replies
+  pub notes : Each NoteFits at.outcomes
+
+-- the first task alone
+pub first-fits : (task : Task) (tasks : List Task) (replies : List Reply) → OffersFit (task ∷ tasks) replies → OffersFit (task ∷ []) replies
+first-fits (Opens request) tasks replies are = are
+first-fits _ tasks replies are = are
+
+with-rest : (task : Task) (tasks : List Task) (replies : List Reply) → OffersFit (task ∷ []) replies → OffersFit (task ∷ tasks) replies
+with-rest (Opens request) tasks replies are = are
+with-rest _ tasks replies are = are
+
+asks-first : (links : List Link) (tasks : List Task) (replies : List Reply) (to : LinkNo) (ask : Ask) → Each (TaskFits links) tasks → OffersFit tasks replies → first_ask tasks replies ≡ Some (to, ask) → AsksLink links to ask
+asks-first links [] replies to ask fits are same = cc
+asks-first links (task ∷ tasks) replies to ask fits are same = task-asks links task replies to ask fits.0 (first-fits task tasks replies are) same
+
+pub standing-asks : (links : List Link) (at : Standing) (to : LinkNo) (ask : Ask) → StandingFits links at → ask_at at ≡ Some (to, ask) → AsksLink links to ask
+standing-asks links at to ask fits same = asks-first links at.tasks at.replies to ask fits.tasks fits.offers same
+
+-- ---- one reply more
+
+-- only a setup whose hops are reserving asks a reserve
+pub undone-asks : (request : Request) (left : ℕ) (deny : Denial) (to : LinkNo) (ask : Ask) → asked request (undoing left deny) ≡ Some (to, ask) → IsReserve ask → ⊥
+undone-asks request zero deny to ask same is = cc
+undone-asks request (suc left) deny to ask same is = go (slice_get request.route (suc left - 1)) same where
+  go : (found : Option Hop) → asked_of found (λ hop. Deny request.chan) ≡ Some (to, ask) → ⊥
+  go None none = cc
+  go (Some hop) some = (let e : ask ≡ Deny request.chan = sym (ap (λ pair. pair.1) (same_Some (hop.link, Deny request.chan) (to, ask) some)) in subst IsReserve e is)
+
+relaxing-asks : (request : Request) (left : ℕ) (levels : List ℕ) (to : LinkNo) (ask : Ask) → asked request (relaxing request.route left levels) ≡ Some (to, ask) → IsReserve ask → ⊥
+relaxing-asks request zero levels to ask same is = cc
+relaxing-asks request (suc left) levels to ask same is = go (slice_get request.route (suc left - 1)) _ _ same where
+  go : (found : Option Hop) (level : Level) (bound : ℕ) → asked_of found (λ hop. Relax request.chan level bound) ≡ Some (to, ask) → ⊥
+  go None level bound none = cc
+  go (Some hop) level bound some = (let e : ask ≡ Relax request.chan level bound = sym (ap (λ pair. pair.1) (same_Some (hop.link, Relax request.chan level bound) (to, ask) some)) in subst IsReserve e is)
+
+pub tested-asks : (request : Request) (offers : List ℕ) (count : ℕ) (denial : Option EndDenial) (to : LinkNo) (ask : Ask) → asked request (after_test request offers count denial) ≡ Some (to, ask) → IsReserve ask → ⊥
+tested-asks request offers count (Some denial) to ask same is = undone-asks request _ _ to ask same is
+tested-asks request offers count None to ask same is = relaxing-asks request _ _ to ask same is
+
+-- an offer after another reply doesn't stand among the first ones
+offers-after : (replies : List Reply) (first reply : Reply) (rest : List Reply) → after_offers replies ≡ first ∷ rest → offers_in (replies ++ reply ∷ []) ≡ offers_in replies
+unfolding offers_in after_offers
+offers-after [] first reply rest after = cc
+offers-after (r ∷ replies) first reply rest after =
+    elim (cases_Bool (is_offer r)) [
+      | inl offer ↦ rw offer (ap (λ levels. level_in r ∷ levels) (offers-after replies first reply rest (rw offer at after)))
+      | inr plain ↦ rw plain refl
+    ]
+
+-- the level of an offer that a hop has made
+offered-level : (links : List Link) (hop : Hop) (to : LinkNo) (link : Link) (h : List Entry) (ask : Ask) (reply : Reply) → IsHopOf links hop → to ≡ hop.link → slice_get links (link_number to) ≡ Some link → MayReplyTo link.shape h ask reply → is_offer reply ≡ true → IsLevelOf hop (level_in reply) × IsReserve ask
+offered-level links hop to link h ask (Is.Offer level reach) is same found answered offer =
+    let tells = offer-answers link.shape h ask level reach answered in
+    let bounds : hop.bounds ≡ link.shape.bounds = is.bounds ∙ ap (λ l. l.shape.bounds) (sym (same-link links hop to link is same found)) in
+    (record { least = level.least; most = subst (λ bs. level_number level ≤ length bs) (sym bounds) tells.most }, tells.reserve)
+offered-level links hop to link h ask (Is.Relaxed clock) is same found answered offer = cc
+offered-level links hop to link h ask _ is same found answered offer = cc
+
+reserve-asks : (found : Option Hop) (to : LinkNo) (ask : Ask) (own : Hop → Ask) → asked_of found own ≡ Some (to, ask) → (hop : Hop) × (found ≡ Some hop) × (to ≡ hop.link)
+reserve-asks None to ask own same = cc
+reserve-asks (Some hop) to ask own same = (hop, refl, sym (ap (λ pair. pair.0) (same_Some (hop.link, own hop) (to, ask) same)))
+
+-- one offer more where no reply but offers came
+one-offer : (links : List Link) (request : Request) (replies : List Reply) (reply : Reply) (to : LinkNo) (ask : Ask) (link : Link) (h : List Entry) → RequestFits links request → AreLevels request.route (offers_in replies) → next_ask request replies ≡ Some (to, ask) → slice_get links (link_number to) ≡ Some link → MayReplyTo link.shape h ask reply → is_offer reply ≡ true → after_offers replies ≡ []
+    → AreLevels request.route (offers_in replies ++ level_in reply ∷ [])
+one-offer links request replies reply to ask link h fits are same found answered offer after =
+    elim (cases_lt (length (offers_in replies)) (length request.route)) [
+      | inl fewer ↦
+          (let e : progress_of request replies ≡ Reserving (offers_in replies) (reach_after 0 request.route replies) = progress-on_the_way request replies fewer ∙ ap (on_the_way (offers_in replies) (reach_after 0 request.route replies)) after in
+          let own : asked_of (slice_get request.route (length (offers_in replies))) (λ hop. reserve_of request (offers_in replies) (reach_after 0 request.route replies)) ≡ Some (to, ask) = subst (λ p. asked request p ≡ Some (to, ask)) e same in
+          let at = reserve-asks (slice_get request.route (length (offers_in replies))) to ask _ own in
+          let hop = Each-at (IsHopOf links) request.route (length (offers_in replies)) at.0 fits.hops at.1 in
+          AreLevels-push request.route (offers_in replies) at.0 (level_in reply) at.1 are (offered-level links at.0 to link h ask reply hop at.2 found answered offer).0)
+      | inr whole ↦
+          (let tested : asked request (at_destination request (offers_in replies) (length (after_offers replies))) ≡ Some (to, ask) = subst (λ p. asked request p ≡ Some (to, ask)) (progress-tested request replies whole) same in
+          absurd (tested-asks request (offers_in replies) _ _ to ask tested (is-reserve reply answered offer)))
+    ] where
+      is-reserve : (r : Reply) → MayReplyTo link.shape h ask r → is_offer r ≡ true → IsReserve ask
+      is-reserve (Is.Offer level reach) is some = (offer-answers link.shape h ask level reach is).reserve
+      is-reserve _ is some = cc
+
+pub offers-go-on : (links : List Link) (request : Request) (replies : List Reply) (reply : Reply) (to : LinkNo) (ask : Ask) (link : Link) (h : List Entry) → RequestFits links request → AreLevels request.route (offers_in replies) → next_ask request replies ≡ Some (to, ask) → slice_get links (link_number to) ≡ Some link → MayReplyTo link.shape h ask reply
+    → AreLevels request.route (offers_in (replies ++ reply ∷ []))
+offers-go-on links request replies reply to ask link h fits are same found answered =
+    elim (cases_Bool (is_offer reply)) [
+      | inl offer ↦ by-rest (after_offers replies) refl offer
+      | inr plain ↦ subst (AreLevels request.route) (sym (offers-other replies reply plain)) are
+    ] where
+      by-rest : (rest : List Reply) → after_offers replies ≡ rest → is_offer reply ≡ true → AreLevels request.route (offers_in (replies ++ reply ∷ []))
+      by-rest [] after offer = subst (AreLevels request.route) (sym (offers-more replies reply after offer)) (one-offer links request replies reply to ask link h fits are same found answered offer after)
+      by-rest (first ∷ rest) after offer = subst (AreLevels request.route) (sym (offers-after replies first reply rest after)) are
+
+-- no replies to the task that begins
+none-yet : (tasks : List Task) → OffersFit tasks []
+unfolding offers_in AreLevels
+none-yet (Opens request ∷ tasks) = tt
+none-yet _ = tt
+
+from-step-fits : (links : List Link) (outcomes : List Learnt) (tasks : List Task) → Each NoteFits outcomes → Each (TaskFits links) tasks → Each (TaskFits links) (from_step outcomes tasks)
+unfolding from_step
+from-step-fits links outcomes [] notes each = tt
+from-step-fits links outcomes (task ∷ tasks) notes each =
+    cond_both (takes_step outcomes task) (ready outcomes task ∷ tasks) (from_step outcomes tasks) (Each (TaskFits links)) (λ _. (ready-fits links outcomes task notes each.0, each.1)) (λ _. from-step-fits links outcomes tasks notes each.1)
+
+pub begun-fits : (links : List Link) (outcomes : List Learnt) (tasks : List Task) → Each NoteFits outcomes → Each (TaskFits links) tasks → StandingFits links (begun outcomes tasks)
+begun-fits links outcomes tasks notes each = record { tasks = from-step-fits links outcomes tasks notes each; offers = none-yet (from_step outcomes tasks); notes = notes }
+
+-- where the ask is a release
+abbrev pub IfRelease : Ask → Type 0 → Type 0
+IfRelease (Release chan upstream) is = is
+IfRelease _ is = Unit {0}
+
+task-goes-on : (links : List Link) (task : Task) (replies : List Reply) (reply : Reply) (to : LinkNo) (ask : Ask) (link : Link) (h : List Entry) → TaskFits links task → OffersFit (task ∷ []) replies → task_ask task replies ≡ Some (to, ask) → slice_get links (link_number to) ≡ Some link → MayReplyTo link.shape h ask reply → IfRelease ask (FewShifted reply)
+    → OffersFit (task ∷ []) (replies ++ reply ∷ [])
+task-goes-on links (Opens request) replies reply to ask link h fits are same found answered few = offers-go-on links request replies reply to ask link h fits are same found answered
+task-goes-on links (Sends at chan count gap size) replies reply to ask link h fits are same found answered few = tt
+task-goes-on links (Closes request) replies reply to ask link h fits are same found answered few = tt
+task-goes-on links (Moves old new gap size) [] reply to ask link h fits are same found answered few = (let at = hop-asked old.route 0 (Release old.chan None) to ask same in subst (λ a. IfRelease a (FewShifted reply)) at.1 few)
+task-goes-on links (Moves old new gap size) (first ∷ replies) reply to ask link h fits are same found answered few = are
+
+continued-fits : (links : List Link) (outcomes : List Learnt) (task : Task) (tasks : List Task) (replies : List Reply) (next : Option (LinkNo × Ask)) → Each NoteFits outcomes → Each (TaskFits links) (task ∷ tasks) → OffersFit (task ∷ []) replies → StandingFits links (continued outcomes task tasks replies next)
+continued-fits links outcomes task tasks replies (Some to) notes each are = record { tasks = each; offers = with-rest task tasks replies are; notes = notes }
+continued-fits links outcomes task tasks replies None notes each are = begun-fits links (outcome_by task replies ++ outcomes) tasks (notes-by links task replies outcomes each.0 notes) each.1
+
+resumed-fits : (links : List Link) (outcomes : List Learnt) (tasks : List Task) (replies : List Reply) (reply : Reply) (to : LinkNo) (ask : Ask) (link : Link) (h : List Entry) → Each NoteFits outcomes → Each (TaskFits links) tasks → OffersFit tasks replies → first_ask tasks replies ≡ Some (to, ask) → slice_get links (link_number to) ≡ Some link → MayReplyTo link.shape h ask reply → IfRelease ask (FewShifted reply)
+    → StandingFits links (resumed outcomes tasks (replies ++ reply ∷ []))
+unfolding resumed
+resumed-fits links outcomes [] replies reply to ask link h notes each are same found answered few = cc
+resumed-fits links outcomes (task ∷ tasks) replies reply to ask link h notes each are same found answered few =
+    continued-fits links outcomes task tasks (replies ++ reply ∷ []) (task_ask task (replies ++ reply ∷ [])) notes each
+    (task-goes-on links task replies reply to ask link h each.0 (first-fits task tasks replies are) same found answered few)
+
+pub replied-fits : (links : List Link) (at : Standing) (reply : Reply) (to : LinkNo) (ask : Ask) (link : Link) (h : List Entry) → StandingFits links at → ask_at at ≡ Some (to, ask) → slice_get links (link_number to) ≡ Some link → MayReplyTo link.shape h ask reply → IfRelease ask (FewShifted reply) → StandingFits links (replied at reply)
+replied-fits links at reply to ask link h fits same found answered few = resumed-fits links at.outcomes at.tasks at.replies reply to ask link h fits.notes fits.tasks fits.offers same found answered few
+
+-- where a script stands with one reply more
+pub standing-more : (tasks : List Task) (reply : Reply) (before : List Reply) → standing tasks (reply ∷ before) ≡ resumed (standing tasks before).outcomes (standing tasks before).tasks ((standing tasks before).replies ++ reply ∷ [])
+unfolding standing
+standing-more tasks reply before = refl

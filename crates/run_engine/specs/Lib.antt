@@ -1,0 +1,4 @@
+pub mod runs
+pub mod channels
+pub mod replies
+pub mod schedules
