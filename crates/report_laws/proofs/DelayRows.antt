@@ -28,8 +28,8 @@ use Rattle.run_engine.proofs.Replies.RunCloses.{owned-once}
 use Rattle.run_engine.proofs.Replies.RunGoes.{owned-asked}
 use Rattle.run_engine.specs.channels.Hops.{packets_on, ChannelAsked}
 use Rattle.run_engine.specs.channels.Paths.{HopAt, clock_at, packets_at, arrived_at}
-use Rattle.trace_audit.proofs.PacketOf.{fits-network}
-use Rattle.trace_audit.proofs.RunSound.{departures_of}
+use Rattle.report_laws.proofs.PacketOf.{fits-network}
+use Rattle.report_laws.proofs.RunSound.{departures_of}
 use Rattle.trace_audit.proofs.SortedRows.{order-among}
 use Rattle.channel_report.specs.Delays.{last_prop, prop_of}
 use Rattle.report_laws.proofs.HopPacket.{AreOneHop, one-hop, left-there, packets-there, arrived-at}

@@ -26,7 +26,7 @@ use Rattle.trace_audit.specs.Above.{is_at, rows_at}
 use Rattle.trace_audit.specs.Checks.{AllPass}
 use Rattle.trace_audit.proofs.TableInOrder.{at-parts}
 use Rattle.trace_audit.proofs.WholeRoute.{filter-reverse}
-use Rattle.trace_audit.proofs.RunIsSound.{run-is_sound}
+use Rattle.report_laws.proofs.RunIsSound.{run-is_sound}
 use Rattle.channel_report.specs.Delays.{is_last, least_with, least_of, worst_with, worst_of}
 use Rattle.report_laws.specs.Bounds.{delays_told}
 use Rattle.report_laws.specs.Delivered.{IsDelay, IsLeast, IsWorst, ReportsShowEveryDelay}

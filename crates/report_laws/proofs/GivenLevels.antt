@@ -28,8 +28,8 @@ use Rattle.run_engine.specs.runs.Runs.{IsRun}
 use Rattle.run_engine.specs.replies.Verdicts.{setup_replies}
 use Rattle.interleave_core.proofs.Channels.KeptRequest.{accepted-kept}
 use Rattle.run_engine.proofs.Replies.VerdictHolds.{verdicts-follow}
-use Rattle.trace_audit.specs.RunLevels.{AreLevelsFor, AreLevelsOf}
-use Rattle.trace_audit.proofs.PacketOf.{fits-network}
+use Rattle.report_laws.specs.RunLevels.{AreLevelsFor, AreLevelsOf}
+use Rattle.report_laws.proofs.PacketOf.{fits-network}
 
 -- ---- the levels of one request
 

@@ -29,7 +29,7 @@ use Rattle.run_engine.proofs.Replies.RunCloses.{owned-once}
 use Rattle.run_engine.proofs.Replies.RunGoes.{owned-asked}
 use Rattle.run_engine.proofs.Runs.RunLegal.{part-admissible}
 use Rattle.run_engine.proofs.Replies.VerdictHolds.{verdicts-follow}
-use Rattle.trace_audit.proofs.PacketOf.{fits-network}
+use Rattle.report_laws.proofs.PacketOf.{fits-network}
 use Rattle.channel_report.specs.Sources.{first_link, offered_in}
 use Rattle.report_laws.specs.Bounds.{delays_told, ReportsKeepTheirBounds}
 use Rattle.report_laws.proofs.DelayRows.{ToldDelay, delay-is}

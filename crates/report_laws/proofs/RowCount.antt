@@ -39,10 +39,10 @@ use Rattle.run_engine.proofs.Replies.RunGoes.{owned-asked}
 use Rattle.trace_audit.specs.Above.{is_at, is_of, rows_at}
 use Rattle.trace_audit.specs.Departures.{AreCounted}
 use Rattle.trace_audit.proofs.TableInOrder.{at-parts}
-use Rattle.trace_audit.proofs.PacketOf.{fits-network}
-use Rattle.trace_audit.proofs.RunDeparts.{counted, numbers-above}
-use Rattle.trace_audit.proofs.RunRows.{is_over, Leaving, run-leaves}
-use Rattle.trace_audit.proofs.RunSound.{departures_of}
+use Rattle.report_laws.proofs.PacketOf.{fits-network}
+use Rattle.report_laws.proofs.RunDeparts.{counted, numbers-above}
+use Rattle.report_laws.proofs.RunRows.{is_over, Leaving, run-leaves}
+use Rattle.report_laws.proofs.RunSound.{departures_of}
 use Rattle.trace_audit.proofs.SortedRows.{order-among, counted-rise, rows-stay}
 use Rattle.report_laws.specs.Delivered.{EveryDepartureHasOneRow}
 use Rattle.report_laws.specs.Rows.{TellsDeparture}

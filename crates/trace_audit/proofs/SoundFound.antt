@@ -6,9 +6,7 @@ use Rattle.net_units.specs.declared.levels.Levels.{Levels}
 use Rattle.call_script.specs.Parts.{PlanParts}
 use Rattle.run_record.specs.declared.rows.HopRow.{HopRow}
 use Rattle.trace_audit.specs.Checks.{AllPass, IsSound, finding_below, finding_of}
-use Rattle.trace_audit.specs.RunLevels.{AuditsOfRunsFindNothing}
 use Rattle.trace_audit.specs.declared.finding.Finding.TheVariants.{Sound}
-use Rattle.trace_audit.proofs.RunIsSound.{run-is_sound}
 use Rattle.trace_audit.proofs.KeptMatchesRows.{finding-step}
 
 -- the rows above some of a sound table pass
@@ -34,6 +32,3 @@ none-above n = omega arith
 
 pub sound-found : (plan : PlanParts) (levels : List (Option Levels)) (table : List HopRow) → IsSound plan levels table → finding_of plan levels table ≡ Sound (length table)
 sound-found plan levels table sound = sound-below plan levels [] table (subst (AllPass plan levels) (sym (append-nil (reverse table))) sound) ∙ ap (λ n. Sound n) (none-above (length table))
-
-pub runs-find_nothing : AuditsOfRunsFindNothing
-runs-find_nothing plan run levels is run_is are = sound-found plan levels _ (run-is_sound plan run levels is run_is are)

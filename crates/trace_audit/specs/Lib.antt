@@ -6,4 +6,3 @@ pub mod Bounds
 pub mod Kept
 pub mod Standing
 pub mod Departures
-pub mod RunLevels

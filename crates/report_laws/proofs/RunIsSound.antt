@@ -49,12 +49,13 @@ use Rattle.run_engine.proofs.Runs.RunLegal.{part-admissible}
 use Rattle.trace_audit.specs.Above.{is_at, rows_at, tick_of}
 use Rattle.trace_audit.specs.Checks.{IsSound}
 use Rattle.trace_audit.specs.Departures.{HasNear, ticks_before, IsDeparture, AreDepartures}
-use Rattle.trace_audit.specs.RunLevels.{AreLevelsOf}
+use Rattle.report_laws.specs.RunLevels.{AuditsOfRunsFindNothing, AreLevelsOf}
 use Rattle.trace_audit.specs.Terms.{hop_terms, prop_of, prop_before, bound_of, bound_before}
 use Rattle.trace_audit.proofs.TableInOrder.{at-parts}
-use Rattle.trace_audit.proofs.RunDeparts.{HasPacket, numbers-above, ticks-front, counted-le, turn-at, same-entry, hop-link, asked-past, counted}
-use Rattle.trace_audit.proofs.RunRows.{part-among, arrival-told, told-departs, sent-at, run-split}
-use Rattle.trace_audit.proofs.RunSound.{RowIs, row-is, told-is, departures_of, row-terms, row-size, row-bound}
+use Rattle.report_laws.proofs.RunDeparts.{HasPacket, numbers-above, ticks-front, counted-le, turn-at, same-entry, hop-link, asked-past, counted}
+use Rattle.report_laws.proofs.RunRows.{part-among, arrival-told, told-departs, sent-at, run-split}
+use Rattle.report_laws.proofs.RunSound.{RowIs, row-is, told-is, departures_of, row-terms, row-size, row-bound}
+use Rattle.trace_audit.proofs.SoundFound.{sound-found}
 use Rattle.trace_audit.proofs.TableSound.{departures-sound}
 use Rattle.trace_audit.proofs.Turns.{CameFrom, FromSource, FromLink, IsInTurn, AreInTurn, legal-turns}
 use Rattle.interleave_core.proofs.Channels.GuaranteeLaw.{own-channel}
@@ -256,3 +257,7 @@ run-departs plan run levels is run_is are = record {
 
 pub run-is_sound : (plan : PlanParts) (run : List Done) (levels : List (Option Levels)) → IsPlan plan → IsRun (network_of plan) run → AreLevelsOf plan run levels → IsSound plan levels (rows_of (reverse run))
 run-is_sound plan run levels is run_is are = departures-sound plan levels (departures_of run) (run-departs plan run levels is run_is are)
+
+-- so an audit of it finds nothing
+pub runs-find_nothing : AuditsOfRunsFindNothing
+runs-find_nothing plan run levels is run_is are = sound-found plan levels _ (run-is_sound plan run levels is run_is are)

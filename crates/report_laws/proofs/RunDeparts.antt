@@ -29,10 +29,10 @@ use Rattle.run_engine.specs.channels.Hops.{terms_at as asked_at}
 use Rattle.run_engine.specs.runs.Runs.{IsRun}
 use Rattle.trace_audit.specs.Above.{is_at, rows_at, tick_of}
 use Rattle.trace_audit.specs.Departures.{AreCounted}
-use Rattle.trace_audit.specs.RunLevels.{AreLevelsOf}
+use Rattle.report_laws.specs.RunLevels.{AreLevelsOf}
 use Rattle.trace_audit.proofs.TableInOrder.{at-parts}
-use Rattle.trace_audit.proofs.RunRows.{is_over, run-leaves}
-use Rattle.trace_audit.proofs.RunSound.{RowIs, row-is, departures_of}
+use Rattle.report_laws.proofs.RunRows.{is_over, run-leaves}
+use Rattle.report_laws.proofs.RunSound.{RowIs, row-is, departures_of}
 use Rattle.trace_audit.proofs.SortedRows.{counted-above}
 use Rattle.trace_audit.proofs.Turns.{IsInTurn, AreInTurn}
 

@@ -21,9 +21,9 @@ use Rattle.run_engine.specs.replies.Verdicts.{setup_replies}
 use Rattle.interleave_core.proofs.Channels.KeptRequest.{accepted-kept}
 use Rattle.run_engine.proofs.Replies.VerdictHolds.{verdicts-follow}
 use Rattle.call_script.specs.Accepted.{AreAccepted}
-use Rattle.trace_audit.specs.RunLevels.{AreLevelsFor, AreLevelsOf}
+use Rattle.report_laws.specs.RunLevels.{AreLevelsFor, AreLevelsOf}
 use Rattle.trace_audit.specs.Terms.{levels_given}
-use Rattle.trace_audit.proofs.PacketOf.{fits-network}
+use Rattle.report_laws.proofs.PacketOf.{fits-network}
 
 given-told : (levels : List (Option Levels)) (c : ℕ) (given : Levels) → slice_get levels c ≡ Some (Some given) → levels_given levels c ≡ Some given
 given-told [] c given is = absurd (let clash : None ≡ Some (Some given) = is in cc)

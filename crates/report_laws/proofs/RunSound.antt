@@ -43,12 +43,12 @@ use Rattle.run_engine.specs.runs.Runs.{IsRun}
 use Rattle.run_engine.specs.replies.Verdicts.{setup_replies}
 use Rattle.run_engine.proofs.Runs.RunLegal.{part-admissible}
 use Rattle.trace_audit.specs.Checks.{is_within_bound}
-use Rattle.trace_audit.specs.RunLevels.{AreLevelsOf}
+use Rattle.report_laws.specs.RunLevels.{AreLevelsOf}
 use Rattle.trace_audit.specs.Terms.{hop_terms, rate_of, terms_at, over_link, terms_of_row}
 use Rattle.trace_audit.proofs.HopOrder.{offers-in-order, hop-number}
-use Rattle.trace_audit.proofs.PacketOf.{PacketOf, packet-of}
+use Rattle.report_laws.proofs.PacketOf.{PacketOf, packet-of}
 use Rattle.trace_audit.proofs.WholeRoute.{terms-given}
-use Rattle.trace_audit.proofs.RunRows.{departure-told, sent-at, run-split}
+use Rattle.report_laws.proofs.RunRows.{departure-told, sent-at, run-split}
 use Rattle.trace_audit.proofs.RowTerms.{IsGiven, given-at}
 
 -- ---- the packet of a row

@@ -39,7 +39,7 @@ use Rattle.interleave_core.proofs.Flights.ReadyRun.{counts-first}
 use Rattle.run_engine.proofs.Replies.RunCloses.{owned-once}
 use Rattle.run_engine.proofs.Replies.RunGoes.{owned-asked, accepted-levels}
 use Rattle.run_engine.proofs.Replies.VerdictHolds.{verdicts-follow}
-use Rattle.trace_audit.specs.RunLevels.{AreLevelsFor, AreLevelsOf}
+use Rattle.report_laws.specs.RunLevels.{AreLevelsFor, AreLevelsOf}
 use Rattle.trace_audit.specs.Terms.{levels_given}
 
 -- ---- a channel without a request has no task

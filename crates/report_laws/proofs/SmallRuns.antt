@@ -41,11 +41,11 @@ use Rattle.run_engine.proofs.Runs.PartLaws.{clocks-follow}
 use Rattle.run_engine.proofs.Runs.RunLegal.{part-off, part-on, plane-due, by-part}
 use Rattle.run_engine.proofs.Tasks.CallerAsksFit.{IsCallers}
 use Rattle.trace_audit.specs.Above.{is_at, rows_at}
-use Rattle.trace_audit.specs.RunLevels.{AreLevelsOf, EveryTickIsEarly, RowsOfRunsAreSmall}
+use Rattle.report_laws.specs.RunLevels.{AreLevelsOf, EveryTickIsEarly, RowsOfRunsAreSmall}
 use Rattle.trace_audit.proofs.WholeRoute.{filter-append}
-use Rattle.trace_audit.proofs.RunDeparts.{counted, counted-le, rows-over}
-use Rattle.trace_audit.proofs.RunRows.{asks-tick, departures-more, is_over, no-tick, off-link, run-split, ticked-clock}
-use Rattle.trace_audit.proofs.RunSound.{departures_of, row-is}
+use Rattle.report_laws.proofs.RunDeparts.{counted, counted-le, rows-over}
+use Rattle.report_laws.proofs.RunRows.{asks-tick, departures-more, is_over, no-tick, off-link, run-split, ticked-clock}
+use Rattle.report_laws.proofs.RunSound.{departures_of, row-is}
 use Rattle.trace_audit.proofs.SortedRows.{order-among}
 
 -- ---- the clocks of a run
