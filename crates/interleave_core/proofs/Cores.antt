@@ -1,5 +1,5 @@
 -- What a core keeps: it stands for the run that it has recorded, and its steps come to an end.
-use Rattle.std.proofs.Common.{◌≡◌, ℕ, ◌<◌, IsSome, List, [], ◌∷◌, sym, subst}
+use Rattle.std.proofs.Common.{◌≡◌, ◌<◌, IsSome, List, [], ◌∷◌, sym, subst}
 use Rattle.net_units.specs.Numbers.{actor_number}
 use Rattle.net_units.specs.declared.numbers.ActorNo.{ActorNo}
 use Rattle.call_script.proofs.PlansFit.{plan-fits}
