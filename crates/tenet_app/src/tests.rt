@@ -1,5 +1,5 @@
-//! Scenarios over one link whose reports are worked by hand. The numbers of each contract come from counting its
-//! packets: `5 10 20 2` brings at most two packets of two units in 10 or 20 ticks, and four in 40.
+//! Runs over ends in memory, which may fail, and runs whose threads are held at a gate. What the program writes for a scenario stands in
+//! cases/, with reports worked by hand.
 
 use crate::status::Status;
 use crate::top::top;
@@ -17,11 +17,8 @@ mod faults;
 mod loads;
 mod many;
 mod meeting;
-mod networks;
 mod races;
-mod runs;
 mod stops;
-mod voices;
 mod workers;
 
 const FIRST: &str = "tenet 1
@@ -37,122 +34,6 @@ channel r1 offered 0 keeps delivered 0 least - worst - refused 0
 link A clock 0 sent 0 full 0
 end steps 2
 ";
-
-// A scenario with one link, the lines of one caller, and the report of its run.
-#[derive(Clone, Copy)]
-struct Case {
-    bounds: &'static str,
-    caller: &'static str,
-    report: &'static str,
-}
-
-const CASES: [Case; 7] = [
-    // The delay is equal to the bound.
-    Case {
-        bounds: "10 20 40",
-        caller: "caller k1
-open r1 route A contract 5 10 20 2 delay 12 rate
-",
-        report: FIRST_REPORT,
-    },
-    // The delay is a tick over the bound.
-    Case {
-        bounds: "10 20 40",
-        caller: "caller k1
-open r1 route A contract 5 10 20 2 delay 11 rate
-",
-        report: "deny r1 end delay 12 11
-link A clock 0 sent 0 full 0
-end steps 2
-",
-    },
-    // The slack of 38 ticks relaxes the level to the last one.
-    Case {
-        bounds: "10 20 40",
-        caller: "caller k1
-open r1 route A contract 5 10 20 2 delay 50 rate
-",
-        report: "accept r1 delay 42 levels 3
-channel r1 offered 0 keeps delivered 0 least - worst - refused 0
-link A clock 0 sent 0 full 0
-end steps 2
-",
-    },
-    // The sum at level 2 grows to its bound, and then no level passes.
-    Case {
-        bounds: "10 20 40",
-        caller: "caller k1
-open r1 route A contract 5 10 20 2 delay 12 rate
-open r2 route A contract 5 10 20 2 delay 22 rate
-open r3 route A contract 5 10 20 2 delay 22 rate
-open r4 route A contract 5 10 20 2 delay 22 rate
-open r5 route A contract 5 10 20 2 delay 100 rate
-",
-        report: "accept r1 delay 12 levels 1
-accept r2 delay 22 levels 2
-accept r3 delay 22 levels 2
-accept r4 delay 22 levels 2
-deny r5 hop 1 schedule 44 40
-channel r1 offered 0 keeps delivered 0 least - worst - refused 0
-channel r2 offered 0 keeps delivered 0 least - worst - refused 0
-channel r3 offered 0 keeps delivered 0 least - worst - refused 0
-channel r4 offered 0 keeps delivered 0 least - worst - refused 0
-link A clock 0 sent 0 full 0
-end steps 9
-",
-    },
-    // A request that the destination denies gives its row back, so that the last one is accepted.
-    Case {
-        bounds: "10 20 40",
-        caller: "caller k1
-open r1 route A contract 5 10 20 2 delay 12 rate
-open r2 route A contract 5 10 20 2 delay 12 rate
-open r3 route A contract 5 10 20 2 delay 22 rate
-open r4 route A contract 5 10 20 2 delay 22 rate
-open r5 route A contract 5 10 20 2 delay 22 rate
-",
-        report: "accept r1 delay 12 levels 1
-deny r2 end delay 22 12
-accept r3 delay 22 levels 2
-accept r4 delay 22 levels 2
-accept r5 delay 22 levels 2
-channel r1 offered 0 keeps delivered 0 least - worst - refused 0
-channel r3 offered 0 keeps delivered 0 least - worst - refused 0
-channel r4 offered 0 keeps delivered 0 least - worst - refused 0
-channel r5 offered 0 keeps delivered 0 least - worst - refused 0
-link A clock 0 sent 0 full 0
-end steps 10
-",
-    },
-    // Nobody asks for a channel.
-    Case {
-        bounds: "10 20 40",
-        caller: "",
-        report: "link A clock 0 sent 0 full 0
-end steps 0
-",
-    },
-    // One level, over whose 23 ticks each request brings three packets of two ticks.
-    Case {
-        bounds: "23",
-        caller: "caller k1
-open r1 route A contract 5 10 20 2 delay 25 rate
-open r2 route A contract 5 10 20 2 delay 25 rate
-open r3 route A contract 5 10 20 2 delay 25 rate
-open r4 route A contract 5 10 20 2 delay 25 rate
-",
-        report: "accept r1 delay 25 levels 1
-accept r2 delay 25 levels 1
-accept r3 delay 25 levels 1
-deny r4 hop 1 schedule 28 23
-channel r1 offered 0 keeps delivered 0 least - worst - refused 0
-channel r2 offered 0 keeps delivered 0 least - worst - refused 0
-channel r3 offered 0 keeps delivered 0 least - worst - refused 0
-link A clock 0 sent 0 full 0
-end steps 7
-",
-    },
-];
 
 // How the ends of a run behave: the bytes that a read gives and a write takes at most, and the read and the write
 // that fail, counted from 1.
@@ -278,27 +159,6 @@ fn refused(line: u64, cause: Cause) -> Status {
     Status::Refused { line, cause }
 }
 
-fn report_so<R: Threads + Wait + Abort + Sync>(
-    rt: &R,
-    alloc: Global,
-    cases: &[Case],
-) -> Result<(), Fail> {
-    for case in cases {
-        let bounds = case.bounds;
-        let caller = case.caller;
-        let input = format!(in alloc;
-            "tenet 1\nlink A n1 n2 rate 1 cap 4 prop 2 buffer 100 levels {bounds}\n{caller}rounds 0\ntail 0\n"
-        )?;
-        plays(rt, alloc, input.as_bytes(), Status::Done, case.report)?;
-    }
-    Ok(())
-}
-
-#[test]
-fn reports_of_one_link(rt: HostRuntime) -> Result<(), Fail> {
-    report_so(&rt, rt.alloc(), &CASES)
-}
-
 // The words, the input, how the ends behave, the status and what is written.
 type Row = (
     &'static [&'static str],
@@ -317,20 +177,6 @@ fn end_so<R: Threads + Wait + Abort + Sync>(
     for (words, input, ends, status, text) in rows {
         let told = (*status, *text);
         ends_with(rt, alloc, words, input.as_bytes(), *ends, told)?;
-    }
-    Ok(())
-}
-
-// These words, each with this input, do nothing.
-fn are_wrong<R: Threads + Wait + Abort + Sync>(
-    rt: &R,
-    alloc: Global,
-    wrong: &[&[&str]],
-    input: &str,
-) -> Result<(), Fail> {
-    for words in wrong {
-        let told = (Status::Words, "");
-        ends_with(rt, alloc, words, input.as_bytes(), SOUND, told)?;
     }
     Ok(())
 }
