@@ -73,6 +73,3 @@ fn plain_ticks(alloc: Global, ticks: u64) -> Option<usize> {
     }
     Some(made)
 }
-
-#[cfg(test)]
-mod tests;
