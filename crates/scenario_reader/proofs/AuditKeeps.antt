@@ -32,7 +32,7 @@ use Rattle.scenario_reader.specs.Drafts.{Said, is_complete, parts_said, request_
 use Rattle.scenario_reader.specs.Causes.{Judges}
 use Rattle.scenario_reader.specs.Fields.{fields_of}
 use Rattle.scenario_reader.specs.Forms.{name_rule, number_rule}
-use Rattle.scenario_reader.specs.declared.cause.Cause.{Cause}
+use Rattle.scenario_reader.specs.declared.cause.LineCause.{LineCause}
 use Rattle.scenario_reader.specs.declared.audit.place.Section.{Section}
 use Rattle.scenario_reader.specs.declared.audit.place.Section.TheVariants as place
 
@@ -220,7 +220,7 @@ report-told read after line told header tells is same = rw (header, tells) (ap (
 
 -- ---- a name that was read
 
-named-field : (field name : List ℕ) (r : Result (List ℕ) Cause) → Judges r (name_rule field) field → result_ok r ≡ Some name
+named-field : (field name : List ℕ) (r : Result (List ℕ) LineCause) → Judges r (name_rule field) field → result_ok r ≡ Some name
     → (is_name field ≡ true) × (name ≡ field)
 named-field field name (Ok read) judged is = (by (is_name field) refl judged.0, sym (same_Some read name is) ∙ judged.1) where
   by : (test : Bool) → is_name field ≡ test → name_rule field ≡ None → is_name field ≡ true
@@ -228,14 +228,14 @@ named-field field name (Ok read) judged is = (by (is_name field) refl judged.0, 
   by false test passes = (let clash = rw test at passes in cc)
 named-field field name (Err cause) judged is = cc
 
-pub channel-some : (requests : List RequestEntry) (field name : List ℕ) (r : Result (List ℕ) Cause) (entry : RequestEntry)
+pub channel-some : (requests : List RequestEntry) (field name : List ℕ) (r : Result (List ℕ) LineCause) (entry : RequestEntry)
     → Judges r (name_rule field) field → result_ok r ≡ Some name → request_named requests name ≡ Some entry
     → channel_in requests field ≡ Some entry.request.chan
 channel-some requests field name r entry judged read found =
     let named = named-field field name r judged read in
     rw (named.0, sym named.1, found) refl
 
-pub channel-none : (requests : List RequestEntry) (field name : List ℕ) (r : Result (List ℕ) Cause) → Judges r (name_rule field) field
+pub channel-none : (requests : List RequestEntry) (field name : List ℕ) (r : Result (List ℕ) LineCause) → Judges r (name_rule field) field
     → result_ok r ≡ Some name → request_named requests name ≡ None → channel_in requests field ≡ None
 channel-none requests field name r judged read found =
     let named = named-field field name r judged read in

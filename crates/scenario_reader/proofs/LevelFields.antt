@@ -12,7 +12,7 @@ use Rattle.scenario_reader.specs.Causes.{Judges}
 use Rattle.scenario_reader.specs.Decimal.{value_of}
 use Rattle.scenario_reader.specs.Fields.{field_at}
 use Rattle.scenario_reader.specs.Forms.{number_rule}
-use Rattle.scenario_reader.specs.declared.cause.Cause.{Cause}
+use Rattle.scenario_reader.specs.declared.cause.LineCause.{LineCause}
 
 -- the fields after the fifth
 pub after-words : (fields : List (List ℕ)) (i : ℕ) → field_at fields (5 + i) ≡ get_or (drop 5 fields) i []
@@ -59,7 +59,7 @@ levels-over (hop ∷ hops) (field ∷ fields) (suc n) whole within = levels-over
 
 -- ---- a field that was read as a number, or wasn't
 
-pub level-read : (hop : Hop) (fields : List (List ℕ)) (i most told : ℕ) (field : List ℕ) (r : Result ℕ Cause) → most ≡ length hop.bounds
+pub level-read : (hop : Hop) (fields : List (List ℕ)) (i most told : ℕ) (field : List ℕ) (r : Result ℕ LineCause) → most ≡ length hop.bounds
     → field ≡ field_at fields (5 + i) → Judges r (number_rule 1 most field) (value_of field) → result_ok r ≡ Some told
     → (is_level_field hop (get_or (drop 5 fields) i []) ≡ true) × (told ≡ value_of (field_at fields (5 + i)))
 level-read hop fields i most told field (Ok value) bounds at judged is =
@@ -67,7 +67,7 @@ level-read hop fields i most told field (Ok value) bounds at judged is =
     (rw (sym bounds, sym same, judged.0) refl, sym (same_Some value told is) ∙ judged.1 ∙ ap value_of at)
 level-read hop fields i most told field (Err cause) bounds at judged is = cc
 
-pub level-refused : (hop : Hop) (fields : List (List ℕ)) (i most : ℕ) (field : List ℕ) (r : Result ℕ Cause) → most ≡ length hop.bounds
+pub level-refused : (hop : Hop) (fields : List (List ℕ)) (i most : ℕ) (field : List ℕ) (r : Result ℕ LineCause) → most ≡ length hop.bounds
     → field ≡ field_at fields (5 + i) → Judges r (number_rule 1 most field) (value_of field) → result_ok r ≡ None
     → is_level_field hop (get_or (drop 5 fields) i []) ≡ false
 level-refused hop fields i most field (Ok value) bounds at judged is = cc

@@ -21,7 +21,7 @@ use Rattle.scenario_reader.specs.line.Quota.{quota_rule, quota_said}
 use Rattle.scenario_reader.specs.Kept.{IsDraft}
 use Rattle.scenario_reader.specs.line.Link.{link_rule, link_said}
 use Rattle.scenario_reader.specs.line.Request.{open_rule, request_said}
-use Rattle.scenario_reader.specs.declared.cause.Cause.{Cause}
+use Rattle.scenario_reader.specs.declared.cause.LineCause.{LineCause}
 use Rattle.scenario_reader.specs.declared.form.Keyword.{Keyword}
 use Rattle.scenario_reader.specs.declared.item.Item.{Item}
 use Rattle.scenario_reader.proofs.kind.GroupMay.{group-may}
@@ -36,7 +36,7 @@ use Rattle.scenario_reader.proofs.kind.RequestMay.{open-may}
 use Rattle.scenario_reader.proofs.PassingLines.{judged-ok, stated-ok, made-some}
 use Rattle.scenario_reader.proofs.kind.RoundsMay.{rounds-may, tail-may}
 use Rattle.scenario_reader.proofs.kind.ScheduleMay.{schedule-may, do-may}
-use Rattle.scenario_reader.specs.declared.cause.Cause.TheVariants as cause
+use Rattle.scenario_reader.specs.declared.cause.LineCause.TheVariants as cause
 use Rattle.scenario_reader.specs.declared.form.Keyword.TheVariants as word
 use Rattle.scenario_reader.specs.declared.item.Item.TheVariants as item
 
@@ -92,16 +92,16 @@ says-as word.Do version said number fields what draft v m e =
     subst (MayAdd said) made.2 (do-may version said number fields made.0 v m p.0 made.1)
 says-as other version said number fields what draft v m e = absurd (not-ok cause.Word what e)
   where
-    not-ok : (c : Cause) (what : Item) → ◌≡◌ {A = Result Item Cause} (Err c) (Ok what) → ⊥
+    not-ok : (c : LineCause) (what : Item) → ◌≡◌ {A = Result Item LineCause} (Err c) (Ok what) → ⊥
     not-ok c what e = cc
 
 -- what is judged Ok where a condition holds
-ok-where : (holds : Bool) (r : Result Item Cause) (c : Cause) (what : Item) → cond holds r (Err c) ≡ Ok what → (holds ≡ true) × (r ≡ Ok what)
+ok-where : (holds : Bool) (r : Result Item LineCause) (c : LineCause) (what : Item) → cond holds r (Err c) ≡ Ok what → (holds ≡ true) × (r ≡ Ok what)
 ok-where true r c what e = (refl, e)
 ok-where false r c what e = cc
 
 -- what is judged Ok unless a condition holds
-ok-unless : (fails : Bool) (r : Result Item Cause) (c : Cause) (what : Item) → cond fails (Err c) r ≡ Ok what → r ≡ Ok what
+ok-unless : (fails : Bool) (r : Result Item LineCause) (c : LineCause) (what : Item) → cond fails (Err c) r ≡ Ok what → r ≡ Ok what
 ok-unless true r c what e = cc
 ok-unless false r c what e = e
 

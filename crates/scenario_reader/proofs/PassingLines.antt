@@ -12,8 +12,8 @@ use Rattle.scenario_reader.specs.Causes.{Rule, unless, or_else, first_cause, jud
 use Rattle.scenario_reader.specs.Decimal.{is_number, value_of}
 use Rattle.scenario_reader.specs.Forms.{is_among, name_rule, new_name_rule, used_name_rule, number_rule}
 use Rattle.scenario_reader.specs.line.Request.{contract_of}
-use Rattle.scenario_reader.specs.declared.cause.Cause.{Cause}
-use Rattle.scenario_reader.specs.declared.cause.Cause.TheVariants as cause
+use Rattle.scenario_reader.specs.declared.cause.LineCause.{LineCause}
+use Rattle.scenario_reader.specs.declared.cause.LineCause.TheVariants as cause
 
 -- what is judged Ok passes its rule, and is what was said
 pub judged-ok : {X : Type 0} (rule : Rule) (said what : X) → judged rule said ≡ Ok what → (rule ≡ None) × (said ≡ what)
@@ -32,7 +32,7 @@ made-some make None y e = cc
 made-some make (Some x) y e = (x, refl, same_Some (make x) y e)
 
 -- a condition that passes holds
-pub unless-passes : (holds : Bool) (c : Cause) → unless holds c ≡ None → holds ≡ true
+pub unless-passes : (holds : Bool) (c : LineCause) → unless holds c ≡ None → holds ≡ true
 unless-passes true c e = refl
 unless-passes false c e = cc
 

@@ -10,8 +10,8 @@ use Rattle.call_script.specs.declared.entries.LinkEntry.{LinkEntry}
 use Rattle.scenario_reader.specs.Causes.{States}
 use Rattle.scenario_reader.specs.Drafts.{link_named}
 use Rattle.scenario_reader.specs.Forms.{name_rule, used_name_rule}
-use Rattle.scenario_reader.specs.declared.cause.Cause.{Cause}
-use Rattle.scenario_reader.specs.declared.cause.Cause.TheVariants as cause
+use Rattle.scenario_reader.specs.declared.cause.LineCause.{LineCause}
+use Rattle.scenario_reader.specs.declared.cause.LineCause.TheVariants as cause
 use Rattle.scenario_reader.proofs.NamedByPlace.{link-at-place, no-link-there}
 
 -- what a place among the names tells of the links
@@ -39,13 +39,13 @@ link-placed links names field (Some place) same is =
     }
 
 -- the place, or the cause
-pub place-states : (links : List LinkEntry) (field : List ℕ) (found : Option ℕ) (r : Result ℕ Cause) → name_rule field ≡ None → IsPlaced links field found → r ≡ ok_or found cause.Unknown
+pub place-states : (links : List LinkEntry) (field : List ℕ) (found : Option ℕ) (r : Result ℕ LineCause) → name_rule field ≡ None → IsPlaced links field found → r ≡ ok_or found cause.Unknown
     → States r (used_name_rule (is_some (link_named links field)) field) (position (is_named field) (link_names links))
 place-states links field None r name is e =
-    subst (λ (x : Result ℕ Cause). States x (used_name_rule (is_some (link_named links field)) field) (position (is_named field) (link_names links))) (sym e) (rw (name, sym is.known) refl)
+    subst (λ (x : Result ℕ LineCause). States x (used_name_rule (is_some (link_named links field)) field) (position (is_named field) (link_names links))) (sym e) (rw (name, sym is.known) refl)
 place-states links field (Some place) r name is e =
-    subst (λ (x : Result ℕ Cause). States x (used_name_rule (is_some (link_named links field)) field) (position (is_named field) (link_names links))) (sym e) (rw (name, sym is.known) refl, sym is.place)
+    subst (λ (x : Result ℕ LineCause). States x (used_name_rule (is_some (link_named links field)) field) (position (is_named field) (link_names links))) (sym e) (rw (name, sym is.known) refl, sym is.place)
 
-pub place-found : (links : List LinkEntry) (field : List ℕ) (found : Option ℕ) (r : Result ℕ Cause) → IsPlaced links field found → r ≡ ok_or found cause.Unknown → IfOk r (λ place. slice_get links place ≡ link_named links field)
-place-found links field None r is e = subst (λ (x : Result ℕ Cause). IfOk x (λ place. slice_get links place ≡ link_named links field)) (sym e) tt
-place-found links field (Some place) r is e = subst (λ (x : Result ℕ Cause). IfOk x (λ place. slice_get links place ≡ link_named links field)) (sym e) (is.at place refl)
+pub place-found : (links : List LinkEntry) (field : List ℕ) (found : Option ℕ) (r : Result ℕ LineCause) → IsPlaced links field found → r ≡ ok_or found cause.Unknown → IfOk r (λ place. slice_get links place ≡ link_named links field)
+place-found links field None r is e = subst (λ (x : Result ℕ LineCause). IfOk x (λ place. slice_get links place ≡ link_named links field)) (sym e) tt
+place-found links field (Some place) r is e = subst (λ (x : Result ℕ LineCause). IfOk x (λ place. slice_get links place ≡ link_named links field)) (sym e) (is.at place refl)

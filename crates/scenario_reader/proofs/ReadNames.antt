@@ -34,8 +34,8 @@ use Rattle.scenario_reader.specs.Kept.{IsDraft}
 use Rattle.scenario_reader.specs.Nodes.{is_node, route_between}
 use Rattle.scenario_reader.specs.ReadPlans.{IsReadable, WhatIsReadIsReadable}
 use Rattle.scenario_reader.specs.Reading.{PlanRead, BadLine, at_end, on_judged, reading_of, reading}
-use Rattle.scenario_reader.specs.declared.cause.Cause.{Cause}
-use Rattle.scenario_reader.specs.declared.cause.Cause.TheVariants as cause
+use Rattle.scenario_reader.specs.declared.cause.LineCause.{LineCause}
+use Rattle.scenario_reader.specs.declared.cause.LineCause.TheVariants as cause
 use Rattle.scenario_reader.specs.declared.form.Keyword.{Keyword}
 use Rattle.scenario_reader.specs.declared.form.Keyword.TheVariants as word
 use Rattle.scenario_reader.specs.declared.item.Item.{Item}
@@ -150,7 +150,7 @@ open-named-so version said fields rule =
 -- ---- a line that passes
 
 -- an operation names nothing
-op-names : (said : Said) (rule : Option Cause) (op : Option Op) (what : Item) → ◌≡◌ {A = Option Item} (option_map item.Op op) (Some what) → NamesItem said what
+op-names : (said : Said) (rule : Option LineCause) (op : Option Op) (what : Item) → ◌≡◌ {A = Option Item} (option_map item.Op op) (Some what) → NamesItem said what
 op-names said rule op what e = (let made = made-some item.Op op what e in subst (NamesItem said) made.2 tt)
 
 names-as : (keyword : Keyword) (version : Version) (said : Said) (number : ℕ) (fields : List (List ℕ)) (what : Item) → judge_as keyword version said number fields ≡ Ok what → NamesItem said what
@@ -183,7 +183,7 @@ names-as word.Do version said number fields what e =
     subst (NamesItem said) made.2 tt
 names-as other version said number fields what e = absurd (not-ok cause.Word what e)
   where
-    not-ok : (c : Cause) (what : Item) → ◌≡◌ {A = Result Item Cause} (Err c) (Ok what) → ⊥
+    not-ok : (c : LineCause) (what : Item) → ◌≡◌ {A = Result Item LineCause} (Err c) (Ok what) → ⊥
     not-ok c what e = cc
 
 names-word : (keyword : Option Keyword) (version : Version) (said : Said) (number : ℕ) (fields : List (List ℕ)) (what : Item) → judge_word keyword version said number fields ≡ Ok what → NamesItem said what
@@ -373,7 +373,7 @@ end-read too_long count said parts schedule n e = cc
 lines-read : (lines : List (List ℕ)) (ending : Ending) (count : ℕ) (said : Said) (parts : PlanParts) (schedule : Schedule) → IsNamed said → reading_of count lines ending said ≡ PlanRead parts schedule → IsReadable parts schedule
 lines-read [] ending count said parts schedule n e = end-read ending count said parts schedule n e
 lines-read (line ∷ lines) ending count said parts schedule n e = by (judge said (suc count) line) refl e (λ after named. lines-read lines ending (suc count) after parts schedule named) where
-  by : (r : Result Item Cause) → judge said (suc count) line ≡ r → on_judged r (suc count) said (λ after. reading_of (suc count) lines ending after) ≡ PlanRead parts schedule
+  by : (r : Result Item LineCause) → judge said (suc count) line ≡ r → on_judged r (suc count) said (λ after. reading_of (suc count) lines ending after) ≡ PlanRead parts schedule
       → ((after : Said) → IsNamed after → reading_of (suc count) lines ending after ≡ PlanRead parts schedule → IsReadable parts schedule) → IsReadable parts schedule
   by (Ok what) is e rest = rest (with_item what said) (named-more said what n (may-add said (suc count) line what n.draft is) (line-names said (suc count) line what is)) e
   by (Err why) is e rest = cc

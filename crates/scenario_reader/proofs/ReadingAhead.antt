@@ -17,9 +17,11 @@ use Rattle.call_script.specs.declared.schedule.Schedule.{Schedule}
 use Rattle.scenario_reader.specs.Causes.{unless}
 use Rattle.scenario_reader.specs.Drafts.{Said, is_complete, parts_said, schedule_said}
 use Rattle.scenario_reader.specs.Reading.{PlanRead, at_end, passes_and, are_let_pass, PassesFrom}
-use Rattle.scenario_reader.specs.ReadSteps.{AddsLine, end_rule, IsByLine, Language, ahead, judged_on, whole, Foretells, PassesOn, StopsPassing, TakesOneTooMany, TakesTooMany, ComesToEnd, ReadsOn, ReadsLine, Refuses, TellsLines}
+use Rattle.scenario_reader.specs.ReadSteps.{AddsLine, RefusedAs, RefusesLine, end_rule, IsByLine, Language, ahead, judged_on, whole, Foretells, PassesOn, StopsPassing, TakesOneTooMany, TakesTooMany, ComesToEnd, ReadsOn, ReadsLine, Refuses, TellsLines}
+use Rattle.scenario_reader.specs.Words.{cause_of}
 use Rattle.scenario_reader.specs.declared.cause.Cause.{Cause}
-use Rattle.scenario_reader.specs.declared.cause.Cause.TheVariants as cause
+use Rattle.scenario_reader.specs.declared.cause.LineCause.{LineCause}
+use Rattle.scenario_reader.specs.declared.cause.LineCause.TheVariants as cause
 use Rattle.scenario_reader.specs.declared.reader.ReadRefusal.{ReadRefusal}
 use Rattle.scenario_reader.specs.declared.reader.ReadRefusal.TheVariants as refusal
 use Rattle.scenario_reader.specs.declared.reader.TheConstants.{MOST_BYTES}
@@ -86,17 +88,20 @@ line-reads k s t said after left left' by cutting of a foretold says = record {
 }
 
 -- a line that is refused is the verdict
-line-refused : {W R : Type 0} (k : Language W R) (s t : Cutting) (said : W) (left left' : Option (List ℕ)) (why : Cause) → IsByLine k → t.number ≡ s.number + 1 → BeforeLine (Ok Line) s t (bytes_ahead s left) (bytes_ahead t left')
-    → k.says said t.number t.line ≡ Err why → IfSome (ahead k s said left) (λ r. r ≡ k.refused t.number why)
-line-refused k s t said None left' why by number foretold says = tt
-line-refused k s t said (Some bytes) None why by number foretold says = absurd foretold
-line-refused k s t said (Some bytes) (Some rest) why by number foretold says =
-    line-ahead k s t said bytes rest by number foretold ∙ ap (λ j. judged_on k j t.number (outlook (allowance t) (t.pending ++ rest))) says
+line-refused : {W R : Type 0} (k : Language W R) (s t : Cutting) (said : W) (left left' : Option (List ℕ)) (at : ℕ) (told : Cause) → IsByLine k → t.number ≡ s.number + 1 → BeforeLine (Ok Line) s t (bytes_ahead s left) (bytes_ahead t left')
+    → at ≡ t.number → RefusedAs told (k.says said t.number t.line) → IfSome (ahead k s said left) (RefusesLine k at told)
+line-refused k s t said None left' at told by number foretold here refused = tt
+line-refused k s t said (Some bytes) None at told by number foretold here refused = absurd foretold
+line-refused k s t said (Some bytes) (Some rest) at told by number foretold here refused = record {
+  why = refused.why;
+  same = refused.same;
+  is = line-ahead k s t said bytes rest by number foretold ∙ ap (λ j. judged_on k j t.number (outlook (allowance t) (t.pending ++ rest))) refused.is ∙ ap (λ n. k.refused n refused.why) (sym here);
+}
 
 pub refused-reads : {W R : Type 0} (k : Language W R) (s t : Cutting) (said after : W) (left left' : Option (List ℕ)) (faults faults' : ℕ) (e : ReadRefusal) → IsByLine k → t.number ≡ s.number + 1 → BeforeLine (Ok Line) s t (bytes_ahead s left) (bytes_ahead t left')
     → AddsLine {X = Unit {0}} (Err e) t.number after (k.says said t.number t.line) → ReadsLine k (Err e) s t said after left left' faults faults'
-refused-reads k s t said after left left' faults faults' (refusal.Refused at why) by number foretold adds =
-    subst (λ (n : ℕ). IfSome (ahead k s said left) (λ r. r ≡ k.refused n why)) (sym adds.0) (line-refused k s t said left left' why by number foretold adds.1)
+refused-reads k s t said after left left' faults faults' (refusal.Refused at told) by number foretold adds =
+    line-refused k s t said left left' at told by number foretold adds.0 adds.1
 refused-reads k s t said after left left' faults faults' refusal.Memory by number foretold adds = tt
 refused-reads k s t said after left left' faults faults' refusal.ReadFault by number foretold adds = absurd adds
 refused-reads k s t said after left left' faults faults' (refusal.TooLong taken) by number foretold adds = absurd adds
@@ -133,15 +138,19 @@ end-reads k s t said left left' of a foretold = record {
 }
 
 -- where it ends inside a line, what is ahead is that this line is cut
-cut-ahead : {W R : Type 0} (k : Language W R) (s t : Cutting) (line : ℕ) (said : W) (left left' : Option (List ℕ)) → IsByLine k → BeforeLine (Err (NoLineEnd line)) s t (bytes_ahead s left) (bytes_ahead t left') → IfSome (ahead k s said left) (λ r. r ≡ k.refused (suc s.number) cause.Cut)
-cut-ahead k s t line said None left' by foretold = tt
-cut-ahead k s t line said (Some bytes) None by foretold = absurd foretold
-cut-ahead k s t line said (Some bytes) (Some rest) by foretold = ap (λ (o : Outlook). k.on s.number o said) foretold ∙ by.cut s.number said
+cut-ahead : {W R : Type 0} (k : Language W R) (s t : Cutting) (line : ℕ) (said : W) (left left' : Option (List ℕ)) → IsByLine k → BeforeLine (Err (NoLineEnd line)) s t (bytes_ahead s left) (bytes_ahead t left')
+    → suc s.number ≡ line → IfSome (ahead k s said left) (RefusesLine k line (cause_of cause.Cut))
+cut-ahead k s t line said None left' by foretold number = tt
+cut-ahead k s t line said (Some bytes) None by foretold number = absurd foretold
+cut-ahead k s t line said (Some bytes) (Some rest) by foretold number = record {
+  why = cause.Cut;
+  same = refl;
+  is = ap (λ (o : Outlook). k.on s.number o said) foretold ∙ by.cut s.number said ∙ ap (λ n. k.refused n cause.Cut) number;
+}
 
-pub cut-reads : {W R : Type 0} (k : Language W R) (s t : Cutting) (line : ℕ) (said : W) (left left' : Option (List ℕ)) → IsByLine k → AnswersNoLineEnd line s t left left' → BeforeLine (Err (NoLineEnd line)) s t (bytes_ahead s left) (bytes_ahead t left') → IfSome (ahead k s said left) (λ r. r ≡ k.refused line cause.Cut)
-cut-reads k s t line said left left' by a foretold =
-    let number : suc s.number ≡ line = omega (arith, a.place, a.stays.same_number) in
-    subst (λ (n : ℕ). IfSome (ahead k s said left) (λ r. r ≡ k.refused n cause.Cut)) number (cut-ahead k s t line said left left' by foretold)
+pub cut-reads : {W R : Type 0} (k : Language W R) (s t : Cutting) (line : ℕ) (said : W) (left left' : Option (List ℕ)) → IsByLine k → AnswersNoLineEnd line s t left left' → BeforeLine (Err (NoLineEnd line)) s t (bytes_ahead s left) (bytes_ahead t left')
+    → IfSome (ahead k s said left) (RefusesLine k line (cause_of cause.Cut))
+cut-reads k s t line said left left' by a foretold = cut-ahead k s t line said left left' by foretold (omega (arith, a.place, a.stays.same_number))
 
 -- where the source failed, no whole line is ahead, and no byte too many was taken
 pub passes-fault : {W R : Type 0} (k : Language W R) (s t : Cutting) (said : W) (left left' : Option (List ℕ)) (faults faults' : ℕ) → AnswersReadFault s t left left' faults faults' → StopsPassing k s said left left'
@@ -208,8 +217,8 @@ tells-refused k refusal.Memory s t said after (Some bytes) left left' faults fau
 tells-refused k refusal.ReadFault s t said after (Some bytes) left left' faults faults' most f reads = tt
 tells-refused k (refusal.TooLong taken) s t said after (Some bytes) left left' faults faults' most f reads =
     (foretold (ahead k s said left) (whole k bytes) (λ r. r ≡ k.over) f reads.over, reads.one_more ∙ ap (λ n. n + 1) most)
-tells-refused k (refusal.Refused line cause) s t said after (Some bytes) left left' faults faults' most f reads =
-    foretold (ahead k s said left) (whole k bytes) (λ r. r ≡ k.refused line cause) f reads
+tells-refused k (refusal.Refused line told) s t said after (Some bytes) left left' faults faults' most f reads =
+    foretold (ahead k s said left) (whole k bytes) (RefusesLine k line told) f reads
 
 -- a refusal that is handed on tells the same
 pub tells-handed : {X : Type 0} (r : Result X ReadRefusal) (e : ReadRefusal) (P : Result X ReadRefusal → Type 0) → IsErrAnd r (λ y. y ≡ e) → P (Err e) → P r
@@ -227,13 +236,17 @@ ended k (Some bytes) s t said after left left' f end = record {
 }
 
 -- where they may not end there, the line that would be next is refused
-pub ended-early : {W R : Type 0} (k : Language W R) (told : Option (List ℕ)) (s t : Cutting) (said after : W) (left left' : Option (List ℕ)) (next : ℕ) (why : Cause) → IsByLine k → Foretells k told (ahead k s said left) → ComesToEnd k s t said after left left'
-    → next ≡ t.number + 1 → k.ends after ≡ Some why → TellsLines k (Err (refusal.Refused next why)) after told
+pub ended-early : {W R : Type 0} (k : Language W R) (told : Option (List ℕ)) (s t : Cutting) (said after : W) (left left' : Option (List ℕ)) (next : ℕ) (why : LineCause) (shown : Cause) → IsByLine k → Foretells k told (ahead k s said left) → ComesToEnd k s t said after left left'
+    → next ≡ t.number + 1 → k.ends after ≡ Some why → shown ≡ cause_of why → TellsLines k (Err (refusal.Refused next shown)) after told
 unfolding ended
-ended-early k None s t said after left left' next why by f end number ends = tt
-ended-early k (Some bytes) s t said after left left' next why by f end number ends =
+ended-early k None s t said after left left' next why shown by f end number ends same = tt
+ended-early k (Some bytes) s t said after left left' next why shown by f end number ends same =
     let line : suc t.number ≡ next = omega (arith, number) in
-    (ended k (Some bytes) s t said after left left' f end).is ∙ by.end t.number after why ends ∙ ap (λ n. k.refused n why) line
+    record {
+      why = why;
+      same = same;
+      is = (ended k (Some bytes) s t said after left left' f end).is ∙ by.end t.number after why ends ∙ ap (λ n. k.refused n why) line;
+    }
 
 -- what the text comes to, whatever it is where it was read to its end
 pub comes-to : {W R : Type 0} (k : Language W R) (told : Option (List ℕ)) (said : W) (r : R) → TellsLines k (Ok tt) said told

@@ -6,8 +6,8 @@ use Rattle.std.specs.Prelude.{nat_eq}
 use Rattle.net_units.specs.Text.{begins_as_name, is_kept_word, is_name}
 use Rattle.scenario_reader.specs.Causes.{Rule, unless, first_cause, judged, stated}
 use Rattle.scenario_reader.specs.Forms.{is_among, name_rule, new_name_rule, used_name_rule}
-use Rattle.scenario_reader.specs.declared.cause.Cause.{Cause}
-use Rattle.scenario_reader.specs.declared.cause.Cause.TheVariants as cause
+use Rattle.scenario_reader.specs.declared.cause.LineCause.{LineCause}
+use Rattle.scenario_reader.specs.declared.cause.LineCause.TheVariants as cause
 use Rattle.scenario_reader.proofs.PassingLines.{RulesPass}
 
 -- rules that pass each pass together
@@ -15,7 +15,7 @@ pub pass-all : (rules : List Rule) → RulesPass rules → first_cause rules ≡
 pass-all [] p = refl
 pass-all (rule ∷ rules) p = rw p.0 (pass-all rules p.1)
 
-pub unless-holds : (holds : Bool) (c : Cause) → holds ≡ true → unless holds c ≡ None
+pub unless-holds : (holds : Bool) (c : LineCause) → holds ≡ true → unless holds c ≡ None
 unless-holds holds c e = rw e refl
 
 pub name-back : (field : List ℕ) → is_name field ≡ true → name_rule field ≡ None

@@ -10,7 +10,7 @@ use Rattle.scenario_reader.specs.Forms.{is_word, route_length}
 use Rattle.scenario_reader.specs.line.Link.{bound_start, bound_fields}
 use Rattle.scenario_reader.specs.line.Request.{route_hops, route_fields}
 use Rattle.scenario_reader.specs.line.Quota.{load_fields}
-use Rattle.scenario_reader.specs.declared.cause.Cause.{Cause}
+use Rattle.scenario_reader.specs.declared.cause.LineCause.{LineCause}
 use Rattle.scenario_reader.specs.declared.form.Keyword.TheVariants as word
 
 -- the first cause among the fields from a place on
@@ -28,7 +28,7 @@ rules-pass rule fields place field h e n =
     rw add-one (rules-next-suc rule fields place h ∙ ap (λ r. or_else r (rules_from rule fields (suc place))) (ap rule (sym e) ∙ n))
 
 -- a field that is refused gives the cause
-pub rules-stop : (rule : List ℕ → Rule) (fields : List (List ℕ)) (place : ℕ) (field : List ℕ) (cause : Cause) → place < length fields → field ≡ get_or fields place [] → rule field ≡ Some cause → rules_from rule fields place ≡ Some cause
+pub rules-stop : (rule : List ℕ → Rule) (fields : List (List ℕ)) (place : ℕ) (field : List ℕ) (cause : LineCause) → place < length fields → field ≡ get_or fields place [] → rule field ≡ Some cause → rules_from rule fields place ≡ Some cause
 rules-stop rule fields place field cause h e n =
     rules-next-suc rule fields place h ∙ ap (λ r. or_else r (rules_from rule fields (suc place))) (ap rule (sym e) ∙ n)
 
@@ -49,7 +49,7 @@ pub route-at : (fields : List (List ℕ)) (place : ℕ) → place < route_hops f
 route-at fields place h = sym (rw (get_or-take, get_or-drop) refl)
 
 -- a call that hands on the cause of a rule that is after its own
-pub judges-stop : {X : Type 0} (r : Result X Cause) (rule : Rule) (said : X) (cause : Cause) → IsErrAnd r (λ y. y ≡ cause) → rule ≡ Some cause → Judges r rule said
+pub judges-stop : {X : Type 0} (r : Result X LineCause) (rule : Rule) (said : X) (cause : LineCause) → IsErrAnd r (λ y. y ≡ cause) → rule ≡ Some cause → Judges r rule said
 judges-stop r rule said cause h e =
     let p = err_from_is_err_and r h in
     rw (p.1) (e ∙ ap (λ y. Some y) (sym p.2))

@@ -8,7 +8,7 @@ use Rattle.scenario_reader.specs.Fields.{fields_of, line_of, are_fields, field_a
 use Rattle.scenario_reader.specs.line.Table.{may_stand, line_word, judge_as}
 use Rattle.scenario_reader.specs.Grammar.{judge_word, judge_after, judge_fields, is_passed_over, judge}
 use Rattle.scenario_reader.specs.Reading.{at_end, on_judged, reading_of}
-use Rattle.scenario_reader.specs.declared.cause.Cause.{Cause}
+use Rattle.scenario_reader.specs.declared.cause.LineCause.{LineCause}
 use Rattle.scenario_reader.specs.declared.form.Keyword.{Keyword}
 use Rattle.scenario_reader.specs.declared.item.Item.{Item}
 use Rattle.scenario_reader.proofs.FieldText.{fields-back}
@@ -86,7 +86,7 @@ pub leads-reading : (lines : List (List (List ℕ))) (count end : ℕ) (said aft
 unfolding Leads
 leads-reading [] count end said after leads = ap (λ (n : ℕ). at_end all_given n said) leads.0 ∙ ap (at_end all_given end) leads.1
 leads-reading (fields ∷ lines) count end said after leads =
-    ap (λ (r : Result Item Cause). on_judged r (suc count) said (λ next. reading_of (suc count) (map line_of lines) all_given next)) leads.2 ∙ leads-reading lines (suc count) end (with_item leads.0 said) after leads.3
+    ap (λ (r : Result Item LineCause). on_judged r (suc count) said (λ next. reading_of (suc count) (map line_of lines) all_given next)) leads.2 ∙ leads-reading lines (suc count) end (with_item leads.0 said) after leads.3
 
 pub leads-lines : (lines : List (List (List ℕ))) (count end : ℕ) (said after : Said) → Leads count lines said end after → AreLines lines
 unfolding Leads

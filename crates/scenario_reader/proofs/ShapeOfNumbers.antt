@@ -20,7 +20,7 @@ use Rattle.net_units.specs.Limits.{is_within}
 use Rattle.scenario_reader.specs.Causes.{unless}
 use Rattle.scenario_reader.specs.line.LinkFields.{AreFigures, numbers_with}
 use Rattle.scenario_reader.specs.line.Link.{bounds_of}
-use Rattle.scenario_reader.specs.declared.cause.Cause.TheVariants.{Levels}
+use Rattle.scenario_reader.specs.declared.cause.LineCause.TheVariants.{Levels}
 use Rattle.scenario_reader.specs.declared.line.link.LinkFields.{LinkFields}
 use Rattle.scenario_reader.specs.Entries.{LinkNumbers, has_rate, has_room, has_bounds, shape_with, shape_where, shape_of}
 use Rattle.net_units.proofs.KnownByNumber.{same-link, same-actor, same-channel}

@@ -33,7 +33,7 @@ use Rattle.scenario_reader.specs.PlanText.{caller_lines, plan_lines, plan_text}
 use Rattle.scenario_reader.specs.line.Rounds.{rounds_fields, tail_fields}
 use Rattle.scenario_reader.specs.line.Schedule.{schedule_lines}
 use Rattle.scenario_reader.specs.Reading.{PlanRead, BadLine, reading_on, reading}
-use Rattle.scenario_reader.specs.declared.cause.Cause.TheVariants as cause
+use Rattle.scenario_reader.specs.declared.cause.LineCause.TheVariants as cause
 use Rattle.scenario_reader.specs.declared.item.Item.TheVariants as item
 use Rattle.scenario_reader.specs.Drafts.{with_item}
 use Rattle.scenario_reader.proofs.kind.GroupBack.{GroupsStand}

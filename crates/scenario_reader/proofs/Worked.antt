@@ -12,7 +12,7 @@ use Rattle.scenario_reader.specs.Entries.{shape_of}
 use Rattle.scenario_reader.specs.Grammar.{judge}
 use Rattle.scenario_reader.specs.PlanText.{plan_text}
 use Rattle.scenario_reader.specs.Reading.{Reading, PlanRead, BadLine, TooManyBytes, reading}
-use Rattle.scenario_reader.specs.declared.cause.Cause.TheVariants as cause
+use Rattle.scenario_reader.specs.declared.cause.LineCause.TheVariants as cause
 
 -- two links, a caller and its request over both
 abbrev front : List ℕ

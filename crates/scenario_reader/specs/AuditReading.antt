@@ -17,8 +17,8 @@ use Rattle.scenario_reader.specs.Grammar.{judge}
 use Rattle.scenario_reader.specs.Reading.{PassesFrom}
 use Rattle.scenario_reader.specs.declared.audit.place.Section.{Section}
 use Rattle.scenario_reader.specs.declared.audit.place.Section.TheVariants as place
-use Rattle.scenario_reader.specs.declared.cause.Cause.{Cause}
-use Rattle.scenario_reader.specs.declared.cause.Cause.TheVariants as cause
+use Rattle.scenario_reader.specs.declared.cause.LineCause.{LineCause}
+use Rattle.scenario_reader.specs.declared.cause.LineCause.TheVariants as cause
 use Rattle.scenario_reader.specs.declared.item.Item.{Item}
 
 -- what was read so far: of the scenario; which lines are read now; from `report` on the levels of each request that a line has accepted;
@@ -46,11 +46,11 @@ begins_report said fields = is_complete said && are_fields fields && pointwise n
 abbrev pub report_begun : AuditSaid → AuditSaid
 report_begun read = record read { place = place.Report; levels = replicate (length read.said.requests) None }
 
-abbrev pub with_said : AuditSaid → Result Item Cause → Result AuditSaid Cause
+abbrev pub with_said : AuditSaid → Result Item LineCause → Result AuditSaid LineCause
 with_said read (Ok item) = Ok (record read { said = with_item item read.said })
 with_said read (Err cause) = Err cause
 
-abbrev pub scenario_line : AuditSaid → ℕ → List ℕ → Result AuditSaid Cause
+abbrev pub scenario_line : AuditSaid → ℕ → List ℕ → Result AuditSaid LineCause
 scenario_line read number line =
     if begins_report read.said (fields_of line)
     then (if nat_eq (length (fields_of line)) 1 then Ok (report_begun read) else Err cause.Shape)
@@ -61,30 +61,30 @@ scenario_line read number line =
 abbrev pub is_header : List ℕ → Bool
 is_header line = pointwise nat_eq line table_header
 
-abbrev pub with_levels : AuditSaid → Option Acceptance → Result AuditSaid Cause
+abbrev pub with_levels : AuditSaid → Option Acceptance → Result AuditSaid LineCause
 with_levels read None = Err cause.Accept
 with_levels read (Some told) = Ok (record read { levels = slice_set read.levels told.request (Some told.levels) })
 
-abbrev pub report_line : AuditSaid → List ℕ → Result AuditSaid Cause
+abbrev pub report_line : AuditSaid → List ℕ → Result AuditSaid LineCause
 report_line read line =
     if is_header line then Ok (record read { place = place.Table })
     else (if tells_acceptance line then with_levels read (acceptance_in read.said.requests read.levels (fields_of line)) else Ok read)
 
 -- ---- a row
 
-abbrev pub with_row : AuditSaid → Option HopRow → Result AuditSaid Cause
+abbrev pub with_row : AuditSaid → Option HopRow → Result AuditSaid LineCause
 with_row read None = Err cause.Table
 with_row read (Some row) = Ok (record read { rows = read.rows ++ row ∷ [] })
 
 -- ---- each line
 
-abbrev pub line_at : Section → AuditSaid → ℕ → List ℕ → Result AuditSaid Cause
+abbrev pub line_at : Section → AuditSaid → ℕ → List ℕ → Result AuditSaid LineCause
 line_at place.Scenario read number line = scenario_line read number line
 line_at place.Report read number line = report_line read line
 line_at place.Table read number line = with_row read (row_told read.said line)
 
 -- what was read up to and with the line of this number, or the cause by which that line is refused
-unfoldable pub audit_line : AuditSaid → ℕ → List ℕ → Result AuditSaid Cause
+unfoldable pub audit_line : AuditSaid → ℕ → List ℕ → Result AuditSaid LineCause
 audit_line read number line = line_at read.place read number line
 
 -- ---- all lines
@@ -92,7 +92,7 @@ audit_line read number line = line_at read.place read number line
 -- the plan, the levels of each request that a line has accepted, and the rows; or the line that is refused, and its cause; or too many bytes
 pub data AuditReading : Type 0 where
   AuditRead : PlanParts → List (Option (List ℕ)) → List HopRow → AuditReading
-  BadAuditLine : ℕ → Cause → AuditReading
+  BadAuditLine : ℕ → LineCause → AuditReading
   TooManyAuditBytes : AuditReading
 
 -- what the end comes to, by where it came, after `count` lines
@@ -107,7 +107,7 @@ audit_end cut_short count read = BadAuditLine (suc count) cause.Cut
 audit_end too_long count read = TooManyAuditBytes
 
 -- a refused line is the verdict; otherwise reading goes on
-abbrev pub on_audited : Result AuditSaid Cause → ℕ → (AuditSaid → AuditReading) → AuditReading
+abbrev pub on_audited : Result AuditSaid LineCause → ℕ → (AuditSaid → AuditReading) → AuditReading
 on_audited (Ok after) line go_on = go_on after
 on_audited (Err cause) line go_on = BadAuditLine line cause
 

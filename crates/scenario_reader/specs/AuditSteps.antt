@@ -6,7 +6,7 @@ use Rattle.scenario_reader.specs.Causes.{Rule}
 use Rattle.scenario_reader.specs.ReadSteps.{Language, Refuses}
 use Rattle.scenario_reader.specs.declared.audit.place.Section.{Section}
 use Rattle.scenario_reader.specs.declared.audit.place.Section.TheVariants as place
-use Rattle.scenario_reader.specs.declared.cause.Cause.TheVariants as cause
+use Rattle.scenario_reader.specs.declared.cause.LineCause.TheVariants as cause
 use Rattle.scenario_reader.specs.declared.reader.ReadRefusal.{ReadRefusal}
 use Rattle.scenario_reader.specs.declared.reader.TheConstants.{MOST_BYTES}
 

@@ -13,11 +13,11 @@ use Rattle.scenario_reader.specs.Reading.{BadLine, PlanRead, Reading, on_judged,
 use Rattle.scenario_reader.specs.ReadSteps.{IsByLine, judged_on, scenarios}
 use Rattle.scenario_reader.specs.declared.audit.place.Section.{Section}
 use Rattle.scenario_reader.specs.declared.audit.place.Section.TheVariants as place
-use Rattle.scenario_reader.specs.declared.cause.Cause.{Cause}
-use Rattle.scenario_reader.specs.declared.cause.Cause.TheVariants as cause
+use Rattle.scenario_reader.specs.declared.cause.LineCause.{LineCause}
+use Rattle.scenario_reader.specs.declared.cause.LineCause.TheVariants as cause
 use Rattle.scenario_reader.specs.declared.item.Item.{Item}
 
-scenario_next : (judged : Result Item Cause) (count : ℕ) (rest : Outlook) (said : Said)
+scenario_next : (judged : Result Item LineCause) (count : ℕ) (rest : Outlook) (said : Said)
     → on_judged judged count said (λ after. reading_of count rest.lines rest.ending after) ≡ judged_on scenarios (with_judged said judged) count rest
 scenario_next (Ok item) count rest said = refl
 scenario_next (Err cause) count rest said = refl
@@ -27,7 +27,7 @@ abbrev Refused : Rule → Type 0 → Type 0
 Refused None P = ⊤
 Refused (Some why) P = P
 
-scenario_end : (complete : Bool) (read : Reading) (count : ℕ) (why : Cause) → unless complete cause.End ≡ Some why → (if complete then read else BadLine (suc count) cause.End) ≡ BadLine (suc count) why
+scenario_end : (complete : Bool) (read : Reading) (count : ℕ) (why : LineCause) → unless complete cause.End ≡ Some why → (if complete then read else BadLine (suc count) cause.End) ≡ BadLine (suc count) why
 scenario_end true read count why is = subst (λ rule. Refused rule (read ≡ BadLine (suc count) why)) is tt
 scenario_end false read count why is = ap (BadLine (suc count)) (same_Some cause.End why is)
 
@@ -39,12 +39,12 @@ scenarios_by_line = record {
   over = λ count said. refl;
 }
 
-audit_next : (judged : Result AuditSaid Cause) (count : ℕ) (rest : Outlook)
+audit_next : (judged : Result AuditSaid LineCause) (count : ℕ) (rest : Outlook)
     → on_audited judged count (λ after. audit_of count rest.lines rest.ending after) ≡ judged_on audits judged count rest
 audit_next (Ok after) count rest = refl
 audit_next (Err cause) count rest = refl
 
-audit_end : (at : Section) (count : ℕ) (read : AuditSaid) (why : Cause) → place_rule at ≡ Some why → end_at at count read ≡ BadAuditLine (suc count) why
+audit_end : (at : Section) (count : ℕ) (read : AuditSaid) (why : LineCause) → place_rule at ≡ Some why → end_at at count read ≡ BadAuditLine (suc count) why
 audit_end place.Scenario count read why is = ap (BadAuditLine (suc count)) (same_Some cause.End why is)
 audit_end place.Report count read why is = ap (BadAuditLine (suc count)) (same_Some cause.Table why is)
 audit_end place.Table count read why is = subst (λ rule. Refused rule (end_at place.Table count read ≡ BadAuditLine (suc count) why)) is tt

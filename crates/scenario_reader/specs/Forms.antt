@@ -7,7 +7,7 @@ use Rattle.std.specs.Cmp.Lexicographic.{pointwise}
 use Rattle.net_units.specs.Text.{is_name}
 use Rattle.scenario_reader.specs.Causes.{Rule, unless, or_else}
 use Rattle.scenario_reader.specs.Decimal.{is_number, value_of}
-use Rattle.scenario_reader.specs.declared.cause.Cause.TheVariants as cause
+use Rattle.scenario_reader.specs.declared.cause.LineCause.TheVariants as cause
 use Rattle.scenario_reader.specs.declared.form.Keyword.{Keyword}
 use Rattle.scenario_reader.specs.declared.form.Keyword.TheVariants as word
 use Rattle.scenario_reader.specs.declared.form.Part.{Part}

@@ -10,8 +10,10 @@ use Rattle.call_script.specs.declared.schedule.Schedule.{Schedule}
 use Rattle.scenario_reader.specs.Causes.{Rule, unless}
 use Rattle.scenario_reader.specs.Drafts.{Said, is_complete, nothing_said}
 use Rattle.scenario_reader.specs.Reading.{Reading, PlanRead, BadLine, TooManyBytes, reading_on, reading, are_let_pass, said_line}
+use Rattle.scenario_reader.specs.Words.{cause_of}
 use Rattle.scenario_reader.specs.declared.cause.Cause.{Cause}
-use Rattle.scenario_reader.specs.declared.cause.Cause.TheVariants as cause
+use Rattle.scenario_reader.specs.declared.cause.LineCause.{LineCause}
+use Rattle.scenario_reader.specs.declared.cause.LineCause.TheVariants as cause
 use Rattle.scenario_reader.specs.declared.cause.LineFault.{LineFault}
 use Rattle.scenario_reader.specs.declared.cause.LineFault.TheVariants as fault
 use Rattle.scenario_reader.specs.declared.reader.ReadRefusal.{ReadRefusal}
@@ -22,14 +24,14 @@ use Rattle.scenario_reader.specs.declared.reader.TheConstants.{MOST_BYTES}
 -- after that, if it may not; what is to come of bytes after so many lines that say this; and what a refused line and too many bytes come to
 pub record Language (Words Whole : Type 0) : Type 0 where
   pub first : Words
-  pub says : Words → ℕ → List ℕ → Result Words Cause
+  pub says : Words → ℕ → List ℕ → Result Words LineCause
   pub ends : Words → Rule
   pub on : ℕ → Outlook → Words → Whole
-  pub refused : ℕ → Cause → Whole
+  pub refused : ℕ → LineCause → Whole
   pub over : Whole
 
 -- what a line that was judged and the bytes after it come to, after this many lines
-abbrev pub judged_on : {W R : Type 0} → Language W R → Result W Cause → ℕ → Outlook → R
+abbrev pub judged_on : {W R : Type 0} → Language W R → Result W LineCause → ℕ → Outlook → R
 judged_on k (Ok after) count rest = k.on count rest after
 judged_on k (Err cause) count rest = k.refused count cause
 
@@ -37,7 +39,7 @@ judged_on k (Err cause) count rest = k.refused count cause
 pub record IsByLine {W R : Type 0} (k : Language W R) : Type 0 where
   pub next : (count : ℕ) (line : List ℕ) (rest : Outlook) (said : W) → k.on count (record { lines = line ∷ rest.lines; ending = rest.ending }) said ≡ judged_on k (k.says said (suc count) line) (suc count) rest
   pub cut : (count : ℕ) (said : W) → k.on count (record { lines = []; ending = cut_short }) said ≡ k.refused (suc count) cause.Cut
-  pub end : (count : ℕ) (said : W) (why : Cause) → k.ends said ≡ Some why → k.on count (record { lines = []; ending = all_given }) said ≡ k.refused (suc count) why
+  pub end : (count : ℕ) (said : W) (why : LineCause) → k.ends said ≡ Some why → k.on count (record { lines = []; ending = all_given }) said ≡ k.refused (suc count) why
   pub over : (count : ℕ) (said : W) → k.on count (record { lines = []; ending = too_long }) said ≡ k.over
 
 -- a scenario ends with the line that a plan needs last, or with those after it
@@ -54,15 +56,21 @@ ahead k t said None = None
 ahead k t said (Some left) = Some (k.on t.number (outlook (allowance t) (t.pending ++ left)) said)
 
 -- what was read after a line is what judging it says, but where memory ran out
-abbrev pub Adds : {X W : Type 0} → Result X LineFault → W → Result W Cause → Type 0
+abbrev pub Adds : {X W : Type 0} → Result X LineFault → W → Result W LineCause → Type 0
 Adds (Ok _) after judged = judged ≡ Ok after
 Adds (Err (fault.Refused cause)) after judged = judged ≡ Err cause
 Adds (Err fault.Memory) after judged = Unit {0}
 
+-- the line doesn't pass, and this is told of its cause
+pub record RefusedAs {W : Type 0} (told : Cause) (judged : Result W LineCause) : Type 0 where
+  pub why : LineCause
+  pub same : told ≡ cause_of why
+  pub is : judged ≡ Err why
+
 -- the same of the line of this number
-abbrev pub AddsLine : {X W : Type 0} → Result X ReadRefusal → ℕ → W → Result W Cause → Type 0
+abbrev pub AddsLine : {X W : Type 0} → Result X ReadRefusal → ℕ → W → Result W LineCause → Type 0
 AddsLine (Ok _) number after judged = judged ≡ Ok after
-AddsLine (Err (refusal.Refused at cause)) number after judged = (at ≡ number) × (judged ≡ Err cause)
+AddsLine (Err (refusal.Refused at told)) number after judged = (at ≡ number) × RefusedAs told judged
 AddsLine (Err refusal.Memory) number after judged = ⊤
 AddsLine (Err refusal.ReadFault) number after judged = ⊥
 AddsLine (Err (refusal.TooLong _)) number after judged = ⊥
@@ -118,6 +126,12 @@ pub record ComesToEnd {W R : Type 0} (k : Language W R) (s t : Cutting) (said af
   pub nothing_left : IsAtEnd left'
   pub ends : IfSome (ahead k s said left) (λ r. r ≡ k.on s.number (record { lines = []; ending = all_given }) said)
 
+-- a text comes to this line, which is refused, and this is told of its cause
+pub record RefusesLine {W R : Type 0} (k : Language W R) (line : ℕ) (told : Cause) (r : R) : Type 0 where
+  pub why : LineCause
+  pub same : told ≡ cause_of why
+  pub is : r ≡ k.refused line why
+
 -- what reading one more line answers: whether there was one, or why the input is refused
 abbrev pub ReadsLine : {W R : Type 0} → Language W R → Result Bool ReadRefusal → Cutting → Cutting → W → W → Option (List ℕ) → Option (List ℕ) → ℕ → ℕ → Type 0
 ReadsLine k (Ok true) s t said after left left' faults faults' = ReadsOn k s t said after left left'
@@ -125,7 +139,7 @@ ReadsLine k (Ok false) s t said after left left' faults faults' = ComesToEnd k s
 ReadsLine k (Err refusal.Memory) s t said after left left' faults faults' = ⊤
 ReadsLine k (Err refusal.ReadFault) s t said after left left' faults faults' = FailsWhileReading k s said left left' faults faults'
 ReadsLine k (Err (refusal.TooLong taken)) s t said after left left' faults faults' = TakesOneTooMany k taken s said left left'
-ReadsLine k (Err (refusal.Refused line cause)) s t said after left left' faults faults' = IfSome (ahead k s said left) (λ r. r ≡ k.refused line cause)
+ReadsLine k (Err (refusal.Refused line told)) s t said after left left' faults faults' = IfSome (ahead k s said left) (RefusesLine k line told)
 
 -- what all bytes come to
 abbrev pub whole : {W R : Type 0} → Language W R → List ℕ → R
@@ -138,7 +152,7 @@ Foretells k (Some bytes) now = now ≡ Some (whole k bytes)
 
 -- a refusal is that of the reading
 abbrev pub Refuses : {W R : Type 0} → Language W R → ReadRefusal → R → Type 0
-Refuses k (refusal.Refused line cause) r = r ≡ k.refused line cause
+Refuses k (refusal.Refused line told) r = RefusesLine k line told r
 Refuses k (refusal.TooLong taken) r = (r ≡ k.over) × (taken ≡ MOST_BYTES + 1)
 Refuses k refusal.Memory r = ⊤
 Refuses k refusal.ReadFault r = ⊤

@@ -9,14 +9,14 @@ use Rattle.call_script.specs.Parts.{PlanParts}
 use Rattle.call_script.specs.declared.schedule.Schedule.{Schedule}
 use Rattle.scenario_reader.specs.Drafts.{Said, nothing_said, with_item, is_complete, parts_said, schedule_said}
 use Rattle.scenario_reader.specs.Grammar.{judge}
-use Rattle.scenario_reader.specs.declared.cause.Cause.{Cause}
-use Rattle.scenario_reader.specs.declared.cause.Cause.TheVariants as cause
+use Rattle.scenario_reader.specs.declared.cause.LineCause.{LineCause}
+use Rattle.scenario_reader.specs.declared.cause.LineCause.TheVariants as cause
 use Rattle.scenario_reader.specs.declared.item.Item.{Item}
 
 -- the plan and the schedule that were read; the line, from 1, that is refused, and its cause; or too many bytes
 pub data Reading : Type 0 where
   PlanRead : PlanParts → Schedule → Reading
-  BadLine : ℕ → Cause → Reading
+  BadLine : ℕ → LineCause → Reading
   TooManyBytes : Reading
 
 -- what the end of the input comes to, after `count` lines that say this
@@ -26,7 +26,7 @@ at_end cut_short count said = BadLine (suc count) cause.Cut
 at_end too_long count said = TooManyBytes
 
 -- a refused line is the verdict; otherwise reading goes on after what the line says
-abbrev pub on_judged : Result Item Cause → ℕ → Said → (Said → Reading) → Reading
+abbrev pub on_judged : Result Item LineCause → ℕ → Said → (Said → Reading) → Reading
 on_judged (Ok item) line said go_on = go_on (with_item item said)
 on_judged (Err cause) line said go_on = BadLine line cause
 
@@ -47,27 +47,27 @@ reading most bytes = reading_on 0 (outlook most bytes) nothing_said
 -- ---- what was taken before a fault
 
 -- what was said up to and with the line of this number, or its cause
-abbrev pub with_judged : Said → Result Item Cause → Result Said Cause
+abbrev pub with_judged : Said → Result Item LineCause → Result Said LineCause
 with_judged said (Ok item) = Ok (with_item item said)
 with_judged said (Err cause) = Err cause
 
-abbrev pub said_line : Said → ℕ → List ℕ → Result Said Cause
+abbrev pub said_line : Said → ℕ → List ℕ → Result Said LineCause
 said_line said number line = with_judged said (judge said number line)
 
 -- a line that passes, and then those after it
-abbrev pub passes_and : {X : Type 0} → Result X Cause → (X → Bool) → Bool
+abbrev pub passes_and : {X : Type 0} → Result X LineCause → (X → Bool) → Bool
 passes_and (Ok after) go_on = go_on after
 passes_and (Err cause) go_on = false
 
 -- each of these lines, the first of which is the one after `count`, passes, after what was said and the lines before it, where `says`
 -- tells what was said after a line
-abbrev pub are_let_pass : {X : Type 0} → (X → ℕ → List ℕ → Result X Cause) → ℕ → List (List ℕ) → X → Bool
+abbrev pub are_let_pass : {X : Type 0} → (X → ℕ → List ℕ → Result X LineCause) → ℕ → List (List ℕ) → X → Bool
 are_let_pass says count [] said = true
 are_let_pass says count (line ∷ lines) said = passes_and (says said (suc count) line) (λ after. are_let_pass says (suc count) lines after)
 
 -- the bytes taken from a source, `left` being what it told before and after, are no more than may be read, and hold no
 -- whole line that is refused
-pub record PassesFrom {X : Type 0} (says : X → ℕ → List ℕ → Result X Cause) (first : X) (most : ℕ) (left left' : Option (List ℕ)) : Type 0 where
+pub record PassesFrom {X : Type 0} (says : X → ℕ → List ℕ → Result X LineCause) (first : X) (most : ℕ) (left left' : Option (List ℕ)) : Type 0 where
   pub bytes : List ℕ
   pub from_source : Consumes left left' bytes
   pub few : length bytes ≤ most

@@ -3,9 +3,37 @@ use Rattle.std.specs.Prelude.{ℕ, List, ◌++◌, codes}
 use Rattle.std.specs.Fmt.{decimal}
 use Rattle.scenario_reader.specs.declared.cause.Cause.{Cause}
 use Rattle.scenario_reader.specs.declared.cause.Cause.TheVariants as cause
+use Rattle.scenario_reader.specs.declared.cause.LineCause.{LineCause}
+use Rattle.scenario_reader.specs.declared.cause.LineCause.TheVariants as line
 use Rattle.scenario_reader.specs.declared.reader.ReadRefusal.{ReadRefusal}
 use Rattle.scenario_reader.specs.declared.reader.ReadRefusal.TheVariants as refusal
 
+-- the cause of a line, among all causes by which a scenario is refused
+abbrev pub cause_of : LineCause → Cause
+cause_of line.Header = cause.Header
+cause_of line.Word = cause.Word
+cause_of line.Shape = cause.Shape
+cause_of line.Name = cause.Name
+cause_of line.Number = cause.Number
+cause_of line.Known = cause.Known
+cause_of line.Unknown = cause.Unknown
+cause_of line.Range = cause.Range
+cause_of line.Many = cause.Many
+cause_of line.Contract = cause.Contract
+cause_of line.Levels = cause.Levels
+cause_of line.Route = cause.Route
+cause_of line.Closed = cause.Closed
+cause_of line.Load = cause.Load
+cause_of line.End = cause.End
+cause_of line.Cut = cause.Cut
+cause_of line.Best = cause.Best
+cause_of line.Reach = cause.Reach
+cause_of line.Accept = cause.Accept
+cause_of line.Table = cause.Table
+cause_of line.Quota = cause.Quota
+cause_of line.Move = cause.Move
+
+-- the word of a cause
 abbrev pub cause_word : Cause → List ℕ
 cause_word cause.Header = codes "header"
 cause_word cause.Word = codes "word"

@@ -7,7 +7,7 @@ ghost use Rattle.scenario_reader.specs.Causes.{Judges};
 ghost use Rattle.scenario_reader.specs.ReadSteps.{Adds, AddsLine, IsByLine, Language, ReadsLine, TakesTooMany, TellsLines};
 ghost use Rattle.scenario_reader.specs.Reading.{PassesFrom};
 
-use crate::cause::{Cause, LineFault};
+use crate::cause::{Cause, LineCause, LineFault};
 use crate::reader::{MOST_BYTES, ReadRefusal};
 use byte_ends::{Cut, LineRefusal, Lines, Source};
 use std::alloc::Global;
@@ -31,7 +31,7 @@ pub(crate) trait TakesLines {
         ensures { Adds result self.new (language.says self.old number line.now) };
 
     /// Why the text may not end here, if it may not.
-    fn judge_end(&self) -> Result<(), Cause>
+    fn judge_end(&self) -> Result<(), LineCause>
         ensures { Judges result (language.ends self.now) tt };
 
     ghost by_line: { IsByLine language };
@@ -58,7 +58,7 @@ pub(crate) fn read_lines<S: Source, D: TakesLines>(
         Ok(()) => Ok(()),
         Err(cause) => Err(ReadRefusal::Refused {
             line: lines.number() + 1,
-            cause,
+            cause: cause.into(),
         }),
     }
 }
@@ -113,7 +113,7 @@ fn take_line<D: TakesLines>(
         Err(LineFault::Memory) => Err(ReadRefusal::Memory),
         Err(LineFault::Refused(cause)) => Err(ReadRefusal::Refused {
             line: number,
-            cause,
+            cause: cause.into(),
         }),
     }
 }

@@ -5,9 +5,9 @@ ghost use Rattle.scenario_reader.specs.Words.{cause_word};
 use net_units::OutOfMemory;
 use std::fmt::{self, Display};
 
-/// Why a line of a scenario is refused. Where several causes apply to a line, the first in the order of judging is given: bytes and
-/// spacing, the header or the first word, the form, the fields from left to right by `Name` to `Range`, and then the causes from
-/// `Many` on in their order.
+/// Why a scenario is refused: by the cause of a line, or for a step that isn't left. Where several causes apply to a line, the first
+/// in the order of judging is given: bytes and spacing, the header or the first word, the form, the fields from left to right by
+/// `Name` to `Range`, and then the causes from `Many` on in their order.
 #[derive(Clone, Copy, Debug, PartialEq, Eq)]
 pub enum Cause {
     /// The first line isn't a known header.
@@ -42,7 +42,7 @@ pub enum Cause {
     End,
     /// The input ended inside the line.
     Cut,
-    /// A `do` line asks for a step that isn't left. No line is refused for it when it is read.
+    /// A `do` line asks for a step that isn't left.
     Step,
     /// The link takes no best-effort packets.
     Best,
@@ -59,22 +59,83 @@ pub enum Cause {
     Move,
 }
 
+/// Why a line is refused: the cause of this name in `Cause`.
+#[derive(Clone, Copy, Debug, PartialEq, Eq)]
+pub enum LineCause {
+    Header,
+    Word,
+    Shape,
+    Name,
+    Number,
+    Known,
+    Unknown,
+    Range,
+    Many,
+    Contract,
+    Levels,
+    Route,
+    Closed,
+    Load,
+    End,
+    Cut,
+    Best,
+    Reach,
+    Accept,
+    Table,
+    Quota,
+    Move,
+}
+
+impl From<LineCause> for Cause {
+    ghost use Rattle.std.specs.Prelude.{◌≡◌};
+    ghost use Rattle.scenario_reader.specs.Words.{cause_of};
+
+    ghost from_gives = { λ cause told. told ≡ cause_of cause };
+
+    fn from(cause: LineCause) -> Cause {
+        match cause {
+            LineCause::Header => Cause::Header,
+            LineCause::Word => Cause::Word,
+            LineCause::Shape => Cause::Shape,
+            LineCause::Name => Cause::Name,
+            LineCause::Number => Cause::Number,
+            LineCause::Known => Cause::Known,
+            LineCause::Unknown => Cause::Unknown,
+            LineCause::Range => Cause::Range,
+            LineCause::Many => Cause::Many,
+            LineCause::Contract => Cause::Contract,
+            LineCause::Levels => Cause::Levels,
+            LineCause::Route => Cause::Route,
+            LineCause::Closed => Cause::Closed,
+            LineCause::Load => Cause::Load,
+            LineCause::End => Cause::End,
+            LineCause::Cut => Cause::Cut,
+            LineCause::Best => Cause::Best,
+            LineCause::Reach => Cause::Reach,
+            LineCause::Accept => Cause::Accept,
+            LineCause::Table => Cause::Table,
+            LineCause::Quota => Cause::Quota,
+            LineCause::Move => Cause::Move,
+        }
+    }
+}
+
 /// Why a line doesn't pass.
 #[derive(Clone, Copy, Debug, PartialEq, Eq)]
 pub enum LineFault {
     /// Out of memory while its route was searched for; whether it is refused isn't known.
     Memory,
     /// The line is refused.
-    Refused(Cause),
+    Refused(LineCause),
 }
 
-impl From<Cause> for LineFault {
+impl From<LineCause> for LineFault {
     ghost use Rattle.std.specs.Prelude.{◌≡◌};
     ghost use Rattle.scenario_reader.specs.declared.cause.LineFault.TheVariants.{Refused};
 
     ghost from_gives = { λ cause fault. fault ≡ Refused cause };
 
-    fn from(cause: Cause) -> LineFault {
+    fn from(cause: LineCause) -> LineFault {
         LineFault::Refused(cause)
     }
 }

@@ -5,7 +5,7 @@ ghost use Rattle.scenario_reader.specs.Drafts.{nothing_said, is_complete, parts_
 ghost use Rattle.scenario_reader.specs.Kept.{IsScheduleOf};
 
 use crate::by_line::TakesLines;
-use crate::cause::{Cause, LineFault};
+use crate::cause::{LineCause, LineFault};
 use crate::names::Names;
 use crate::uses::Uses;
 use crate::values::require;
@@ -72,8 +72,8 @@ impl TakesLines for Draft {
         Ok(())
     }
 
-    fn judge_end(&self) -> Result<(), Cause> {
-        require(self.is_complete(), Cause::End)
+    fn judge_end(&self) -> Result<(), LineCause> {
+        require(self.is_complete(), LineCause::End)
     }
 
     ghost by_line = { scenarios_by_line };

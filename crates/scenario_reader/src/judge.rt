@@ -6,7 +6,7 @@ ghost use Rattle.scenario_reader.specs.Causes.{AnswersWithRoom};
 ghost use Rattle.scenario_reader.specs.line.Table.{MayAdd};
 ghost use Rattle.scenario_reader.specs.Grammar.{judge_word, judge_after, judge, is_passed_over};
 
-use crate::cause::{Cause, LineFault};
+use crate::cause::{LineCause, LineFault};
 use crate::draft::Draft;
 use crate::fields::Fields;
 use crate::form::Keyword;
@@ -28,7 +28,7 @@ impl Draft {
         }
         let fields = Fields::of(line);
         if !fields.are_written() {
-            return Err(LineFault::Refused(Cause::Shape));
+            return Err(LineFault::Refused(LineCause::Shape));
         }
         self.judge_after(alloc, number, &fields)
     }
@@ -41,7 +41,7 @@ impl Draft {
         match self.version {
             None => judge_header(fields),
             Some(version) => match line_word(fields.at(0)) {
-                None => Err(LineFault::Refused(Cause::Word)),
+                None => Err(LineFault::Refused(LineCause::Word)),
                 Some(word) => self.judge_word(alloc, word, version, number, fields),
             },
         }
@@ -60,7 +60,7 @@ impl Draft {
         if self.may_stand(version, word) {
             self.judge_as(alloc, word, version, number, fields)
         } else {
-            Err(LineFault::Refused(Cause::Word))
+            Err(LineFault::Refused(LineCause::Word))
         }
     }
 }

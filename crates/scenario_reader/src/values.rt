@@ -5,41 +5,41 @@ ghost use Rattle.scenario_reader.specs.Decimal.{is_number, value_of};
 ghost use Rattle.scenario_reader.specs.Forms.{name_rule, new_name_rule, number_rule};
 ghost use Rattle.std.specs.Str.{all_ascii_digits};
 
-use crate::cause::Cause;
+use crate::cause::LineCause;
 use crate::names::Names;
 use net_units::Name;
 
 /// Nothing where the condition holds, or else this cause.
-pub fn require(holds: bool, cause: Cause) -> Result<(), Cause>
+pub fn require(holds: bool, cause: LineCause) -> Result<(), LineCause>
     ensures { Judges result (unless holds cause) tt }
 {
     if holds { Ok(()) } else { Err(cause) }
 }
 
 /// The name that a field holds, or the cause `Name`.
-pub fn name(field: &[u8]) -> Result<Name, Cause>
+pub fn name(field: &[u8]) -> Result<Name, LineCause>
     ensures { Judges result (name_rule field.now) field.now }
 {
-    Name::new(field).ok_or(Cause::Name)
+    Name::new(field).ok_or(LineCause::Name)
 }
 
 /// The new name that a field holds, or the cause `Name` or `Known`.
-pub fn new_name(field: &[u8], known: &Names) -> Result<Name, Cause>
+pub fn new_name(field: &[u8], known: &Names) -> Result<Name, LineCause>
     ensures { Judges result (new_name_rule known.now field.now) field.now }
 {
     let name = name(field)?;
-    require(!known.has(&name), Cause::Known)?;
+    require(!known.has(&name), LineCause::Known)?;
     Ok(name)
 }
 
 /// The number from `low` to `high` that a field holds, or the cause `Number` or `Range`.
-pub fn number(field: &[u8], low: u64, high: u64) -> Result<u64, Cause>
+pub fn number(field: &[u8], low: u64, high: u64) -> Result<u64, LineCause>
     ensures judged { Judges result (number_rule low high field.now) (value_of field.now) }
     ensures range { IfOk result (λ value. (low ≤ value) × (value ≤ high)) }
 {
-    require(is_number(field), Cause::Number)?;
+    require(is_number(field), LineCause::Number)?;
     let value = value_of(field);
-    require(low <= value && value <= high, Cause::Range)?;
+    require(low <= value && value <= high, LineCause::Range)?;
     Ok(value)
 }
 

@@ -12,8 +12,11 @@ use Rattle.call_script.specs.declared.entries.RequestEntry.{RequestEntry}
 use Rattle.run_record.specs.declared.rows.HopRow.{HopRow}
 use Rattle.scenario_reader.specs.AuditKept.{levels_given}
 use Rattle.scenario_reader.specs.AuditReading.{AuditReading, AuditRead, BadAuditLine, TooManyAuditBytes, audit_reading}
-use Rattle.scenario_reader.specs.AuditSteps.{AuditBytes, RefusesReading}
+use Rattle.scenario_reader.specs.AuditSteps.{AuditBytes, RefusesReading, audits}
+use Rattle.scenario_reader.specs.ReadSteps.{RefusesLine}
+use Rattle.scenario_reader.specs.Words.{cause_of}
 use Rattle.scenario_reader.specs.declared.cause.Cause.{Cause}
+use Rattle.scenario_reader.specs.declared.cause.LineCause.{LineCause}
 use Rattle.scenario_reader.specs.declared.reader.ReadRefusal.{ReadRefusal}
 use Rattle.scenario_reader.specs.declared.reader.ReadRefusal.TheVariants as refusal
 use Rattle.scenario_reader.specs.declared.reader.TheConstants.{MOST_BYTES}
@@ -150,15 +153,20 @@ audits-table before after answer parts levels rows plan accepted read ended (Tab
 audits-table before after answer parts levels rows plan accepted read ended (TableUntold is keeps) = subst (λ a. Audits a before after) (sym is) keeps
 
 -- a line was refused
+bad-as : (left : Option (List ℕ)) (line : ℕ) (told : Cause) (P : AuditReading → Type 0) → AuditBytes left (RefusesLine audits line told)
+    → ((why : LineCause) → told ≡ cause_of why → P (BadAuditLine line why)) → AuditBytes left P
+bad-as None line told P refused due = tt
+bad-as (Some bytes) line told P refused due = subst P (sym refused.is) (due refused.why refused.same)
+
 refused-audits : (before after : Ends) (answer : Status) (line : ℕ) (why : Cause)
-    → AuditBytes before.left (λ r. r ≡ BadAuditLine line why)
+    → AuditBytes before.left (RefusesLine audits line why)
     → TellsRefusal line why answer before.written after.written before.write_faults after.write_faults → Audits answer before after
 refused-audits before after answer line why told (RefusalTold is appends) =
     subst (λ a. Audits a before after) (sym is)
-    (record { due = due-as before.left (BadAuditLine line why) (IsAuditDue (status.Refused line why) (refusal_line line why)) told (refl, refl); written = appends })
+    (record { due = bad-as before.left line why (IsAuditDue (status.Refused line why) (refusal_line line why)) told (λ c same. (ap (status.Refused line) same, ap (refusal_line line) same)); written = appends })
 refused-audits before after answer line why told (FrontTold is rises part) =
     subst (λ a. Audits a before after) (sym is)
-    (record { rises = rises; written = due-as before.left (BadAuditLine line why) (FrontOfAudit before.written after.written) told (record { answer = status.Refused line why; text = refusal_line line why; due = (refl, refl); front = part }) })
+    (record { rises = rises; written = bad-as before.left line why (FrontOfAudit before.written after.written) told (λ c same. record { answer = status.Refused line why; text = refusal_line line why; due = (ap (status.Refused line) same, ap (refusal_line line) same); front = part }) })
 refused-audits before after answer line why told (NotTold is keeps) = subst (λ a. Audits a before after) (sym is) keeps
 
 pub audits-refused : (before after : Ends) (answer : Status) (why_not : ReadRefusal) (line : ℕ) (why : Cause)

@@ -6,6 +6,5 @@ pub mod RaceTexts
 pub mod RaceWritten
 pub mod RaceLaws
 pub mod OneRace
-pub mod StepCause
 pub mod RaceAgain
 pub mod WorkerWords

@@ -1,6 +1,11 @@
 -- What is due for the bytes by a race is one status, and an answer without a fault is due for them.
-use Rattle.std.proofs.Common.{◌≡◌, ◌⊎◌, inl, inr, refl, ℕ, Bool, List, [], Option, Some, subst, sym, ◌∙◌}
+use Rattle.std.proofs.Common.{◌≡◌, ◌⊎◌, inl, inr, refl, ℕ, Bool, List, [], Option, Some, ap, subst, sym, ◌∙◌}
 use Rattle.scenario_reader.specs.Reading.{Reading, PlanRead, BadLine, TooManyBytes, reading}
+use Rattle.scenario_reader.specs.ReadSteps.{RefusesLine, scenarios}
+use Rattle.scenario_reader.specs.Words.{cause_of}
+use Rattle.scenario_reader.specs.declared.cause.Cause.TheVariants as cause
+use Rattle.scenario_reader.specs.declared.cause.LineCause.{LineCause}
+use Rattle.scenario_reader.specs.declared.cause.LineCause.TheVariants as line
 use Rattle.scenario_reader.specs.declared.reader.TheConstants.{MOST_BYTES}
 use Rattle.shared_network.specs.declared.closing.Closed.{Closed}
 use Rattle.tenet_app.specs.Playing.{Ends, refusal_line, MeetsNoFault}
@@ -9,7 +14,6 @@ use Rattle.tenet_app.specs.declared.status.Status.{Status}
 use Rattle.tenet_app.specs.declared.status.Status.TheVariants as status
 use Rattle.tenet_app.proofs.OneRace.{one-text}
 use Rattle.tenet_app.proofs.PlayDue.{at-bytes}
-use Rattle.tenet_app.proofs.StepCause.{never-missing}
 
 -- ---- one status
 
@@ -33,11 +37,23 @@ answers-due packets before after status.Words raced bytes is none races = absurd
 answers-due packets before after status.ReadFault raced bytes is none races = absurd (none.read races.rises)
 answers-due packets before after status.WriteFault raced bytes is none races = absurd (none.write races.rises)
 answers-due packets before after (status.Refused line told) raced bytes is none races =
-    let bad : reading MOST_BYTES bytes ≡ BadLine line told = at-bytes before.left bytes (λ r. r ≡ BadLine line told) is races.due in
-    inr (record { text = refusal_line line told; due = subst (IsDueForRace packets (status.Refused line told) (refusal_line line told)) (sym bad) (refl, refl) })
+    let bad = at-bytes before.left bytes (RefusesLine scenarios line told) is races.due in
+    inr (record { text = refusal_line line told; due = subst (IsDueForRace packets (status.Refused line told) (refusal_line line told)) (sym bad.is) (ap (status.Refused line) bad.same, ap (refusal_line line) bad.same) })
 answers-due packets before after status.TooLong raced bytes is none races =
     let over : reading MOST_BYTES bytes ≡ TooManyBytes = at-bytes before.left bytes (λ r. r ≡ TooManyBytes) is races.over in
     inr (record { text = []; due = subst (IsDueForRace packets status.TooLong []) (sym over) (refl, refl) })
 
+-- ---- no missing step
+
+-- no line is refused for a missing step
+of-no-line : (why : LineCause) → cause.Step ≡ cause_of why → ⊥
+of-no-line line.Header is = cc
+of-no-line other is = cc
+
+none-missing : (packets : Bool) (r : Reading) (line : ℕ) (text : List ℕ) → IsDueForRace packets (status.Refused line cause.Step) text r → ⊥
+none-missing packets (PlanRead parts schedule) line text due = (let is = due.0 in cc)
+none-missing packets (BadLine at why) line text due = (let is = due.0 in of-no-line why cc)
+none-missing packets TooManyBytes line text due = (let is = due.0 in cc)
+
 pub races-are-due : RacesAreDue
-races-are-due = record { answers = answers-due; one = one-due; no_step = λ bytes line. never-missing MOST_BYTES bytes line; one_text = one-text }
+races-are-due = record { answers = answers-due; one = one-due; no_step = none-missing; one_text = one-text }

@@ -1,5 +1,5 @@
 -- What is written for a race, and what its status then says.
-use Rattle.std.proofs.Common.{◌≡◌, inl, inr, refl, ℕ, Bool, List, Option, Some, None, subst, sym}
+use Rattle.std.proofs.Common.{◌≡◌, inl, inr, refl, ℕ, Bool, List, Option, Some, None, ap, subst, sym}
 use Rattle.std.specs.Io.KnownBytes.{IsAtEnd}
 use Rattle.byte_ends.specs.Gathering.{WritesPart}
 use Rattle.call_script.specs.Parts.{PlanParts}
@@ -60,7 +60,7 @@ plan-raced packets before after status.TooLong raced parts unused plan read ende
 front-of-refusal : (packets : Bool) (left written written' : Option (List ℕ)) → BytesComeTo left (FrontOfRefusal written written') → BytesComeTo left (FrontOfAnyRace packets written written')
 front-of-refusal packets None written written' come = tt
 front-of-refusal packets (Some bytes) written written' come =
-    record { answer = status.Refused come.line come.why; front = record { text = refusal_line come.line come.why; due = subst (λ r. IsDueForRace packets (status.Refused come.line come.why) (refusal_line come.line come.why) r) (sym come.bad) (refl, refl); front = come.front } }
+    record { answer = status.Refused come.line come.why; front = record { text = refusal_line come.line come.why; due = subst (λ r. IsDueForRace packets (status.Refused come.line come.why) (refusal_line come.line come.why) r) (sym come.bad.is) (ap (status.Refused come.line) come.bad.same, ap (refusal_line come.line) come.bad.same); front = come.front } }
 
 -- no plan was read
 pub none-raced : (packets : Bool) (before after : Ends) (answer : Status) → StopsReading answer before after → Races packets answer None before after

@@ -21,6 +21,8 @@ use Rattle.scenario_reader.specs.declared.reader.ReadRefusal.{ReadRefusal}
 use Rattle.scenario_reader.specs.declared.reader.ReadRefusal.TheVariants as refusal
 use Rattle.scenario_reader.specs.declared.cause.Cause.{Cause}
 use Rattle.scenario_reader.specs.declared.cause.Cause.TheVariants as cause
+use Rattle.scenario_reader.specs.declared.cause.LineCause.{LineCause}
+use Rattle.scenario_reader.specs.Words.{cause_of}
 use Rattle.tenet_app.specs.declared.status.Status.{Status}
 use Rattle.tenet_app.specs.declared.status.Status.TheVariants as status
 
@@ -97,17 +99,17 @@ plays-plan packets before after (status.Refused line why) both plan told ended a
 plays-plan packets before after status.TooLong both plan told ended answers = absurd answers
 
 -- a line was refused
-pub bad-as : (packets : Bool) (left : Option (List ℕ)) (line : ℕ) (why : Cause) (P : Reading → Type 0) → TellsReading (Err (refusal.Refused line why)) left → P (BadLine line why) → BytesComeTo left P
-bad-as packets None line why P told due = tt
-bad-as packets (Some bytes) line why P told due = subst P (sym told) due
+bad-as : (left : Option (List ℕ)) (line : ℕ) (told : Cause) (P : Reading → Type 0) → TellsReading (Err (refusal.Refused line told)) left → ((why : LineCause) → told ≡ cause_of why → P (BadLine line why)) → BytesComeTo left P
+bad-as None line told P refused due = tt
+bad-as (Some bytes) line told P refused due = subst P (sym refused.is) (due refused.why refused.same)
 
 refused-plays : (packets : Bool) (before after : Ends) (answer : Status) (line : ℕ) (why : Cause) → TellsReading (Err (refusal.Refused line why)) before.left → TellsRefusal line why answer before.written after.written before.write_faults after.write_faults → Plays packets answer before after
 refused-plays packets before after answer line why told (RefusalTold is appends) =
     subst (λ a. Plays packets a before after) (sym is)
-    (record { due = bad-as packets before.left line why (IsDueFor packets (status.Refused line why) (refusal_line line why)) told (refl, refl); written = appends })
+    (record { due = bad-as before.left line why (IsDueFor packets (status.Refused line why) (refusal_line line why)) told (λ c same. (ap (status.Refused line) same, ap (refusal_line line) same)); written = appends })
 refused-plays packets before after answer line why told (FrontTold is rises part) =
     subst (λ a. Plays packets a before after) (sym is)
-    (record { rises = rises; written = bad-as packets before.left line why (FrontOfDue packets before.written after.written) told (record { answer = status.Refused line why; text = refusal_line line why; due = (refl, refl); front = part }) })
+    (record { rises = rises; written = bad-as before.left line why (FrontOfDue packets before.written after.written) told (λ c same. record { answer = status.Refused line why; text = refusal_line line why; due = (ap (status.Refused line) same, ap (refusal_line line) same); front = part }) })
 refused-plays packets before after answer line why told (NotTold is keeps) = subst (λ a. Plays packets a before after) (sym is) (inl keeps)
 
 pub plays-refused : (packets : Bool) (before after : Ends) (answer : Status) (why_not : ReadRefusal) (line : ℕ) (why : Cause) → why_not ≡ refusal.Refused line why → TellsReading (Err why_not) before.left → TellsRefusal line why answer before.written after.written before.write_faults after.write_faults → Plays packets answer before after

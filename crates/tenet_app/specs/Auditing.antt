@@ -15,6 +15,7 @@ use Rattle.run_record.specs.declared.rows.HopRow.{HopRow}
 use Rattle.scenario_reader.specs.AuditKept.{levels_given}
 use Rattle.scenario_reader.specs.AuditReading.{AuditReading, AuditRead, BadAuditLine, TooManyAuditBytes, audit_reading, LetsAuditPass}
 use Rattle.scenario_reader.specs.AuditSteps.{AuditBytes}
+use Rattle.scenario_reader.specs.Words.{cause_of}
 use Rattle.scenario_reader.specs.declared.cause.Cause.{Cause}
 use Rattle.scenario_reader.specs.declared.reader.TheConstants.{MOST_BYTES}
 use Rattle.trace_audit.specs.Bounds.{TableKept}
@@ -42,7 +43,7 @@ pub record DueOfAudit (parts : PlanParts) (given : List (Option (List ℕ))) (ro
 -- the status and the text that are due for what the bytes come to
 abbrev pub IsAuditDue : Status → List ℕ → AuditReading → Type 0
 IsAuditDue answer text (AuditRead parts given rows) = DueOfAudit parts given rows answer text
-IsAuditDue answer text (BadAuditLine line why) = (answer ≡ status.Refused line why) × (text ≡ refusal_line line why)
+IsAuditDue answer text (BadAuditLine line why) = (answer ≡ status.Refused line (cause_of why)) × (text ≡ refusal_line line (cause_of why))
 IsAuditDue answer text TooManyAuditBytes = (answer ≡ status.TooLong) × (text ≡ [])
 
 -- a prefix of a text that is due was written

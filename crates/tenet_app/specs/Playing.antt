@@ -18,7 +18,7 @@ use Rattle.run_engine.specs.schedules.Schedules.{IsPlayed, AsksTooMuch}
 use Rattle.interleave_core.specs.channels.Laws.{IsGuaranteedRun}
 use Rattle.run_record.specs.declared.done.Done.{Done}
 use Rattle.scenario_reader.specs.Reading.{Reading, PlanRead, BadLine, TooManyBytes, reading, LetsPass}
-use Rattle.scenario_reader.specs.Words.{cause_word}
+use Rattle.scenario_reader.specs.Words.{cause_of, cause_word}
 use Rattle.scenario_reader.specs.declared.cause.Cause.{Cause}
 use Rattle.scenario_reader.specs.declared.cause.Cause.TheVariants as cause
 use Rattle.scenario_reader.specs.declared.reader.TheConstants.{MOST_BYTES}
@@ -47,7 +47,7 @@ pub data DueOfPlan (packets : Bool) (parts : PlanParts) (schedule : Schedule) (a
 -- the status and the text that are due for what the bytes come to
 abbrev pub IsDueFor : Bool → Status → List ℕ → Reading → Type 0
 IsDueFor packets answer text (PlanRead parts schedule) = DueOfPlan packets parts schedule answer text
-IsDueFor packets answer text (BadLine line why) = (answer ≡ status.Refused line why) × (text ≡ refusal_line line why)
+IsDueFor packets answer text (BadLine line why) = (answer ≡ status.Refused line (cause_of why)) × (text ≡ refusal_line line (cause_of why))
 IsDueFor packets answer text TooManyBytes = (answer ≡ status.TooLong) × (text ≡ [])
 
 -- the bytes that the source had, where it tells them, come to this

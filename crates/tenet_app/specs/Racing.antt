@@ -24,6 +24,8 @@ use Rattle.race_run.specs.Turns.{AreMaximalRuns, IsWritable, actors_of}
 use Rattle.race_run.specs.Whole.{IsWhole, weave_of}
 use Rattle.run_record.specs.declared.done.Done.{Done}
 use Rattle.scenario_reader.specs.Reading.{Reading, PlanRead, BadLine, TooManyBytes, reading}
+use Rattle.scenario_reader.specs.ReadSteps.{RefusesLine, scenarios}
+use Rattle.scenario_reader.specs.Words.{cause_of}
 use Rattle.scenario_reader.specs.declared.cause.Cause.{Cause}
 use Rattle.scenario_reader.specs.declared.cause.Cause.TheVariants as cause
 use Rattle.scenario_reader.specs.declared.reader.TheConstants.{MOST_BYTES}
@@ -68,7 +70,7 @@ pub record DueOfRace (packets : Bool) (parts : PlanParts) (text : List ℕ) : Ty
 -- the status and a text that are due for what the bytes come to
 abbrev pub IsDueForRace : Bool → Status → List ℕ → Reading → Type 0
 IsDueForRace packets answer text (PlanRead parts schedule) = (answer ≡ status.Done) × DueOfRace packets parts text
-IsDueForRace packets answer text (BadLine line why) = (answer ≡ status.Refused line why) × (text ≡ refusal_line line why)
+IsDueForRace packets answer text (BadLine line why) = (answer ≡ status.Refused line (cause_of why)) × (text ≡ refusal_line line (cause_of why))
 IsDueForRace packets answer text TooManyBytes = (answer ≡ status.TooLong) × (text ≡ [])
 
 -- a prefix of a text that is due was written
@@ -101,7 +103,7 @@ pub record RacesDone (packets : Bool) (raced : Option Closed) (before after : En
 
 -- the line is refused, by a cause of reading, and one line that tells it was written
 pub record RacesRefused (line : ℕ) (told : Cause) (before after : Ends) : Type 0 where
-  pub due : BytesComeTo before.left (λ r. r ≡ BadLine line told)
+  pub due : BytesComeTo before.left (RefusesLine scenarios line told)
   pub written : Appends before.written after.written (refusal_line line told)
 
 -- the sink failed, and a prefix of the text due was written
@@ -135,7 +137,7 @@ pub record ReadsPlan (parts : PlanParts) (before after : Ends) : Type 0 where
 pub record FrontOfRefusal (written written' : Option (List ℕ)) (r : Reading) : Type 0 where
   pub line : ℕ
   pub why : Cause
-  pub bad : r ≡ BadLine line why
+  pub bad : RefusesLine scenarios line why r
   pub front : WritesPart written written' (refusal_line line why)
 
 -- what a status says, where no plan was read
@@ -191,7 +193,7 @@ pub record RacesAreDue : Type 0 where
   -- no two statuses are due
   pub one : (packets : Bool) (r : Reading) (answer other : Status) (text text_other : List ℕ) → IsDueForRace packets answer text r → IsDueForRace packets other text_other r → answer ≡ other
   -- no line is refused for a missing step
-  pub no_step : (bytes : List ℕ) (line : ℕ) → reading MOST_BYTES bytes ≡ BadLine line cause.Step → ⊥
+  pub no_step : (packets : Bool) (r : Reading) (line : ℕ) (text : List ℕ) → IsDueForRace packets (status.Refused line cause.Step) text r → ⊥
   -- and the journals determine the text
   pub one_text : (packets : Bool) (parts : PlanParts) (closed : Closed) (schedule other : Schedule) (entries others : List Done) → IsRaceOf parts closed schedule entries → IsRaceOf parts closed other others → race_text parts schedule.items entries packets ≡ race_text parts other.items others packets
 

@@ -16,7 +16,7 @@ use Rattle.scenario_reader.proofs.kind.CallerForm.{group-version}
 use Rattle.scenario_reader.proofs.ReadBefore.{headed-is, some-items}
 use Rattle.scenario_reader.proofs.PassingLines.{all-pass, unless-passes, new-name-passes, not-said}
 use Rattle.scenario_reader.proofs.kind.GroupMay.{group-there}
-use Rattle.scenario_reader.specs.declared.cause.Cause.TheVariants as cause
+use Rattle.scenario_reader.specs.declared.cause.LineCause.TheVariants as cause
 
 -- so is that of a caller line that passes
 member-there : (said : Said) (fields : List (List ℕ)) → member_rule said fields ≡ None → group_is_there said.groups (group_in said fields) ≡ true

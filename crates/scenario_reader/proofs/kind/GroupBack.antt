@@ -17,7 +17,7 @@ use Rattle.scenario_reader.specs.line.Group.{group_form, group_rule, group_field
 use Rattle.scenario_reader.proofs.FieldText.{name-field}
 use Rattle.scenario_reader.proofs.NamedBack.{position-back}
 use Rattle.scenario_reader.proofs.RulesBack.{pass-all, unless-holds, new-name-back}
-use Rattle.scenario_reader.specs.declared.cause.Cause.TheVariants as cause
+use Rattle.scenario_reader.specs.declared.cause.LineCause.TheVariants as cause
 
 -- the groups of a plan, all of which were read
 pub record GroupsStand (groups : List (List ℕ)) : Type 0 where

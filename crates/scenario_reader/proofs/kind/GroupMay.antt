@@ -13,7 +13,7 @@ use Rattle.scenario_reader.specs.line.Table.{is_before_callers}
 use Rattle.scenario_reader.specs.line.Group.{group_form, group_rule, MayPutGroup}
 use Rattle.scenario_reader.proofs.PassingLines.{all-pass, unless-passes, new-name-passes, made-some}
 use Rattle.scenario_reader.proofs.ReadBefore.{stands-before, said-groups}
-use Rattle.scenario_reader.specs.declared.cause.Cause.TheVariants as cause
+use Rattle.scenario_reader.specs.declared.cause.LineCause.TheVariants as cause
 
 pub group-may : (version : Version) (said : Said) (fields : List (List ℕ)) → said.version ≡ Some version
     → (has_groups version && is_before_callers said && not (has_quotas said.links)) ≡ true → group_rule said fields ≡ None → MayPutGroup said (field_at fields 1)

@@ -27,7 +27,7 @@ use Rattle.scenario_reader.proofs.RulesBack.{pass-all, unless-holds, name-back, 
 use Rattle.scenario_reader.proofs.FieldText.{name-field, number-field}
 use Rattle.scenario_reader.proofs.LineFields.{both-fields, numbers-fields}
 use Rattle.scenario_reader.proofs.SaysBack.{judged-as, Reads, reads-one, front}
-use Rattle.scenario_reader.specs.declared.cause.Cause.TheVariants as cause
+use Rattle.scenario_reader.specs.declared.cause.LineCause.TheVariants as cause
 use Rattle.scenario_reader.specs.declared.form.Part.TheVariants as part
 use Rattle.scenario_reader.specs.declared.form.Keyword.TheVariants as word
 use Rattle.scenario_reader.specs.declared.item.Item.TheVariants as item

@@ -14,7 +14,7 @@ use Rattle.scenario_reader.specs.Drafts.{Said}
 use Rattle.scenario_reader.specs.Entries.{has_bounds, shape_of}
 use Rattle.scenario_reader.specs.line.Link.{bound_fields, is_link_line, link_fields_rule, link_rule, link_said, link_with}
 use Rattle.scenario_reader.specs.line.LinkFields.{link_told, numbers_with}
-use Rattle.scenario_reader.specs.declared.cause.Cause.TheVariants as cause
+use Rattle.scenario_reader.specs.declared.cause.LineCause.TheVariants as cause
 use Rattle.scenario_reader.specs.declared.line.link.LinkFields.{LinkFields}
 
 four-pass : (a b c d : Rule) → a ≡ None → b ≡ None → c ≡ None → d ≡ None → or_else a (or_else b (or_else c (or_else d None))) ≡ None

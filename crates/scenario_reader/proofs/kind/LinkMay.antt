@@ -24,7 +24,7 @@ use Rattle.scenario_reader.proofs.kind.LinkForm.{plain-best}
 use Rattle.scenario_reader.proofs.PassingLines.{all-pass, unless-passes, new-name-passes, made-some, no-items, not-said}
 use Rattle.scenario_reader.proofs.ShapeOfNumbers.{IsShape}
 use Rattle.scenario_reader.proofs.ReadBefore.{headed-is}
-use Rattle.scenario_reader.specs.declared.cause.Cause.TheVariants as cause
+use Rattle.scenario_reader.specs.declared.cause.LineCause.TheVariants as cause
 
 -- the shape of numbers has them
 shape-has : (link : LinkNo) (test : Test) (numbers : LinkNumbers) (shape : LinkShape) → shape_of link test numbers ≡ Some shape → IsShape link test numbers shape

@@ -24,7 +24,7 @@ use Rattle.scenario_reader.proofs.OwnOpenings.{own-opened}
 use Rattle.scenario_reader.proofs.PassingLines.{all-pass, unless-passes}
 use Rattle.scenario_reader.proofs.kind.UsingMay.{still-open, own-at, load-passes}
 use Rattle.call_script.specs.declared.operations.Op.TheVariants as op
-use Rattle.scenario_reader.specs.declared.cause.Cause.TheVariants as cause
+use Rattle.scenario_reader.specs.declared.cause.LineCause.TheVariants as cause
 
 -- the two requests of a move
 record AreTwo (first second : Option RequestEntry) (what : Op) : Type 0 where

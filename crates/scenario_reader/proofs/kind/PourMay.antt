@@ -23,7 +23,7 @@ use Rattle.scenario_reader.proofs.ReadBefore.{longer-than-none, linked-by}
 use Rattle.scenario_reader.proofs.kind.RequestMay.{link-found}
 use Rattle.scenario_reader.proofs.PassingLines.{all-pass, unless-passes, made-some}
 use Rattle.scenario_reader.proofs.kind.UsingMay.{packets-pass, load-passes}
-use Rattle.scenario_reader.specs.declared.cause.Cause.TheVariants as cause
+use Rattle.scenario_reader.specs.declared.cause.LineCause.TheVariants as cause
 
 pub pour-may : (version : Version) (said : Said) (fields : List (List ℕ)) (what : Op) → IsDraft said → said.version ≡ Some version
     → (has_best_effort version && not (nat_eq (length said.callers) 0) && is_none said.rounds) ≡ true → pour_rule said fields ≡ None → pour_said said fields ≡ Some what → MayPutOp said what

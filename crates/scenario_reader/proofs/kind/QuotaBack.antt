@@ -23,7 +23,7 @@ use Rattle.scenario_reader.proofs.kind.LinkBack.{bounds-form, entry-bounds}
 use Rattle.scenario_reader.proofs.NumberText.{value-decimal, decimal-passes, decimals-pass, values-decimals}
 use Rattle.scenario_reader.proofs.kind.QuotaMay.{AreZeros}
 use Rattle.scenario_reader.proofs.RulesBack.{pass-all, unless-holds, used-name-back}
-use Rattle.scenario_reader.specs.declared.cause.Cause.TheVariants as cause
+use Rattle.scenario_reader.specs.declared.cause.LineCause.TheVariants as cause
 use Rattle.scenario_reader.specs.declared.item.Item.TheVariants as item
 
 -- ---- eight loads

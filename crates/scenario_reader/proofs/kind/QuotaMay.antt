@@ -25,7 +25,7 @@ use Rattle.scenario_reader.proofs.ReadBefore.{stands-before, said-groups}
 use Rattle.scenario_reader.proofs.kind.GroupMay.{group-there}
 use Rattle.scenario_reader.proofs.kind.RequestMay.{link-found}
 use Rattle.scenario_reader.proofs.PassingLines.{all-pass, unless-passes, number-passes, made-some}
-use Rattle.scenario_reader.specs.declared.cause.Cause.TheVariants as cause
+use Rattle.scenario_reader.specs.declared.cause.LineCause.TheVariants as cause
 use Rattle.scenario_reader.specs.declared.item.Item.TheVariants as item
 
 -- ---- eight loads

@@ -41,7 +41,7 @@ use Rattle.scenario_reader.proofs.LineFields.{both-fields}
 use Rattle.call_script.specs.Growing.{add_op}
 use Rattle.call_script.specs.declared.entries.CallerEntry.{CallerEntry}
 use Rattle.scenario_reader.proofs.SaysBack.{judged-as, Reads, reads-one, front, not-none}
-use Rattle.scenario_reader.specs.declared.cause.Cause.TheVariants as cause
+use Rattle.scenario_reader.specs.declared.cause.LineCause.TheVariants as cause
 use Rattle.scenario_reader.specs.declared.form.Keyword.TheVariants as word
 use Rattle.scenario_reader.specs.declared.form.Part.TheVariants as part
 use Rattle.call_script.specs.declared.operations.Op.TheVariants as op

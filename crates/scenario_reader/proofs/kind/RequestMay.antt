@@ -28,7 +28,7 @@ use Rattle.call_script.specs.Versions.{has_found_routes}
 use Rattle.scenario_reader.specs.Nodes.{is_node}
 use Rattle.scenario_reader.proofs.kind.RequestForm.{found-version}
 use Rattle.scenario_reader.proofs.NodesByNumber.{found-route, named-equal}
-use Rattle.scenario_reader.specs.declared.cause.Cause.TheVariants as cause
+use Rattle.scenario_reader.specs.declared.cause.LineCause.TheVariants as cause
 
 -- links with the numbers of their places
 abbrev pub StandAtOwnNumbers : List LinkEntry → Type 0

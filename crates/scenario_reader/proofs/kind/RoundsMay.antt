@@ -10,7 +10,7 @@ use Rattle.scenario_reader.specs.Forms.{has_form, number_rule}
 use Rattle.scenario_reader.specs.line.Rounds.{rounds_form, rounds_rule, are_few_ticks, tail_form, tail_rule, MayPutRounds, MayPutTail}
 use Rattle.scenario_reader.proofs.ReadBefore.{headed-is, some-items, is_some-said}
 use Rattle.scenario_reader.proofs.PassingLines.{unless-passes, all-pass, number-passes, not-said}
-use Rattle.scenario_reader.specs.declared.cause.Cause.TheVariants as cause
+use Rattle.scenario_reader.specs.declared.cause.LineCause.TheVariants as cause
 
 pub rounds-may : (version : Version) (said : Said) (fields : List (List ℕ)) → said.version ≡ Some version → (not (nat_eq (length said.links) 0) && is_none said.rounds) ≡ true
     → rounds_rule fields ≡ None → MayPutRounds said (value_of (field_at fields 1))

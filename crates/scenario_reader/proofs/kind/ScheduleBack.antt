@@ -30,7 +30,7 @@ use Rattle.scenario_reader.proofs.NamedBack.{position-back}
 use Rattle.scenario_reader.proofs.NumberText.{value-decimal, decimal-passes}
 use Rattle.scenario_reader.proofs.SaysBack.{whole, judged-as, Leads, leads-on, leads-more, leads-nothing, Reads, reads-one}
 use Rattle.scenario_reader.proofs.RulesBack.{pass-all, name-no-word, used-name-back, stated-back}
-use Rattle.scenario_reader.specs.declared.cause.Cause.TheVariants as cause
+use Rattle.scenario_reader.specs.declared.cause.LineCause.TheVariants as cause
 use Rattle.scenario_reader.specs.declared.form.Keyword.TheVariants as word
 use Rattle.scenario_reader.specs.declared.item.Item.TheVariants as item
 

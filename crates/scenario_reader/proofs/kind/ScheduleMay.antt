@@ -15,7 +15,7 @@ use Rattle.scenario_reader.specs.Forms.{has_form, number_rule}
 use Rattle.scenario_reader.specs.line.Schedule.{do_form, is_plane, actor_rule, actor_named, actor_said, do_rule, do_by, do_said, MayPutSchedule, MayPutDo}
 use Rattle.scenario_reader.proofs.ReadBefore.{headed-is, is_some-said}
 use Rattle.scenario_reader.proofs.PassingLines.{made-some, all-pass, number-passes}
-use Rattle.scenario_reader.specs.declared.cause.Cause.TheVariants as cause
+use Rattle.scenario_reader.specs.declared.cause.LineCause.TheVariants as cause
 
 pub schedule-may : (version : Version) (said : Said) → said.version ≡ Some version → (is_some said.tail && not said.written) ≡ true → MayPutSchedule said
 schedule-may version said v stands =

@@ -18,7 +18,7 @@ use Rattle.scenario_reader.specs.line.Operation.{MayPutOp}
 use Rattle.scenario_reader.proofs.ReadBefore.{longer-than-none, linked-by}
 use Rattle.scenario_reader.proofs.PassingLines.{all-pass, made-some}
 use Rattle.scenario_reader.proofs.kind.UsingMay.{packets-pass, still-open, own-at, load-passes}
-use Rattle.scenario_reader.specs.declared.cause.Cause.TheVariants as cause
+use Rattle.scenario_reader.specs.declared.cause.LineCause.TheVariants as cause
 
 pub send-may : (version : Version) (said : Said) (fields : List (List ℕ)) (what : Op) → IsDraft said → said.version ≡ Some version
     → (not (nat_eq (length said.callers) 0) && is_none said.rounds) ≡ true → send_rule said fields ≡ None → send_said said fields ≡ Some what → MayPutOp said what

@@ -16,7 +16,7 @@ use Rattle.scenario_reader.specs.line.Using.{packets_rule, is_closed_request, is
 use Rattle.scenario_reader.proofs.NumberText.{decimal-passes}
 use Rattle.scenario_reader.proofs.RulesBack.{pass-all, unless-holds}
 use Rattle.call_script.specs.declared.roles.Role.TheVariants as role
-use Rattle.scenario_reader.specs.declared.cause.Cause.TheVariants as cause
+use Rattle.scenario_reader.specs.declared.cause.LineCause.TheVariants as cause
 
 pub record ArePackets (count gap size : ℕ) : Type 0 where
   pub count_least : 1 ≤ count

@@ -19,7 +19,7 @@ use Rattle.scenario_reader.proofs.kind.RequestMay.{from-range}
 use Rattle.scenario_reader.proofs.OwnOpenings.{own-opened}
 use Rattle.scenario_reader.proofs.PassingLines.{all-pass, unless-passes}
 use Rattle.call_script.specs.declared.roles.Role.TheVariants as role
-use Rattle.scenario_reader.specs.declared.cause.Cause.TheVariants as cause
+use Rattle.scenario_reader.specs.declared.cause.LineCause.TheVariants as cause
 
 -- the packets of a line are in their ranges
 pub packets-pass : (fields : List (List ℕ)) → packets_rule fields ≡ None → packets_in_range (value_of (field_at fields 2)) (value_of (field_at fields 3)) (value_of (field_at fields 4)) ≡ true

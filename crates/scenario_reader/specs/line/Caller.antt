@@ -13,7 +13,7 @@ use Rattle.scenario_reader.specs.declared.form.Part.{Part}
 use Rattle.call_script.specs.Growing.{MayAddCaller}
 use Rattle.scenario_reader.specs.line.Before.{HasALink}
 use Rattle.scenario_reader.specs.line.Group.{group_name}
-use Rattle.scenario_reader.specs.declared.cause.Cause.TheVariants as cause
+use Rattle.scenario_reader.specs.declared.cause.LineCause.TheVariants as cause
 use Rattle.scenario_reader.specs.declared.form.Keyword.TheVariants as word
 use Rattle.scenario_reader.specs.declared.form.Part.TheVariants as part
 

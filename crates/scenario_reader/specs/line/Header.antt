@@ -4,9 +4,9 @@ use Rattle.std.specs.Cmp.Lexicographic.{pointwise}
 use Rattle.call_script.specs.declared.version.Version.{Version}
 use Rattle.call_script.specs.declared.version.Version.TheVariants.{One, Two, Three, Four, Five, Six}
 use Rattle.scenario_reader.specs.Fields.{field_at}
-use Rattle.scenario_reader.specs.declared.cause.Cause.{Cause}
+use Rattle.scenario_reader.specs.declared.cause.LineCause.{LineCause}
 use Rattle.scenario_reader.specs.declared.item.Item.{Item}
-use Rattle.scenario_reader.specs.declared.cause.Cause.TheVariants as cause
+use Rattle.scenario_reader.specs.declared.cause.LineCause.TheVariants as cause
 use Rattle.scenario_reader.specs.declared.item.Item.TheVariants as item
 
 abbrev pub version_in : List ℕ → Option Version
@@ -23,7 +23,7 @@ header_version fields =
     if nat_eq (length fields) 2 && pointwise nat_eq (field_at fields 0) (codes "tenet") then version_in (field_at fields 1) else None
 
 -- what a version says, or that there is none
-abbrev pub header_said : Option Version → Result Item Cause
+abbrev pub header_said : Option Version → Result Item LineCause
 header_said None = Err cause.Header
 header_said (Some version) = Ok (item.Header version)
 

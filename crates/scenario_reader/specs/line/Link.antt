@@ -20,7 +20,7 @@ use Rattle.scenario_reader.specs.declared.form.Part.{Part}
 use Rattle.call_script.specs.Growing.{MayAddLink}
 use Rattle.scenario_reader.specs.line.Before.{IsBefore}
 use Rattle.std.specs.Fmt.{decimal}
-use Rattle.scenario_reader.specs.declared.cause.Cause.TheVariants as cause
+use Rattle.scenario_reader.specs.declared.cause.LineCause.TheVariants as cause
 use Rattle.scenario_reader.specs.declared.form.Keyword.TheVariants as word
 use Rattle.scenario_reader.specs.declared.form.Part.TheVariants as part
 

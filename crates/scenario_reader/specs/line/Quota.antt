@@ -21,7 +21,7 @@ use Rattle.scenario_reader.specs.line.Before.{HasALink}
 use Rattle.std.specs.Fmt.{decimal}
 use Rattle.std.specs.List.{flat_map}
 use Rattle.scenario_reader.specs.line.Group.{group_name}
-use Rattle.scenario_reader.specs.declared.cause.Cause.TheVariants as cause
+use Rattle.scenario_reader.specs.declared.cause.LineCause.TheVariants as cause
 use Rattle.scenario_reader.specs.declared.form.Keyword.TheVariants as word
 use Rattle.scenario_reader.specs.declared.form.Part.TheVariants as part
 use Rattle.scenario_reader.specs.declared.item.Item.TheVariants as item

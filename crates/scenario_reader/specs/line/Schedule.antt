@@ -17,7 +17,7 @@ use Rattle.call_script.specs.ActorNames.{name_of_actor}
 use Rattle.call_script.specs.declared.entries.CallerEntry.{CallerEntry}
 use Rattle.call_script.specs.declared.schedule.Schedule.{Schedule}
 use Rattle.text_writer.specs.Lines.{do_words, whole_line}
-use Rattle.scenario_reader.specs.declared.cause.Cause.TheVariants as cause
+use Rattle.scenario_reader.specs.declared.cause.LineCause.TheVariants as cause
 use Rattle.scenario_reader.specs.declared.form.Keyword.TheVariants as word
 use Rattle.scenario_reader.specs.declared.form.Part.TheVariants as part
 

@@ -12,7 +12,7 @@ use Rattle.scenario_reader.specs.declared.form.Part.{Part}
 use Rattle.scenario_reader.specs.line.Using.{packets_rule, is_over_request, load_rule}
 use Rattle.std.specs.Fmt.{decimal}
 use Rattle.call_script.specs.declared.operations.Op.TheVariants as op
-use Rattle.scenario_reader.specs.declared.cause.Cause.TheVariants as cause
+use Rattle.scenario_reader.specs.declared.cause.LineCause.TheVariants as cause
 use Rattle.scenario_reader.specs.declared.form.Keyword.TheVariants as word
 use Rattle.scenario_reader.specs.declared.form.Part.TheVariants as part
 

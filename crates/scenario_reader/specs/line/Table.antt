@@ -14,7 +14,7 @@ use Rattle.scenario_reader.specs.line.Caller.{group_in, caller_rule, MayPutCalle
 use Rattle.scenario_reader.specs.line.Link.{link_rule, link_said, MayPutLink}
 use Rattle.scenario_reader.specs.line.Request.{open_rule, request_said, MayPutOpen}
 use Rattle.scenario_reader.specs.line.Quota.{quota_rule, quota_said, MayPutQuota}
-use Rattle.scenario_reader.specs.declared.cause.Cause.{Cause}
+use Rattle.scenario_reader.specs.declared.cause.LineCause.{LineCause}
 use Rattle.scenario_reader.specs.declared.form.Keyword.{Keyword}
 use Rattle.scenario_reader.specs.declared.item.Item.{Item}
 use Rattle.scenario_reader.specs.line.Send.{send_rule, send_said}
@@ -24,7 +24,7 @@ use Rattle.scenario_reader.specs.line.Pour.{pour_rule, pour_said}
 use Rattle.scenario_reader.specs.line.Rounds.{rounds_rule, tail_rule, MayPutRounds, MayPutTail}
 use Rattle.scenario_reader.specs.line.Schedule.{schedule_rule, do_rule, do_said, MayPutSchedule, MayPutDo}
 use Rattle.scenario_reader.specs.line.Operation.{MayPutOp}
-use Rattle.scenario_reader.specs.declared.cause.Cause.TheVariants as cause
+use Rattle.scenario_reader.specs.declared.cause.LineCause.TheVariants as cause
 use Rattle.scenario_reader.specs.declared.form.Keyword.TheVariants as word
 use Rattle.scenario_reader.specs.declared.item.Item.TheVariants as item
 
@@ -67,7 +67,7 @@ line_word field =
     if is_word word.Do field then Some word.Do else None))))))))))))
 
 -- what the line of this number says, which begins with this word, or its cause
-abbrev pub judge_as : Keyword → Version → Said → ℕ → List (List ℕ) → Result Item Cause
+abbrev pub judge_as : Keyword → Version → Said → ℕ → List (List ℕ) → Result Item LineCause
 judge_as word.Link version said number fields = stated (link_rule version said fields) (option_map item.Link (link_said version said fields))
 judge_as word.Group version said number fields = judged (group_rule said fields) (item.Group (field_at fields 1))
 judge_as word.Quota version said number fields = stated (quota_rule said fields) (quota_said said fields)

@@ -8,7 +8,7 @@ use Rattle.scenario_reader.specs.Causes.{Rule, unless, first_cause}
 use Rattle.scenario_reader.specs.Drafts.{Said, is_closed, is_left}
 use Rattle.scenario_reader.specs.Fields.{field_at}
 use Rattle.scenario_reader.specs.Forms.{number_rule}
-use Rattle.scenario_reader.specs.declared.cause.Cause.TheVariants as cause
+use Rattle.scenario_reader.specs.declared.cause.LineCause.TheVariants as cause
 
 -- the count, the gap and the size of a send or a pour, each in its range
 abbrev pub packets_rule : List (List ℕ) → Rule

@@ -15,7 +15,7 @@ use crate::audit::place::Section;
 use crate::audit::row::is_row_text;
 use crate::audit::table_reader::TableReader;
 use crate::by_line::TakesLines;
-use crate::cause::{Cause, LineFault};
+use crate::cause::{LineCause, LineFault};
 use crate::draft::Draft;
 use crate::fields::Fields;
 use crate::values::require;
@@ -79,10 +79,10 @@ impl TakesLines for AuditDraft {
         }
     }
 
-    fn judge_end(&self) -> Result<(), Cause> {
+    fn judge_end(&self) -> Result<(), LineCause> {
         match self.place {
-            Section::Scenario => Err(Cause::End),
-            Section::Report => Err(Cause::Table),
+            Section::Scenario => Err(LineCause::End),
+            Section::Report => Err(LineCause::Table),
             Section::Table => Ok(()),
         }
     }
@@ -117,7 +117,7 @@ impl AuditDraft {
         ensures { Adds result self.new (scenario_line self.old number line.now) }
     {
         if self.begins_report(line) {
-            require(Fields::of(line).count() == 1, Cause::Shape)?;
+            require(Fields::of(line).count() == 1, LineCause::Shape)?;
             self.begin_report(alloc)?;
         } else {
             self.draft.add_line(alloc, number, line, ahead)?;
@@ -152,7 +152,7 @@ impl AuditDraft {
         } else if line.starts_with(b"accept ") {
             match self.acceptance(&Fields::of(line)) {
                 Some(told) => self.levels[told.request] = Some(told.levels),
-                None => return Err(LineFault::Refused(Cause::Accept)),
+                None => return Err(LineFault::Refused(LineCause::Accept)),
             }
         }
         Ok(())
@@ -163,9 +163,9 @@ impl AuditDraft {
         requires { self.old.place ≡ place.Table }
         ensures { Adds result self.new (with_row self.old (row_told self.old.said line.now)) }
     {
-        require(is_row_text(line), Cause::Table)?;
+        require(is_row_text(line), LineCause::Table)?;
         self.table.read(alloc, line, ahead, &mut self.fields)?;
-        let row = self.draft.row_of(&self.fields).ok_or(Cause::Table)?;
+        let row = self.draft.row_of(&self.fields).ok_or(LineCause::Table)?;
         self.put_row(&row)?;
         Ok(())
     }

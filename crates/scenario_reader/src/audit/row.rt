@@ -8,7 +8,7 @@ ghost use Rattle.scenario_reader.specs.Causes.{Judges};
 ghost use Rattle.scenario_reader.specs.Drafts.{shape_in};
 ghost use Rattle.scenario_reader.specs.Fields.{field_at};
 
-use crate::cause::Cause;
+use crate::cause::LineCause;
 use crate::draft::Draft;
 use crate::values::{name, number};
 use csv::ByteRecord;
@@ -63,7 +63,7 @@ impl Draft {
 }
 
 // The numbers of a row, where each is within what it may be.
-fn judge_numbers(fields: &ByteRecord) -> Result<RowNumbers, Cause>
+fn judge_numbers(fields: &ByteRecord) -> Result<RowNumbers, LineCause>
     ensures judged { Judges result (numbers_rule (fields_of fields.now)) (numbers_of (fields_of fields.now)) }
     ensures small { IfOk result AreSmallNumbers }
 {

@@ -8,7 +8,7 @@ ghost use Rattle.scenario_reader.specs.Drafts.{with_item};
 ghost use Rattle.scenario_reader.specs.line.Table.{MayAdd};
 ghost use Rattle.scenario_reader.specs.declared.item.Item.TheVariants as item;
 
-use crate::cause::{Cause, LineFault};
+use crate::cause::{LineCause, LineFault};
 use crate::draft::Draft;
 use crate::fields::Fields;
 use crate::form::{Keyword, Part, has_form};
@@ -34,15 +34,15 @@ impl Draft {
     pub(crate) fn judge_caller(&self, version: Version, fields: &Fields) -> Result<Item, LineFault>
         ensures { AnswersWithRoom result (judged (caller_rule version self.now fields.now) (item.Caller (field_at fields.now 1) (group_in self.now fields.now))) }
     {
-        require(is_caller_line(version, fields), Cause::Shape)?;
+        require(is_caller_line(version, fields), LineCause::Shape)?;
         let name = new_name(fields.at(1), &self.caller_names)?;
         let group = self.judge_member(fields)?;
-        require(self.callers.len() < MOST_CALLERS, Cause::Many)?;
+        require(self.callers.len() < MOST_CALLERS, LineCause::Many)?;
         Ok(Item::Caller { name, group })
     }
 
     // The number of the group that a caller line names, 0 where it names none.
-    fn judge_member(&self, fields: &Fields) -> Result<u8, Cause>
+    fn judge_member(&self, fields: &Fields) -> Result<u8, LineCause>
         ensures { Judges result (member_rule self.now fields.now) (group_in self.now fields.now) }
     {
         if Keyword::Group.is(fields.at(2)) {

@@ -9,7 +9,7 @@ ghost use Rattle.scenario_reader.specs.line.Table.{MayAdd};
 ghost use Rattle.call_script.specs.Rules.{is_named};
 ghost use Rattle.scenario_reader.specs.declared.item.Item.TheVariants as item;
 
-use crate::cause::{Cause, LineFault};
+use crate::cause::{LineCause, LineFault};
 use crate::draft::Draft;
 use crate::fields::Fields;
 use crate::form::{Keyword, Part, has_form};
@@ -28,27 +28,27 @@ impl Draft {
     pub(crate) fn judge_group(&self, fields: &Fields) -> Result<Item, LineFault>
         ensures { AnswersWithRoom result (judged (group_rule self.now fields.now) (item.Group (field_at fields.now 1))) }
     {
-        require(has_form(&GROUP_FORM, fields), Cause::Shape)?;
+        require(has_form(&GROUP_FORM, fields), LineCause::Shape)?;
         let group = self.judge_new_group(fields.at(1))?;
-        require(self.groups.len() < MOST_GROUPS, Cause::Many)?;
+        require(self.groups.len() < MOST_GROUPS, LineCause::Many)?;
         Ok(Item::Group(group))
     }
 
     // The new name that a field holds, which no group has.
-    fn judge_new_group(&self, field: &[u8]) -> Result<Name, Cause>
+    fn judge_new_group(&self, field: &[u8]) -> Result<Name, LineCause>
         ensures { Judges result (new_name_rule self.now.groups field.now) field.now }
     {
         let group = name(field)?;
-        require(!has_name(&self.groups, &group), Cause::Known)?;
+        require(!has_name(&self.groups, &group), LineCause::Known)?;
         Ok(group)
     }
 
     // The number of the group that a field names.
-    pub(crate) fn judge_group_named(&self, field: &[u8]) -> Result<u8, Cause>
+    pub(crate) fn judge_group_named(&self, field: &[u8]) -> Result<u8, LineCause>
         ensures { States result (used_name_rule (is_some (group_named self.now.groups field.now)) field.now) (group_named self.now.groups field.now) }
     {
         let name = name(field)?;
-        self.group_named(&name).ok_or(Cause::Unknown)
+        self.group_named(&name).ok_or(LineCause::Unknown)
     }
 
     // The number of the group of this name, from 1.

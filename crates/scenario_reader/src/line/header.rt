@@ -7,7 +7,7 @@ ghost use Rattle.scenario_reader.specs.Drafts.{with_item};
 ghost use Rattle.scenario_reader.specs.line.Table.{MayAdd};
 ghost use Rattle.scenario_reader.specs.declared.item.Item.TheVariants as item;
 
-use crate::cause::{Cause, LineFault};
+use crate::cause::{LineCause, LineFault};
 use crate::draft::Draft;
 use crate::fields::Fields;
 use crate::item::Item;
@@ -20,7 +20,7 @@ pub(crate) fn judge_header(fields: &Fields) -> Result<Item, LineFault>
 {
     match header_version(fields) {
         Some(version) => Ok(Item::Header(version)),
-        None => Err(LineFault::Refused(Cause::Header)),
+        None => Err(LineFault::Refused(LineCause::Header)),
     }
 }
 

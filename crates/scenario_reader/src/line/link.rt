@@ -14,7 +14,7 @@ ghost use Rattle.scenario_reader.specs.line.Table.{MayAdd};
 ghost use Rattle.scenario_reader.specs.Decimal.{value_of};
 ghost use Rattle.scenario_reader.specs.declared.item.Item.TheVariants as item;
 
-use crate::cause::{Cause, LineFault};
+use crate::cause::{LineCause, LineFault};
 use crate::draft::Draft;
 use crate::fields::Fields;
 use crate::form::{Keyword, Part, has_form};
@@ -105,12 +105,12 @@ impl Draft {
         alloc: Global,
         version: Version,
         fields: &Fields,
-    ) -> Result<LinkEntry, Cause>
+    ) -> Result<LinkEntry, LineCause>
         ensures { States result (link_rule version self.now fields.now) (link_said version self.now fields.now) }
     {
-        require(is_link_line(version, fields), Cause::Shape)?;
+        require(is_link_line(version, fields), LineCause::Shape)?;
         let link = self.judge_link_fields(fields)?;
-        require(self.links.len() < usize::from(MOST_LINKS), Cause::Many)?;
+        require(self.links.len() < usize::from(MOST_LINKS), LineCause::Many)?;
         let shape = self.judge_shape(version, &link)?;
         Ok(LinkEntry {
             name: link.name,
@@ -122,7 +122,7 @@ impl Draft {
     }
 
     // The fields after its word, from left to right.
-    fn judge_link_fields(&self, fields: &Fields) -> Result<LinkFields, Cause>
+    fn judge_link_fields(&self, fields: &Fields) -> Result<LinkFields, LineCause>
         requires { length (bound_fields fields.now) ≤ 8 }
         ensures judged { Judges result (link_fields_rule self.now fields.now) (link_told fields.now) }
         ensures figures { IfOk result (λ link. AreFigures link.figures) }
@@ -145,15 +145,15 @@ impl Draft {
     }
 
     // The shape of the next link, which has these numbers.
-    fn judge_shape(&self, version: Version, link: &LinkFields) -> Result<LinkShape, Cause>
+    fn judge_shape(&self, version: Version, link: &LinkFields) -> Result<LinkShape, LineCause>
         requires few { length self.now.links < 32 }
         requires figures { AreFigures link.now.figures }
         requires best { link.now.best ≤ most_best }
         ensures { (numbers : List ℕ) → link.now.bounds ≡ bounds_of numbers
-            → States result (unless (has_bounds (numbers_with link.now numbers)) Cause.Levels)
+            → States result (unless (has_bounds (numbers_with link.now numbers)) LineCause.Levels)
             (shape_of (link_at (length self.now.links)) (test_of version) (numbers_with link.now numbers)) }
     {
-        let bounds = link.bounds.ok_or(Cause::Levels)?;
+        let bounds = link.bounds.ok_or(LineCause::Levels)?;
         let made = LinkShape::new(
             LinkNo::new(self.links.len() as u8).unwrap(),
             link.figures.rate,
@@ -166,16 +166,16 @@ impl Draft {
         );
         match made {
             Ok(shape) => Ok(shape),
-            Err(_) => Err(Cause::Levels),
+            Err(_) => Err(LineCause::Levels),
         }
     }
 
     // The shape of the link that a field names.
-    pub(crate) fn judge_link_named(&self, field: &[u8]) -> Result<LinkShape, Cause>
+    pub(crate) fn judge_link_named(&self, field: &[u8]) -> Result<LinkShape, LineCause>
         ensures { States result (used_name_rule (is_some (link_named self.now.links field.now)) field.now) (option_map shape_in (link_named self.now.links field.now)) }
     {
         let name = name(field)?;
-        self.link_named(&name).ok_or(Cause::Unknown)
+        self.link_named(&name).ok_or(LineCause::Unknown)
     }
 
     // The shape of the link of this name.
@@ -215,7 +215,7 @@ fn has_best(fields: &Fields) -> bool
 }
 
 // The four numbers between the nodes and the bounds.
-fn judge_figures(fields: &Fields) -> Result<Figures, Cause>
+fn judge_figures(fields: &Fields) -> Result<Figures, LineCause>
     ensures judged { Judges result (link_numbers_rule fields.now) (figures_in fields.now) }
     ensures figures { IfOk result AreFigures }
 {
@@ -232,7 +232,7 @@ fn judge_figures(fields: &Fields) -> Result<Figures, Cause>
 }
 
 // How many best-effort packets may wait, 0 where the line doesn't say it.
-fn judge_best(fields: &Fields) -> Result<u32, Cause>
+fn judge_best(fields: &Fields) -> Result<u32, LineCause>
     ensures judged { Judges result (best_rule fields.now) (best_in fields.now) }
     ensures most { IfOk result (λ best. best ≤ most_best) }
 {
@@ -251,7 +251,7 @@ fn bound_start(fields: &Fields) -> usize
 }
 
 // The bounds that the last fields are, None where they don't rise.
-fn judge_bounds(fields: &Fields) -> Result<Option<Bounds>, Cause>
+fn judge_bounds(fields: &Fields) -> Result<Option<Bounds>, LineCause>
     requires { length (bound_fields fields.now) ≤ 8 }
     ensures { Judges result (bound_numbers_rule (bound_fields fields.now)) (bounds_of (map value_of (bound_fields fields.now))) }
 {

@@ -21,7 +21,7 @@ pub(crate) mod moving;
 pub(crate) mod pour;
 pub(crate) mod send;
 
-use crate::cause::Cause;
+use crate::cause::LineCause;
 use crate::draft::Draft;
 use crate::fields::Fields;
 use crate::line::operation::close::close_line;
@@ -46,19 +46,19 @@ pub(crate) struct Packets {
 
 impl Draft {
     // With these packets added, the load of all is within the limit.
-    pub(crate) fn judge_load(&self, packets: u64) -> Result<(), Cause>
+    pub(crate) fn judge_load(&self, packets: u64) -> Result<(), LineCause>
         requires { packets ≤ 4194304 }
         ensures { Judges result (load_rule self.now packets) tt }
     {
-        require(self.load + packets <= MOST_PACKETS, Cause::Load)
+        require(self.load + packets <= MOST_PACKETS, LineCause::Load)
     }
 
     // The request that a field names, which the last caller has opened.
-    pub(crate) fn judge_own(&self, field: &[u8]) -> Result<RequestEntry, Cause>
+    pub(crate) fn judge_own(&self, field: &[u8]) -> Result<RequestEntry, LineCause>
         ensures { States result (used_name_rule (is_some (own_request self.now field.now)) field.now) (own_request self.now field.now) }
     {
         let name = name(field)?;
-        self.own_request(&name).ok_or(Cause::Unknown)
+        self.own_request(&name).ok_or(LineCause::Unknown)
     }
 
     // The request of this name, where the last caller has opened it.
@@ -128,7 +128,7 @@ impl Draft {
 }
 
 // The count, the gap and the size of a send or a pour.
-pub(crate) fn judge_packets(fields: &Fields) -> Result<Packets, Cause>
+pub(crate) fn judge_packets(fields: &Fields) -> Result<Packets, LineCause>
     ensures judged { Judges result (packets_rule fields.now) (record {
       count = value_of (field_at fields.now 2);
       gap = value_of (field_at fields.now 3);

@@ -14,7 +14,7 @@ ghost use Rattle.scenario_reader.specs.Decimal.{value_of};
 ghost use Rattle.std.specs.Fmt.{decimal};
 ghost use Rattle.scenario_reader.specs.declared.item.Item.TheVariants as item;
 
-use crate::cause::{Cause, LineFault};
+use crate::cause::{LineCause, LineFault};
 use crate::draft::Draft;
 use crate::fields::Fields;
 use crate::form::{Keyword, Part, has_form};
@@ -45,13 +45,13 @@ impl Draft {
     pub(crate) fn judge_quota(&self, fields: &Fields) -> Result<Item, LineFault>
         ensures { AnswersWithRoom result (stated (quota_rule self.now fields.now) (quota_said self.now fields.now)) }
     {
-        require(is_quota_line(fields), Cause::Shape)?;
+        require(is_quota_line(fields), LineCause::Shape)?;
         let place = self.judge_link_place(fields.at(1))?;
         let group = self.judge_group_named(fields.at(2))?;
         let entry = &self.links[place];
-        require(!has_group(group, entry.quotas.as_slice()), Cause::Known)?;
+        require(!has_group(group, entry.quotas.as_slice()), LineCause::Known)?;
         let quota = judge_numbers(fields, group)?;
-        require(is_fit(load_count(fields), entry, &quota), Cause::Quota)?;
+        require(is_fit(load_count(fields), entry, &quota), LineCause::Quota)?;
         Ok(Item::Quota {
             link: entry.shape.link,
             quota,
@@ -59,13 +59,13 @@ impl Draft {
     }
 
     // The place of the link that a field names.
-    fn judge_link_place(&self, field: &[u8]) -> Result<usize, Cause>
+    fn judge_link_place(&self, field: &[u8]) -> Result<usize, LineCause>
         ensures judged { States result (used_name_rule (is_some (link_named self.now.links field.now)) field.now) (position (is_named field.now) (link_names self.now.links)) }
         ensures found { IfOk result (λ place. slice_get self.now.links place ≡ link_named self.now.links field.now) }
         ensures within { IfOk result (λ place. place < length self.now.links) }
     {
         let name = name(field)?;
-        self.link_names.number_of(&name).ok_or(Cause::Unknown)
+        self.link_names.number_of(&name).ok_or(LineCause::Unknown)
     }
 
     pub(crate) fn put_quota(&mut self, link: LinkNo, quota: Quota) -> Result<(), OutOfMemory>
@@ -109,7 +109,7 @@ fn is_fit(count: usize, entry: &LinkEntry, quota: &Quota) -> bool
 }
 
 // The quota of this group with the line's numbers.
-fn judge_numbers(fields: &Fields, group: u8) -> Result<Quota, Cause>
+fn judge_numbers(fields: &Fields, group: u8) -> Result<Quota, LineCause>
     requires { length (load_fields fields.now) ≤ 8 }
     ensures { Judges result (quota_numbers_rule fields.now) (quota_of fields.now group) }
 {
@@ -123,7 +123,7 @@ fn judge_numbers(fields: &Fields, group: u8) -> Result<Quota, Cause>
 }
 
 // The loads that the last fields are, and 0 in the places after them.
-fn judge_loads(fields: &Fields) -> Result<[u32; MOST_LEVELS as usize], Cause>
+fn judge_loads(fields: &Fields) -> Result<[u32; MOST_LEVELS as usize], LineCause>
     requires { length (load_fields fields.now) ≤ 8 }
     ensures { Judges result (loads_rule (load_fields fields.now)) (in_eight (map value_of (load_fields fields.now))) }
 {

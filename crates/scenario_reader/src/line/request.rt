@@ -13,7 +13,7 @@ pub(crate) mod nodes;
 pub(crate) mod text;
 pub mod way;
 
-use crate::cause::{Cause, LineFault};
+use crate::cause::{LineCause, LineFault};
 use crate::draft::Draft;
 use crate::fields::Fields;
 use crate::form::{Keyword, Part, has_form, route_length};
@@ -129,13 +129,13 @@ impl Draft {
     ) -> Result<RequestEntry, LineFault>
         ensures { JudgesWithRoom result (open_rule version self.now fields.now) (request_said self.now fields.now) }
     {
-        require(is_open_line(version, fields), Cause::Shape)?;
+        require(is_open_line(version, fields), LineCause::Shape)?;
         let asked = self.judge_open_fields(fields)?;
         self.judge_open_limits(alloc, &asked)
     }
 
     // The fields after its word, from left to right.
-    fn judge_open_fields(&self, fields: &Fields) -> Result<OpenFields, Cause>
+    fn judge_open_fields(&self, fields: &Fields) -> Result<OpenFields, LineCause>
         requires least { is_found fields.now ≡ false → 1 ≤ route_hops fields.now }
         requires most { route_hops fields.now ≤ 16 }
         ensures judged { Judges result (open_fields_rule self.now fields.now) (open_in self.now fields.now) }
@@ -166,8 +166,8 @@ impl Draft {
         ensures { (fields : List (List ℕ)) → asked.now ≡ open_in self.now fields
             → JudgesWithRoom result (open_limits_rule self.now fields) (request_said self.now fields) }
     {
-        require(self.requests.len() < MOST_REQUESTS, Cause::Many)?;
-        let contract = asked.contract.ok_or(Cause::Contract)?;
+        require(self.requests.len() < MOST_REQUESTS, LineCause::Many)?;
+        let contract = asked.contract.ok_or(LineCause::Contract)?;
         let routed = self.judge_routed(alloc, &asked.way)?;
         Ok(RequestEntry {
             name: asked.name,
@@ -241,7 +241,7 @@ fn after_route<'a>(fields: &Fields<'a>, hops: usize, place: usize) -> &'a [u8]
 }
 
 // The contract that the four numbers after the route are, None where they aren't one.
-fn judge_terms(fields: &Fields, hops: usize) -> Result<Option<Contract>, Cause>
+fn judge_terms(fields: &Fields, hops: usize) -> Result<Option<Contract>, LineCause>
     requires hops { hops ≡ route_hops fields.now }
     requires few { hops ≤ 16 }
     ensures { Judges result (terms_rule fields.now) (contract_of (contract_told fields.now)) }
@@ -254,7 +254,7 @@ fn judge_terms(fields: &Fields, hops: usize) -> Result<Option<Contract>, Cause>
 }
 
 // Delay-jitter control with its bound, where the line has one, or else rate-jitter control.
-fn judge_control(fields: &Fields, hops: usize) -> Result<Control, Cause>
+fn judge_control(fields: &Fields, hops: usize) -> Result<Control, LineCause>
     requires hops { hops ≡ route_hops fields.now }
     requires few { hops ≤ 16 }
     ensures { Judges result (jitter_rule fields.now) (control_in fields.now) }

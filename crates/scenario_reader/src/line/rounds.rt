@@ -10,7 +10,7 @@ ghost use Rattle.scenario_reader.specs.Drafts.{with_item};
 ghost use Rattle.scenario_reader.specs.line.Table.{MayAdd};
 ghost use Rattle.scenario_reader.specs.declared.item.Item.TheVariants as item;
 
-use crate::cause::{Cause, LineFault};
+use crate::cause::{LineCause, LineFault};
 use crate::draft::Draft;
 use crate::fields::Fields;
 use crate::form::{Keyword, Part, has_form};
@@ -28,9 +28,9 @@ impl Draft {
     pub(crate) fn judge_tail(&self, fields: &Fields) -> Result<Item, LineFault>
         ensures { AnswersWithRoom result (judged (tail_rule self.now fields.now) (item.Tail (value_of (field_at fields.now 1)))) }
     {
-        require(has_form(&TAIL_FORM, fields), Cause::Shape)?;
+        require(has_form(&TAIL_FORM, fields), LineCause::Shape)?;
         let count = number(fields.at(1), 0, MOST_ROUNDS)?;
-        require(self.are_few_ticks(count), Cause::Load)?;
+        require(self.are_few_ticks(count), LineCause::Load)?;
         Ok(Item::Tail(count))
     }
 
@@ -60,7 +60,7 @@ impl Draft {
 pub(crate) fn judge_rounds(fields: &Fields) -> Result<Item, LineFault>
     ensures { AnswersWithRoom result (judged (rounds_rule fields.now) (item.Rounds (value_of (field_at fields.now 1)))) }
 {
-    require(has_form(&ROUNDS_FORM, fields), Cause::Shape)?;
+    require(has_form(&ROUNDS_FORM, fields), LineCause::Shape)?;
     Ok(Item::Rounds(number(fields.at(1), 0, MOST_ROUNDS)?))
 }
 

@@ -7,7 +7,7 @@ ghost use Rattle.scenario_reader.specs.Drafts.{with_item};
 ghost use Rattle.scenario_reader.specs.line.Table.{MayAdd};
 ghost use Rattle.scenario_reader.specs.declared.item.Item.TheVariants as item;
 
-use crate::cause::{Cause, LineFault};
+use crate::cause::{LineCause, LineFault};
 use crate::draft::Draft;
 use crate::fields::Fields;
 use crate::form::{Keyword, Part, has_form};
@@ -26,7 +26,7 @@ impl Draft {
     pub(crate) fn judge_do(&self, number_of_line: u64, fields: &Fields) -> Result<Item, LineFault>
         ensures { AnswersWithRoom result (stated (do_rule self.now fields.now) (option_map item.Do (do_said self.now number_of_line fields.now))) }
     {
-        require(has_form(&DO_FORM, fields), Cause::Shape)?;
+        require(has_form(&DO_FORM, fields), LineCause::Shape)?;
         let actor = self.judge_actor(fields.at(1))?;
         let count = number(fields.at(2), 1, MOST_STEPS)?;
         Ok(Item::Do(Do {
@@ -37,7 +37,7 @@ impl Draft {
     }
 
     // The actor that a field names.
-    fn judge_actor(&self, field: &[u8]) -> Result<ActorNo, Cause>
+    fn judge_actor(&self, field: &[u8]) -> Result<ActorNo, LineCause>
         ensures { States result (actor_rule self.now field.now) (actor_said self.now field.now) }
     {
         let number = self.actor_number(field)?;
@@ -45,7 +45,7 @@ impl Draft {
     }
 
     // The number of the actor that a field names.
-    fn actor_number(&self, field: &[u8]) -> Result<usize, Cause>
+    fn actor_number(&self, field: &[u8]) -> Result<usize, LineCause>
         ensures judged { States result (actor_rule self.now field.now) (actor_named self.now field.now) }
         ensures small { IfOk result (λ number. number ≤ 64) }
     {
@@ -53,7 +53,7 @@ impl Draft {
             return Ok(self.callers.len());
         }
         let name = name(field)?;
-        self.caller_names.number_of(&name).ok_or(Cause::Unknown)
+        self.caller_names.number_of(&name).ok_or(LineCause::Unknown)
     }
 
     pub(crate) fn put_schedule(&mut self)
@@ -76,7 +76,7 @@ impl Draft {
 pub(crate) fn judge_schedule(fields: &Fields) -> Result<Item, LineFault>
     ensures { AnswersWithRoom result (judged (schedule_rule fields.now) item.Schedule) }
 {
-    require(has_form(&SCHEDULE_FORM, fields), Cause::Shape)?;
+    require(has_form(&SCHEDULE_FORM, fields), LineCause::Shape)?;
     Ok(Item::Schedule)
 }
 

@@ -4,7 +4,7 @@ ghost use Rattle.scenario_reader.specs.Causes.{AnswersWithRoom};
 ghost use Rattle.scenario_reader.specs.Drafts.{has_quotas, with_item};
 ghost use Rattle.scenario_reader.specs.line.Table.{may_stand, judge_as, is_before_callers, MayAdd, line_word};
 
-use crate::cause::{Cause, LineFault};
+use crate::cause::{LineCause, LineFault};
 use crate::draft::Draft;
 use crate::fields::Fields;
 use crate::form::Keyword;
@@ -40,7 +40,7 @@ impl Draft {
             Keyword::Tail => self.judge_tail(fields),
             Keyword::Schedule => judge_schedule(fields),
             Keyword::Do => self.judge_do(number, fields),
-            _ => Err(LineFault::Refused(Cause::Word)),
+            _ => Err(LineFault::Refused(LineCause::Word)),
         }
     }
 

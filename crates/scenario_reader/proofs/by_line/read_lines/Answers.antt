@@ -56,8 +56,8 @@ pub returns-clause-told : goal.returns-clause-told
 returns-clause-told g c =
     let left = g.S.Source.left in
     let reads = rw c.if-branch.false at c.in_ok-read_line.ensures.reads in
-    ended-early g.D.TakesLines.language (left c.args.source.now) c.loop-lines.lines c.read_line.new.lines c.loop-lines.draft c.read_line.new.draft (left c.loop-lines.source) (left c.read_line.new.source) _ c.in-Err.cause g.met.D.TakesLines.by_line
-    c.loop-lines.invariant.same reads (ap (λ n. n + 1) c.number.ensures) c.in-Err.ensures
+    ended-early g.D.TakesLines.language (left c.args.source.now) c.loop-lines.lines c.read_line.new.lines c.loop-lines.draft c.read_line.new.draft (left c.loop-lines.source) (left c.read_line.new.source) _ c.in-Err.cause c.into.result g.met.D.TakesLines.by_line
+    c.loop-lines.invariant.same reads (ap (λ n. n + 1) c.number.ensures) c.in-Err.ensures c.into.ensures
 
 pub returns-in_err-read_line-clause-over : goal.returns-in_err-read_line-clause-over
 returns-in_err-read_line-clause-over g c =

@@ -5,7 +5,7 @@ ghost use Rattle.text_writer.specs.Lines.{whole_line};
 ghost use Rattle.scenario_reader.specs.line.Close.{close_rule, close_said, close_fields};
 ghost use Rattle.scenario_reader.specs.declared.item.Item.TheVariants as item;
 
-use crate::cause::{Cause, LineFault};
+use crate::cause::{LineCause, LineFault};
 use crate::draft::Draft;
 use crate::fields::Fields;
 use crate::form::{Keyword, Part, has_form};
@@ -22,10 +22,10 @@ impl Draft {
     pub(crate) fn judge_close(&self, fields: &Fields) -> Result<Item, LineFault>
         ensures { AnswersWithRoom result (stated (close_rule self.now fields.now) (option_map item.Op (close_said self.now fields.now))) }
     {
-        require(has_form(&CLOSE_FORM, fields), Cause::Shape)?;
+        require(has_form(&CLOSE_FORM, fields), LineCause::Shape)?;
         let named = name(fields.at(1))?;
-        let entry = self.own_request(&named).ok_or(Cause::Unknown)?;
-        require(!self.uses_of(&entry).closed, Cause::Closed)?;
+        let entry = self.own_request(&named).ok_or(LineCause::Unknown)?;
+        require(!self.uses_of(&entry).closed, LineCause::Closed)?;
         Ok(Item::Op(Op::Close(entry.request.chan)))
     }
 }

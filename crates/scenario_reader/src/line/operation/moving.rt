@@ -6,7 +6,7 @@ ghost use Rattle.text_writer.specs.Lines.{whole_line};
 ghost use Rattle.scenario_reader.specs.line.Move.{may_join, move_rule, move_said, move_fields};
 ghost use Rattle.scenario_reader.specs.declared.item.Item.TheVariants as item;
 
-use crate::cause::{Cause, LineFault};
+use crate::cause::{LineCause, LineFault};
 use crate::draft::Draft;
 use crate::fields::Fields;
 use crate::form::{Keyword, Part, has_form};
@@ -23,12 +23,12 @@ impl Draft {
     pub(crate) fn judge_move(&self, fields: &Fields) -> Result<Item, LineFault>
         ensures { AnswersWithRoom result (stated (move_rule self.now fields.now) (option_map item.Op (move_said self.now fields.now))) }
     {
-        require(has_form(&MOVE_FORM, fields), Cause::Shape)?;
+        require(has_form(&MOVE_FORM, fields), LineCause::Shape)?;
         let old = self.judge_own(fields.at(1))?;
         let new = self.judge_own(fields.at(2))?;
         let uses = self.uses_of(&old);
-        require(!(uses.closed || uses.left), Cause::Closed)?;
-        require(self.may_join(&old, &new), Cause::Move)?;
+        require(!(uses.closed || uses.left), LineCause::Closed)?;
+        require(self.may_join(&old, &new), LineCause::Move)?;
         self.judge_load(uses.load * u64::from(new.request.route.len()))?;
         Ok(Item::Op(Op::Move {
             old: old.request.chan,

@@ -5,7 +5,7 @@ ghost use Rattle.text_writer.specs.Lines.{whole_line};
 ghost use Rattle.scenario_reader.specs.line.Pour.{pour_rule, pour_said, pour_fields};
 ghost use Rattle.scenario_reader.specs.declared.item.Item.TheVariants as item;
 
-use crate::cause::{Cause, LineFault};
+use crate::cause::{LineCause, LineFault};
 use crate::draft::Draft;
 use crate::fields::Fields;
 use crate::form::{Keyword, Part, has_form};
@@ -29,11 +29,11 @@ impl Draft {
     pub(crate) fn judge_pour(&self, fields: &Fields) -> Result<Item, LineFault>
         ensures { AnswersWithRoom result (stated (pour_rule self.now fields.now) (option_map item.Op (pour_said self.now fields.now))) }
     {
-        require(has_form(&POUR_FORM, fields), Cause::Shape)?;
+        require(has_form(&POUR_FORM, fields), LineCause::Shape)?;
         let shape = self.judge_link_named(fields.at(1))?;
         let packets = judge_packets(fields)?;
         self.judge_load(packets.count)?;
-        require(shape.best >= 1, Cause::Best)?;
+        require(shape.best >= 1, LineCause::Best)?;
         Ok(Item::Op(Op::Pour {
             link: shape.link,
             count: packets.count,

@@ -5,7 +5,7 @@ ghost use Rattle.text_writer.specs.Lines.{whole_line};
 ghost use Rattle.scenario_reader.specs.line.Send.{send_rule, send_said, send_fields};
 ghost use Rattle.scenario_reader.specs.declared.item.Item.TheVariants as item;
 
-use crate::cause::{Cause, LineFault};
+use crate::cause::{LineCause, LineFault};
 use crate::draft::Draft;
 use crate::fields::Fields;
 use crate::form::{Keyword, Part, has_form};
@@ -29,11 +29,11 @@ impl Draft {
     pub(crate) fn judge_send(&self, fields: &Fields) -> Result<Item, LineFault>
         ensures { AnswersWithRoom result (stated (send_rule self.now fields.now) (option_map item.Op (send_said self.now fields.now))) }
     {
-        require(has_form(&SEND_FORM, fields), Cause::Shape)?;
+        require(has_form(&SEND_FORM, fields), LineCause::Shape)?;
         let entry = self.judge_own(fields.at(1))?;
         let packets = judge_packets(fields)?;
         let uses = self.uses_of(&entry);
-        require(!(uses.closed || uses.left), Cause::Closed)?;
+        require(!(uses.closed || uses.left), LineCause::Closed)?;
         self.judge_load(packets.count * u64::from(entry.request.route.len()))?;
         Ok(Item::Op(Op::Send {
             chan: entry.request.chan,

@@ -9,7 +9,7 @@ ghost use Rattle.scenario_reader.specs.Nodes.{is_node, route_between};
 ghost use Rattle.scenario_reader.specs.line.RequestFields.{routed_in, way_in, HasNodes};
 ghost use Rattle.scenario_reader.specs.line.Request.{is_found, node_rule, way_fields_rule, way_rule, between_rule, route_hops, route_fields, hops_in, route_link_rule, route_names_rule, is_way};
 
-use crate::cause::{Cause, LineFault};
+use crate::cause::{LineCause, LineFault};
 use crate::draft::Draft;
 use crate::fields::Fields;
 use crate::form::Keyword;
@@ -37,7 +37,7 @@ pub(crate) struct Routed {
 
 impl Draft {
     // The links of the route, or the nodes between which it is to be found, each of which is known.
-    pub(crate) fn judge_way_fields(&self, fields: &Fields, hops: usize) -> Result<Way, Cause>
+    pub(crate) fn judge_way_fields(&self, fields: &Fields, hops: usize) -> Result<Way, LineCause>
         requires hops { hops ≡ route_hops fields.now }
         requires least { is_found fields.now ≡ false → 1 ≤ hops }
         requires most { hops ≤ 16 }
@@ -54,17 +54,17 @@ impl Draft {
     }
 
     // The node that a field names, which is known.
-    fn judge_node(&self, field: &[u8]) -> Result<Name, Cause>
+    fn judge_node(&self, field: &[u8]) -> Result<Name, LineCause>
         ensures judged { Judges result (node_rule self.now field.now) field.now }
         ensures known { IfOk result (λ node. is_node self.now.links node ≡ true) }
     {
         let node = name(field)?;
-        require(is_node(&self.links, &node), Cause::Unknown)?;
+        require(is_node(&self.links, &node), LineCause::Unknown)?;
         Ok(node)
     }
 
     // The hops over the links of the route, each of which is known.
-    fn judge_route(&self, fields: &Fields, hops: usize) -> Result<Hops, Cause>
+    fn judge_route(&self, fields: &Fields, hops: usize) -> Result<Hops, LineCause>
         requires hops { hops ≡ route_hops fields.now }
         requires least { 1 ≤ hops }
         requires most { hops ≤ 16 }
@@ -78,7 +78,7 @@ impl Draft {
     }
 
     // The hop over the link that a field names.
-    fn judge_hop(&self, field: &[u8]) -> Result<Hop, Cause>
+    fn judge_hop(&self, field: &[u8]) -> Result<Hop, LineCause>
         ensures { States result (route_link_rule self.now field.now) (option_map hop_over (link_named self.now.links field.now)) }
     {
         let shape = self.judge_link_named(field)?;
@@ -112,19 +112,19 @@ impl Draft {
         requires to { is_node self.now.links to.now ≡ true }
         ensures { JudgesWithRoom result (between_rule self.now from.now to.now) (unwrap_or (route_between self.now.links from.now to.now) []) }
     {
-        require(from != to, Cause::Route)?;
+        require(from != to, LineCause::Route)?;
         let route = route_between(alloc, &self.links, from, to)?;
-        Ok(route.ok_or(Cause::Reach)?)
+        Ok(route.ok_or(LineCause::Reach)?)
     }
 
     // The route of these hops, on which no link stands twice, and each begins at the node where the one before it ends.
-    fn judge_way(&self, hops: &[Hop]) -> Result<Route, Cause>
-        ensures { Judges result (unless (is_way self.now hops.now) Cause.Route) hops.now }
+    fn judge_way(&self, hops: &[Hop]) -> Result<Route, LineCause>
+        ensures { Judges result (unless (is_way self.now hops.now) LineCause.Route) hops.now }
     {
         let Ok(route) = Route::new(hops) else {
-            return Err(Cause::Route);
+            return Err(LineCause::Route);
         };
-        require(self.is_joined(&route), Cause::Route)?;
+        require(self.is_joined(&route), LineCause::Route)?;
         Ok(route)
     }
 

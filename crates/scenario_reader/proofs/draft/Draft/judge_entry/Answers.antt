@@ -4,7 +4,7 @@ use Rattle.net_units.specs.Limits.{most_links}
 use Rattle.scenario_reader.specs.Causes.{unless}
 use Rattle.scenario_reader.specs.Decimal.{value_of}
 use Rattle.scenario_reader.specs.line.Link.{bound_fields, is_link_line}
-use Rattle.scenario_reader.specs.declared.cause.Cause.TheVariants as cause
+use Rattle.scenario_reader.specs.declared.cause.LineCause.TheVariants as cause
 use Rattle.scenario_reader.specs.declared.line.link.LinkFields.{LinkFields}
 use Rattle.scenario_reader.proofs.kind.LinkJudged.{judged-link}
 use Rattle.scenario_reader.proofs.draft.Draft.judge_entry.Goals as goal
