@@ -1,0 +1,2 @@
+pub mod Jitters
+pub mod Rows
