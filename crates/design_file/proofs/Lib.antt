@@ -2,3 +2,4 @@ pub mod ListSteps
 pub mod LinksOneByOne
 pub mod RequestsOneByOne
 pub mod DesignIsPlan
+pub mod OpenedSoFar

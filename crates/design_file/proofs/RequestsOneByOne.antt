@@ -9,7 +9,7 @@ use Rattle.call_script.specs.Parts.{FollowsLink}
 use Rattle.call_script.specs.declared.entries.LinkEntry.{LinkEntry}
 use Rattle.call_script.specs.declared.entries.RequestEntry.{RequestEntry}
 use Rattle.design_text.specs.declared.design.DesignStream.{DesignStream}
-use Rattle.design_file.specs.Planned.{AreInOrder, AreRequestsOf, AddsRequest, IsRequestOf, IsOfTheCaller}
+use Rattle.design_file.specs.Planned.{AreInOrder, AreRequestsOf, AddsRequest, IsRequestOf}
 use Rattle.design_file.proofs.ListSteps.{zipped-more}
 
 order-more : (entries : List RequestEntry) (entry : RequestEntry) → AreInOrder entries → channel_number entry.request.chan ≡ length entries → AreInOrder (entries ++ entry ∷ [])
@@ -41,13 +41,7 @@ no-requests tick unit links streams entries none = subst (AreRequestsOf tick uni
 pub all-requests : (tick unit : ℕ) (links : List LinkEntry) (streams : List DesignStream) (i : ℕ) (entries : List RequestEntry) → length streams ≤ i → AreRequestsOf tick unit links (take i streams) entries → AreRequestsOf tick unit links streams entries
 all-requests tick unit links streams i entries past are = subst (λ l. AreRequestsOf tick unit links l entries) (take_all i streams past) are
 
--- each is of the one caller, and each hop follows its link
-pub of-the-caller : (tick unit : ℕ) (links : List LinkEntry) (streams : List DesignStream) (entries : List RequestEntry) → AllZip (IsRequestOf tick unit links) streams entries → Each IsOfTheCaller entries
-of-the-caller tick unit links [] [] each = tt
-of-the-caller tick unit links [] (entry ∷ entries) each = absurd each
-of-the-caller tick unit links (stream ∷ streams) [] each = tt
-of-the-caller tick unit links (stream ∷ streams) (entry ∷ entries) each = (each.0.caller, of-the-caller tick unit links streams entries each.1)
-
+-- each hop follows its link
 pub routes-follow : (tick unit : ℕ) (links : List LinkEntry) (streams : List DesignStream) (entries : List RequestEntry) → AllZip (IsRequestOf tick unit links) streams entries → Each (λ (entry : RequestEntry). Each (FollowsLink links) entry.request.route) entries
 routes-follow tick unit links [] [] each = tt
 routes-follow tick unit links [] (entry ∷ entries) each = absurd each

@@ -1,2 +1,3 @@
 pub mod Rounded
 pub mod Planned
+pub mod Opened

@@ -1,5 +1,6 @@
 -- The plan of a design has a link for each of the design's and a request for each of its streams, in their order. Links have the numbers of
--- their places, and so have the channels of requests; a request's route is over the links that its stream names. One caller opens them all.
+-- their places, and so have the channels of requests; a request's route is over the links that its stream names. The caller with the number of
+-- its stream's group opens it, the first one where it has none.
 use Rattle.std.specs.Prelude.{ℕ, ◌≡◌, ◌<◌, ◌≤◌, Some, List, [], ◌∷◌, ◌++◌, length}
 use Rattle.std.specs.List.{AllZip, slice_get}
 use Rattle.net_units.specs.Numbers.{link_number, actor_number, channel_number}
@@ -8,8 +9,6 @@ use Rattle.hop_reservation.specs.declared.route.Hop.{Hop}
 use Rattle.call_script.specs.declared.entries.LinkEntry.{LinkEntry}
 use Rattle.call_script.specs.declared.entries.RequestEntry.{RequestEntry}
 use Rattle.call_script.specs.Parts.{PlanParts, FollowsLink}
-use Rattle.call_script.specs.declared.operations.Op.{Op}
-use Rattle.call_script.specs.declared.operations.Op.TheVariants.{Open}
 use Rattle.design_text.specs.declared.design.Design.{Design}
 use Rattle.design_text.specs.declared.design.DesignLink.{DesignLink}
 use Rattle.design_text.specs.declared.design.DesignStream.{DesignStream}
@@ -58,7 +57,7 @@ pub record IsRequestOf (tick unit : ℕ) (links : List LinkEntry) (stream : Desi
   pub delay : entry.request.delay ≡ delay_in tick stream.within.picoseconds
   pub control : entry.request.control ≡ control_in tick stream.jitter
   pub way : IsWay links stream.way entry.request.route
-  pub caller : actor_number entry.caller ≡ 0
+  pub caller : actor_number entry.caller ≡ stream.group
 
 -- requests have the channels of their places
 unfoldable pub AreInOrder : List RequestEntry → Type 0
@@ -76,15 +75,9 @@ pub record AddsRequest (tick unit : ℕ) (links : List LinkEntry) (stream : Desi
   pub rounded : IsRequestOf tick unit links stream entry
   pub number : channel_number entry.request.chan ≡ length old
 
--- a request is opened by the first caller
-abbrev pub IsOfTheCaller : RequestEntry → Type 0
-IsOfTheCaller entry = actor_number entry.caller ≡ 0
-
--- its open
-abbrev pub open_of : RequestEntry → Op
-open_of entry = Open entry.request.chan
-
--- a plan is a design's at this tick and unit: its links and its requests are the design's links and streams, rounded, in their order
+-- a plan is a design's at this tick and unit: its links and its requests are the design's links and streams, rounded, in their order, and its groups
+-- are the design's
 pub record IsPlanOf (tick unit : ℕ) (design : Design) (plan : PlanParts) : Type 0 where
   pub links : AllZip (IsLinkOf tick unit) design.links.items plan.links
   pub requests : AllZip (IsRequestOf tick unit plan.links) design.streams.items plan.requests
+  pub groups : plan.groups ≡ design.groups.items

@@ -1,9 +1,10 @@
 //! The links of a plan.
 ghost use Rattle.std.specs.Prelude.{◌≡◌, ◌<◌, IfOk, IfSome, OnOk};
 ghost use Rattle.net_units.specs.Numbers.{link_number};
-ghost use Rattle.design_file.specs.Rounded.{bound_of as ticks_of_level, bounds_in, IsLinkOf};
+ghost use Rattle.design_file.specs.Rounded.{bound_of as ticks_of_level, bounds_in, IsLinkOf, IsShapeOf};
 ghost use Rattle.design_file.specs.Planned.{AddsLink, AreLinksOf};
 
+use crate::quotas::quotas_of;
 use crate::refusal::{Key, Refusal, Wrong};
 use call_script::{LinkEntry, Quotas};
 use design_text::DesignLink;
@@ -57,7 +58,7 @@ fn link_at(number: usize) -> Option<LinkNo>
 }
 
 /// A link, rounded.
-pub(crate) fn link_entry(
+fn link_entry(
     alloc: Global,
     scale: &Scale,
     test: Test,
@@ -66,6 +67,28 @@ pub(crate) fn link_entry(
 ) -> Result<LinkEntry, Refusal>
     ensures rounded { IfOk result (IsLinkOf scale.now.tick scale.now.unit link.now) }
     ensures number { IfOk result (λ entry. entry.shape.link ≡ number) }
+{
+    let shape = shape_of(alloc, scale, test, number, link)?;
+    let quotas = quotas_of(alloc, scale, &shape.bounds, &link.quotas)?;
+    Ok(LinkEntry {
+        name: link.name,
+        from: link.from,
+        to: link.to,
+        shape,
+        quotas: Quotas::new(quotas),
+    })
+}
+
+/// The numbers of a link, rounded.
+pub(crate) fn shape_of(
+    alloc: Global,
+    scale: &Scale,
+    test: Test,
+    number: LinkNo,
+    link: &DesignLink,
+) -> Result<LinkShape, Refusal>
+    ensures rounded { IfOk result (IsShapeOf scale.now.tick scale.now.unit link.now) }
+    ensures number { IfOk result (λ shape. shape.link ≡ number) }
 {
     let rate = scale
         .rate(link.rate)
@@ -81,13 +104,7 @@ pub(crate) fn link_entry(
     let shape = LinkShape::new(number, rate, cap, prop, buffer, bounds, test, link.best).map_err(
         |_| Refusal::Wrong(Wrong::FirstBound),
     )?;
-    Ok(LinkEntry {
-        name: link.name,
-        from: link.from,
-        to: link.to,
-        shape,
-        quotas: Quotas::none(alloc),
-    })
+    Ok(shape)
 }
 
 /// A number at a key that has none in the scenario.
@@ -99,15 +116,23 @@ fn at(key: Key, misfit: Misfit) -> Refusal {
 fn bounds_of(alloc: Global, scale: &Scale, levels: &[Time]) -> Result<Bounds, Refusal>
     ensures { IfOk result (λ bounds. bounds ≡ bounds_in scale.now.tick levels.now) }
 {
+    let ticks = ticks_of(alloc, scale, levels)?;
+    match Bounds::new(&ticks) {
+        Some(bounds) => Ok(bounds),
+        None => Err(Refusal::Wrong(Wrong::Bounds)),
+    }
+}
+
+// The times of levels, in ticks.
+pub(crate) fn ticks_of(alloc: Global, scale: &Scale, levels: &[Time]) -> Result<Vec<u32>, Refusal>
+    ensures { IfOk result (λ ticks. ticks.items ≡ bounds_in scale.now.tick levels.now) }
+{
     let mut ticks = Vec::new(alloc);
     for level in levels {
         let bound = bound_of(scale, *level)?;
         ticks.push(bound)?;
     }
-    match Bounds::new(&ticks) {
-        Some(bounds) => Ok(bounds),
-        None => Err(Refusal::Wrong(Wrong::Bounds)),
-    }
+    Ok(ticks)
 }
 
 // The bound of a level, in ticks.

@@ -1,31 +1,38 @@
 //! All that keeps a design from a plan.
 
-use crate::links::{link_entries, link_entry};
+use crate::links::{link_entries, shape_of};
+use crate::loads::{judge_counts, judge_pours, judge_run};
+use crate::quotas::quota_of;
 use crate::refusal::{Key, Refusal, Wrong};
 use crate::terms::terms_of;
+use crate::times::op_time;
 use crate::ways::route_of;
-use design_text::{Design, DesignLink, DesignStream, Mistakes, Way};
-use field_units::Scale;
-use net_units::{LinkNo, Name};
+use call_script::Quotas;
+use design_text::{Design, DesignLink, DesignPour, DesignStream, Mistakes};
+use field_units::{Scale, Time};
+use link_steps::LinkShape;
+use net_units::LinkNo;
 use std::alloc::{AllocError, Global};
 use traffic_contract::Test;
 
-/// Every number of a link or a stream that has none in the scenario, and every route that is none.
+/// Every number of a link, a share or a stream that has none in the scenario, every route that is none, and all that is more than a scenario has.
 pub(crate) fn misfits(
     alloc: Global,
     scale: &Scale,
     design: &Design,
 ) -> Result<Mistakes, AllocError> {
     let mut told = Mistakes::new(alloc);
+    judge_run(alloc, scale, design, &mut told)?;
     judge_links(alloc, scale, design, &mut told)?;
     judge_streams(alloc, scale, design, &mut told)?;
+    judge_pours(alloc, scale, design, &mut told)?;
     if told.is_empty() {
         judge_routes(alloc, scale, design, &mut told)?;
     }
     Ok(told)
 }
 
-/// Tells of the links that have no place in a plan.
+/// Tells of the links that have no place in a plan, and of their shares.
 fn judge_links(
     alloc: Global,
     scale: &Scale,
@@ -33,8 +40,45 @@ fn judge_links(
     told: &mut Mistakes,
 ) -> Result<(), AllocError> {
     for link in &design.links {
-        if let Some(refusal) = link_refusal(alloc, scale, link) {
-            tell(alloc, design, link.row, &refusal, told)?;
+        match shape_at(alloc, scale, link) {
+            Ok(shape) => judge_quotas(alloc, scale, design, link, &shape, told)?,
+            Err(refusal) => tell(alloc, design, link.row, &refusal, told)?,
+        }
+    }
+    Ok(())
+}
+
+/// A link's numbers, as those of the first link.
+fn shape_at(alloc: Global, scale: &Scale, link: &DesignLink) -> Result<LinkShape, Refusal> {
+    let number = LinkNo::new(0).unwrap();
+    shape_of(alloc, scale, Test::Least, number, link)
+}
+
+/// Tells of the shares of a link that have no place in a plan, or for which those above leave no room.
+fn judge_quotas(
+    alloc: Global,
+    scale: &Scale,
+    design: &Design,
+    link: &DesignLink,
+    shape: &LinkShape,
+    told: &mut Mistakes,
+) -> Result<(), AllocError> {
+    let mut quotas = Quotas::none(alloc);
+    for share in &link.quotas {
+        match quota_of(alloc, scale, &shape.bounds, share) {
+            Ok(quota) if quotas.fit_with(shape, &quota) => {
+                if quotas.push(quota).is_err() {
+                    return Err(AllocError);
+                }
+            }
+            Ok(_) => tell(
+                alloc,
+                design,
+                share.row,
+                &Refusal::Wrong(Wrong::Shares),
+                told,
+            )?,
+            Err(refusal) => tell(alloc, design, share.row, &refusal, told)?,
         }
     }
     Ok(())
@@ -51,14 +95,19 @@ fn judge_streams(
         if let Some(refusal) = stream_refusal(scale, stream) {
             tell(alloc, design, stream.row, &refusal, told)?;
         }
-        if let Some(refusal) = way_refusal(&design.links, &stream.way) {
+        if let Some(refusal) = span_refusal(scale, stream) {
             tell(alloc, design, stream.row, &refusal, told)?;
+        }
+    }
+    for pour in &design.pours {
+        if let Some(refusal) = pour_refusal(scale, pour) {
+            tell(alloc, design, pour.row, &refusal, told)?;
         }
     }
     Ok(())
 }
 
-/// Tells of the streams to whose ends no route leads.
+/// Tells of the streams to whose ends no route leads, and of those that send too much over theirs.
 fn judge_routes(
     alloc: Global,
     scale: &Scale,
@@ -68,12 +117,17 @@ fn judge_routes(
     let Ok(links) = link_entries(alloc, scale, Test::Least, &design.links) else {
         return Ok(());
     };
+    let mut hops: Vec<u64> = Vec::new(alloc);
     for stream in &design.streams {
-        if let Err(refusal) = route_of(alloc, &links, &stream.way) {
-            tell(alloc, design, stream.row, &refusal, told)?;
+        match route_of(alloc, &links, &stream.way) {
+            Ok(route) => hops.push(u64::from(route.len()))?,
+            Err(refusal) => {
+                hops.push(0)?;
+                tell(alloc, design, stream.row, &refusal, told)?;
+            }
         }
     }
-    Ok(())
+    judge_counts(alloc, design, &hops, told)
 }
 
 /// Tells of a refusal in a row of the design.
@@ -90,40 +144,51 @@ fn tell(
     }
 }
 
-/// Why a link has no place in a plan.
-fn link_refusal(alloc: Global, scale: &Scale, link: &DesignLink) -> Option<Refusal> {
-    let number = LinkNo::new(0).unwrap();
-    link_entry(alloc, scale, Test::Least, number, link).err()
-}
-
 /// Why a stream has no place in a plan, whatever its route.
 fn stream_refusal(scale: &Scale, stream: &DesignStream) -> Option<Refusal> {
     if let Err(refusal) = terms_of(scale, stream) {
         return Some(refusal);
     }
-    match scale.gap(stream.pace) {
-        Err(misfit) if stream.count > 0 => Some(Refusal::Misfit {
-            key: Key::Every,
-            misfit,
-        }),
-        _ => None,
+    match stream.count {
+        0 => None,
+        _ => pace_refusal(scale, stream.pace),
     }
 }
 
-/// Why a way over links is no route: a link isn't there, or doesn't begin where the one before it ends.
-fn way_refusal(links: &[DesignLink], way: &Way) -> Option<Refusal> {
-    let Way::Over(names) = way else {
-        return None;
-    };
-    let mut end: Option<&Name> = None;
-    for name in names {
-        let Some(link) = links.iter().find(|link| link.name == *name) else {
-            return Some(Refusal::Wrong(Wrong::UnknownLink));
-        };
-        if end.is_some_and(|end| *end != link.from) {
-            return Some(Refusal::Wrong(Wrong::Disjoined));
-        }
-        end = Some(&link.to);
+/// Why packets can't be sent at this gap.
+fn pace_refusal(scale: &Scale, pace: Time) -> Option<Refusal> {
+    match scale.gap(pace) {
+        Ok(_) => None,
+        Err(misfit) => Some(Refusal::Misfit {
+            key: Key::Every,
+            misfit,
+        }),
     }
-    None
+}
+
+/// Why a stream can't begin and end when it is to.
+fn span_refusal(scale: &Scale, stream: &DesignStream) -> Option<Refusal> {
+    let start = match op_time(scale, stream.start, Key::Start, stream.row) {
+        Ok(time) => time.tick,
+        Err(refusal) => return Some(refusal),
+    };
+    match op_time(scale, stream.end?, Key::End, stream.row) {
+        Ok(time) if time.tick > start => None,
+        Ok(_) => Some(Refusal::Wrong(Wrong::Instant)),
+        Err(refusal) => Some(refusal),
+    }
+}
+
+/// Why a best-effort stream has no place in a plan.
+fn pour_refusal(scale: &Scale, pour: &DesignPour) -> Option<Refusal> {
+    if let Err(misfit) = scale.size(pour.size) {
+        return Some(Refusal::Misfit {
+            key: Key::Size,
+            misfit,
+        });
+    }
+    if let Err(refusal) = op_time(scale, pour.start, Key::Start, pour.row) {
+        return Some(refusal);
+    }
+    pace_refusal(scale, pour.pace)
 }

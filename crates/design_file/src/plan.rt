@@ -1,52 +1,61 @@
 //! The plan of a design.
 ghost use Rattle.std.specs.Prelude.{◌≡◌, IfOk};
-ghost use Rattle.call_script.specs.Parts.{openings_in, openings_of};
 ghost use Rattle.design_file.specs.Planned.{IsPlanOf};
 
+use crate::callers::{Called, callers_of};
 use crate::links::link_entries;
 use crate::misfits::misfits;
 use crate::refusal::{Refusal, Wrong, wanted};
 use crate::requests::request_entries;
-use crate::script::script;
-use call_script::{BadPlan, CallerEntry, Op, Ops, Plan, Version};
+use crate::times::CallerTimes;
+use call_script::{BadPlan, Plan, Version};
 use design_text::{BadDesign, Design, DesignStream, Mistake, Mistakes, Place, Way};
 use field_units::Scale;
-use net_units::Name;
 use std::alloc::{AllocError, Global};
+
+/// The plan of a design, and when its callers make their operations.
+#[derive(Drop)]
+pub struct DesignPlan {
+    pub plan: Plan,
+    /// For each caller the tick of each of its operations, in their order.
+    pub times: Vec<CallerTimes>,
+}
 
 /// The plan of a design at this tick and unit: its links and streams, each number rounded to the safe side. An `Err` that isn't for want of
 /// memory tells every number and route for which the plan has none.
-pub fn plan_of(alloc: Global, scale: &Scale, design: &Design) -> Result<Plan, BadDesign>
-    ensures { IfOk result (IsPlanOf scale.now.tick scale.now.unit design.now) }
+pub fn plan_of(alloc: Global, scale: &Scale, design: &Design) -> Result<DesignPlan, BadDesign>
+    ensures { IfOk result (λ made. IsPlanOf scale.now.tick scale.now.unit design.now made.plan) }
 {
     let told = misfits(alloc, scale, design)?;
     if !told.is_empty() {
         return Err(BadDesign::Mistakes(told.into_list(&design.files)?));
     }
     match made(alloc, scale, design) {
-        Ok(plan) => Ok(plan),
+        Ok(made) => Ok(made),
         Err(refusal) => Err(whole(alloc, &refusal, design)),
     }
 }
 
 // The plan, where nothing is wrong with any one link or stream.
-fn made(alloc: Global, scale: &Scale, design: &Design) -> Result<Plan, Refusal>
-    ensures { IfOk result (IsPlanOf scale.now.tick scale.now.unit design.now) }
+fn made(alloc: Global, scale: &Scale, design: &Design) -> Result<DesignPlan, Refusal>
+    ensures { IfOk result (λ made. IsPlanOf scale.now.tick scale.now.unit design.now made.plan) }
 {
     let version = version_of(design);
     let links = link_entries(alloc, scale, version.test(), &design.links)?;
     let requests = request_entries(alloc, scale, &links, &design.streams)?;
-    let ops = script(alloc, scale, &design.streams, &requests)?;
-    let callers = callers_of(alloc, ops)?;
-    let groups = Vec::new(alloc);
+    let called = callers_of(alloc, scale, design, &links, &requests)?;
+    let groups = design.groups.clone()?;
     let rounds = rounds_in(scale, design);
+    let Called { callers, times } = called;
     let plan = Plan::new(alloc, version, links, groups, requests, callers, rounds, 0)?;
-    Ok(plan)
+    Ok(DesignPlan { plan, times })
 }
 
 /// The version whose forms the design needs.
 fn version_of(design: &Design) -> Version {
-    if design.streams.iter().any(is_found) {
+    if !design.groups.is_empty() {
+        Version::Five
+    } else if design.streams.iter().any(is_found) {
         Version::Four
     } else if design.links.iter().any(|link| link.best > 0) {
         Version::Three
@@ -63,23 +72,9 @@ fn is_found(stream: &DesignStream) -> bool {
 }
 
 /// The rounds that the network runs, rounded up.
-fn rounds_in(scale: &Scale, design: &Design) -> u64 {
+pub(crate) fn rounds_in(scale: &Scale, design: &Design) -> u64 {
     let tick = scale.tick().picoseconds.max(1);
     design.run.picoseconds.div_ceil(tick)
-}
-
-// The one caller, which does this.
-fn callers_of(alloc: Global, ops: Vec<Op>) -> Result<Vec<CallerEntry>, Refusal>
-    ensures { IfOk result (λ callers. openings_of 0 callers.items ≡ openings_in 0 ops.items) }
-{
-    let name = Name::new(b"streams".as_slice()).ok_or(Refusal::Wrong(Wrong::Nameless))?;
-    let mut callers = Vec::new(alloc);
-    callers.push(CallerEntry {
-        name,
-        group: 0,
-        ops: Ops::new(ops),
-    })?;
-    Ok(callers)
 }
 
 /// What is wrong with the design as a whole.

@@ -28,6 +28,8 @@ pub enum Key {
     Size,
     Within,
     Jitter,
+    Start,
+    End,
 }
 
 /// What won't do.
@@ -53,6 +55,14 @@ pub enum Wrong {
     Unreached,
     /// The caller has no name.
     Nameless,
+    /// The streams don't stand in the order of their groups.
+    Order,
+    /// A share has another number of levels than its link.
+    ShareLevels,
+    /// The shares of a link are more than it has.
+    Shares,
+    /// A stream ends in the tick in which it begins.
+    Instant,
     /// The plan breaks a rule, by its number.
     Rule(u8),
 }
@@ -123,13 +133,16 @@ fn text_in(row: &Row, key: Key) -> &'static str {
         Key::Size => "size",
         Key::Within => "within",
         Key::Jitter => "jitter",
+        Key::Start => "start",
+        Key::End => "end",
     }
 }
 
 /// The key at which something won't do.
 fn place_of(wrong: Wrong) -> &'static str {
     match wrong {
-        Wrong::FirstBound | Wrong::Bounds => "levels",
+        Wrong::FirstBound | Wrong::Bounds | Wrong::ShareLevels | Wrong::Shares => "levels",
+        Wrong::Instant => "end",
         Wrong::Packets => "packets",
         Wrong::UnknownLink | Wrong::Disjoined | Wrong::Twice => "route",
         Wrong::Unreached => "to",
@@ -150,6 +163,11 @@ pub(crate) fn wanted(wrong: Wrong) -> &'static str {
         Wrong::Twice => "1 to 16 links, none of them twice",
         Wrong::Unreached => "another node, to which at most 16 links lead",
         Wrong::Nameless => "a caller with a name",
+        Wrong::Order => "the streams of each group one after the other",
+        Wrong::ShareLevels => "a time for each level of its link",
+        Wrong::Shares =>
+            "less: the shares of a level come to at most its bound less the time of the largest packet, and those of the buffer to the buffer",
+        Wrong::Instant => "a time that is later than its start by a tick at least",
         Wrong::Rule(rule) => wanted_by_rule(rule),
     }
 }

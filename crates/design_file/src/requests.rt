@@ -47,9 +47,10 @@ fn add_request(
     let terms = terms_of(scale, stream)?;
     let route = route_of(alloc, links, &stream.way)?;
     let chan = chan_at(entries.len()).ok_or(Refusal::Wrong(Wrong::ManyStreams))?;
+    let caller = ActorNo::new(stream.group).ok_or(Refusal::Wrong(Wrong::Order))?;
     let entry = RequestEntry {
         name: stream.name,
-        caller: ActorNo::new(0).unwrap(),
+        caller,
         request: Request {
             chan,
             route,

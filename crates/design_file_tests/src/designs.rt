@@ -74,17 +74,7 @@ unit = \"1 byte\"
 run = \"45 ms\"
 test = \"whole\"
 link = [
-  { name = \"t1\", from = \"w1\", to = \"w2\" },
-  { name = \"t2\", from = \"w2\", to = \"w3\" },
-  { name = \"t3\", from = \"w3\", to = \"w4\" },
-  { name = \"t4\", from = \"w4\", to = \"w5\" },
-  { name = \"t5\", from = \"w5\", to = \"w6\" },
-  { name = \"t6\", from = \"w6\", to = \"w7\" },
-  { name = \"t7\", from = \"w7\", to = \"w8\" },
-  { name = \"t8\", from = \"w8\", to = \"w9\" },
-  { name = \"t9\", from = \"w9\", to = \"w10\" },
-  { name = \"t10\", from = \"w10\", to = \"w11\" },
-  { name = \"t11\", from = \"w11\", to = \"w12\" },
+  { name = \"t{}\", from = \"w{}\", to = \"w{+1}\", copies = 11 },
   { name = \"ctl\", from = \"w12\", to = \"plc\" },
 ]
 stream = [
@@ -126,11 +116,35 @@ count = 30
 ";
 
 pub const TRUNK: &str =
-    "# A trunk of 2,048 kbit/s between two exchanges: calls of 200 bytes each 20 ms and 18 of header, and bulk data of 1,518.
+    "# A trunk of 2,048 kbit/s between two exchanges: calls of 200 bytes each 20 ms and 18 of header, which come and go, and bulk data of 1,518.
 tick = \"100 us\"
 unit = \"1 byte\"
 run = \"1.1 s\"
 test = \"whole\"
+stream = [
+  { name = \"c1go\", class = \"call\", route = \"go\", end = \"610 ms\" },
+  { name = \"c1back\", class = \"call\", route = \"back\", end = \"610 ms\" },
+  { name = \"c2go\", class = \"call\", route = \"go\", end = \"620 ms\" },
+  { name = \"c2back\", class = \"call\", route = \"back\", end = \"620 ms\" },
+  { name = \"mail\", class = \"mail\", route = \"go\" },
+  { name = \"c3go\", class = \"call\", route = \"go\", start = \"30 ms\", end = \"630 ms\" },
+  { name = \"c3back\", class = \"call\", route = \"back\", start = \"30 ms\", end = \"630 ms\" },
+  { name = \"c4go\", class = \"call\", route = \"go\", start = \"70 ms\", end = \"640 ms\" },
+  { name = \"c4back\", class = \"call\", route = \"back\", start = \"70 ms\", end = \"640 ms\" },
+  { name = \"c5go\", class = \"call\", route = \"go\", start = \"70 ms\", end = \"650 ms\" },
+  { name = \"c5back\", class = \"call\", route = \"back\", start = \"70 ms\", end = \"650 ms\" },
+  { name = \"c6go\", class = \"call\", route = \"go\", start = \"110 ms\" },
+  { name = \"c6back\", class = \"call\", route = \"back\", start = \"110 ms\" },
+  { name = \"c7go\", class = \"call\", route = \"go\", start = \"150 ms\" },
+  { name = \"c7back\", class = \"call\", route = \"back\", start = \"150 ms\" },
+  { name = \"c8go\", class = \"call\", route = \"go\", start = \"150 ms\" },
+  { name = \"c8back\", class = \"call\", route = \"back\", start = \"150 ms\" },
+  { name = \"c9go\", class = \"call\", route = \"go\", start = \"190 ms\" },
+  { name = \"c9back\", class = \"call\", route = \"back\", start = \"190 ms\" },
+  { name = \"c10go\", class = \"call\", route = \"go\", start = \"230 ms\" },
+  { name = \"c10back\", class = \"call\", route = \"back\", start = \"230 ms\" },
+  { name = \"late\", class = \"call\", route = \"go\", start = \"700 ms\", count = 10 },
+]
 
 [[link]]
 name = \"go\"
@@ -144,33 +158,19 @@ latency = \"0.5 ms\"
 buffer = \"65536 B\"
 levels = [\"15 ms\", \"100 ms\"]
 
-[[stream]]
-name = \"c{}go\"
-class = \"call\"
-copies = 10
-route = \"go\"
+[class.call]
+every = \"20 ms\"
+size = \"218 B\"
+within = \"15.6 ms\"
+count = 30
 
-[[stream]]
-name = \"c{}back\"
-class = \"call\"
-copies = 10
-route = \"back\"
-
-[[stream]]
-name = \"mail\"
-route = \"go\"
+[class.mail]
 packets = 10
 in = \"400 ms\"
 apart = \"6.1 ms\"
 size = \"1518 B\"
 within = \"200.1 ms\"
 count = 12
-
-[class.call]
-every = \"20 ms\"
-size = \"218 B\"
-within = \"15.6 ms\"
-count = 30
 ";
 
 pub const OFFICE: &str =
@@ -219,4 +219,63 @@ count = 3
 [defaults.link]
 latency = \"10 us\"
 levels = [\"0.5 ms\", \"5 ms\"]
+";
+
+pub const SHARED: &str =
+    "# A line of 80 Mbit/s from an office to an exchange, split between telephones and a camera, with downloads in what they leave.
+tick = \"10 us\"
+unit = \"1 byte\"
+run = \"220 ms\"
+
+[[link]]
+name = \"line\"
+from = \"office\"
+to = \"exchange\"
+rate = \"80 Mbit/s\"
+latency = \"50 us\"
+levels = [\"1 ms\", \"5 ms\"]
+best = 64
+
+# of each level's bound, and of the buffer
+[[quota]]
+link = \"line\"
+group = \"voice\"
+levels = [\"0.2 ms\", \"1 ms\"]
+buffer = \"16 KiB\"
+
+[[quota]]
+link = \"line\"
+group = \"video\"
+levels = [\"0.4 ms\", \"3 ms\"]
+buffer = \"32 KiB\"
+
+[[stream]]
+name = \"phone\"
+copies = 4
+group = \"voice\"
+route = \"line\"
+every = \"20 ms\"
+size = \"218 B\"
+within = \"5 ms\"
+count = 10
+
+[[stream]]
+name = \"camera\"
+group = \"video\"
+route = \"line\"
+packets = 30
+in = \"40 ms\"
+apart = \"0.2 ms\"
+size = \"1500 B\"
+overhead = \"ethernet\"
+within = \"40 ms\"
+count = 30
+
+[[stream]]
+name = \"downloads\"
+best_effort = true
+link = \"line\"
+every = \"1 ms\"
+size = \"1538 B\"
+count = 200
 ";

@@ -70,52 +70,90 @@ rounds 4500
 tail 0
 ";
 
-pub const TRUNK: &str = "tenet 1
+pub const TRUNK: &str = "# tick 100 us
+# unit 1 byte
+tenet 1
 link go east west rate 25 cap 1518 prop 5 buffer 65536 levels 150 1000
 link back west east rate 25 cap 1518 prop 5 buffer 65536 levels 150 1000
-caller calls
-open c1go route go contract 200 200 200 218 delay 155 rate
-open c2go route go contract 200 200 200 218 delay 155 rate
-open c3go route go contract 200 200 200 218 delay 155 rate
-open c4go route go contract 200 200 200 218 delay 155 rate
-open c5go route go contract 200 200 200 218 delay 155 rate
-open c6go route go contract 200 200 200 218 delay 155 rate
-open c7go route go contract 200 200 200 218 delay 155 rate
-open c8go route go contract 200 200 200 218 delay 155 rate
-open c9go route go contract 200 200 200 218 delay 155 rate
-open c10go route go contract 200 200 200 218 delay 155 rate
-open c1back route back contract 200 200 200 218 delay 155 rate
-open c2back route back contract 200 200 200 218 delay 155 rate
-open c3back route back contract 200 200 200 218 delay 155 rate
-open c4back route back contract 200 200 200 218 delay 155 rate
-open c5back route back contract 200 200 200 218 delay 155 rate
-open c6back route back contract 200 200 200 218 delay 155 rate
-open c7back route back contract 200 200 200 218 delay 155 rate
-open c8back route back contract 200 200 200 218 delay 155 rate
-open c9back route back contract 200 200 200 218 delay 155 rate
-open c10back route back contract 200 200 200 218 delay 155 rate
-open mail route go contract 61 400 4000 1518 delay 2000 rate
-send c1go 30 200 218
-send c2go 30 200 218
-send c3go 30 200 218
-send c4go 30 200 218
-send c5go 30 200 218
-send c6go 30 200 218
-send c7go 30 200 218
-send c8go 30 200 218
-send c9go 30 200 218
-send c10go 30 200 218
-send c1back 30 200 218
-send c2back 30 200 218
-send c3back 30 200 218
-send c4back 30 200 218
-send c5back 30 200 218
-send c6back 30 200 218
-send c7back 30 200 218
-send c8back 30 200 218
-send c9back 30 200 218
-send c10back 30 200 218
-send mail 12 400 1518
-rounds 11000
+at 0 open c1go route go contract 200 200 200 218 delay 155 rate
+at 0 open c1back route back contract 200 200 200 218 delay 155 rate
+at 0 open c2go route go contract 200 200 200 218 delay 155 rate
+at 0 open c2back route back contract 200 200 200 218 delay 155 rate
+at 0 open mail route go contract 61 400 4000 1518 delay 2000 rate
+at 0 send c1go 30 200 218
+at 0 send c1back 30 200 218
+at 0 send c2go 30 200 218
+at 0 send c2back 30 200 218
+at 0 send mail 12 400 1518
+at 300 open c3go route go contract 200 200 200 218 delay 155 rate
+at 300 open c3back route back contract 200 200 200 218 delay 155 rate
+at 300 send c3go 30 200 218
+at 300 send c3back 30 200 218
+at 700 open c4go route go contract 200 200 200 218 delay 155 rate
+at 700 open c4back route back contract 200 200 200 218 delay 155 rate
+at 700 open c5go route go contract 200 200 200 218 delay 155 rate
+at 700 open c5back route back contract 200 200 200 218 delay 155 rate
+at 700 send c4go 30 200 218
+at 700 send c4back 30 200 218
+at 700 send c5go 30 200 218
+at 700 send c5back 30 200 218
+at 1100 open c6go route go contract 200 200 200 218 delay 155 rate
+at 1100 open c6back route back contract 200 200 200 218 delay 155 rate
+at 1100 send c6go 30 200 218
+at 1100 send c6back 30 200 218
+at 1500 open c7go route go contract 200 200 200 218 delay 155 rate
+at 1500 open c7back route back contract 200 200 200 218 delay 155 rate
+at 1500 open c8go route go contract 200 200 200 218 delay 155 rate
+at 1500 open c8back route back contract 200 200 200 218 delay 155 rate
+at 1500 send c7go 30 200 218
+at 1500 send c7back 30 200 218
+at 1500 send c8go 30 200 218
+at 1500 send c8back 30 200 218
+at 1900 open c9go route go contract 200 200 200 218 delay 155 rate
+at 1900 open c9back route back contract 200 200 200 218 delay 155 rate
+at 1900 send c9go 30 200 218
+at 1900 send c9back 30 200 218
+at 2300 open c10go route go contract 200 200 200 218 delay 155 rate
+at 2300 open c10back route back contract 200 200 200 218 delay 155 rate
+at 2300 send c10go 30 200 218
+at 2300 send c10back 30 200 218
+at 6100 close c1go
+at 6100 close c1back
+at 6200 close c2go
+at 6200 close c2back
+at 6300 close c3go
+at 6300 close c3back
+at 6400 close c4go
+at 6400 close c4back
+at 6500 close c5go
+at 6500 close c5back
+at 7000 open late route go contract 200 200 200 218 delay 155 rate
+at 7000 send late 10 200 218
+at 11000 end
+";
+
+pub const SHARED: &str = "# tick 10 us
+# unit 1 byte
+tenet 5
+link line office exchange rate 100 cap 1538 prop 5 buffer 65536 best 64 levels 100 500
+group voice
+group video
+quota line voice buffer 16384 levels 20 100
+quota line video buffer 32768 levels 40 300
+caller streams
+pour line 200 100 1538
+caller voice group voice
+open phone1 route line contract 2000 2000 2000 218 delay 499 rate
+open phone2 route line contract 2000 2000 2000 218 delay 499 rate
+open phone3 route line contract 2000 2000 2000 218 delay 499 rate
+open phone4 route line contract 2000 2000 2000 218 delay 499 rate
+send phone1 10 2000 218
+send phone2 10 2000 218
+send phone3 10 2000 218
+send phone4 10 2000 218
+caller video group video
+open camera route line contract 20 133 3990 1538 delay 3999 rate
+send camera 30 134 1538
+rounds 22000
 tail 0
 ";

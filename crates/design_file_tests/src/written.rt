@@ -1,9 +1,9 @@
 //! Each design, and the scenario of the same network.
 
-use crate::designs::{AFDX, LINE, OFFICE, SMALLEST, TRUNK};
+use crate::designs::{AFDX, LINE, OFFICE, SHARED, SMALLEST, TRUNK};
 use crate::networks;
 use byte_ends::MemSink;
-use design_file::{File, plan_of, read_design, write_design};
+use design_file::{File, plan_of, read_design, timed_text, write_design};
 use std::alloc::Global;
 use std::process::Abort;
 use std::test::Fail;
@@ -17,9 +17,9 @@ fn written(alloc: Global, text: &str) -> Result<String, Fail> {
     };
     let design = read_design(alloc, &file, &[])?;
     let scale = design.scale.ok_or("no tick and no unit")?;
-    let plan = plan_of(alloc, &scale, &design)?;
+    let made = plan_of(alloc, &scale, &design)?;
     let mut sink = MemSink::new(alloc, 65_536, 4_096, Vec::new(alloc))?;
-    write_design(alloc, &scale, &plan, &mut sink)?;
+    write_design(alloc, &scale, &made.plan, &mut sink)?;
     Ok(String::from_str(alloc, std::str::from_utf8(sink.bytes())?)?)
 }
 
@@ -53,7 +53,7 @@ fn a_design_is_written_as_a_scenario(rt: HostRuntime) -> Result<(), Fail> {
     assert_eq!(rt;
         made.as_str(),
         "# tick 10 us
-# unit 1 B
+# unit 1 byte
 tenet 4
 link camera_desk camera desk rate 125 cap 1538 prop 0 buffer 65536 levels 50 500
 caller streams
@@ -77,10 +77,28 @@ fn a_line_of_drives(rt: HostRuntime) -> Result<(), Fail> {
     says_what(&rt, alloc, LINE, networks::LINE)
 }
 
+/// The calls of a trunk, each at its time: the text of which ask/at makes a scenario.
 #[test]
 fn a_telephone_trunk(rt: HostRuntime) -> Result<(), Fail> {
     let alloc = rt.alloc();
-    says_what(&rt, alloc, TRUNK, networks::TRUNK)
+    let file = File {
+        name: "net.toml",
+        text: TRUNK,
+    };
+    let design = read_design(alloc, &file, &[])?;
+    let scale = design.scale.ok_or("no tick and no unit")?;
+    let made = plan_of(alloc, &scale, &design)?;
+    let text = timed_text(alloc, &scale, &made)?.ok_or("groups")?;
+    assert_eq!(rt; text.as_str(), networks::TRUNK);
+    Ok(())
+}
+
+/// A link that two groups share, beside a best-effort stream.
+#[test]
+fn a_shared_line(rt: HostRuntime) -> Result<(), Fail> {
+    let made = written(rt.alloc(), SHARED)?;
+    assert_eq!(rt; made.as_str(), networks::SHARED);
+    Ok(())
 }
 
 /// An office of twenty end systems, of which each has a link and two streams over it to the server.

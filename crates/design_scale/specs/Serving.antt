@@ -1,5 +1,5 @@
 -- A design that names no tick and no unit gets the coarsest pair of those that are tried that serves it: each rate, size, buffer, bound, gap, wanted
--- delay and wanted jitter of its links and streams loses at most one part in so many, and the ticks of its run over all links are within a scenario's
+-- delay and wanted jitter of its links, shares of links and streams loses at most one part in so many, and the ticks of its run over all links are within a scenario's
 -- limit. Where none does, the coarsest that serves without a run is proposed. (The rules are this project's own.)
 use Rattle.std.specs.Prelude.{ℕ, ◌≡◌, nat_le, Bool, true, false, ◌&&◌, Option, Some, None, List, ◌∷◌, ◌++◌, length}
 use Rattle.std.specs.List.{list_all, list_any}
@@ -10,6 +10,8 @@ use Rattle.field_units.specs.declared.quantity.Time.{Time}
 use Rattle.design_text.specs.declared.design.Design.{Design}
 use Rattle.design_text.specs.declared.design.DesignLink.{DesignLink}
 use Rattle.design_text.specs.declared.design.DesignStream.{DesignStream}
+use Rattle.design_text.specs.declared.design.DesignPour.{DesignPour}
+use Rattle.design_text.specs.declared.design.DesignQuota.{DesignQuota}
 use Rattle.design_scale.specs.declared.choice.Choice.{Choice}
 use Rattle.design_scale.specs.declared.choice.Choice.TheVariants.{Named, Serving, Verdicts, Nothing}
 
@@ -21,10 +23,14 @@ keeps_level tick parts level = keeps_bound tick parts level.picoseconds
 abbrev pub has_propagation : ℕ → Time → Bool
 has_propagation tick latency = nat_le (ceil_quotient latency.picoseconds tick) most_propagation
 
--- the numbers of a link
+-- the numbers of a share of a link
+unfoldable pub keeps_share : ℕ → Pair → DesignQuota → Bool
+keeps_share parts pair quota = keeps_room pair.unit parts quota.buffer.bits && list_all (keeps_level pair.tick parts) quota.levels.items
+
+-- the numbers of a link, and of its shares
 unfoldable pub keeps_link : ℕ → Pair → DesignLink → Bool
 keeps_link parts pair link =
-    keeps_rate pair.tick pair.unit parts link.rate.bits_a_second && keeps_size pair.unit parts link.largest.bits && keeps_room pair.unit parts link.buffer.bits && has_propagation pair.tick link.latency && list_all (keeps_level pair.tick parts) link.levels.items
+    keeps_rate pair.tick pair.unit parts link.rate.bits_a_second && keeps_size pair.unit parts link.largest.bits && keeps_room pair.unit parts link.buffer.bits && has_propagation pair.tick link.latency && list_all (keeps_level pair.tick parts) link.levels.items && list_all (keeps_share parts pair) link.quotas.items
 
 -- a jitter, where one is wanted
 unfoldable pub keeps_wanted : ℕ → ℕ → Option Time → Bool
@@ -36,10 +42,14 @@ unfoldable pub keeps_stream : ℕ → Pair → DesignStream → Bool
 keeps_stream parts pair stream =
     keeps_size pair.unit parts stream.source.size.bits && keeps_gap pair.tick parts stream.source && keeps_window pair.tick parts stream.source && keeps_delay pair.tick parts stream.within.picoseconds && keeps_wanted pair.tick parts stream.jitter
 
+-- the packets of a best-effort stream, to which nothing is promised
+unfoldable pub keeps_pour : ℕ → Pair → DesignPour → Bool
+keeps_pour parts pair pour = keeps_size pair.unit parts pour.size.bits
+
 -- a pair serves a design with a run of this time
 unfoldable pub serves : ℕ → Time → Design → Pair → Bool
 serves parts run design pair =
-    fits_run pair.tick run.picoseconds (length design.links.items) && list_all (keeps_link parts pair) design.links.items && list_all (keeps_stream parts pair) design.streams.items
+    fits_run pair.tick run.picoseconds (length design.links.items) && list_all (keeps_link parts pair) design.links.items && list_all (keeps_stream parts pair) design.streams.items && list_all (keeps_pour parts pair) design.pours.items
 
 -- a pair is the coarsest of these that serves: those before it, which are coarser, don't
 pub record IsCoarsest (serve : Pair → Bool) (tried : List Pair) (pair : Pair) : Type 0 where

@@ -2,9 +2,9 @@
 ghost use Rattle.std.specs.Prelude.{◌≡◌};
 ghost use Rattle.std.specs.List.{list_all};
 ghost use Rattle.field_units.specs.Serving.{pair_of};
-ghost use Rattle.design_scale.specs.Serving.{serves as serves_pair, keeps_link as keeps_a_link, keeps_stream as keeps_a_stream, keeps_level, keeps_wanted as keeps_a_wanted, has_propagation as has_a_propagation};
+ghost use Rattle.design_scale.specs.Serving.{serves as serves_pair, keeps_link as keeps_a_link, keeps_stream as keeps_a_stream, keeps_share as keeps_a_share, keeps_pour as keeps_a_pour, keeps_level, keeps_wanted as keeps_a_wanted, has_propagation as has_a_propagation};
 
-use design_text::{Design, DesignLink, DesignStream};
+use design_text::{Design, DesignLink, DesignPour, DesignQuota, DesignStream};
 use field_units::{Scale, Time};
 
 /// Whether each number of a design loses at most one part in `parts`, and the ticks of a run of this time over all links are within a
@@ -16,6 +16,7 @@ pub fn serves(scale: &Scale, parts: u64, run: Time, design: &Design) -> bool
     scale.fits_run(run, design.links.len() as u64)
         && keep_links(scale, parts, &design.links)
         && keep_streams(scale, parts, &design.streams)
+        && keep_pours(scale, parts, &design.pours)
 }
 
 // Whether the numbers of all links are kept.
@@ -34,6 +35,21 @@ fn keep_streams(scale: &Scale, parts: u64, streams: &[DesignStream]) -> bool
         .all(|stream| keeps_stream(scale, parts, stream))
 }
 
+// Whether the packets of all best-effort streams are kept.
+fn keep_pours(scale: &Scale, parts: u64, pours: &[DesignPour]) -> bool
+    ensures { result ≡ list_all (keeps_a_pour parts (pair_of scale.now)) pours.now }
+{
+    pours.iter().all(|pour| keeps_pour(scale, parts, pour))
+}
+
+// Whether the packets of a best-effort stream are kept.
+#[tactic(auto, unfolding(crate::specs::Serving::keeps_pour))]
+fn keeps_pour(scale: &Scale, parts: u64, pour: &DesignPour) -> bool
+    ensures { result ≡ keeps_a_pour parts (pair_of scale.now) pour.now }
+{
+    scale.keeps_size(pour.size, parts)
+}
+
 // Whether the numbers of a link are kept.
 #[tactic(auto, unfolding(crate::specs::Serving::keeps_link))]
 fn keeps_link(scale: &Scale, parts: u64, link: &DesignLink) -> bool
@@ -44,6 +60,22 @@ fn keeps_link(scale: &Scale, parts: u64, link: &DesignLink) -> bool
         && scale.keeps_room(link.buffer, parts)
         && has_propagation(scale, link.latency)
         && keep_levels(scale, parts, &link.levels)
+        && keep_shares(scale, parts, &link.quotas)
+}
+
+// Whether the numbers of all shares of a link are kept.
+fn keep_shares(scale: &Scale, parts: u64, quotas: &[DesignQuota]) -> bool
+    ensures { result ≡ list_all (keeps_a_share parts (pair_of scale.now)) quotas.now }
+{
+    quotas.iter().all(|quota| keeps_share(scale, parts, quota))
+}
+
+// Whether the numbers of a share are kept.
+#[tactic(auto, unfolding(crate::specs::Serving::keeps_share))]
+fn keeps_share(scale: &Scale, parts: u64, quota: &DesignQuota) -> bool
+    ensures { result ≡ keeps_a_share parts (pair_of scale.now) quota.now }
+{
+    scale.keeps_room(quota.buffer, parts) && keep_levels(scale, parts, &quota.levels)
 }
 
 // Whether the bounds of all levels are kept.

@@ -1,6 +1,6 @@
 //! What a tick and a unit lose of the numbers of a design, number by number.
 
-use design_text::{Design, DesignLink, DesignStream};
+use design_text::{Design, DesignLink, DesignPour, DesignQuota, DesignStream};
 use field_units::{Rate, Scale, Size, Stream, Time};
 use std::alloc::{AllocError, Global};
 use std::fmt;
@@ -42,7 +42,8 @@ struct Ledger<'a> {
     list: Vec<Loss>,
 }
 
-/// The numbers of a design that are others in its scenario at this scale, in the order of its links and streams.
+/// The numbers of a design that are others in its scenario at this scale, in the order of its links with their shares,
+/// of its streams and of its best-effort streams.
 pub fn losses(alloc: Global, scale: &Scale, design: &Design) -> Result<Vec<Loss>, AllocError> {
     let mut found = Ledger {
         alloc,
@@ -51,9 +52,15 @@ pub fn losses(alloc: Global, scale: &Scale, design: &Design) -> Result<Vec<Loss>
     };
     for link in &design.links {
         found.add_link(scale, link)?;
+        for quota in &link.quotas {
+            found.add_quota(scale, quota)?;
+        }
     }
     for stream in &design.streams {
         found.add_stream(scale, stream)?;
+    }
+    for pour in &design.pours {
+        found.add_pour(scale, pour)?;
     }
     Ok(found.list)
 }
@@ -73,6 +80,25 @@ impl Ledger<'_> {
             self.add_time(row, "levels", *level, ticks_of(scale, bound))?;
         }
         Ok(())
+    }
+
+    /// Adds what the numbers of a share of a link lose.
+    fn add_quota(&mut self, scale: &Scale, quota: &DesignQuota) -> Result<(), AllocError> {
+        let room = in_units(scale, scale.room(quota.buffer));
+        self.add_size(quota.row, "buffer", quota.buffer, Some(room))?;
+        for level in &quota.levels {
+            let bound = scale.bound(*level).ok();
+            self.add_time(quota.row, "levels", *level, ticks_of(scale, bound))?;
+        }
+        Ok(())
+    }
+
+    /// Adds what the numbers of a best-effort stream lose.
+    fn add_pour(&mut self, scale: &Scale, pour: &DesignPour) -> Result<(), AllocError> {
+        let size = kept_size(scale, pour.size);
+        self.add_size(pour.row, "size", pour.size, size)?;
+        let gap = scale.gap(pour.pace).ok();
+        self.add_time(pour.row, "every", pour.pace, ticks_of(scale, gap))
     }
 
     /// Adds what the numbers of a stream lose.

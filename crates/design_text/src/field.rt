@@ -1,5 +1,6 @@
 //! The values that a design gives to its keys, as texts, and where they stand.
 
+use crate::keys::{excludes, is_excluded};
 use std::alloc::{AllocError, Global};
 
 /// A place: the file, by its number from 0, and the line, from 1. The design itself is file 0.
@@ -26,9 +27,11 @@ pub enum Kind {
     Link,
     /// A stream.
     Stream,
+    /// A share of a link.
+    Quota,
 }
 
-/// What a design says of the network, of a link or of a stream.
+/// What a design says of the network, of a link, of a stream or of a share.
 #[derive(Debug, Drop)]
 pub struct Row {
     pub kind: Kind,
@@ -75,22 +78,31 @@ impl Row {
         Ok(row)
     }
 
-    /// Takes from another row what this one lacks.
+    /// Takes from another row what this one lacks, and what may stand beside its own keys.
     pub(crate) fn complete(&mut self, alloc: Global, other: &Row) -> Result<(), AllocError> {
+        let own = self.fields.len();
         for field in &other.fields {
-            if !self.has(field.key.as_str()) {
+            if !self.has(field.key.as_str()) && !self.shuts_out(own, field.key.as_str()) {
                 self.push(alloc, field.key.as_str(), field.text.clone()?, field.place)?;
             }
         }
         Ok(())
     }
 
-    /// The copy of this number: its number stands for each `{}`, and behind a name that has none.
+    /// Whether one of so many fields of the row doesn't stand beside this key.
+    fn shuts_out(&self, count: usize, key: &str) -> bool {
+        self.fields.iter().take(count).any(|field| excludes(field, key)
+            || is_excluded(field.key.as_str(), key))
+    }
+
+    /// The copy of this number: its number stands for each `{}`, the next one for each `{+1}`, and its number behind a name that has none.
     pub(crate) fn numbered(&self, alloc: Global, number: u64) -> Result<Row, AllocError> {
         let digits = number.to_string(alloc)?;
+        let next = number.saturating_add(1).to_string(alloc)?;
         let mut row = Row::new(alloc, self.kind, self.place);
         for field in &self.fields {
-            let mut text = field.text.as_str().replace(alloc, "{}", digits.as_str())?;
+            let text = field.text.as_str().replace(alloc, "{+1}", next.as_str())?;
+            let mut text = text.as_str().replace(alloc, "{}", digits.as_str())?;
             if is_same_key(field.key.as_str(), "name") && text.as_str() == field.text.as_str() {
                 text.push_str(digits.as_str())?;
             }

@@ -4,6 +4,7 @@
 //! stands there and what may stand there.
 #![tactic(auto)]
 
+mod agreement;
 pub mod design;
 pub mod field;
 pub mod keys;
@@ -11,6 +12,9 @@ mod links;
 mod marks;
 pub mod mistake;
 mod network;
+mod parts;
+mod pours;
+mod quotas;
 mod read;
 mod rows;
 mod sheets;
@@ -18,7 +22,7 @@ mod spread;
 mod streams;
 mod values;
 
-pub use design::{Design, DesignLink, DesignStream, Way};
+pub use design::{Design, DesignLink, DesignPour, DesignQuota, DesignStream, Way};
 pub use field::{Field, Kind, Place, Row};
 pub use mistake::{Mistake, Mistakes};
 pub use read::{BadDesign, File, read_design};

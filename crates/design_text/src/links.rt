@@ -3,6 +3,7 @@
 use crate::design::DesignLink;
 use crate::field::Row;
 use crate::mistake::Mistakes;
+use crate::quotas::{Share, quotas_of};
 use crate::values::{A_NAME, A_RATE, A_TIME};
 use field_units::{Size, Time};
 use net_units::Name;
@@ -29,6 +30,7 @@ pub(crate) fn link_of(
     alloc: Global,
     row: &Row,
     place: usize,
+    shares: &[Share],
     told: &mut Mistakes,
 ) -> Result<Option<DesignLink>, AllocError> {
     judge_needs(row, told)?;
@@ -47,6 +49,7 @@ pub(crate) fn link_of(
     let Some(levels) = levels else {
         return Ok(None);
     };
+    let quotas = quotas_of(alloc, &name, shares)?;
     Ok(Some(DesignLink {
         name,
         from,
@@ -57,6 +60,7 @@ pub(crate) fn link_of(
         buffer: numbers.buffer,
         levels,
         best: numbers.best,
+        quotas,
         row: place,
     }))
 }

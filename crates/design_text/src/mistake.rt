@@ -1,6 +1,7 @@
 //! What is wrong with a design.
 
 use crate::field::{Field, Place, Row};
+use crate::keys::excludes;
 use std::alloc::{AllocError, Global};
 use std::fmt;
 
@@ -80,6 +81,18 @@ impl Mistakes {
         self.tell(row.place, key, None, wanted)
     }
 
+    /// Tells of each field of a row beside which another one stands that shuts it out.
+    pub(crate) fn judge_apart(&mut self, alloc: Global, row: &Row) -> Result<(), AllocError> {
+        for field in &row.fields {
+            if let Some(other) = shuts_out(row, field.key.as_str()) {
+                let key = other.key.as_str();
+                let wanted = format!(in alloc; "nothing, since `{key}` stands beside it")?;
+                self.refuse(field, wanted.as_str())?;
+            }
+        }
+        Ok(())
+    }
+
     /// Something is wrong at a place, and not at a key.
     pub fn tell_at(&mut self, place: Place, wanted: &str) -> Result<(), AllocError> {
         self.tell(place, "", None, wanted)
@@ -133,4 +146,14 @@ impl Mistakes {
         }
         Ok(list)
     }
+}
+
+/// The field that keeps this key out of its row, and that no other one keeps out.
+fn shuts_out<'a>(row: &'a Row, key: &str) -> Option<&'a Field> {
+    row.fields.iter().find(|other| excludes(other, key) && !is_out(row, other.key.as_str()))
+}
+
+/// Whether some field keeps this key out of its row.
+fn is_out(row: &Row, key: &str) -> bool {
+    row.fields.iter().any(|other| excludes(other, key))
 }

@@ -1,16 +1,14 @@
 //! Reading a design.
 
+use crate::agreement::judge_design;
 use crate::design::Design;
 use crate::field::{Kind, Row};
 use crate::keys::{is_known, keys_of, nearest};
-use crate::links::link_of;
 use crate::mistake::{Mistake, Mistakes};
-use crate::network::{is_whole_test, scale_of};
+use crate::parts::design_of;
 use crate::rows::{Rows, rows_of};
 use crate::sheets::sheet_rows;
 use crate::spread::Spread;
-use crate::streams::stream_of;
-use field_units::Time;
 use std::alloc::{AllocError, AllocFailed, Global};
 
 /// A file, by its name and its text.
@@ -51,7 +49,8 @@ pub fn read_design(alloc: Global, design: &File, sheets: &[File]) -> Result<Desi
     add_sheets(alloc, &mut rows, sheets, &mut told)?;
     judge_keys(alloc, &rows, &mut told)?;
     let rows = Spread::new(alloc, rows, &mut told)?;
-    let mut made = design_of(alloc, rows, &mut told)?;
+    let (mut made, has_all_links) = design_of(alloc, rows, &mut told)?;
+    judge_design(alloc, &made, has_all_links, &files, &mut told)?;
     if !told.is_empty() {
         return Err(BadDesign::Mistakes(told.into_list(&files)?));
     }
@@ -88,6 +87,9 @@ fn add_sheets(
         told,
     )? {
         rows.streams.append(&mut streams)?;
+    }
+    if let Some(mut quotas) = sheet_at(alloc, &rows.network, "quotas", Kind::Quota, sheets, told)? {
+        rows.quotas.append(&mut quotas)?;
     }
     Ok(())
 }
@@ -129,6 +131,9 @@ fn judge_keys(alloc: Global, rows: &Rows, told: &mut Mistakes) -> Result<(), All
     for row in &rows.streams {
         judge_row_keys(alloc, row, told)?;
     }
+    for row in &rows.quotas {
+        judge_row_keys(alloc, row, told)?;
+    }
     Ok(())
 }
 
@@ -147,57 +152,6 @@ fn judge_row_keys(alloc: Global, row: &Row, told: &mut Mistakes) -> Result<(), A
             };
             told.refuse(field, wanted.as_str())?;
         }
-    }
-    Ok(())
-}
-
-/// The design of these rows, without the links and the streams of which something is told.
-fn design_of(alloc: Global, rows: Spread, told: &mut Mistakes) -> Result<Design, AllocError> {
-    let scale = scale_of(alloc, &rows.network, told)?;
-    let run = told.time(alloc, &rows.network, "run")?;
-    let is_whole_test = is_whole_test(&rows.network, told)?;
-    let mut design = Design {
-        scale,
-        run: run.unwrap_or(Time { picoseconds: 0 }),
-        is_whole_test,
-        links: Vec::new(alloc),
-        streams: Vec::new(alloc),
-        rows: Vec::new(alloc),
-        files: Vec::new(alloc),
-    };
-    add_links(alloc, &mut design, rows.links, told)?;
-    add_streams(alloc, &mut design, rows.streams, told)?;
-    Ok(design)
-}
-
-/// Adds the links that are whole, and the rows of all.
-fn add_links(
-    alloc: Global,
-    design: &mut Design,
-    rows: Vec<Row>,
-    told: &mut Mistakes,
-) -> Result<(), AllocError> {
-    for row in rows {
-        if let Some(link) = link_of(alloc, &row, design.rows.len(), told)? {
-            design.links.push(link)?;
-        }
-        design.rows.push(row)?;
-    }
-    Ok(())
-}
-
-/// Adds the streams that are whole, and the rows of all.
-fn add_streams(
-    alloc: Global,
-    design: &mut Design,
-    rows: Vec<Row>,
-    told: &mut Mistakes,
-) -> Result<(), AllocError> {
-    for row in rows {
-        if let Some(stream) = stream_of(alloc, &row, design.rows.len(), told)? {
-            design.streams.push(stream)?;
-        }
-        design.rows.push(row)?;
     }
     Ok(())
 }

@@ -12,12 +12,13 @@ const VALUES: &str = "a text, a whole number, true or false, or a list of texts"
 /// The top of the design.
 const TOP: Place = Place { file: 0, line: 1 };
 
-/// What a design says: of the network, and of each link and each stream.
+/// What a design says: of the network, and of each link, each stream and each share of a link.
 #[derive(Debug, Drop)]
 pub(crate) struct Rows {
     pub(crate) network: Row,
     pub(crate) links: Vec<Row>,
     pub(crate) streams: Vec<Row>,
+    pub(crate) quotas: Vec<Row>,
     /// What links and streams take that they lack, and the classes of streams.
     pub(crate) link_defaults: Row,
     pub(crate) stream_defaults: Row,
@@ -38,6 +39,7 @@ impl Rows {
             network: Row::new(alloc, Kind::Network, TOP),
             links: Vec::new(alloc),
             streams: Vec::new(alloc),
+            quotas: Vec::new(alloc),
             link_defaults: Row::new(alloc, Kind::Link, TOP),
             stream_defaults: Row::new(alloc, Kind::Stream, TOP),
             classes: Vec::new(alloc),
@@ -69,6 +71,7 @@ pub(crate) fn rows_of(
         match key.as_str() {
             "link" => rows.links = context.listed(Kind::Link, "link", value, told)?,
             "stream" => rows.streams = context.listed(Kind::Stream, "stream", value, told)?,
+            "quota" => rows.quotas = context.listed(Kind::Quota, "quota", value, told)?,
             "defaults" => context.add_defaults(&mut rows, value, told)?,
             "class" => context.add_classes(&mut rows, value, told)?,
             key => context.add(&mut rows.network, "", 0, key, value, told)?,

@@ -1,7 +1,7 @@
 //! Rows that stand for several links or streams, and what rows take from others.
 //!
 //! A row takes what it lacks from its class, and then from the defaults. `copies = 40` makes forty of it, in whose texts `{}` is the number of
-//! the copy, from 1; a name without `{}` has the number behind it. `both = true` makes a link of the other direction too.
+//! the copy, from 1, and `{+1}` the next one; a name without `{}` has the number behind it. `both = true` makes a link of the other direction too.
 
 use crate::field::{Kind, Row};
 use crate::mistake::Mistakes;
@@ -9,12 +9,13 @@ use crate::rows::{Class, Rows};
 use net_units::limits::MOST_REQUESTS;
 use std::alloc::{AllocError, Global};
 
-/// The rows of a design, one for each link and each stream.
+/// The rows of a design, one for each link, each stream and each share of a link.
 #[derive(Drop)]
 pub(crate) struct Spread {
     pub(crate) network: Row,
     pub(crate) links: Vec<Row>,
     pub(crate) streams: Vec<Row>,
+    pub(crate) quotas: Vec<Row>,
 }
 
 impl Spread {
@@ -27,6 +28,7 @@ impl Spread {
         Ok(Spread {
             links: spread_links(alloc, &rows, told)?,
             streams: spread_streams(alloc, &rows, told)?,
+            quotas: spread_quotas(alloc, &rows, told)?,
             network: rows.network,
         })
     }
@@ -55,6 +57,15 @@ fn spread_streams(alloc: Global, rows: &Rows, told: &mut Mistakes) -> Result<Vec
         add_copies(alloc, &row, &mut streams, told)?;
     }
     Ok(streams)
+}
+
+/// A row for each share of a link.
+fn spread_quotas(alloc: Global, rows: &Rows, told: &mut Mistakes) -> Result<Vec<Row>, AllocError> {
+    let mut quotas = Vec::new(alloc);
+    for row in &rows.quotas {
+        add_copies(alloc, row, &mut quotas, told)?;
+    }
+    Ok(quotas)
 }
 
 /// The class that a row names.

@@ -3,8 +3,10 @@
 use crate::design::{DesignStream, Way};
 use crate::field::Row;
 use crate::mistake::Mistakes;
+use crate::quotas::group_in;
 use crate::values::{A_COUNT, A_NAME, A_SIZE, A_TIME};
 use field_units::{Size, Stream, Time};
+use net_units::Name;
 use net_units::limits::{MOST_BURST, MOST_PACKETS};
 use std::alloc::{AllocError, Global};
 
@@ -21,27 +23,71 @@ struct Rhythm {
     pace: Time,
 }
 
+/// When a stream is asked for, and when it is given up.
+#[derive(Clone, Copy)]
+struct Span {
+    start: Time,
+    end: Option<Time>,
+}
+
 /// The stream of a row, where it says all that is needed.
 pub(crate) fn stream_of(
     alloc: Global,
     row: &Row,
     place: usize,
+    groups: &[Name],
     told: &mut Mistakes,
 ) -> Result<Option<DesignStream>, AllocError> {
+    judge_needs(row, told)?;
     let name = told.name(row, "name")?;
-    told.need(row, "name", "a name")?;
     let way = way_of(alloc, row, told)?;
-    let rhythm = rhythm_of(alloc, row, told)?;
-    let size = size_of(alloc, row, told)?;
-    let late = told.time(alloc, row, "late")?;
+    let source = source_of(alloc, row, told)?;
     let jitter = told.time(alloc, row, "jitter")?;
     let count = told.number(alloc, row, "count", MOST_PACKETS)?;
     let within = told.time(alloc, row, "within")?;
-    told.need(row, "within", A_TIME)?;
+    let span = span_of(alloc, row, told)?;
     let (Some(name), Some(way)) = (name, way) else {
         return Ok(None);
     };
-    let (Some(rhythm), Some(size), Some(within)) = (rhythm, size, within) else {
+    let (Some((source, pace)), Some(within)) = (source, within) else {
+        return Ok(None);
+    };
+    Ok(Some(DesignStream {
+        name,
+        way,
+        source,
+        pace,
+        count: count.unwrap_or(0),
+        within,
+        jitter,
+        group: group_in(row, groups),
+        start: span.start,
+        end: span.end,
+        row: place,
+    }))
+}
+
+/// Tells what every stream needs and this row lacks, and of a key that it can't have.
+fn judge_needs(row: &Row, told: &mut Mistakes) -> Result<(), AllocError> {
+    told.need(row, "name", A_NAME)?;
+    told.need(row, "size", A_SIZE)?;
+    told.need(row, "within", A_TIME)?;
+    match row.field("link") {
+        Some(field) => told.refuse(field, "route, or best effort = true beside it"),
+        None => Ok(()),
+    }
+}
+
+/// What the source of a stream sends, and the gap at which it sends steadily.
+fn source_of(
+    alloc: Global,
+    row: &Row,
+    told: &mut Mistakes,
+) -> Result<Option<(Stream, Time)>, AllocError> {
+    let rhythm = rhythm_of(alloc, row, told)?;
+    let size = told.packet_size(alloc, row)?;
+    let late = told.time(alloc, row, "late")?;
+    let (Some(rhythm), Some(size)) = (rhythm, size) else {
         return Ok(None);
     };
     let source = Stream {
@@ -51,16 +97,18 @@ pub(crate) fn stream_of(
         jitter: late.unwrap_or(Time { picoseconds: 0 }),
         size,
     };
-    Ok(Some(DesignStream {
-        name,
-        way,
-        source,
-        pace: rhythm.pace,
-        count: count.unwrap_or(0),
-        within,
-        jitter,
-        row: place,
-    }))
+    Ok(Some((source, rhythm.pace)))
+}
+
+/// When a stream begins, at first where it doesn't say so, and when it ends.
+fn span_of(alloc: Global, row: &Row, told: &mut Mistakes) -> Result<Span, AllocError> {
+    let start = told.time(alloc, row, "start")?;
+    let start = start.unwrap_or(Time { picoseconds: 0 });
+    let end = told.time(alloc, row, "end")?;
+    if end.is_some_and(|end| end <= start) {
+        told.refuse_at(row, "end", "a time after its start")?;
+    }
+    Ok(Span { start, end })
 }
 
 /// The way of a stream: the links of its route, or the nodes between which it is found.
@@ -79,9 +127,6 @@ fn way_of(alloc: Global, row: &Row, told: &mut Mistakes) -> Result<Option<Way>, 
 fn way_between(row: &Row, told: &mut Mistakes) -> Result<Option<Way>, AllocError> {
     told.need(row, "from", A_NAME)?;
     told.need(row, "to", A_NAME)?;
-    if let Some(field) = row.field("route") {
-        told.refuse(field, "nothing, since from and to stand beside it")?;
-    }
     let from = told.name(row, "from")?;
     let to = told.name(row, "to")?;
     match (from, to) {
@@ -90,14 +135,19 @@ fn way_between(row: &Row, told: &mut Mistakes) -> Result<Option<Way>, AllocError
     }
 }
 
-/// The size of a stream's packets, with what goes round them.
-fn size_of(alloc: Global, row: &Row, told: &mut Mistakes) -> Result<Option<Size>, AllocError> {
-    told.need(row, "size", A_SIZE)?;
-    let size = told.size(alloc, row, "size")?;
-    let more = overhead_of(row, told)?;
-    Ok(size.map(|size| Size {
-        bits: size.bits.saturating_add(more),
-    }))
+impl Mistakes {
+    /// The size of a stream's packets, with what goes round them.
+    pub(crate) fn packet_size(
+        &mut self,
+        alloc: Global,
+        row: &Row,
+    ) -> Result<Option<Size>, AllocError> {
+        let size = self.size(alloc, row, "size")?;
+        let more = overhead_of(row, self)?;
+        Ok(size.map(|size| Size {
+            bits: size.bits.saturating_add(more),
+        }))
+    }
 }
 
 /// The bits that go round each packet.
@@ -142,9 +192,6 @@ fn windowed(alloc: Global, row: &Row, told: &mut Mistakes) -> Result<Option<Rhyt
     told.need(row, "packets", A_COUNT)?;
     told.need(row, "in", A_TIME)?;
     told.need(row, "apart", A_TIME)?;
-    if let Some(field) = row.field("every") {
-        told.refuse(field, "nothing, since packets and in stand beside it")?;
-    }
     let packets = told.number(alloc, row, "packets", u64::from(MOST_BURST))?;
     let window = told.time(alloc, row, "in")?;
     let apart = told.time(alloc, row, "apart")?;

@@ -175,9 +175,9 @@ within = \"20 seconds\"
         told.as_str(),
         "net.toml:4: sice = 1 B: no such key; did you mean size?
 net.toml:5: class = fast: a class that the design has
-net.toml:5: every is missing: a time, or packets, in and apart in its place
 net.toml:5: size is missing: a size in bit, kbit, Mbit, B, bytes, kB, KiB, MB or MiB, as in 1538 B
 net.toml:5: within is missing: a time in ps, ns, us, ms, s, min, h or d, as in 0.5 ms
+net.toml:5: every is missing: a time, or packets, in and apart in its place
 net.toml:11: within = 20 seconds: its unit isn't known; wanted is a time in ps, ns, us, ms, s, min, h or d, as in 0.5 ms
 "
     );
@@ -226,6 +226,117 @@ fn a_tick_and_a_unit_stand_together(rt: HostRuntime) -> Result<(), Fail> {
     assert_eq!(rt;
         told.as_str(),
         "net.toml:1: unit is missing: a size in bit, kbit, Mbit, B, bytes, kB, KiB, MB or MiB, as in 1538 B\n"
+    );
+    Ok(())
+}
+
+/// A best-effort stream between neighbours, streams of a group and of none, one that begins first, and a share of a link.
+const CALLS: &str = "run = \"1 s\"
+link = [{ from = \"a\", to = \"b\", rate = \"100 Mbit/s\", levels = [\"0.5 ms\", \"5 ms\"], best = 8 }]
+quota = [{ link = \"a_b\", group = \"voice\", buffer = \"16 KiB\", levels = [\"0.1 ms\", \"1 ms\"] }]
+stream = [
+  { name = \"call\", group = \"voice\", start = \"20 ms\", end = \"80 ms\" },
+  { name = \"early\", group = \"voice\" },
+  { name = \"video\", start = \"10 ms\" },
+  { name = \"web\", best_effort = true, count = 100 },
+]
+
+[defaults.stream]
+from = \"a\"
+to = \"b\"
+every = \"20 ms\"
+late = \"1 ms\"
+size = \"200 B\"
+within = \"10 ms\"
+";
+
+#[test]
+fn streams_come_and_go(rt: HostRuntime) -> Result<(), Fail> {
+    let file = File {
+        name: "net.toml",
+        text: CALLS,
+    };
+    let design = read_design(rt.alloc(), &file, &[])?;
+    let mut told = String::new(rt.alloc());
+    for stream in &design.streams {
+        let (name, group, start) = (stream.name, stream.group, stream.start);
+        let line = format!(in rt.alloc(); "{name} {group} {start}\n")?;
+        told.push_str(line.as_str())?;
+    }
+    for pour in &design.pours {
+        let (name, link, pace, count) = (pour.name, pour.link, pour.pace, pour.count);
+        let line = format!(in rt.alloc(); "{name} {link} {pace} {count}\n")?;
+        told.push_str(line.as_str())?;
+    }
+    assert_eq!(rt;
+        told.as_str(),
+        "video 0 10 ms
+early 1 0 ps
+call 1 20 ms
+web a_b 20 ms 100
+"
+    );
+    let quota = design.links.first().and_then(|link| link.quotas.first());
+    assert_eq!(rt;
+        quota.map(|quota| (quota.group, quota.buffer.bits, quota.levels.len())),
+        Some((1, 131_072, 2))
+    );
+    Ok(())
+}
+
+/// Rows that don't agree: names twice, routes that are none, nodes that aren't there, times, shares, and best effort where it isn't taken.
+#[test]
+fn rows_that_do_not_agree_are_told(rt: HostRuntime) -> Result<(), Fail> {
+    let text = "run = \"1 s\"
+test = \"whole\"
+link = [
+  { from = \"a\", to = \"b\" },
+  { name = \"a_b\", from = \"a\", to = \"c\" },
+  { name = \"cd\", from = \"c\", to = \"d\" },
+]
+quota = [
+  { link = \"cd\", group = \"voice\", buffer = \"1 KiB\", levels = \"1 ms\" },
+  { link = \"ce\", group = \"voise\", buffer = \"1 KiB\", levels = [\"1 ms\", \"2 ms\"] },
+]
+stream = [
+  { name = \"s\", route = \"a_b ce\" },
+  { name = \"s\", route = \"cd a_b\", group = \"voice\" },
+  { name = \"t\", from = \"d\", to = \"a\" },
+  { name = \"u\", route = \"cd\", start = \"20 ms\", end = \"10 ms\" },
+  { name = \"v\", route = \"cd\", start = \"2 s\" },
+  { name = \"w\", link = \"cd\", best_effort = true, count = 5, within = \"1 ms\" },
+  { name = \"x\", route = \"cd\", packets = 3, in = \"10 ms\", apart = \"1 ms\", every = \"1 ms\" },
+]
+
+[defaults.link]
+rate = \"100 Mbit/s\"
+levels = [\"0.5 ms\", \"5 ms\"]
+
+[defaults.stream]
+every = \"20 ms\"
+size = \"200 B\"
+within = \"10 ms\"
+";
+    let told = mistakes(rt.alloc(), text)?;
+    assert_eq!(rt;
+        told.as_str(),
+        "net.toml:2: test = whole: least, since a stream has from and to in place of route
+net.toml:2: test = whole: least, since streams have groups
+net.toml:5: name = a_b: another name, since net.toml:4 has this one
+net.toml:9: levels = 1 ms: a time for each level of cd, which has 2
+net.toml:10: group = voise: a group that a stream has
+net.toml:10: link = ce: a link that the design has
+net.toml:13: route = a_b ce: links that the design has, of which ce is none
+net.toml:14: name = s: another name, since net.toml:13 has this one
+net.toml:14: route = cd a_b: links of which each begins where the one before it ends, and a_b doesn't begin at d
+net.toml:15: from = d: a node that a link leaves
+net.toml:15: to = a: a node to which a link leads
+net.toml:16: end = 10 ms: a time after its start
+net.toml:17: start = 2 s: a time within the run of 1 s
+net.toml:18: within = 1 ms: nothing, since `best_effort` stands beside it
+net.toml:18: best_effort = true: a link where best-effort packets may wait; give cd a best of at least 1
+net.toml:19: every = 1 ms: nothing, since `in` stands beside it
+"
     );
     Ok(())
 }

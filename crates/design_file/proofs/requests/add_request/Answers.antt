@@ -8,7 +8,7 @@ returns c =
     record {
       entry = record {
         name = c.args.stream.now.name;
-        caller = c.unwrap.result;
+        caller = c.in_ok-caller.caller;
         request = record { chan = c.in_ok-chan.chan; route = c.in_ok-route.route; contract = c.in_ok-terms.terms.contract; control = c.in_ok-terms.terms.control; delay = c.in_ok-terms.terms.delay };
         found = c.found_between.result;
       };
@@ -19,7 +19,7 @@ returns c =
         delay = c.in_ok-terms.ensures.delay;
         control = c.in_ok-terms.ensures.control;
         way = c.in_ok-route.ensures;
-        caller = subst (λ o. IfSome o (λ actor. actor_number actor ≡ 0)) c.unwrap.ensures c.new.ensures.value;
+        caller = subst (λ o. IfSome o (λ actor. actor_number actor ≡ c.args.stream.now.group)) c.in_ok-caller.ensures.ok_part c.new.ensures.value;
       };
       number = at ∙ c.len.ensures ∙ c.args.entries.now.ok.0;
     }
