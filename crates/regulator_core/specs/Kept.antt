@@ -3,11 +3,10 @@
 -- every list of ticks that keeps the contract and has these as its newest ones: its next answer is the eligible tick
 -- after each of them, and so after the whole list that it has answered. Under rate-jitter control a packet may go from
 -- its arrival on, under delay-jitter control no earlier than it is due (Zhang & Ferrari 1993).
-use Rattle.std.specs.Prelude.{◌≡◌, ℕ, ◌+◌, max, List, [], ◌∷◌, reverse, take}
+use Rattle.std.specs.Prelude.{◌≡◌, ℕ, ◌+◌, List, [], ◌∷◌, reverse}
 use Rattle.net_units.specs.declared.Kind.{Kind}
-use Rattle.net_units.specs.declared.Kind.TheVariants.{Rate, Jitter}
 use Rattle.traffic_contract.specs.Eligible.{newest_burst}
-use Rattle.traffic_contract.specs.Contract.{Traffic, burst_of}
+use Rattle.traffic_contract.specs.Contract.{Traffic}
 use Rattle.traffic_contract.specs.Keeping.{Keeps}
 
 -- the contract and kind of a regulator, and the newest of the eligible ticks that it has answered, newest first

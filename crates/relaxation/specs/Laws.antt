@@ -2,8 +2,8 @@
 -- larger than its reach: the largest whose bound is within the delay bound of the request, or the one offered, if that is
 -- larger. The bounds and propagations of the route add up to at most the delay bound, and under delay-jitter control the
 -- bound of the last hop is at most the jitter bound.
-use Rattle.std.specs.Prelude.{◌≡◌, ℕ, ◌≤◌, IsTrue, max, Option, None, List, [], ◌∷◌}
-use Rattle.net_units.specs.LevelBounds.{are_bounds, bound_at, levels_within, reach_of}
+use Rattle.std.specs.Prelude.{◌≡◌, ℕ, ◌≤◌, IsTrue, Option, None, List, [], ◌∷◌}
+use Rattle.net_units.specs.LevelBounds.{are_bounds, reach_of}
 use Rattle.hop_reservation.specs.declared.route.Hop.{Hop}
 use Rattle.hop_reservation.specs.Offers.{delay_over, IsLevelOf, AreLevels}
 use Rattle.relaxation.specs.Allotment.{bound_at_end, denial_of, allotted, IsWithin}

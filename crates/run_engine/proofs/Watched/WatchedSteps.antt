@@ -10,7 +10,7 @@ use Rattle.call_script.specs.declared.schedule.Do.{Do}
 use Rattle.call_script.specs.declared.schedule.Schedule.{Schedule}
 use Rattle.run_engine.specs.runs.Runs.{next_for, step}
 use Rattle.run_engine.specs.schedules.Schedules.{repeated, turns_of}
-use Rattle.run_engine.specs.schedules.Standing.{CallersStand, EngineStands, IsAboutTo, MakesStep, StepsTo}
+use Rattle.run_engine.specs.schedules.Standing.{CallersStand, IsAboutTo, MakesStep, StepsTo}
 use Rattle.run_engine.specs.schedules.Watching.{WatchStands, IsAsked, GoesOn, PlaysOn, PlaysOut, HavePlayedOut, IsNextSeen, IsPlayedSeen}
 use Rattle.run_engine.specs.declared.callers.Callers.{Callers}
 use Rattle.run_engine.specs.declared.engine.Engine.{Engine}

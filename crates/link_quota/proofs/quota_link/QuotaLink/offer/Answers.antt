@@ -21,7 +21,7 @@ use Rattle.link_quota.specs.State.{rules_of}
 use Rattle.link_quota.proofs.SomeLegalHistory.{stood-within}
 use Rattle.link_quota.proofs.GroupRoom.{room_in, quota-reply, split-wide, split-twice, by-no_level, by-no_buffer, by-offer, seen-found, seen-none}
 use Rattle.link_quota.proofs.quota_link.QuotaLink.offer.Goals as goal
-use Rattle.link_quota.proofs.quota_link.QuotaLink.offer.Goals.{Start, Else-smax-shape, After-of_group, In_default, After-from-in-Ok}
+use Rattle.link_quota.proofs.quota_link.QuotaLink.offer.Goals.{Else-smax-shape, After-of_group, In_default, After-from-in-Ok}
 
 -- the packets are no wider than the link
 narrow : (c : Else-smax-shape) → nat_le c.args.contract.now.smax c.args.self.now.link.shape.cap ≡ true

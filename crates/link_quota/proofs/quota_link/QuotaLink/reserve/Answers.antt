@@ -27,7 +27,7 @@ use Rattle.link_quota.proofs.ClosingSteps.{closing-kept, closing-reserved}
 use Rattle.link_quota.proofs.SplitSteps.{on-err, instead-offered, written-back, small-after, small-shares}
 use Rattle.link_server.proofs.LinkRests.{due-now}
 use Rattle.link_quota.proofs.quota_link.QuotaLink.reserve.Goals as goal
-use Rattle.link_quota.proofs.quota_link.QuotaLink.reserve.Goals.{In-Ok, In_ok-reply-in-Ok, In_err-reply-in-Ok}
+use Rattle.link_quota.proofs.quota_link.QuotaLink.reserve.Goals.{In_ok-reply-in-Ok, In_err-reply-in-Ok}
 
 pub reserve_at-requires-clause-may : goal.reserve_at-requires-clause-may
 reserve_at-requires-clause-may c =

@@ -1,5 +1,5 @@
 -- One place more: its entry where it waits.
-use Rattle.std.proofs.Common.{◌≡◌, ◌+◌, ◌++◌, ◌∷◌, [], ℕ, suc, false, true, List, get_or, take, length, refl, sym, ap, ◌∙◌, arith, ◌<◌}
+use Rattle.std.proofs.Common.{◌≡◌, ◌+◌, ◌++◌, ◌∷◌, [], ℕ, suc, false, true, List, get_or, take, length, sym, ap, ◌∙◌, arith, ◌<◌}
 use Rattle.std.proofs.lemmas.List.{append-nil, take_all}
 use Rattle.std.proofs.Math.Seq.{take-suc}
 use Rattle.tick_calendar.specs.declared.place.Place.{Place}

@@ -10,7 +10,7 @@ use Rattle.link_server.proofs.Waiting.Keys.{is-held, long-packets}
 use Rattle.link_server.proofs.Waiting.Due.{none-due, all-after, due-held, due-one, due-fewer, due-keyed, due-packets, due-order}
 use Rattle.link_server.proofs.Waiting.Queues.{length-pushed}
 use Rattle.link_server.proofs.queue.line.Line.move_due.Goals as goal
-use Rattle.link_server.proofs.queue.line.Line.move_due.Goals.{After-index, After-push}
+use Rattle.link_server.proofs.queue.line.Line.move_due.Goals.{After-index}
 
 pub returns-in_default-clause-after : goal.returns-in_default-clause-after
 returns-in_default-clause-after c = λ none.

@@ -5,7 +5,7 @@ use Rattle.static_priority.specs.Queues.{Queues, with_pushed}
 use Rattle.link_server.specs.Queues.{joined, pushed}
 use Rattle.link_server.proofs.Waiting.Queues.{length-joined-last, length-joined-pushed, length-pushed, pushed-is, pushed-front, pushed-last}
 use Rattle.link_server.proofs.queue.ready.Ready.push.Goals as goal
-use Rattle.link_server.proofs.queue.ready.Ready.push.Goals.{In-Some, After-push}
+use Rattle.link_server.proofs.queue.ready.Ready.push.Goals.{After-push}
 
 pub push-requires-clause-room : goal.push-requires-clause-room
 push-requires-clause-room c =
