@@ -1,0 +1,4 @@
+mod BoundsOver
+mod EdgesFound
+mod RangesSeen
+mod RefusedTogether

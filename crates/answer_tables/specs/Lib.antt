@@ -1,2 +1,4 @@
 pub mod Jitters
+pub mod Ranges
 pub mod Rows
+pub mod Together

@@ -7,10 +7,12 @@
 mod hops;
 mod jitter;
 mod nearest;
+mod ranges;
 mod rows;
 mod together;
 
 pub use hops::{HopRow, Offer, hop_rows};
 pub use nearest::{LeastJitter, least_delay_near, least_jitter_near};
-pub use rows::{RequestRow, request_row};
+pub use ranges::{Range, delay_ranges};
+pub use rows::{RequestRow, request_row, with_any_jitter};
 pub use together::{NextTogether, RoomTogether, room_together};

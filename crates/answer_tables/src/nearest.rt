@@ -40,7 +40,7 @@ pub fn least_delay_near(
 }
 
 // Whether it is accepted with this delay.
-fn is_accepted_within(
+pub(crate) fn is_accepted_within(
     alloc: Global,
     plan: &Plan,
     number: usize,

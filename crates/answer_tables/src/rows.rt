@@ -131,8 +131,17 @@ fn least_of(alloc: Global, plan: &Plan, number: usize, near: Near) -> Result<Lea
     requires inside { number < length plan.now.requests }
     ensures { IfOk result (IsLeast (alone_of (loosened number plan.now.requests) plan.now) number) }
 {
-    let loose = requests_alone(alloc, plan, &loosened(plan, number))?;
+    let loose = with_any_jitter(alloc, plan, number)?;
     least_delay_near(alloc, &loose, number, near.sum)
+}
+
+/// A plan's requests alone, in which the request of a number, if it has jitter control, wants the largest jitter that may be asked for. So of this
+/// plan all questions about its delay are answered whatever its jitter.
+pub fn with_any_jitter(alloc: Global, plan: &Plan, number: usize) -> Result<Plan, BadPlan>
+    requires inside { number < length plan.now.requests }
+    ensures { IfOk result (λ made. made ≡ alone_of (loosened number plan.now.requests) plan.now) }
+{
+    requests_alone(alloc, plan, &loosened(plan, number))
 }
 
 // The change by which a request whose jitter is controlled wants none that is short.
@@ -187,8 +196,8 @@ fn last_bound(hops: &[HopRow]) -> u64 {
 
 // What lies near a least delay and a least jitter: the sum of what the hops offer, and what the last offers; 0 where a hop offers nothing.
 #[derive(Clone, Copy)]
-struct Near {
-    sum: u64,
+pub(crate) struct Near {
+    pub(crate) sum: u64,
     last: u64,
 }
 
@@ -198,7 +207,17 @@ fn near_offer(alloc: Global, plan: &Plan, number: usize, hops: &[HopRow]) -> Res
         let last = last_bound(hops);
         return Ok(Near { sum, last });
     }
-    let change = Change::Delay { number, delay: 1 };
+    near_with(alloc, plan, number, 1)
+}
+
+// What the hops of a request offer with this delay.
+pub(crate) fn near_with(
+    alloc: Global,
+    plan: &Plan,
+    number: usize,
+    delay: u64,
+) -> Result<Near, BadPlan> {
+    let change = Change::Delay { number, delay };
     let trial = Trial::play(alloc, requests_alone(alloc, plan, &change)?)?;
     if number >= trial.plan.requests().len() {
         return Ok(Near { sum: 0, last: 0 });

@@ -1,6 +1,9 @@
 //! How many more like several requests together there is room for.
-ghost use Rattle.std.specs.Prelude.{◌<◌, IfSome, length};
-ghost use Rattle.plan_answers.specs.Trials.{IsTrial};
+ghost use Rattle.std.specs.Prelude.{◌≡◌, ◌+◌, ◌-◌, ◌*◌, ◌/◌, ◌<◌, ◌≤◌, Some, IfOk, IfSome, length, reverse};
+ghost use Rattle.std.specs.List.{slice_get};
+ghost use Rattle.plan_answers.specs.Trials.{IsTrial, run_in};
+ghost use Rattle.answer_tables.specs.Together.{IsRoomTogether, IsTriedTogether, IsWithEach, LiesBetween, first_refused, refused_in};
+ghost use Rattle.answer_tables.specs.declared.together.NextTogether.TheVariants.{Full};
 
 use crate::hops::hop_rows;
 use crate::rows::tight_link_of;
@@ -22,7 +25,7 @@ pub enum NextTogether {
         verdict: Option<Verdict>,
         tight: Option<LinkNo>,
     },
-    /// A plan has no more requests or callers.
+    /// A plan has no more requests.
     Full,
 }
 
@@ -35,135 +38,199 @@ pub struct RoomTogether {
     pub next: NextTogether,
 }
 
+// A request of a trial that isn't accepted.
+#[derive(Clone, Copy)]
+pub(crate) struct Refused {
+    // Its number.
+    at: usize,
+    // What it has come to.
+    verdict: Option<Verdict>,
+}
+
+// The first copy that isn't accepted.
+#[derive(Clone, Copy)]
+pub(crate) struct Refusal {
+    // The number of the request that it is a copy of.
+    number: usize,
+    // What it has come to.
+    verdict: Option<Verdict>,
+    // Its tight link.
+    tight: Option<LinkNo>,
+}
+
 // What trying some more of each comes to.
 #[derive(Clone, Copy)]
-enum Tried {
+pub(crate) enum Tried {
+    // All of them are accepted.
     Accepted,
-    Refused(NextTogether),
+    // This is the first that isn't.
+    Refused(Refusal),
+}
+
+// Numbers between which the answer lies: this many more of each are all accepted, and of that many more of each `why` is the first that isn't.
+#[derive(Clone, Copy)]
+pub(crate) struct Between {
+    accepted: usize,
+    refused: usize,
+    why: Refusal,
 }
 
 /// How many more like the requests of these numbers, as many of each, are accepted after the plan's own: first all copies of the first, then
-/// those of the second, and so on.
-pub fn room_together(
-    alloc: Global,
-    plan: &Plan,
-    numbers: &[usize],
-) -> Result<RoomTogether, BadPlan> {
+/// those of the second, and so on, each kind opened by one more caller. `Broken` tells rule 7 where there is no number or one of no
+/// request, and rule 9 where the plan has no room for the callers.
+pub fn room_together(alloc: Global, plan: &Plan, numbers: &[usize]) -> Result<RoomTogether, BadPlan>
+    ensures { IfOk result (IsRoomTogether plan.now numbers.now) }
+{
+    if numbers.is_empty() {
+        return Err(NO_REQUEST);
+    }
     let left = MOST_REQUESTS.saturating_sub(plan.requests().len());
-    let most = left.checked_div(numbers.len()).unwrap_or(0);
+    let most = left / numbers.len();
     if most == 0 {
         return Ok(full(most));
     }
     match tried_with(alloc, plan, numbers, most)? {
         Tried::Accepted => Ok(full(most)),
-        Tried::Refused(next) => room_below(alloc, plan, numbers, most, next),
+        Tried::Refused(why) => {
+            let between = Between {
+                accepted: 0,
+                refused: most,
+                why,
+            };
+            room_between(alloc, plan, numbers, between)
+        }
     }
 }
 
-// Room for all that a plan may have.
-fn full(count: usize) -> RoomTogether {
+// No request has such a number.
+const NO_REQUEST: BadPlan = BadPlan::Broken { rule: 7 };
+
+// Room for all requests that a plan may have.
+fn full(count: usize) -> RoomTogether
+    ensures { result ≡ record { count = count; next = Full } }
+{
     RoomTogether {
         count,
         next: NextTogether::Full,
     }
 }
 
-// The room below a number that is refused.
-fn room_below(
+// The room between two numbers.
+fn room_between(
     alloc: Global,
     plan: &Plan,
     numbers: &[usize],
-    most: usize,
-    next: NextTogether,
-) -> Result<RoomTogether, BadPlan> {
-    let mut count = 0;
-    let mut refused = most;
-    let mut why = next;
-    for _ in 0..MOST_REQUESTS {
-        if refused <= count || refused - count <= 1 {
-            break;
-        }
-        let middle = count + (refused - count) / 2;
-        match tried_with(alloc, plan, numbers, middle)? {
-            Tried::Accepted => count = middle,
-            Tried::Refused(next) => {
-                refused = middle;
-                why = next;
-            }
-        }
+    between: Between,
+) -> Result<RoomTogether, BadPlan>
+    requires between { LiesBetween plan.now numbers.now between }
+    ensures { IfOk result (IsRoomTogether plan.now numbers.now) }
+{
+    let mut left = between;
+    while left.refused - left.accepted > 1 {
+        left = halved(alloc, plan, numbers, left)?;
     }
-    Ok(RoomTogether { count, next: why })
+    Ok(RoomTogether {
+        count: left.accepted,
+        next: NextTogether::Refused {
+            number: left.why.number,
+            verdict: left.why.verdict,
+            tight: left.why.tight,
+        },
+    })
+}
+
+// What is left of these numbers once the one in their middle is tried.
+fn halved(
+    alloc: Global,
+    plan: &Plan,
+    numbers: &[usize],
+    between: Between,
+) -> Result<Between, BadPlan>
+    requires between { LiesBetween plan.now numbers.now between }
+    requires apart { between.accepted + 1 < between.refused }
+    ensures between { IfOk result (LiesBetween plan.now numbers.now) }
+    ensures less { IfOk result (λ left. left.refused - left.accepted < between.refused - between.accepted) }
+{
+    let middle = between.accepted + (between.refused - between.accepted) / 2;
+    match tried_with(alloc, plan, numbers, middle)? {
+        Tried::Accepted => Ok(Between {
+            accepted: middle,
+            refused: between.refused,
+            why: between.why,
+        }),
+        Tried::Refused(why) => Ok(Between {
+            accepted: between.accepted,
+            refused: middle,
+            why,
+        }),
+    }
 }
 
 // What this many more of each come to.
-fn tried_with(
-    alloc: Global,
-    plan: &Plan,
-    numbers: &[usize],
-    count: usize,
-) -> Result<Tried, BadPlan> {
-    let mut made = requests_alone(alloc, plan, &Change::Nothing)?;
-    for number in numbers {
-        made = with_each(alloc, &made, *number, count)?;
-    }
-    let trial = Trial::play(alloc, made)?;
-    match first_refused(&trial, plan.requests().len()) {
+fn tried_with(alloc: Global, plan: &Plan, numbers: &[usize], count: usize) -> Result<Tried, BadPlan>
+    requires some { 0 < count }
+    ensures { IfOk result (IsTriedTogether plan.now numbers.now count) }
+{
+    let own = plan.requests().len();
+    let trial = Trial::play(alloc, with_each(alloc, plan, numbers, count)?)?;
+    match first_refused(&trial, own) {
         None => Ok(Tried::Accepted),
-        Some(at) => {
-            let kind = at
-                .saturating_sub(plan.requests().len())
-                .checked_div(count)
-                .unwrap_or(0);
-            let number = numbers.get(kind).copied().unwrap_or(0);
-            let next = refused_at(alloc, &trial, at, number)?;
-            Ok(Tried::Refused(next))
+        Some(refused) => {
+            let tight = tight_in(alloc, &trial, &refused)?;
+            Ok(Tried::Refused(Refusal {
+                number: number_of(numbers, refused.at - own, count),
+                verdict: refused.verdict,
+                tight,
+            }))
         }
     }
 }
 
-// The plan with this many more like the request of a number.
-fn with_each(alloc: Global, plan: &Plan, number: usize, count: usize) -> Result<Plan, BadPlan> {
-    if number < plan.requests().len() {
-        with_more(alloc, plan, number, count)
-    } else {
-        Err(BadPlan::Broken { rule: 7 })
+// The plan's requests alone, with this many more like each of these.
+fn with_each(alloc: Global, plan: &Plan, numbers: &[usize], count: usize) -> Result<Plan, BadPlan>
+    ensures { IfOk result (IsWithEach plan.now (reverse numbers.now) count) }
+{
+    let mut made = requests_alone(alloc, plan, &Change::Nothing)?;
+    for number in numbers {
+        if *number >= plan.requests().len() {
+            return Err(NO_REQUEST);
+        }
+        made = with_more(alloc, &made, *number, count)?;
     }
+    Ok(made)
 }
 
-// The number in a trial of the first copy that isn't accepted.
-fn first_refused(trial: &Trial, first: usize) -> Option<usize>
+// The first request of a trial, from this number on, that isn't accepted.
+fn first_refused(trial: &Trial, first: usize) -> Option<Refused>
     requires trial { IsTrial trial.now }
-    ensures { IfSome result (λ at. at < length trial.now.plan.requests) }
+    ensures is { refused_in result ≡ first_refused (run_in trial.now) first trial.now.plan.requests }
+    ensures from { IfSome result (λ refused. first ≤ refused.at) }
+    ensures inside { IfSome result (λ refused. refused.at < length trial.now.plan.requests) }
 {
     for at in first..trial.plan.requests().len() {
-        if !is_acceptance(&trial.verdict(at)) {
-            return Some(at);
+        let verdict = trial.verdict(at);
+        if !is_acceptance(&verdict) {
+            return Some(Refused { at, verdict });
         }
     }
     None
 }
 
-// What the copy of this number in a trial, which is one of a request, comes to.
-fn refused_at(
-    alloc: Global,
-    trial: &Trial,
-    at: usize,
-    number: usize,
-) -> Result<NextTogether, OutOfMemory>
-    requires trial { IsTrial trial.now }
-    requires inside { at < length trial.now.plan.requests }
+// Which of these requests the copy at a place, from 0, is like, where there are this many copies of each.
+fn number_of(numbers: &[usize], place: usize, count: usize) -> usize
+    requires some { 0 < count }
+    requires inside { place < length numbers.now * count }
+    ensures { slice_get numbers.now (place / count) ≡ Some result }
 {
-    let verdict = trial.verdict(at);
-    let offers = trial.offers(alloc, at)?;
-    let hops = hop_rows(
-        alloc,
-        &trial.plan.requests()[at],
-        offers.as_slice(),
-        &verdict,
-    )?;
-    Ok(NextTogether::Refused {
-        number,
-        verdict,
-        tight: tight_link_of(hops.as_slice(), &verdict),
-    })
+    numbers[place / count]
+}
+
+// The tight link of a request that isn't accepted in a trial.
+fn tight_in(alloc: Global, trial: &Trial, refused: &Refused) -> Result<Option<LinkNo>, OutOfMemory>
+    requires inside { refused.now.at < length trial.now.plan.requests }
+{
+    let entry = &trial.plan.requests()[refused.at];
+    let offers = trial.offers(alloc, refused.at)?;
+    let hops = hop_rows(alloc, entry, offers.as_slice(), &refused.verdict)?;
+    Ok(tight_link_of(hops.as_slice(), &refused.verdict))
 }

@@ -1,2 +1,2 @@
 mod OffersKept
-mod RefusedFirst
+pub mod RefusedFirst

@@ -12,4 +12,5 @@ mod trial;
 
 pub use fit::{Next, Room, room_for};
 pub use least::{Least, least_delay, verdict_with};
+pub use offers::offers_among;
 pub use trial::{Trial, is_acceptance};

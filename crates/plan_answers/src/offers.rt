@@ -19,8 +19,8 @@ pub(crate) struct Offers {
     are_over: bool,
 }
 
-// The levels that the hops of a channel have offered in these entries, from the first hop on.
-pub(crate) fn offers_among(
+/// The levels that the hops of a channel have offered in these entries of a run, from the first hop on. The entries stand in the order of time.
+pub fn offers_among(
     alloc: Global,
     entries: &[Done],
     chan: ChanNo,

@@ -16,7 +16,7 @@ use Rattle.call_script.specs.declared.version.Version.{Version}
 use Rattle.call_script.specs.Plans.{IsPlan}
 use Rattle.question_plans.specs.Alone.{changed, opens_of}
 use Rattle.question_plans.specs.declared.change.Change.TheVariants.{Nothing}
-use Rattle.question_plans.specs.More.{IsCopy, open_of, AreChannelsFrom, AddsCopy, HasCopies, IsWithMore}
+use Rattle.question_plans.specs.More.{IsCopy, open_of, AreChannelsFrom, AddsCopy, AddsOpener, HasCopies, IsWithMore, IsWithMoreAfter}
 use Rattle.question_plans.proofs.RequestsAlone.{callers-open-the-same}
 
 -- ---- one copy more
@@ -72,15 +72,15 @@ pub length-mapped : {X Y : Type 0} (f : X → Y) (xs : List X) → length (map f
 length-mapped f [] = refl
 length-mapped f (x ∷ xs) = omega (arith, length-mapped f xs)
 
-openings-with : (parts : PlanParts) (like : RequestEntry) (copies : List RequestEntry) (caller : CallerEntry) → openings_of 0 parts.callers ≡ map opening_of parts.requests → Each (IsCopy like (length parts.callers)) copies → caller.ops ≡ map open_of copies
-    → openings_of 0 (map opens_of parts.callers ++ caller ∷ []) ≡ map opening_of (parts.requests ++ copies)
-openings-with parts like copies caller opened are ops =
-    callers-and-one 0 (map opens_of parts.callers) caller
-    ∙ ap (λ (k : ℕ). openings_of 0 (map opens_of parts.callers) ++ openings_in k caller.ops) (omega (arith, length-mapped opens_of parts.callers))
-    ∙ ap (λ ops. openings_of 0 (map opens_of parts.callers) ++ openings_in (length parts.callers) ops) ops
-    ∙ ap (λ (last : List Opening). openings_of 0 (map opens_of parts.callers) ++ last) (copies-opened like (length parts.callers) copies are)
-    ∙ ap (λ (front : List Opening). front ++ map opening_of copies) (callers-open-the-same 0 parts.callers ∙ opened)
-    ∙ sym (map-append opening_of parts.requests copies)
+openings-with : (requests : List RequestEntry) (before : List CallerEntry) (like : RequestEntry) (copies : List RequestEntry) (caller : CallerEntry) → openings_of 0 before ≡ map opening_of requests → Each (IsCopy like (length before)) copies → caller.ops ≡ map open_of copies
+    → openings_of 0 (before ++ caller ∷ []) ≡ map opening_of (requests ++ copies)
+openings-with requests before like copies caller opened are ops =
+    callers-and-one 0 before caller
+    ∙ ap (λ (k : ℕ). openings_of 0 before ++ openings_in k caller.ops) (let same : 0 + length before ≡ length before = omega arith in same)
+    ∙ ap (λ ops. openings_of 0 before ++ openings_in (length before) ops) ops
+    ∙ ap (λ (last : List Opening). openings_of 0 before ++ last) (copies-opened like (length before) copies are)
+    ∙ ap (λ (front : List Opening). front ++ map opening_of copies) opened
+    ∙ sym (map-append opening_of requests copies)
 
 -- ---- which request stands where
 
@@ -106,13 +106,13 @@ copy-at like caller (suc k) (copy ∷ copies) entry each found = copy-at like ca
 
 -- ---- the plan
 
-copies-may-be-planned : (parts : PlanParts) (version : Version) (groups : List (List ℕ)) (number : ℕ) (like : RequestEntry) (copies : List RequestEntry) (caller : CallerEntry) → ArePlanned parts → slice_get parts.requests number ≡ Some like
-    → Each (IsCopy like (length parts.callers)) copies → AreChannelsFrom (length parts.requests) copies → caller.ops ≡ map open_of copies
-    → ArePlanned (parts_with version parts.links groups (parts.requests ++ copies) (map opens_of parts.callers ++ caller ∷ []) 0 0)
-copies-may-be-planned parts version groups number like copies caller planned found are numbered ops = record {
+copies-may-be-planned : (parts : PlanParts) (version : Version) (groups : List (List ℕ)) (rounds tail : ℕ) (number : ℕ) (like : RequestEntry) (copies : List RequestEntry) (before : List CallerEntry) (caller : CallerEntry) → ArePlanned parts
+    → slice_get parts.requests number ≡ Some like → openings_of 0 before ≡ openings_of 0 parts.callers → Each (IsCopy like (length before)) copies → AreChannelsFrom (length parts.requests) copies → caller.ops ≡ map open_of copies
+    → ArePlanned (parts_with version parts.links groups (parts.requests ++ copies) (before ++ caller ∷ []) rounds tail)
+copies-may-be-planned parts version groups rounds tail number like copies before caller planned found opened are numbered ops = record {
   links = planned.links;
   requests = λ n entry at. number-of n entry (place-of parts.requests copies n entry at);
-  openings = openings-with parts like copies caller planned.openings are ops;
+  openings = openings-with parts.requests before like copies caller (opened ∙ planned.openings) are ops;
   hops = λ n entry at. follows n entry (place-of parts.requests copies n entry at);
   unused = planned.unused;
 } where
@@ -122,16 +122,35 @@ copies-may-be-planned parts version groups number like copies caller planned fou
 
   follows : (n : ℕ) (entry : RequestEntry) → (slice_get parts.requests n ≡ Some entry) ⊎ ((k : ℕ) × (slice_get copies k ≡ Some entry) × (n ≡ length parts.requests + k)) → Each (FollowsLink parts.links) entry.request.route
   follows n entry (inl old) = planned.hops n entry old
-  follows n entry (inr new) = subst (Each (FollowsLink parts.links)) (sym (copy-at like (length parts.callers) new.0 copies entry are new.1).route) (planned.hops number like found)
+  follows n entry (inr new) = subst (Each (FollowsLink parts.links)) (sym (copy-at like (length before) new.0 copies entry are new.1).route) (planned.hops number like found)
+
+-- a plan with copies that one more caller opens may be planned, where the callers before it open what the plan's callers do
+opener-may-be-planned : (parts : PlanParts) (number count : ℕ) (version : Version) (links : List LinkEntry) (groups : List (List ℕ)) (requests : List RequestEntry) (before callers : List CallerEntry) (rounds tail : ℕ)
+    → ArePlanned parts → links ≡ parts.links → length before ≡ length parts.callers → openings_of 0 before ≡ openings_of 0 parts.callers → AddsOpener parts number count before requests callers → ArePlanned (parts_with version links groups requests callers rounds tail)
+opener-may-be-planned parts number count version links groups requests before callers rounds tail planned same many opened is =
+    subst (λ (xs : List LinkEntry). ArePlanned (parts_with version xs groups requests callers rounds tail)) (sym same)
+    (subst (λ (xs : List RequestEntry). ArePlanned (parts_with version parts.links groups xs callers rounds tail)) (sym is.copies.added)
+    (subst (λ (xs : List CallerEntry). ArePlanned (parts_with version parts.links groups (parts.requests ++ is.copies.copies) xs rounds tail)) (sym is.put)
+    (copies-may-be-planned parts version groups rounds tail number is.like is.copies.copies before is.caller planned is.found opened (subst (λ n. Each (IsCopy is.like n) is.copies.copies) (sym many) is.copies.are) is.copies.numbered is.copies.opened)))
 
 -- a plan's requests alone, with copies after them, may be planned with any version
 pub more-may-be-planned : (parts : PlanParts) (number count : ℕ) (version : Version) (links : List LinkEntry) (groups : List (List ℕ)) (requests : List RequestEntry) (callers : List CallerEntry)
     → IsPlan parts → IsWithMore parts number count (parts_with parts.version links groups requests callers 0 0) → ArePlanned (parts_with version links groups requests callers 0 0)
 more-may-be-planned parts number count version links groups requests callers plan is =
-    subst (λ (xs : List LinkEntry). ArePlanned (parts_with version xs groups requests callers 0 0)) (sym is.links)
-    (subst (λ (xs : List RequestEntry). ArePlanned (parts_with version parts.links groups xs callers 0 0)) (sym is.copies.added)
-    (subst (λ (xs : List CallerEntry). ArePlanned (parts_with version parts.links groups (parts.requests ++ is.copies.copies) xs 0 0)) (sym is.callers)
-    (copies-may-be-planned parts version groups number is.like is.copies.copies is.caller plan.planned is.found is.copies.are is.copies.numbered is.copies.opened)))
+    opener-may-be-planned parts number count version links groups requests (map opens_of parts.callers) callers 0 0 plan.planned is.links (length-mapped opens_of parts.callers) (callers-open-the-same 0 parts.callers) (record {
+      like = is.like;
+      found = is.found;
+      caller = is.caller;
+      group = is.group;
+      copies = is.copies;
+      put = is.callers;
+    })
+
+-- a plan with copies after all that its callers do may be planned, with any version and any rounds
+pub after-may-be-planned : (parts : PlanParts) (number count : ℕ) (version : Version) (links : List LinkEntry) (groups : List (List ℕ)) (requests : List RequestEntry) (callers : List CallerEntry) (rounds tail : ℕ)
+    → IsPlan parts → IsWithMoreAfter parts number count (parts_with parts.version links groups requests callers parts.rounds parts.tail) → ArePlanned (parts_with version links groups requests callers rounds tail)
+after-may-be-planned parts number count version links groups requests callers rounds tail plan is =
+    opener-may-be-planned parts number count version links groups requests parts.callers callers rounds tail plan.planned is.links refl refl is.opener
 
 -- with no change the requests are the same
 pub unchanged : (requests : List RequestEntry) → map (changed Nothing) requests ≡ requests

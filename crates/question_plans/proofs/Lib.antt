@@ -2,3 +2,4 @@ mod ListsMade
 mod OpensMade
 mod RequestsAlone
 mod Copies
+mod PlanKept

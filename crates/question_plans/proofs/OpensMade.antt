@@ -40,6 +40,9 @@ put-ops caller ops = record { name = caller.name; group = caller.group; ops = op
 pub with-ops : (caller : CallerEntry) (ops : List Op) → ops ≡ opens_in caller.ops → put-ops caller ops ≡ opens_of caller
 with-ops caller ops same = ap (λ (o : List Op). put-ops caller o) same
 
+pub with-same-ops : (caller : CallerEntry) (ops : List Op) → ops ≡ caller.ops → put-ops caller ops ≡ caller
+with-same-ops caller ops same = ap (λ (o : List Op). put-ops caller o) same
+
 -- a link with these quotas
 abbrev pub put-quotas : LinkEntry → List Quota → LinkEntry
 put-quotas link quotas = record { name = link.name; from = link.from; to = link.to; shape = link.shape; quotas = quotas }

@@ -1,5 +1,6 @@
--- A question after room asks for copies of a request after all of a plan's requests alone. A copy asks for what the request asks, on a
--- channel and under a name of its own, and one more caller, of the group of the request's caller, opens all of them.
+-- A question after room asks for copies of a request after all of a plan's requests alone, or after all that a plan's callers do. A copy asks
+-- for what the request asks, on a channel and under a name of its own, and one more caller, of the group of the request's caller, opens all of
+-- them.
 use Rattle.std.specs.Prelude.{◌≡◌, ℕ, suc, Some, List, [], ◌∷◌, ◌++◌, length, map}
 use Rattle.std.specs.List.{slice_get}
 use Rattle.net_units.specs.Numbers.{actor_number, channel_number}
@@ -46,6 +47,15 @@ pub record HasCopies (like : RequestEntry) (caller : ℕ) (old : List RequestEnt
   pub numbered : AreChannelsFrom (length old) copies
   pub opened : ops ≡ map open_of copies
 
+-- one more caller, after these, opens this many copies of the request of a number, which come after the plan's own requests
+pub record AddsOpener (parts : PlanParts) (number count : ℕ) (before : List CallerEntry) (requests : List RequestEntry) (callers : List CallerEntry) : Type 0 where
+  pub like : RequestEntry
+  pub found : slice_get parts.requests number ≡ Some like
+  pub caller : CallerEntry
+  pub group : caller.group ≡ group_behind parts.callers like
+  pub copies : HasCopies like (length parts.callers) parts.requests count requests caller.ops
+  pub put : callers ≡ before ++ caller ∷ []
+
 -- a plan is another's requests alone, with this many copies of the request of a number after them
 pub record IsWithMore (parts : PlanParts) (number count : ℕ) (made : PlanParts) : Type 0 where
   pub like : RequestEntry
@@ -59,3 +69,12 @@ pub record IsWithMore (parts : PlanParts) (number count : ℕ) (made : PlanParts
   pub groups : made.groups ≡ parts.groups
   pub rounds : made.rounds ≡ 0
   pub tail : made.tail ≡ 0
+
+-- a plan is another with all that its callers do, and with this many copies of the request of a number after its own requests
+pub record IsWithMoreAfter (parts : PlanParts) (number count : ℕ) (made : PlanParts) : Type 0 where
+  pub opener : AddsOpener parts number count parts.callers made.requests made.callers
+  pub version : made.version ≡ parts.version
+  pub links : made.links ≡ parts.links
+  pub groups : made.groups ≡ parts.groups
+  pub rounds : made.rounds ≡ parts.rounds
+  pub tail : made.tail ≡ parts.tail

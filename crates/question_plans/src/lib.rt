@@ -4,9 +4,11 @@
 
 mod alone;
 mod change;
+mod kept;
 mod more;
 mod names;
 
 pub use alone::requests_alone;
 pub use change::Change;
+pub use kept::{with_change, with_more_after};
 pub use more::with_more;

@@ -4,7 +4,7 @@ ghost use Rattle.net_units.specs.Numbers.{actor_number, channel_number};
 ghost use Rattle.call_script.specs.Parts.{parts_with};
 ghost use Rattle.call_script.specs.Plans.{IsPlan};
 ghost use Rattle.call_script.specs.Splits.{group_behind};
-ghost use Rattle.question_plans.specs.More.{AddsCopy, HasCopies, IsWithMore};
+ghost use Rattle.question_plans.specs.More.{AddsCopy, AddsOpener, HasCopies, IsWithMore};
 
 use crate::alone::{changed_requests, links_of, names_of, opening_callers};
 use crate::change::Change;
@@ -65,22 +65,40 @@ fn parts_with_more(
     let groups = names_of(alloc, plan.groups())?;
     let mut requests = changed_requests(alloc, plan.requests(), &Change::Nothing)?;
     let mut callers = opening_callers(alloc, plan.callers())?;
-    let like = &plan.requests()[number];
-    let opener = actor_at(callers.len()).ok_or(MANY)?;
-    let own = Own {
-        caller: opener,
-        start: free_start(plan),
-    };
-    let ops = add_copies(alloc, &mut requests, like, own, count)?;
-    let name = name_after(own.start, 0).ok_or(MANY)?;
-    let group = group_of(plan.callers(), like);
-    add_caller(&mut callers, CallerEntry { name, group, ops })?;
+    add_opener(alloc, plan, number, count, &mut requests, &mut callers)?;
     Ok(MoreParts {
         links,
         groups,
         requests,
         callers,
     })
+}
+
+// Adds the copies after the plan's own requests, and after these callers the one that opens them.
+pub(crate) fn add_opener(
+    alloc: Global,
+    plan: &Plan,
+    number: usize,
+    count: usize,
+    requests: &mut Vec<RequestEntry>,
+    callers: &mut Vec<CallerEntry>,
+) -> Result<(), BadPlan>
+    requires inside { number < length plan.now.requests }
+    requires own { requests.old.items ≡ plan.now.requests }
+    requires many { length callers.old.items ≡ length plan.now.callers }
+    ensures { OnOk result (AddsOpener plan.now number count callers.old.items requests.new.items callers.new.items) }
+{
+    let like = &plan.requests()[number];
+    let opener = actor_at(callers.len()).ok_or(MANY)?;
+    let own = Own {
+        caller: opener,
+        start: free_start(plan),
+    };
+    let ops = add_copies(alloc, requests, like, own, count)?;
+    let name = name_after(own.start, 0).ok_or(MANY)?;
+    let group = group_of(plan.callers(), like);
+    add_caller(callers, CallerEntry { name, group, ops })?;
+    Ok(())
 }
 
 // Too many callers or requests.

@@ -1,7 +1,7 @@
 //! Plans of questions, worked out by hand from plans over one link.
 use call_script::{BadPlan, CallerEntry, Op, Plan, RequestEntry};
 use one_link_plans::{moved, opened};
-use question_plans::{Change, requests_alone, with_more};
+use question_plans::{Change, requests_alone, with_change, with_more, with_more_after};
 use setup_protocol::Control;
 use std::test::Fail;
 
@@ -113,5 +113,42 @@ fn a_plan_that_breaks_a_rule_is_refused(rt: HostRuntime) -> Result<(), Fail> {
     assert!(rt; most.is_ok());
     let more = with_more(alloc, &plan, 0, 1_024);
     assert_eq!(rt; broken_rule(&more), Some(9));
+    Ok(())
+}
+
+// Of the plan nothing changes but the delay: the caller sends and moves as before, over 40 rounds.
+#[test]
+fn all_else_is_kept(rt: HostRuntime) -> Result<(), Fail> {
+    let alloc = rt.alloc();
+    let plan = moved(alloc, 14)?;
+    let change = Change::Delay {
+        number: 1,
+        delay: 77,
+    };
+    let made = with_change(alloc, &plan, &change)?;
+    assert_eq!(rt; made.rounds(), 40);
+    let first = made.requests().get(0).ok_or("first")?;
+    let second = made.requests().get(1).ok_or("second")?;
+    assert!(rt; is_asked(first, b"r1", 0, 12));
+    assert!(rt; is_asked(second, b"r2", 1, 77));
+    let caller = made.callers().get(0).ok_or("caller")?;
+    assert_eq!(rt; caller.ops.as_slice().len(), 4);
+    Ok(())
+}
+
+#[test]
+fn copies_come_after_all_that_is_done(rt: HostRuntime) -> Result<(), Fail> {
+    let alloc = rt.alloc();
+    let plan = moved(alloc, 14)?;
+    assert_eq!(rt; plan.requests().len(), 2);
+    let more = with_more_after(alloc, &plan, 1, 2)?;
+    assert_eq!(rt; more.rounds(), 40);
+    assert_eq!(rt; more.requests().len(), 4);
+    let copy = more.requests().get(3).ok_or("copy")?;
+    assert!(rt; is_asked(copy, b"ask0_00001", 3, 14));
+    let caller = more.callers().get(0).ok_or("caller")?;
+    assert_eq!(rt; caller.ops.as_slice().len(), 4);
+    let opener = more.callers().get(1).ok_or("opener")?;
+    assert!(rt; opens_only(opener, &[2, 3]));
     Ok(())
 }

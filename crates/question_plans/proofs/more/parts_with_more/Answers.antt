@@ -1,34 +1,26 @@
-use Rattle.std.proofs.Common.{◌≡◌, ◌<◌, Some, IfSome, List, [], ◌∷◌, ◌++◌, map, length, refl, sym, ap, subst, ◌∙◌}
-use Rattle.std.proofs.lemmas.Option.{slice_get-get_or}
-use Rattle.std.specs.List.{slice_get}
-use Rattle.net_units.specs.Numbers.{actor_number}
-use Rattle.call_script.specs.Splits.{group_behind}
+use Rattle.std.proofs.Common.{List, [], ◌∷◌, ◌++◌, map, length, refl, ap, ◌∙◌}
 use Rattle.call_script.specs.declared.entries.CallerEntry.{CallerEntry}
-use Rattle.call_script.specs.declared.entries.RequestEntry.{RequestEntry}
 use Rattle.question_plans.specs.Alone.{changed, opens_of}
-use Rattle.question_plans.specs.More.{HasCopies}
 use Rattle.question_plans.specs.declared.change.Change.TheVariants.{Nothing}
 use Rattle.question_plans.proofs.Copies.{length-mapped, unchanged}
 use Rattle.question_plans.proofs.more.parts_with_more.Goals as goal
 
+pub add_opener-requires-clause-own : goal.add_opener-requires-clause-own
+add_opener-requires-clause-own c = c.in_ok-requests.ensures ∙ ap (map (changed Nothing)) c.requests.ensures.value ∙ unchanged c.args.plan.now.requests
+
+pub add_opener-requires-clause-many : goal.add_opener-requires-clause-many
+add_opener-requires-clause-many c = ap length (c.in_ok-callers.ensures ∙ ap (map opens_of) c.callers.ensures.value) ∙ length-mapped opens_of c.args.plan.now.callers
+
 pub returns-clause-more : goal.returns-clause-more
 returns-clause-more c =
-    let within : c.args.number < length c.requests-2.result.now = subst (λ (xs : List RequestEntry). c.args.number < length xs) (sym c.requests-2.ensures.value) c.requires.inside in
-    let read : slice_get c.requests-2.result.now c.args.number ≡ Some c.index-requests-number.result =
-    slice_get-get_or c.requests-2.result.now c.args.number c.index-requests-number.result within ∙ ap (λ (e : RequestEntry). Some e) (sym c.index-requests-number.is) in
-    let opened = c.in_ok-callers.ensures ∙ ap (map opens_of) c.callers.ensures.value in
-    let at : actor_number c.in_ok-opener.opener ≡ c.len.result = subst (λ o. IfSome o (λ actor. actor_number actor ≡ c.len.result)) c.in_ok-opener.ensures.ok_part c.actor_at.ensures in
-    let number : actor_number c.in_ok-opener.opener ≡ length c.args.plan.now.callers = at ∙ c.len.ensures ∙ c.in_ok-callers.callers.ok.0 ∙ ap length opened ∙ length-mapped opens_of c.args.plan.now.callers in
-    let front = c.in_ok-requests.ensures ∙ ap (map (changed Nothing)) c.requests.ensures.value ∙ unchanged c.args.plan.now.requests in
-    let caller : CallerEntry = record { name = c.in_ok-name.name; group = c.group_of-group.result; ops = c.in_ok-ops.ops } in
+    let adds = c.in_ok-add_opener.ensures in
     record {
-      like = c.index-requests-number.result;
-      found = subst (λ (xs : List RequestEntry). slice_get xs c.args.number ≡ Some c.index-requests-number.result) c.requests-2.ensures.value read;
-      caller = caller;
-      group = c.group_of-group.ensures ∙ ap (λ (xs : List CallerEntry). group_behind xs c.index-requests-number.result) c.callers-2.ensures.value;
-      copies = subst (λ n. HasCopies c.index-requests-number.result n c.args.plan.now.requests c.args.count c.add_copies.new.requests.items c.in_ok-ops.ops) number
-          (subst (λ (xs : List RequestEntry). HasCopies c.index-requests-number.result (actor_number c.in_ok-opener.opener) xs c.args.count c.add_copies.new.requests.items c.in_ok-ops.ops) front c.in_ok-ops.ensures);
-      callers = c.in_ok-add_caller.ensures ∙ ap (λ (xs : List CallerEntry). xs ++ caller ∷ []) opened;
+      like = adds.like;
+      found = adds.found;
+      caller = adds.caller;
+      group = adds.group;
+      copies = adds.copies;
+      callers = adds.put ∙ ap (λ (xs : List CallerEntry). xs ++ adds.caller ∷ []) (c.in_ok-callers.ensures ∙ ap (map opens_of) c.callers.ensures.value);
       version = refl;
       links = c.in_ok-links.ensures ∙ c.links.ensures.value;
       groups = c.in_ok-groups.ensures ∙ c.groups.ensures.value;
