@@ -1,0 +1,5 @@
+pub mod Runs
+pub mod Starts
+pub mod Points
+pub mod Least
+pub mod Rooms
