@@ -1,0 +1,13 @@
+//! Files whose operations have ticks or times, and the scenarios with a schedule that they become.
+#![tactic(auto)]
+
+mod at;
+mod cut;
+mod notes;
+mod pairs;
+mod refused;
+mod scheduling;
+
+pub use at::BadLine;
+pub use refused::{BadTimed, refusal_of_timed};
+pub use scheduling::schedule_text;
