@@ -1,0 +1,4 @@
+pub mod SourceSteps
+pub mod DelaySteps
+pub mod PromiseSteps
+pub mod RowSteps
