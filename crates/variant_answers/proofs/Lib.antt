@@ -1,0 +1,2 @@
+mod PromisesKept
+mod EachVariant
