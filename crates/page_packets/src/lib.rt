@@ -1,0 +1,6 @@
+//! What became of the packets of a network, for its page.
+#![tactic(auto)]
+
+mod packets;
+
+pub use packets::add_packets;
