@@ -4,9 +4,11 @@
 # Beside a built program stands PROGRAM.files, which builds leave: the folders of the crates that it is made of, and a checksum of each file
 # there, of crates.txt and HANDLES, and of the program.
 
-# where `rt` leaves the proved program, and where one stands that wasn't proved: the gate clears the folders out/ of crates alone
-proved=$root/crates/tenet_app/out/tenet_app
-unproved=$root/out/unproved/tenet_app
+# the crate of the program: tenet_app, or ask where whoever sources this has said so; where `rt` leaves it proved, and where one stands that wasn't
+# proved: the gate clears the folders out/ of crates alone
+app=${app:-tenet_app}
+proved=$root/crates/$app/out/$app
+unproved=$root/out/unproved/$app
 
 # crates_below NAME: the crates that this one stands on, and last itself
 crates_below() {
@@ -55,7 +57,7 @@ sums_of() {
 sums_of_program() {
   # names of crates have no spaces
   # shellcheck disable=SC2046
-  sums_of $(folders_of "$1" $(crates_below tenet_app))
+  sums_of $(folders_of "$1" $(crates_below "$app"))
 }
 
 # note_build PROGRAM KIND SUMS: notes that the program, which stands in its place, was made of the files whose sums are in the file SUMS. It fails
