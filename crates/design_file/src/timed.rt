@@ -10,7 +10,7 @@ use std::alloc::{AllocError, Global};
 /// The most bytes of a scenario.
 const MOST_BYTES: usize = 4_194_304;
 
-/// The scenario with a line `at TICK OPERATION` for each operation and `at TICK end` in place of its rounds, from which `ask/at` makes one with
+/// The scenario with a line `at TICK OPERATION` for each operation and `at TICK end` in place of its rounds, of which `ask schedule` makes one with
 /// a schedule. None where the plan has groups, with which such a text can't be.
 pub fn timed_text(
     alloc: Global,

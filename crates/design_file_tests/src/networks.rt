@@ -1,4 +1,4 @@
-//! The networks of ask/networks, without their notes; of the trunk the calls alone, without their times.
+//! The networks of examples/networks, without their notes; of the trunk the calls alone, without their times.
 //!
 //! The camera's packets, 30 in 40 ms, are sent each 133 ticks there, and each 134 here, since a gap of sends is rounded up.
 

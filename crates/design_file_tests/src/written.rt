@@ -77,7 +77,7 @@ fn a_line_of_drives(rt: HostRuntime) -> Result<(), Fail> {
     says_what(&rt, alloc, LINE, networks::LINE)
 }
 
-/// The calls of a trunk, each at its time: the text of which ask/at makes a scenario.
+/// The calls of a trunk, each at its time: the text of which `ask schedule` makes a scenario.
 #[test]
 fn a_telephone_trunk(rt: HostRuntime) -> Result<(), Fail> {
     let alloc = rt.alloc();
