@@ -47,13 +47,28 @@ fn judge_names(
     told: &mut Mistakes,
 ) -> Result<(), AllocError> {
     let mut labels: Vec<Label> = Vec::new(alloc);
-    for row in design.rows.iter().filter(|row| row.kind == kind) {
-        if let Some(label) = label_of(alloc, row)? {
-            match place_of(&labels, label.text.as_str()) {
-                Some(first) => tell_twice(alloc, row, first, files, told)?,
-                None => labels.push(label)?,
-            }
+    for row in &design.rows {
+        if row.kind == kind {
+            judge_name(alloc, row, &mut labels, files, told)?;
         }
+    }
+    Ok(())
+}
+
+/// Tells of a row that has the name of one above, or keeps its name for those below.
+fn judge_name(
+    alloc: Global,
+    row: &Row,
+    labels: &mut Vec<Label>,
+    files: &[String],
+    told: &mut Mistakes,
+) -> Result<(), AllocError> {
+    let Some(label) = label_of(alloc, row)? else {
+        return Ok(());
+    };
+    match place_of(labels, label.text.as_str()) {
+        Some(first) => tell_twice(alloc, row, first, files, told)?,
+        None => labels.push(label)?,
     }
     Ok(())
 }
@@ -276,13 +291,24 @@ fn judge_nodes(
     row: &Row,
     told: &mut Mistakes,
 ) -> Result<(), AllocError> {
-    if !links.iter().any(|link| link.from == *from) {
+    if !is_left(links, from) {
         told.refuse_at(row, "from", "a node that a link leaves")?;
     }
     if from == to {
-        told.refuse_at(row, "to", "another node than the one at from")?;
-    } else if !links.iter().any(|link| link.to == *to) {
-        told.refuse_at(row, "to", "a node to which a link leads")?;
+        return told.refuse_at(row, "to", "another node than the one at from");
+    }
+    if !is_led_to(links, to) {
+        return told.refuse_at(row, "to", "a node to which a link leads");
     }
     Ok(())
+}
+
+/// Whether a link leaves this node.
+fn is_left(links: &[DesignLink], node: &Name) -> bool {
+    links.iter().any(|link| link.from == *node)
+}
+
+/// Whether a link leads to this node.
+fn is_led_to(links: &[DesignLink], node: &Name) -> bool {
+    links.iter().any(|link| link.to == *node)
 }

@@ -131,28 +131,28 @@ impl Context {
             return told.tell_at(self.place("", 0, "defaults"), "a table");
         };
         for (key, value) in table.iter() {
-            match key.as_str() {
-                "link" => rows.link_defaults = self.row(
-                    Kind::Link,
-                    "defaults.link",
-                    0,
-                    value,
-                    told,
-                )?,
-                "stream" => {
-                    rows.stream_defaults = self.row(
-                        Kind::Stream,
-                        "defaults.stream",
-                        0,
-                        value,
-                        told,
-                    )?
-                }
-                _ => told.tell_at(
-                    self.place("", 0, "defaults"),
-                    "defaults.link or defaults.stream",
-                )?,
+            self.add_default(rows, key.as_str(), value, told)?;
+        }
+        Ok(())
+    }
+
+    /// The defaults of one kind of rows.
+    fn add_default(
+        &self,
+        rows: &mut Rows,
+        kind: &str,
+        value: &Value,
+        told: &mut Mistakes,
+    ) -> Result<(), AllocError> {
+        match kind {
+            "link" => rows.link_defaults = self.row(Kind::Link, "defaults.link", 0, value, told)?,
+            "stream" => {
+                rows.stream_defaults = self.row(Kind::Stream, "defaults.stream", 0, value, told)?
             }
+            _ => told.tell_at(
+                self.place("", 0, "defaults"),
+                "defaults.link or defaults.stream",
+            )?,
         }
         Ok(())
     }
@@ -168,14 +168,23 @@ impl Context {
             return told.tell_at(self.place("", 0, "class"), "a table for each class");
         };
         for (key, value) in table.iter() {
-            let name = format!(in self.alloc; "class.{key}")?;
-            let row = self.row(Kind::Stream, name.as_str(), 0, value, told)?;
-            rows.classes.push(Class {
-                name: key.clone()?,
-                row,
-            })?;
+            rows.classes.push(self.class(key, value, told)?)?;
         }
         Ok(())
+    }
+
+    /// The class of this name.
+    fn class(
+        &self,
+        name: &String,
+        value: &Value,
+        told: &mut Mistakes,
+    ) -> Result<Class, AllocError> {
+        let table = format!(in self.alloc; "class.{name}")?;
+        Ok(Class {
+            name: name.clone()?,
+            row: self.row(Kind::Stream, table.as_str(), 0, value, told)?,
+        })
     }
 
     /// The row of a table, which is this one of those with its name.

@@ -22,11 +22,24 @@ pub(crate) fn sheet_rows(
     for record in reader.into_records() {
         match record {
             Ok(record) if keys.is_empty() => keys = record,
-            Ok(record) => rows.push(sheet_row(alloc, kind, file, &keys, &record)?)?,
+            Ok(record) => add_row(alloc, kind, file, &keys, &record, &mut rows)?,
             Err(error) => tell(file, &error, told)?,
         }
     }
     Ok(rows)
+}
+
+/// Adds the row of a record under these keys.
+fn add_row(
+    alloc: Global,
+    kind: Kind,
+    file: usize,
+    keys: &StringRecord,
+    record: &StringRecord,
+    rows: &mut Vec<Row>,
+) -> Result<(), AllocError> {
+    rows.push(sheet_row(alloc, kind, file, keys, record)?)?;
+    Ok(())
 }
 
 /// The row of a record under these keys.

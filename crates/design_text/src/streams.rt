@@ -189,21 +189,26 @@ fn rhythm_of(alloc: Global, row: &Row, told: &mut Mistakes) -> Result<Option<Rhy
 
 /// So many packets in a window.
 fn windowed(alloc: Global, row: &Row, told: &mut Mistakes) -> Result<Option<Rhythm>, AllocError> {
-    told.need(row, "packets", A_COUNT)?;
-    told.need(row, "in", A_TIME)?;
-    told.need(row, "apart", A_TIME)?;
+    need_window(row, told)?;
     let packets = told.number(alloc, row, "packets", u64::from(MOST_BURST))?;
     let window = told.time(alloc, row, "in")?;
     let apart = told.time(alloc, row, "apart")?;
-    let (Some(packets), Some(window), Some(apart)) = (packets, window, apart) else {
-        return Ok(None);
-    };
-    Ok(Some(Rhythm {
-        packets: u32::try_from(packets).unwrap_or(MOST_BURST),
-        window,
-        apart,
-        pace: pace_of(packets, window, apart),
-    }))
+    Ok(match (packets, window, apart) {
+        (Some(packets), Some(window), Some(apart)) => Some(Rhythm {
+            packets: u32::try_from(packets).unwrap_or(MOST_BURST),
+            window,
+            apart,
+            pace: pace_of(packets, window, apart),
+        }),
+        _ => None,
+    })
+}
+
+/// Tells of what is missing of packets in a window.
+fn need_window(row: &Row, told: &mut Mistakes) -> Result<(), AllocError> {
+    told.need(row, "packets", A_COUNT)?;
+    told.need(row, "in", A_TIME)?;
+    told.need(row, "apart", A_TIME)
 }
 
 /// The gap at which so many packets fill a window evenly.
