@@ -1,25 +1,10 @@
 -- In a run the packets of a channel at a link of its route are those of one row there.
 use Rattle.std.proofs.Common.{◌≡◌, ℕ, ◌≤◌, true, List, Some, refl, sym, subst, inl, inr, arith}
-use Rattle.std.proofs.lemmas.Bool.{cases_lt}
-use Rattle.std.specs.List.{slice_get}
-use Rattle.net_units.specs.Numbers.{link_number, channel_number}
-use Rattle.hop_reservation.specs.declared.route.Hop.{Hop}
-use Rattle.link_steps.specs.Scan.{Scan, scan_of}
-use Rattle.link_steps.specs.Service.{Arrival}
-use Rattle.link_steps.specs.Split.{Link}
-use Rattle.link_steps.specs.Lists.{Among}
+use Rattle.run_engine.proofs.Words.{cases_lt, slice_get, link_number, channel_number, Hop, Scan, scan_of, Arrival, Link, Among, RequestFits, Request, NetworkFits, Network, is_of_channel, offers_to, AllOfferTerms, AreNumberedAfter, HasOneRow, ChannelStands, IsRun, part_of, Done}
 use Rattle.link_steps.proofs.PacketRows.{Among-passes}
-use Rattle.setup_protocol.specs.Hops.{RequestFits}
-use Rattle.setup_protocol.specs.declared.request.Request.{Request}
-use Rattle.call_script.specs.Fits.{NetworkFits}
-use Rattle.call_script.specs.Tasks.{Network}
-use Rattle.channel_laws.specs.Channels.{is_of_channel, offers_to, AllOfferTerms, AreNumberedAfter, HasOneRow, ChannelStands}
 use Rattle.channel_laws.proofs.ChannelRows.{legal-stands, legal-free}
 use Rattle.run_engine.specs.channels.Hops.{packets_on, terms_at, OnRoute, ChannelAsked}
 use Rattle.run_engine.specs.channels.Paths.{HopAt, packets_at}
-use Rattle.run_engine.specs.runs.Runs.{IsRun}
-use Rattle.run_record.specs.Runs.{part_of}
-use Rattle.run_record.specs.declared.done.Done.{Done}
 use Rattle.run_engine.proofs.Runs.RunLegal.{part-admissible}
 
 -- ---- a channel at a link

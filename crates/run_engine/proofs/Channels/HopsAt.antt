@@ -1,10 +1,6 @@
 -- The hops of a request's route over the links of the network, and the channel's packets there.
 use Rattle.std.proofs.Common.{◌≡◌, ℕ, ◌<◌, ◌≤◌, List, length, get_or}
-use Rattle.link_steps.specs.Lists.{Each}
-use Rattle.setup_protocol.specs.declared.request.Request.{Request}
-use Rattle.setup_protocol.specs.Hops.{IsHopOf, RequestFits}
-use Rattle.call_script.specs.Tasks.{Network}
-use Rattle.run_record.specs.declared.done.Done.{Done}
+use Rattle.run_engine.proofs.Words.{Each, Request, IsHopOf, RequestFits, Network, Done}
 use Rattle.link_steps.proofs.ListParts.{Each-at, stands-at}
 use Rattle.run_engine.specs.channels.Paths.{HopAt, packets_at}
 

@@ -1,37 +1,15 @@
 -- The packets of a channel at a hop have the level of the reservation that is held there; and where none is held any more,
 -- no packet comes.
 use Rattle.std.proofs.Common.{◌≡◌, ℕ, suc, List, [], ◌∷◌, ◌++◌, length, Option, Some, None, refl, sym, ap, ◌∙◌, subst, inl, inr, arith, append-nil}
-use Rattle.std.proofs.lemmas.Bool.{cases_Bool, cases_lt, eqb-false}
-use Rattle.std.proofs.lemmas.Option.{same_Some}
-use Rattle.std.specs.Option.{option_map}
-use Rattle.std.specs.Prelude.{filter, find}
-use Rattle.net_units.specs.Numbers.{link_number, channel_number, level_number}
-use Rattle.net_units.specs.declared.numbers.ChanNo.{ChanNo}
-use Rattle.link_steps.specs.declared.asks.Ask.{Ask}
-use Rattle.link_steps.specs.declared.replies.Reply.{Reply}
-use Rattle.link_steps.specs.declared.shape.LinkShape.{LinkShape}
-use Rattle.link_steps.specs.Hold.{stays}
-use Rattle.link_steps.specs.Lists.{Each}
-use Rattle.link_steps.specs.Reservation.{Reservation, is_of}
-use Rattle.link_steps.specs.Rows.{Row, row_terms}
-use Rattle.link_steps.specs.Scan.{Scan, scan_of, is_row_of, arrived_packet, without_expired, with_sources, with_best, after_tick, after}
-use Rattle.link_steps.specs.Service.{here_at}
+use Rattle.run_engine.proofs.Words.{cases_Bool, cases_lt, eqb-false, same_Some, option_map, filter, find, link_number, channel_number, level_number, ChanNo, Ask, Reply, LinkShape, stays, Each, Reservation, is_of, Row, row_terms, Scan, scan_of, is_row_of, arrived_packet, without_expired, with_sources, with_best, after_tick, after, here_at, Request, Done, channel_packets, channel_of, offers_to, IsElsewhere, IsOnly, NetworkFits, Network, part_of, IsRun, held_by}
 use Rattle.link_steps.proofs.AdmissionHolds.{find-terms, rows_after-terms}
 use Rattle.link_steps.proofs.EntryEffects.{packets-by}
 use Rattle.link_steps.proofs.SearchAndFilter.{Each-find}
-use Rattle.setup_protocol.specs.declared.request.Request.{Request}
-use Rattle.run_record.specs.declared.done.Done.{Done}
-use Rattle.channel_laws.specs.Channels.{channel_packets, channel_of, offers_to, IsElsewhere, IsOnly}
-use Rattle.call_script.specs.Fits.{NetworkFits}
 use Rattle.run_engine.specs.channels.Hops.{terms_at, ChannelAsked}
-use Rattle.call_script.specs.Tasks.{Network}
-use Rattle.run_record.specs.Runs.{part_of}
-use Rattle.run_engine.specs.runs.Runs.{IsRun}
 use Rattle.channel_laws.proofs.ChannelRows.{tick-packets, row-of, find-passes, packets-off, sources-elsewhere, legal-free}
 use Rattle.run_engine.proofs.Channels.ChannelsAt.{stands-at}
 use Rattle.run_engine.proofs.Channels.RowsFollow.{held_at_hop}
 use Rattle.run_engine.proofs.Runs.RunLegal.{part-admissible}
-use Rattle.channel_laws.specs.Reservations.{held_by}
 use Rattle.channel_laws.proofs.TermsAfter.{arrival-held}
 use Rattle.run_engine.specs.channels.Paths.{HopAt, packets_at}
 

@@ -1,46 +1,20 @@
 -- While a setup is under way, each link of its route holds the reservation that the replies so far have made. So each
 -- reply to the setup is one of its ask's.
 use Rattle.std.proofs.Common.{◌≡◌, ◌≢◌, ℕ, zero, suc, ◌-◌, ◌<◌, ◌≤◌, Bool, true, false, List, [], ◌∷◌, length, get_or, Option, Some, None, refl, sym, ap, ◌∙◌, subst, arith}
-use Rattle.std.proofs.lemmas.Option.{same_Some, slice_get_within}
-use Rattle.std.specs.List.{slice_get}
-use Rattle.std.specs.Option.{option_map}
-use Rattle.net_units.specs.Numbers.{link_number, level_number}
-use Rattle.hop_reservation.specs.Offers.{AreLevels, delay_over}
-use Rattle.hop_reservation.specs.Routes.{IsRoute, link_of}
-use Rattle.hop_reservation.specs.declared.route.Hop.{Hop}
+use Rattle.run_engine.proofs.Words.{same_Some, slice_get_within, slice_get, option_map, link_number, level_number, AreLevels, delay_over, IsRoute, link_of, Hop, Ask, Deny, Tentative, Committed, Reply, Link, MayAnswer, MayReplyTo, deny_reply, relax_reply, reply_at, reply_to, Reservation, committed, Scan, clock_of, scan_of, after, allotment, RequestFits, Outcome, Accepts, Denies, Reserving, Settled, offers_in, after_offers, reach_after, undoing, relaxing, asked, asked_of, reserve_of, bound_given, next_ask, progress_of, settled_in, verdict_of, Request, Done, NetworkFits, Network, part_of, IsNext, IsRun, held_by}
 use Rattle.hop_reservation.proofs.DistinctLinks.{index-apart}
-use Rattle.link_steps.specs.declared.asks.Ask.{Ask}
-use Rattle.link_steps.specs.declared.asks.Ask.TheVariants.{Deny}
-use Rattle.link_steps.specs.declared.replies.Phase.TheVariants.{Tentative, Committed}
-use Rattle.link_steps.specs.declared.replies.Reply.{Reply}
 use Rattle.link_steps.specs.declared.replies.Reply.TheVariants as Is
-use Rattle.link_steps.specs.Split.{Link}
-use Rattle.link_steps.specs.Admissible.{MayAnswer}
-use Rattle.channel_laws.specs.Asks.{MayReplyTo}
 use Rattle.link_steps.specs.Levels.{level_of}
-use Rattle.link_steps.specs.Replies.{deny_reply, relax_reply, reply_at, reply_to}
-use Rattle.link_steps.specs.Reservation.{Reservation, committed}
-use Rattle.link_steps.specs.Scan.{Scan, clock_of, scan_of, after}
 use Rattle.link_steps.proofs.LegalChannels.{legal-channels}
-use Rattle.relaxation.specs.Allotment.{allotment}
 use Rattle.relaxation.specs.Laws.{AreWithinReach}
-use Rattle.setup_protocol.specs.Hops.{RequestFits}
 use Rattle.setup_protocol.specs.Requests.{jitter_of}
-use Rattle.setup_protocol.specs.Setup.{Outcome, Accepts, Denies, Reserving, Settled, offers_in, after_offers, reach_after, undoing, relaxing, asked, asked_of, reserve_of, bound_given, next_ask, progress_of, settled_in, verdict_of}
-use Rattle.setup_protocol.specs.declared.request.Request.{Request}
 use Rattle.setup_protocol.specs.declared.verdict.Deny.{Deny as Denial}
 use Rattle.setup_protocol.proofs.HopAsks.{AskedAt}
 use Rattle.setup_protocol.proofs.HopHolds.{IsComm, HopStands, View, OnWay, Back, Forth, view}
 use Rattle.setup_protocol.proofs.SetupReplies.{IsReserved, reserve-reply, deny-tentative}
 use Rattle.setup_protocol.proofs.StepHolds.{SetupAsks, Reserves, GivesBack, Relaxes, setup-asks, relax_at, relax-told, Changes, RouteStands, RouteGoes, back-tent, forth-tent, back-goes, forth-goes, way-free, refused-goes, offer-goes}
-use Rattle.run_record.specs.declared.done.Done.{Done}
-use Rattle.call_script.specs.Fits.{NetworkFits}
-use Rattle.call_script.specs.Tasks.{Network}
-use Rattle.run_record.specs.Runs.{part_of}
-use Rattle.run_engine.specs.runs.Runs.{IsNext, IsRun}
 use Rattle.run_engine.proofs.Channels.HopsAt.{hop-at}
 use Rattle.run_engine.proofs.Runs.RunLegal.{part-on, part-off, part-admissible, answered-may}
-use Rattle.channel_laws.specs.Reservations.{held_by}
 use Rattle.channel_laws.proofs.TermsAfter.{held-offered, held-relaxed, held-denied}
 use Rattle.run_engine.specs.channels.Paths.{HopAt}
 use Rattle.link_steps.proofs.ListParts.{stands-at}

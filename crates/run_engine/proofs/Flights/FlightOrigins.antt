@@ -1,41 +1,15 @@
 -- Each flight of a run is of a packet that has left a link within its bound; and while the links make their ticks no
 -- flight is due.
 use Rattle.std.proofs.Common.{◌≡◌, ℕ, suc, ◌+◌, ◌<◌, ◌≤◌, Bool, false, List, [], ◌∷◌, ◌++◌, length, Option, Some, None, refl, sym, ap, ◌∙◌, subst, inl, inr, arith, append-nil}
-use Rattle.std.proofs.lemmas.Bool.{cases_Bool, ne_eqb}
+use Rattle.run_engine.proofs.Words.{cases_Bool, ne_eqb, slice_get_within, slice_get, nat_eq, find, bound_at, link_number, link_at, LinkNo, Ask, Tick, Entry, Reply, Sent, LinkShape, Link, IsAdmissible, Each, Among, tick_reply, reply_to, clock_of, scan_of, Arrival, leaves_at, Done, NetworkFits, Network, Flight, Plane, is_due, next_due, ask_due, flight_to, flight_in, tick_made, plane_with, plane_of, entry_of, part_of, replies_to, plane_at, IsNext, IsRun, ticked, IsSent}
 use Rattle.std.proofs.lemmas.List.Folds.{find-append}
-use Rattle.std.proofs.lemmas.Option.{slice_get_within}
-use Rattle.std.specs.List.{slice_get}
-use Rattle.std.specs.Prelude.{nat_eq, find}
-use Rattle.net_units.specs.LevelBounds.{bound_at}
-use Rattle.net_units.specs.Numbers.{link_number, link_at}
-use Rattle.net_units.specs.declared.numbers.LinkNo.{LinkNo}
-use Rattle.link_steps.specs.declared.asks.Ask.{Ask}
-use Rattle.link_steps.specs.declared.asks.Ask.TheVariants.{Tick}
-use Rattle.link_steps.specs.declared.replies.Entry.{Entry}
-use Rattle.link_steps.specs.declared.replies.Reply.{Reply}
 use Rattle.link_steps.specs.declared.replies.Reply.TheVariants as Is
-use Rattle.link_steps.specs.declared.replies.Sent.{Sent}
-use Rattle.link_steps.specs.declared.shape.LinkShape.{LinkShape}
-use Rattle.link_steps.specs.Split.{Link}
-use Rattle.link_steps.specs.Admissible.{IsAdmissible}
-use Rattle.link_steps.specs.Lists.{Each, Among}
-use Rattle.link_steps.specs.Replies.{tick_reply, reply_to}
-use Rattle.link_steps.specs.Scan.{clock_of, scan_of}
-use Rattle.link_steps.specs.Service.{Arrival, leaves_at}
 use Rattle.link_steps.proofs.SearchAndFilter.{Each-among, Each-if, Each-without_first}
 use Rattle.link_steps.proofs.FoundElements.{Each-from_among}
 use Rattle.link_steps.proofs.ServiceStarts.{starts-fact}
-use Rattle.run_record.specs.declared.done.Done.{Done}
-use Rattle.call_script.specs.Fits.{NetworkFits}
 use Rattle.run_engine.specs.channels.Hops.{packets_on, ComesFrom}
-use Rattle.call_script.specs.Tasks.{Network}
-use Rattle.tick_plane.specs.declared.flight.Flight.{Flight}
-use Rattle.tick_plane.specs.Planes.{Plane, is_due, next_due, ask_due, flight_to, flight_in, tick_made, plane_with, plane_of}
-use Rattle.run_record.specs.Runs.{entry_of, part_of, replies_to}
 use Rattle.run_engine.specs.channels.Flights.{FlightsStand}
-use Rattle.run_engine.specs.runs.Runs.{plane_at, IsNext, IsRun}
 use Rattle.run_engine.proofs.Runs.RunLegal.{part-may, RunStands, clock_at, part-on, link_at-number, run-stands, by-part, by-actor}
-use Rattle.channel_laws.specs.Departing.{ticked, IsSent}
 use Rattle.channel_laws.proofs.SentInTime.{sent-facts, tick-answer}
 use Rattle.channel_laws.proofs.DepartedCount.{history-from, more-legal}
 use Rattle.channel_laws.proofs.NumberedPackets.{HasNumber, packets-have_numbers}
@@ -117,12 +91,10 @@ later-flight shape h sent (Some to) t early is =
     (ne_eqb sent.arrives t (λ same. absurd (omega (arith, same, arrives, leaves, early))), tt)
 
 new-comes : (network : Network) (run : List Done) (n : ℕ) (link : Link) (h : List Entry) (reply : Reply) → slice_get network.links n ≡ Some link → part_of n run ≡ ticked link.shape h → IsAdmissible link.shape h → IsAdmissible link.shape (ticked link.shape h) → reply ≡ tick_reply link.shape (clock_of h) (scan_of link.shape h) → Each (ComesFrom network run) (flight_in reply)
-new-comes network run n link h (Is.Ticked clock full None best_sent best_lost) linked part legal may same = tt
 new-comes network run n link h (Is.Ticked clock full (Some sent) best_sent best_lost) linked part legal may same = sent-comes network run n link h sent sent.next linked part may (sent-facts link.shape h clock full sent best_sent best_lost legal same) refl
 new-comes network run n link h _ linked part legal may same = tt
 
 new-later : (shape : LinkShape) (h : List Entry) (reply : Reply) (t : ℕ) → t ≤ clock_of h → IsAdmissible shape h → reply ≡ tick_reply shape (clock_of h) (scan_of shape h) → Each (λ flight. is_due t flight ≡ false) (flight_in reply)
-new-later shape h (Is.Ticked clock full None best_sent best_lost) t early legal same = tt
 new-later shape h (Is.Ticked clock full (Some sent) best_sent best_lost) t early legal same = later-flight shape h sent sent.next t early (sent-facts shape h clock full sent best_sent best_lost legal same)
 new-later shape h _ t early legal same = tt
 

@@ -1,34 +1,12 @@
 -- No flight is late: each is due in the plane's round or in a later one.
 use Rattle.std.proofs.Common.{◌≡◌, ℕ, suc, ◌+◌, ◌<◌, ◌≤◌, false, List, [], ◌∷◌, length, Option, Some, None, refl, sym, ap, ◌∙◌, inl, inr, arith}
-use Rattle.std.proofs.lemmas.Bool.{cases_Bool, eqb-false}
-use Rattle.std.proofs.lemmas.Option.{slice_get_within}
-use Rattle.std.specs.Prelude.{nat_eq, find}
-use Rattle.net_units.specs.Numbers.{link_number, actor_number}
-use Rattle.net_units.specs.declared.numbers.LinkNo.{LinkNo}
-use Rattle.link_steps.specs.declared.asks.Ask.TheVariants.{Arrive, Tick}
-use Rattle.link_steps.specs.declared.replies.Entry.{Entry}
-use Rattle.link_steps.specs.declared.replies.Reply.{Reply}
+use Rattle.run_engine.proofs.Words.{cases_Bool, eqb-false, slice_get_within, nat_eq, find, link_number, actor_number, LinkNo, Arrive, Tick, Entry, Reply, Sent, LinkShape, IsAdmissible, Each, tick_reply, reply_to, clock_of, scan_of, leaves_at, Done, NetworkFits, Network, Flight, Plane, is_due, next_due, ask_due, flight_to, flight_in, tick_made, plane_with, plane_of, IsDueLater, part_of, replies_to, plane_no, plane_at, IsNext, IsRun, IsSent}
 use Rattle.link_steps.specs.declared.replies.Reply.TheVariants as Is
-use Rattle.link_steps.specs.declared.replies.Sent.{Sent}
-use Rattle.link_steps.specs.declared.shape.LinkShape.{LinkShape}
-use Rattle.link_steps.specs.Admissible.{IsAdmissible}
-use Rattle.link_steps.specs.Lists.{Each}
-use Rattle.link_steps.specs.Replies.{tick_reply, reply_to}
-use Rattle.link_steps.specs.Scan.{clock_of, scan_of}
-use Rattle.link_steps.specs.Service.{leaves_at}
 use Rattle.link_steps.proofs.SearchAndFilter.{Each-append, Each-if, Each-both, Each-without_first}
-use Rattle.run_record.specs.declared.done.Done.{Done}
 use Rattle.run_engine.specs.channels.Flights.{IsPunctual}
 use Rattle.run_engine.proofs.Flights.FlightOrigins.{run-flights}
 use Rattle.run_engine.specs.runs.Laws.{NoFlightIsLate}
-use Rattle.call_script.specs.Fits.{NetworkFits}
-use Rattle.call_script.specs.Tasks.{Network}
-use Rattle.tick_plane.specs.declared.flight.Flight.{Flight}
-use Rattle.tick_plane.specs.Planes.{Plane, is_due, next_due, ask_due, flight_to, flight_in, tick_made, plane_with, plane_of, IsDueLater}
-use Rattle.run_record.specs.Runs.{part_of, replies_to}
-use Rattle.run_engine.specs.runs.Runs.{plane_no, plane_at, IsNext, IsRun}
 use Rattle.run_engine.proofs.Runs.RunLegal.{part-may, RunStands, clock_at, plane-next, run-stands, by-actor}
-use Rattle.channel_laws.specs.Departing.{IsSent}
 use Rattle.channel_laws.proofs.ArriveReplies.{arrive-told, of-arrive}
 use Rattle.channel_laws.proofs.SentInTime.{sent-facts, tick-answer}
 
@@ -49,7 +27,6 @@ sent-later shape h sent (Some to) t early is =
     (omega (arith, arrives, leaves, early), tt)
 
 new-later : (shape : LinkShape) (h : List Entry) (reply : Reply) (t : ℕ) → t ≤ clock_of h → IsAdmissible shape h → reply ≡ tick_reply shape (clock_of h) (scan_of shape h) → Each (λ flight. suc t ≤ flight.round) (flight_in reply)
-new-later shape h (Is.Ticked clock full None best_sent best_lost) t early legal same = tt
 new-later shape h (Is.Ticked clock full (Some sent) best_sent best_lost) t early legal same = sent-later shape h sent sent.next t early (sent-facts shape h clock full sent best_sent best_lost legal same)
 new-later shape h _ t early legal same = tt
 

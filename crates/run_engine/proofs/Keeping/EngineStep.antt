@@ -1,17 +1,9 @@
 -- What is known where an engine makes the step that an actor is about to make, and what it then stands for.
 use Rattle.std.proofs.Common.{◌≡◌, ℕ, List, sym, subst, ◌∙◌}
-use Rattle.std.specs.Prelude.{Result, Ok, Err, IfOk, OnErr}
-use Rattle.net_units.specs.Numbers.{link_number}
-use Rattle.net_units.specs.declared.numbers.ActorNo.{ActorNo}
-use Rattle.net_units.specs.declared.numbers.LinkNo.{LinkNo}
-use Rattle.link_quota.specs.declared.any_link.AnyLink.{AnyLink}
-use Rattle.link_steps.specs.declared.asks.Ask.{Ask}
-use Rattle.call_script.specs.Parts.{PlanParts}
-use Rattle.call_script.specs.Tasks.{network_of}
+use Rattle.run_engine.proofs.Words.{Result, Ok, Err, IfOk, OnErr, link_number, ActorNo, LinkNo, AnyLink, Ask, PlanParts, network_of, Done}
 use Rattle.run_engine.specs.schedules.Standing.{IsAboutTo, LinksStand}
 use Rattle.run_engine.specs.declared.engine.Engine.{Engine}
 use Rattle.run_engine.proofs.Keeping.NextStep.{Asking}
-use Rattle.run_record.specs.declared.done.Done.{Done}
 
 pub asking-in : (parts : PlanParts) (engine : Engine) (links : List AnyLink) (run : List Done) (actor : ActorNo) (to : LinkNo) (ask : Ask) (own number : ℕ) → IsAboutTo parts engine run actor to ask → links ≡ engine.links.items → number ≡ own → own ≡ link_number to → Asking parts links run actor to ask number
 asking-in parts engine links run actor to ask own number about same from get = record {

@@ -1,23 +1,10 @@
 -- The actors of a run, as they are kept: before any step, what they ask next, and with one more step.
 use Rattle.std.proofs.Common.{◌≡◌, ◌≢◌, ℕ, ◌+◌, ◌<◌, true, Option, Some, None, IsSome, List, [], ◌∷◌, ◌++◌, length, set, refl, sym, ap, ◌∙◌, subst, inl, inr, arith}
-use Rattle.std.proofs.lemmas.Bool.{cases_Bool, eqb-true, eqb-false}
-use Rattle.std.proofs.lemmas.List.{length-map, length-set}
-use Rattle.std.proofs.lemmas.Option.{slice_get_within, slice_get_past}
-use Rattle.std.specs.List.{slice_get}
-use Rattle.std.specs.Prelude.{nat_eq}
-use Rattle.net_units.specs.Numbers.{actor_number}
-use Rattle.net_units.specs.declared.numbers.LinkNo.{LinkNo}
-use Rattle.link_steps.specs.declared.asks.Ask.{Ask}
-use Rattle.link_steps.specs.declared.replies.Reply.{Reply}
+use Rattle.run_engine.proofs.Words.{cases_Bool, eqb-true, eqb-false, length-map, length-set, slice_get_within, slice_get_past, slice_get, nat_eq, actor_number, LinkNo, Ask, Reply, PlanParts, ask_at, expects, script_ask, standing_of, entry_link, groups_in, network_of, plane_no, next_for, replies_to, Done, Plane, next_due, plane_after, plane_ask, plane_expects, plane_of, plane_start, IsDueLater}
 use Rattle.call_script.proofs.PlansFit.{plan-fits}
 use Rattle.call_script.proofs.OneOwner.{all-owned}
-use Rattle.call_script.specs.Parts.{PlanParts}
-use Rattle.call_script.specs.Scripts.{ask_at, expects, script_ask, standing_of}
 use Rattle.call_script.specs.Standing.{CallerStands, HasAskLeft, standing_in}
-use Rattle.call_script.specs.Splits.{entry_link, groups_in}
-use Rattle.call_script.specs.Tasks.{network_of}
 use Rattle.call_script.specs.declared.actor.Actor.{Actor}
-use Rattle.run_engine.specs.runs.Runs.{plane_no, next_for}
 use Rattle.run_engine.specs.schedules.Standing.{AreCallers, CallersStand, PlaneStands, ActorsStand, IsDueStep, IsNextStep}
 use Rattle.run_engine.specs.declared.actors.Actors.{Actors}
 use Rattle.run_engine.specs.declared.callers.Callers.{Callers}
@@ -25,10 +12,7 @@ use Rattle.run_engine.proofs.Keeping.Lookups.{get-push, get-set-same, get-set-ot
 use Rattle.run_engine.proofs.Flights.Punctual.{reply-later}
 use Rattle.run_engine.proofs.Replies.Replying.{replies-expected}
 use Rattle.run_engine.proofs.Runs.RunLegal.{AsksOf, asked-plane, asked-caller, caller-next, plane-next, plane-by, plane-off, replies-by, replies-off}
-use Rattle.run_record.specs.Runs.{replies_to}
-use Rattle.run_record.specs.declared.done.Done.{Done}
 use Rattle.tick_plane.specs.PlaneAccount.{PlaneAccount}
-use Rattle.tick_plane.specs.Planes.{Plane, next_due, plane_after, plane_ask, plane_expects, plane_of, plane_start, IsDueLater}
 
 -- the plane's number is the number of callers
 pub plane-number : (parts : PlanParts) → plane_no (network_of parts) ≡ length parts.callers
@@ -89,23 +73,24 @@ none-asks parts callers actor run stand past =
     sym (asked-caller (network_of parts) actor run (λ same. absurd (omega (arith, same, place, past)))
     ∙ ap (λ found. script_ask found (replies_to actor run)) (slice_get_past (network_of parts).scripts actor (omega (arith, place, past))))
 
--- ---- the plane's step
+module _ (parts : PlanParts) (actors : Actors) (past : List Done) (done : Done) where
+  -- ---- the plane's step
 
-pub plane-left : (parts : PlanParts) (actors : Actors) (past : List Done) (done : Done) → IsDueStep parts actors past done → actor_number done.actor ≡ length actors.callers.by_number.items → actors.plane.at.round < actors.plane.rounds
-plane-left parts actors past done due same =
-    let asks = plane-next (network_of parts) past done due.next (same ∙ sym (plane-place parts actors.callers.by_number.items past due.stand.callers)) in
-    let at = ap (λ (p : Plane). p.round) due.stand.plane.at in
-    omega (arith, asks.early, at, due.stand.plane.rounds)
+  pub plane-left : IsDueStep parts actors past done → actor_number done.actor ≡ length actors.callers.by_number.items → actors.plane.at.round < actors.plane.rounds
+  plane-left due same =
+      let asks = plane-next (network_of parts) past done due.next (same ∙ sym (plane-place parts actors.callers.by_number.items past due.stand.callers)) in
+      let at = ap (λ (p : Plane). p.round) due.stand.plane.at in
+      omega (arith, asks.early, at, due.stand.plane.rounds)
 
-pub plane-expected : (parts : PlanParts) (actors : Actors) (past : List Done) (done : Done) → IsDueStep parts actors past done → actor_number done.actor ≡ length actors.callers.by_number.items → plane_expects (next_due actors.plane.at) done.reply ≡ true
-plane-expected parts actors past done due same =
-    ap (λ (p : Plane). plane_expects (next_due p) done.reply) due.stand.plane.at
-    ∙ replies-expected.plane (network_of parts) past done due.next (same ∙ sym (plane-place parts actors.callers.by_number.items past due.stand.callers))
+  pub plane-expected : IsDueStep parts actors past done → actor_number done.actor ≡ length actors.callers.by_number.items → plane_expects (next_due actors.plane.at) done.reply ≡ true
+  plane-expected due same =
+      ap (λ (p : Plane). plane_expects (next_due p) done.reply) due.stand.plane.at
+      ∙ replies-expected.plane (network_of parts) past done due.next (same ∙ sym (plane-place parts actors.callers.by_number.items past due.stand.callers))
 
-pub plane-later : (parts : PlanParts) (actors : Actors) (past : List Done) (done : Done) → IsDueStep parts actors past done → actor_number done.actor ≡ length actors.callers.by_number.items → IsDueLater actors.plane.at.round done.reply
-plane-later parts actors past done due same =
-    subst (λ (p : Plane). IsDueLater p.round done.reply) (sym due.stand.plane.at)
-    (reply-later (network_of parts) past done (plan-fits parts due.plan) due.run due.next (same ∙ sym (plane-place parts actors.callers.by_number.items past due.stand.callers)))
+  pub plane-later : IsDueStep parts actors past done → actor_number done.actor ≡ length actors.callers.by_number.items → IsDueLater actors.plane.at.round done.reply
+  plane-later due same =
+      subst (λ (p : Plane). IsDueLater p.round done.reply) (sym due.stand.plane.at)
+      (reply-later (network_of parts) past done (plan-fits parts due.plan) due.run due.next (same ∙ sym (plane-place parts actors.callers.by_number.items past due.stand.callers)))
 
 -- the callers' replies stay the same
 pub callers-same : (parts : PlanParts) (callers : List Actor) (past : List Done) (done : Done) → AreCallers parts callers past → actor_number done.actor ≡ length callers → AreCallers parts callers (done ∷ past)
@@ -131,35 +116,36 @@ plane-taken parts old new past done due same callers at links rounds =
       };
     }
 
--- ---- a caller's step
+module _ (parts : PlanParts) (callers : Callers) (past : List Done) (done : Done) where
+  -- ---- a caller's step
 
--- the step is of a caller, and its script is there
-caller-of : (parts : PlanParts) (callers : Callers) (past : List Done) (done : Done) → IsNextStep parts callers past done → actor_number done.actor ≢ length callers.by_number.items → AsksOf (network_of parts) past (actor_number done.actor) done.link done.ask
-caller-of parts callers past done due other =
-    let place = plane-place parts callers.by_number.items past due.stand in
-    caller-next (network_of parts) past done due.next (λ same. other (same ∙ place))
+  -- the step is of a caller, and its script is there
+  caller-of : IsNextStep parts callers past done → actor_number done.actor ≢ length callers.by_number.items → AsksOf (network_of parts) past (actor_number done.actor) done.link done.ask
+  caller-of due other =
+      let place = plane-place parts callers.by_number.items past due.stand in
+      caller-next (network_of parts) past done due.next (λ same. other (same ∙ place))
 
-pub caller-within : (parts : PlanParts) (callers : Callers) (past : List Done) (done : Done) → IsNextStep parts callers past done → actor_number done.actor ≢ length callers.by_number.items → actor_number done.actor < length callers.by_number.items
-caller-within parts callers past done due other =
-    let place = plane-place parts callers.by_number.items past due.stand in
-    let asks = caller-of parts callers past done due other in
-    let within = slice_get_within (network_of parts).scripts (actor_number done.actor) asks.tasks asks.found in
-    omega (arith, within, place)
+  pub caller-within : IsNextStep parts callers past done → actor_number done.actor ≢ length callers.by_number.items → actor_number done.actor < length callers.by_number.items
+  caller-within due other =
+      let place = plane-place parts callers.by_number.items past due.stand in
+      let asks = caller-of due other in
+      let within = slice_get_within (network_of parts).scripts (actor_number done.actor) asks.tasks asks.found in
+      omega (arith, within, place)
 
-pub caller-left : (parts : PlanParts) (callers : Callers) (past : List Done) (done : Done) (caller : Actor) → IsNextStep parts callers past done → slice_get callers.by_number.items (actor_number done.actor) ≡ Some caller → HasAskLeft parts caller (replies_to (actor_number done.actor) past)
-caller-left parts callers past done caller due found =
-    let asks = caller-asks parts callers.by_number.items (actor_number done.actor) caller past due.stand found ∙ due.next.asked in
-    record { stands = due.stand.stand (actor_number done.actor) caller found; left = subst (λ (next : Option (LinkNo × Ask)). IsSome next) (sym asks) refl }
+  pub caller-left : (caller : Actor) → IsNextStep parts callers past done → slice_get callers.by_number.items (actor_number done.actor) ≡ Some caller → HasAskLeft parts caller (replies_to (actor_number done.actor) past)
+  caller-left caller due found =
+      let asks = caller-asks parts callers.by_number.items (actor_number done.actor) caller past due.stand found ∙ due.next.asked in
+      record { stands = due.stand.stand (actor_number done.actor) caller found; left = subst (λ (next : Option (LinkNo × Ask)). IsSome next) (sym asks) refl }
 
-pub caller-expected : (parts : PlanParts) (callers : Callers) (past : List Done) (done : Done) (caller : Actor) → IsNextStep parts callers past done → slice_get callers.by_number.items (actor_number done.actor) ≡ Some caller
-    → expects (standing_in parts (actor_number caller.caller) (replies_to (actor_number done.actor) past)) done.reply ≡ true
-caller-expected parts callers past done caller due found =
-    let within = slice_get_within callers.by_number.items (actor_number done.actor) caller found in
-    let place = plane-place parts callers.by_number.items past due.stand in
-    let asks = caller-of parts callers past done due (λ same. absurd (omega (arith, same, within))) in
-    ap (λ n. expects (standing_in parts n (replies_to (actor_number done.actor) past)) done.reply) (due.stand.numbers (actor_number done.actor) caller found)
-    ∙ ap (λ script. expects (standing_of script (replies_to (actor_number done.actor) past)) done.reply) asks.found
-    ∙ replies-expected.callers (network_of parts) past done asks.tasks (plan-fits parts due.plan) (all-owned parts due.plan) due.run due.next (λ same. absurd (omega (arith, same, place, within))) asks.found
+  pub caller-expected : (caller : Actor) → IsNextStep parts callers past done → slice_get callers.by_number.items (actor_number done.actor) ≡ Some caller
+      → expects (standing_in parts (actor_number caller.caller) (replies_to (actor_number done.actor) past)) done.reply ≡ true
+  caller-expected caller due found =
+      let within = slice_get_within callers.by_number.items (actor_number done.actor) caller found in
+      let place = plane-place parts callers.by_number.items past due.stand in
+      let asks = caller-of due (λ same. absurd (omega (arith, same, within))) in
+      ap (λ n. expects (standing_in parts n (replies_to (actor_number done.actor) past)) done.reply) (due.stand.numbers (actor_number done.actor) caller found)
+      ∙ ap (λ script. expects (standing_of script (replies_to (actor_number done.actor) past)) done.reply) asks.found
+      ∙ replies-expected.callers (network_of parts) past done asks.tasks (plan-fits parts due.plan) (all-owned parts due.plan) due.run due.next (λ same. absurd (omega (arith, same, place, within))) asks.found
 
 callers-with : (parts : PlanParts) (callers : List Actor) (past : List Done) (done : Done) (new : Actor) → AreCallers parts callers past → actor_number new.caller ≡ actor_number done.actor → CallerStands parts new (done.reply ∷ replies_to (actor_number done.actor) past)
     → AreCallers parts (set callers (actor_number done.actor) new) (done ∷ past)

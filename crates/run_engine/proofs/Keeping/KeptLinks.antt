@@ -1,39 +1,14 @@
 -- The links of a run, as they are kept: before any step, and with one more step. Their clocks are small.
-use Rattle.std.proofs.Common.{◌≡◌, ◌≢◌, ℕ, suc, ◌+◌, ◌<◌, ◌≤◌, ◌^◌, Option, Some, None, List, [], ◌∷◌, ◌++◌, length, map, sym, ap, ◌∙◌, subst, inl, inr, option_map, nat_lt, arith}
-use Rattle.std.proofs.lemmas.Bool.{cases_Bool, eqb-true, eqb-false}
-use Rattle.std.proofs.lemmas.List.{length-map}
-use Rattle.std.proofs.lemmas.Option.{slice_get_within, slice_get-map}
-use Rattle.std.specs.List.{slice_get}
-use Rattle.std.specs.Prelude.{nat_eq}
-use Rattle.net_units.specs.Numbers.{actor_number}
-use Rattle.link_quota.specs.Any.{any_rules, any_clock, AnyStands, any-clock-is}
-use Rattle.link_quota.specs.declared.any_link.AnyLink.{AnyLink}
-use Rattle.link_steps.specs.Scan.{clock_of}
-use Rattle.link_steps.specs.Split.{Link}
-use Rattle.link_steps.specs.declared.replies.Reply.{Reply}
-use Rattle.call_script.specs.Fits.{NetworkFits}
-use Rattle.call_script.specs.Splits.{entry_link}
-use Rattle.call_script.specs.Tasks.{Network}
+use Rattle.std.proofs.Common.{◌≡◌, ◌≢◌, ℕ, ◌+◌, ◌<◌, ◌≤◌, ◌^◌, Some, List, [], ◌∷◌, ◌++◌, length, map, sym, ap, ◌∙◌, subst, inl, inr, option_map, nat_lt, arith}
+use Rattle.run_engine.proofs.Words.{cases_Bool, eqb-true, eqb-false, length-map, slice_get_within, slice_get-map, slice_get, nat_eq, actor_number, any_rules, any_clock, AnyStands, any-clock-is, AnyLink, clock_of, Link, NetworkFits, entry_link, Network, plane_no, plane_at, IsRun, replies_to, part_of, Done, Plane, plane_of}
 use Rattle.call_script.specs.declared.entries.LinkEntry.{LinkEntry}
-use Rattle.run_engine.specs.runs.Runs.{plane_no, plane_at, IsRun}
+use Rattle.tick_plane.proofs.AskedInWindow.{window-holds}
 use Rattle.run_engine.specs.schedules.Standing.{LinksStand}
 use Rattle.run_engine.proofs.Keeping.Lookups.{get-push, held}
 use Rattle.run_engine.proofs.Runs.PartLaws.{clocks-follow}
 use Rattle.run_engine.proofs.Runs.RunLegal.{plane-next, plane-by, plane-off}
-use Rattle.run_record.specs.Runs.{replies_to, part_of}
-use Rattle.run_record.specs.declared.done.Done.{Done}
-use Rattle.tick_plane.specs.Planes.{Plane, plane_with, plane_of, next_due}
-use Rattle.tick_plane.specs.declared.flight.Flight.{Flight}
 
 -- ---- clocks
-
-with-most : (links rounds : ℕ) (plane : Plane) (found : Option Flight) (reply : Reply) → plane.round < rounds → (plane_with links plane found reply).round ≤ rounds
-with-most links rounds plane (Some flight) reply early = omega (arith, early)
-with-most links rounds plane None reply early =
-    elim (cases_Bool (nat_eq (suc plane.ticked) links)) [
-      | inl last ↦ rw last (omega (arith, early))
-      | inr more ↦ rw more (omega (arith, early))
-    ]
 
 -- the plane makes no more rounds than it has
 rounds-most : (network : Network) (run : List Done) → IsRun network run → (plane_at network run).round ≤ network.rounds
@@ -44,7 +19,7 @@ rounds-most network (done ∷ past) run =
       | inl plane ↦
           (let same = eqb-true (actor_number done.actor) (plane_no network) plane in
           let asks = plane-next network past done run.1 same in
-          subst (λ (p : Plane). p.round ≤ network.rounds) (sym (plane-by network done past same)) (with-most (length network.links) network.rounds (plane_at network past) (next_due (plane_at network past)) done.reply asks.early))
+          subst (λ (p : Plane). p.round ≤ network.rounds) (sym (plane-by network done past same)) (window-holds (length network.links) network.rounds (plane_at network past) done.reply asks.early))
       | inr caller ↦ subst (λ (p : Plane). p.round ≤ network.rounds) (sym (plane-off network done past (eqb-false (actor_number done.actor) (plane_no network) caller))) (rounds-most network past run.0)
     ]
 

@@ -1,9 +1,7 @@
 -- The element at an index, after a write and with one more element; the first one, and the rest; the images of a list turned round. Another
 -- fact may follow from what an answer's value has.
 use Rattle.std.proofs.Common.{◌≡◌, ◌≢◌, ◌⊎◌, ℕ, zero, suc, ◌<◌, Some, List, [], ◌∷◌, ◌++◌, length, get_or, set, refl, sym, ap, ◌∙◌, inl, inr, Result, Ok, Err, IfErr, OnOk, arith, map, reverse, IfOk}
-use Rattle.std.proofs.lemmas.Option.{same_Some, slice_get_cases, slice_get_read}
-use Rattle.std.specs.List.{slice_get}
-use Rattle.std.proofs.lemmas.List.{map-append, reverse-append}
+use Rattle.run_engine.proofs.Words.{same_Some, slice_get_cases, slice_get_read, slice_get, map-append, reverse-append}
 
 pub get-set-same : {X : Type 0} (xs : List X) (i : ℕ) (x y : X) → slice_get (set xs i x) i ≡ Some y → y ≡ x
 get-set-same [] i x y is = cc

@@ -1,15 +1,6 @@
 -- The plane's next step: what it asks, and what is known where the link has replied and where the plane has the reply.
 use Rattle.std.proofs.Common.{◌≡◌, ℕ, true, Option, Some, None, IfSome, List, [], ◌∷◌, length, refl, sym, ap, subst, ◌∙◌, arith}
-use Rattle.net_units.specs.Numbers.{actor_number}
-use Rattle.net_units.specs.declared.numbers.LinkNo.{LinkNo}
-use Rattle.link_steps.specs.declared.asks.Ask.{Ask}
-use Rattle.link_steps.specs.declared.asks.Ask.TheVariants.{Tick}
-use Rattle.link_steps.specs.declared.replies.Reply.{Reply}
-use Rattle.link_steps.specs.Quiet.{quiet_reply}
-use Rattle.call_script.specs.Parts.{PlanParts}
-use Rattle.call_script.specs.Plans.{IsPlan}
-use Rattle.call_script.specs.Tasks.{network_of}
-use Rattle.run_engine.specs.runs.Runs.{next_for}
+use Rattle.run_engine.proofs.Words.{actor_number, LinkNo, Ask, Tick, Reply, quiet_reply, PlanParts, IsPlan, network_of, next_for, Done, Plane, next_due, plane_after, plane_ask, plane_expects, plane_with, tick_made, Flight}
 use Rattle.run_engine.specs.schedules.PlaneSteps.{IsAnswered, IsPlaneStep, plane_step}
 use Rattle.run_engine.specs.schedules.Quiet.{the_plane}
 use Rattle.run_engine.specs.schedules.Standing.{ActorsStand, LinksStand, MakesStep}
@@ -18,9 +9,6 @@ use Rattle.run_engine.specs.declared.engine.Engine.{Engine}
 use Rattle.run_engine.proofs.Keeping.KeptActors.{plane-asks, plane-expected, plane-number}
 use Rattle.run_engine.proofs.Keeping.NextStep.{callers-few}
 use Rattle.run_engine.proofs.Watched.QuietRounds.{plane-is}
-use Rattle.run_record.specs.declared.done.Done.{Done}
-use Rattle.tick_plane.specs.Planes.{Plane, next_due, plane_after, plane_ask, plane_expects, plane_with, tick_made}
-use Rattle.tick_plane.specs.declared.flight.Flight.{Flight}
 use Rattle.run_engine.proofs.Runs.RunFronts.{run-more}
 
 -- the plane's number is that after the callers'

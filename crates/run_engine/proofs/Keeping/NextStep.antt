@@ -1,38 +1,18 @@
 -- The next step of a run is made: what is asked meets the conditions of the link, the entry is the next of the run, and what is kept
 -- stands for the run with it.
 use Rattle.std.proofs.Common.{◌≡◌, ◌≢◌, ℕ, suc, ◌+◌, ◌<◌, ◌≤◌, Some, List, [], ◌∷◌, ◌++◌, length, take, get_or, reverse, refl, sym, ap, ◌∙◌, subst, nat_le, ◌&&◌, arith}
-use Rattle.std.proofs.lemmas.Bool.{leb-true}
-use Rattle.std.proofs.lemmas.List.{length-map, reverse-append}
-use Rattle.std.proofs.lemmas.Option.{slice_get_within}
-use Rattle.std.specs.List.{slice_get}
-use Rattle.net_units.specs.Numbers.{link_number, actor_number}
-use Rattle.net_units.specs.declared.numbers.ActorNo.{ActorNo}
-use Rattle.net_units.specs.declared.numbers.LinkNo.{LinkNo}
-use Rattle.link_quota.specs.Any.{any_rules, AnyStands}
-use Rattle.link_quota.specs.declared.any_link.AnyLink.{AnyLink}
-use Rattle.link_steps.specs.Legal.{AskFits}
-use Rattle.link_steps.specs.Replies.{reply_to}
-use Rattle.link_steps.specs.declared.asks.Ask.{Ask}
-use Rattle.link_steps.specs.declared.replies.Entry.{Entry}
-use Rattle.link_steps.specs.declared.replies.Reply.{Reply}
+use Rattle.run_engine.proofs.Words.{leb-true, length-map, reverse-append, slice_get_within, slice_get, link_number, actor_number, ActorNo, LinkNo, any_rules, AnyStands, AnyLink, AskFits, reply_to, Ask, Entry, Reply, PlanParts, IsPlan, entry_link, groups_in, network_of, next_for, IsNext, IsRun, entry_of, part_of, replies_to, Done}
 use Rattle.call_script.proofs.PlansFit.{plan-fits}
 use Rattle.call_script.proofs.RulesAreKept.{both, keeps-rules}
 use Rattle.call_script.proofs.Walks.{before-at}
-use Rattle.call_script.specs.Parts.{PlanParts}
-use Rattle.call_script.specs.Plans.{IsPlan}
 use Rattle.call_script.specs.Rules.{are_few}
-use Rattle.call_script.specs.Splits.{entry_link, groups_in}
-use Rattle.call_script.specs.Tasks.{network_of}
 use Rattle.run_engine.specs.runs.Linked.{IsLinkThere}
-use Rattle.run_engine.specs.runs.Runs.{next_for, IsNext, IsRun}
 use Rattle.run_engine.specs.schedules.Standing.{LinksStand}
 use Rattle.run_engine.proofs.Tasks.LinksAsked.{asks-linked}
 use Rattle.run_engine.proofs.Keeping.KeptLinks.{links-with}
 use Rattle.run_engine.proofs.Keeping.Lookups.{held}
 use Rattle.run_engine.proofs.Runs.RunLegal.{asked-fits, part-on, part-off, replies-by, replies-off}
 use Rattle.run_record.specs.Entries.{Entries}
-use Rattle.run_record.specs.Runs.{entry_of, part_of, replies_to}
-use Rattle.run_record.specs.declared.done.Done.{Done}
 
 -- a plan has at most 64 callers
 pub callers-few : (parts : PlanParts) → IsPlan parts → length parts.callers ≤ 64

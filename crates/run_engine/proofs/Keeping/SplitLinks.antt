@@ -1,16 +1,9 @@
 -- A link of a plan is split as the plan says, and its split fits it.
 use Rattle.std.proofs.Common.{◌≡◌, ℕ, Some, None, List, [], ◌∷◌, map, refl, ap, ◌∙◌, option_map}
-use Rattle.std.proofs.lemmas.Option.{same_Some, slice_get-map}
-use Rattle.std.specs.List.{slice_get}
+use Rattle.run_engine.proofs.Words.{same_Some, slice_get-map, slice_get, Link, Split, SplitFits, whole, LinkShape, PlanParts, IsPlan, split_by, split_if, entry_link, groups_in, network_of}
 use Rattle.link_steps.proofs.ListParts.{Each-at}
-use Rattle.link_steps.specs.Split.{Link, Split, SplitFits, whole}
 use Rattle.link_steps.specs.declared.quota.Quota.{Quota}
-use Rattle.link_steps.specs.declared.shape.LinkShape.{LinkShape}
 use Rattle.call_script.proofs.PlansFit.{plan-fits}
-use Rattle.call_script.specs.Parts.{PlanParts}
-use Rattle.call_script.specs.Plans.{IsPlan}
-use Rattle.call_script.specs.Splits.{split_by, split_if, entry_link, groups_in}
-use Rattle.call_script.specs.Tasks.{network_of}
 use Rattle.call_script.specs.declared.entries.LinkEntry.{LinkEntry}
 
 -- a link of this shape with this split

@@ -1,36 +1,14 @@
 -- In every run whose channels each have one owner, the packets that a move shifts are no larger than the contracts of both its
 -- channels allow.
 use Rattle.std.proofs.Common.{◌≡◌, ◌⊎◌, ℕ, ◌≤◌, Bool, true, false, List, [], ◌∷◌, ◌++◌, length, Option, Some, None, refl, sym, ap, ◌∙◌, subst, inl, inr, arith}
-use Rattle.std.proofs.lemmas.Bool.{eqb-true, and_parts}
-use Rattle.std.proofs.lemmas.Option.{same_Some, slice_get_within}
-use Rattle.std.specs.List.{slice_get}
-use Rattle.std.specs.Prelude.{find, nat_eq, not, ◌&&◌, if◌then◌else◌}
-use Rattle.net_units.specs.Numbers.{link_number, channel_number}
-use Rattle.hop_reservation.specs.Routes.{link_of}
-use Rattle.link_steps.specs.declared.asks.Ask.TheVariants.{Submit}
-use Rattle.link_steps.specs.declared.replies.Reply.{Reply}
+use Rattle.run_engine.proofs.Words.{eqb-true, and_parts, same_Some, slice_get_within, slice_get, find, nat_eq, not, ◌&&◌, if◌then◌else◌, link_number, channel_number, link_of, Submit, Reply, Each, Among, reply_at, submit_to, Row, left_at, clock_of, scan_of, is_row_at_hop, RequestFits, Request, NetworkFits, TaskFits, IsSendOn, TaskOff, OwnedFully, AllOwned, Learnt, Settles, PlannedOn, MovedTo, Packets, Standing, is_that, newest, or_before, packets_by, packets_in, last_packets, task_ask, ready, from_step, begun, outcome_by, standing, once_next, Network, Task, Sends, Moves, part_of, replies_to, Done, IsNext, IsRun, ChanNo, LinkNo}
 use Rattle.link_steps.specs.declared.replies.Reply.TheVariants as Is
-use Rattle.link_steps.specs.Lists.{Each, Among}
-use Rattle.link_steps.specs.Replies.{reply_at, submit_to}
-use Rattle.link_steps.specs.Rows.{Row, left_at}
-use Rattle.link_steps.specs.Scan.{clock_of, scan_of, is_row_at_hop}
 use Rattle.link_steps.proofs.SearchAndFilter.{Each-among, Each-find}
 use Rattle.link_steps.proofs.FoundElements.{Each-from_among}
 use Rattle.link_steps.proofs.ListParts.{Each-at}
 use Rattle.link_steps.proofs.ReservationFound.{submit-tells}
 use Rattle.channel_laws.proofs.SizeLaw.{NamesContract, legal-sizes}
-use Rattle.setup_protocol.specs.Hops.{RequestFits}
-use Rattle.setup_protocol.specs.declared.request.Request.{Request}
-use Rattle.call_script.specs.Fits.{NetworkFits, TaskFits}
-use Rattle.call_script.specs.Owners.{IsSendOn, TaskOff, OwnedFully, AllOwned}
-use Rattle.call_script.specs.Scripts.{Learnt, Settles, PlannedOn, MovedTo, Packets, Standing, is_that, newest, or_before, packets_by, packets_in, last_packets, task_ask, ready, from_step, begun, outcome_by, standing, once_next}
-use Rattle.call_script.specs.Tasks.{Network}
-use Rattle.call_script.specs.declared.tasks.Task.{Task}
-use Rattle.call_script.specs.declared.tasks.Task.TheVariants.{Sends, Moves}
-use Rattle.run_record.specs.Runs.{part_of, replies_to}
-use Rattle.run_record.specs.declared.done.Done.{Done}
 use Rattle.run_engine.specs.channels.Hops.{terms_at, ChannelAsked}
-use Rattle.run_engine.specs.runs.Runs.{IsNext, IsRun}
 use Rattle.run_engine.proofs.Channels.HopsAt.{hop-at}
 use Rattle.run_engine.proofs.Tasks.SingleAskTask.{once-asked}
 use Rattle.channel_laws.proofs.UnsentPlans.{row-at-hop}
@@ -43,8 +21,6 @@ use Rattle.run_engine.proofs.Tasks.OwnTasks.{standing-is, script-own, OwnTask, o
 use Rattle.call_script.proofs.TaskBegins.{ready-keeps}
 use Rattle.run_engine.proofs.Tasks.TaskNotes.{once-over}
 use Rattle.run_engine.proofs.Keeping.Lookups.{head-same}
-use Rattle.net_units.specs.declared.numbers.ChanNo.{ChanNo}
-use Rattle.net_units.specs.declared.numbers.LinkNo.{LinkNo}
 
 -- ---- whom a script names
 

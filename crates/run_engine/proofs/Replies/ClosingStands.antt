@@ -1,44 +1,19 @@
 -- Where the owner of a request stands on its way from setting it up to closing it, between two tasks and in the task under way. An entry
 -- of another channel leaves that; as a task begins, and as it is over, the owner stands at the next place.
 use Rattle.call_script.proofs.OneOwner.{closes-sends, sends-used}
-use Rattle.net_units.specs.declared.numbers.ChanNo.{ChanNo}
-use Rattle.net_units.specs.declared.numbers.LinkNo.{LinkNo}
-use Rattle.channel_move.specs.Moving.{first_told}
-use Rattle.channel_move.specs.Stages.{stage_after}
 use Rattle.channel_move.specs.declared.mover.Stage.{Stage}
-use Rattle.channel_move.specs.declared.mover.Stage.TheVariants.{Leaving, Joining, Releasing}
-use Rattle.channel_move.specs.declared.shifted.Shifted.{Shifted}
 use Rattle.link_steps.specs.declared.replies.Reply.TheVariants as Is
-use Rattle.call_script.specs.Owners.{UsedOnce, ClosesOnce, IsSendOn, IsMoveFrom, IsMoveOnto, TaskOff, SendsOnce, FullScript}
-use Rattle.call_script.specs.Scripts.{Settles as Settled_as, newest, ready, planned_as, moved_as, Learnt, is_established, takes_step, from_step, settled_as, outcome_by}
-use Rattle.channel_laws.specs.Unsent.{IsUnsent, NoneSent}
-use Rattle.std.proofs.Common.{◌≡◌, ◌≢◌, ◌⊎◌, ℕ, ◌≤◌, Bool, true, false, List, [], ◌∷◌, ◌++◌, length, Option, Some, None, refl, sym, ap, ◌∙◌, subst, inl, inr}
-use Rattle.std.proofs.lemmas.Bool.{eq-eqb, ne_eqb}
-use Rattle.net_units.specs.Numbers.{channel_number, link_number}
-use Rattle.link_steps.specs.declared.asks.Ask.{Ask}
-use Rattle.link_steps.specs.declared.asks.Ask.TheVariants.{Submit}
-use Rattle.link_steps.specs.declared.replies.Reply.{Reply}
-use Rattle.link_steps.specs.Lists.{Each}
+use Rattle.call_script.specs.Scripts.{Settles as Settled_as}
+use Rattle.std.proofs.Common.{◌≡◌, ◌≢◌, ◌⊎◌, ℕ, ◌≤◌, Bool, true, false, List, [], ◌∷◌, ◌++◌, length, Option, Some, refl, sym, ap, ◌∙◌, subst, inl, inr}
+use Rattle.run_engine.proofs.Words.{ChanNo, LinkNo, first_told, stage_after, Leaving, Joining, Releasing, Shifted, UsedOnce, ClosesOnce, IsSendOn, IsMoveFrom, IsMoveOnto, TaskOff, SendsOnce, FullScript, newest, ready, planned_as, moved_as, Learnt, is_established, takes_step, from_step, settled_as, outcome_by, IsUnsent, NoneSent, eq-eqb, ne_eqb, channel_number, link_number, Ask, Submit, Reply, Each, Outcome, Denies, next_ask, progress_of, Request, Done, NetworkFits, Task, Opens, Closes, Network, part_of, IsRun, IsOff, clock_of, scan_of, after, held_by}
 use Rattle.setup_protocol.specs.Laws.{is_accepted}
-use Rattle.setup_protocol.specs.Setup.{Outcome, Denies, next_ask, progress_of}
 use Rattle.setup_protocol.proofs.HopAsks.{of-setup}
-use Rattle.setup_protocol.specs.declared.request.Request.{Request}
-use Rattle.run_record.specs.declared.done.Done.{Done}
-use Rattle.call_script.specs.Fits.{NetworkFits}
-use Rattle.call_script.specs.declared.tasks.Task.{Task}
-use Rattle.call_script.specs.declared.tasks.Task.TheVariants.{Opens, Closes}
-use Rattle.call_script.specs.Tasks.{Network}
-use Rattle.run_record.specs.Runs.{part_of}
-use Rattle.run_engine.specs.runs.Runs.{IsRun}
 use Rattle.setup_protocol.proofs.HopHolds.{IsComm}
 use Rattle.run_engine.proofs.Channels.RowsFollow.{held_at_hop, Settles}
 use Rattle.run_engine.proofs.Replies.RunGoes.{held-later, open-comm}
-use Rattle.channel_laws.specs.Asks.{IsOff}
 use Rattle.run_engine.specs.channels.Paths.{HopAt}
 use Rattle.run_engine.proofs.Tasks.TaskAsks.{ready-off}
 use Rattle.run_engine.proofs.Runs.RunLegal.{by-part}
-use Rattle.link_steps.specs.Scan.{clock_of, scan_of, after}
-use Rattle.channel_laws.specs.Reservations.{held_by}
 use Rattle.channel_laws.proofs.TermsAfter.{held-submitted}
 use Rattle.run_engine.proofs.Runs.EachRun.{from-step-by}
 use Rattle.std.proofs.Math.Bool.{and-false}
@@ -146,9 +121,8 @@ established-own request outcome outcomes = rw (eq-eqb (channel_number request.ch
 -- packets that are planned change nothing
 pub planned-established : (chan : ChanNo) (own : Option ChanNo) (gap size : ℕ) (replies : List Reply) (outcomes : List Learnt) → is_established chan (planned_as own gap size replies ++ outcomes) ≡ is_established chan outcomes
 unfolding is_established newest
-planned-established chan None gap size replies outcomes = refl
 planned-established chan (Some own) gap size (Is.Planned clock ∷ replies) outcomes = refl
-planned-established chan (Some own) gap size _ outcomes = refl
+planned-established chan _ gap size _ outcomes = refl
 
 -- a move from the channel leaves it
 pub left-established : (request new : Request) (gap size : ℕ) (told : Shifted) (outcomes : List Learnt) → is_established request.chan (moved_as request new gap size (Some told) ++ outcomes) ≡ false

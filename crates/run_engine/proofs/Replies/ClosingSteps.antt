@@ -1,49 +1,17 @@
 -- One reply to the owner of a request: where it stands after it, be it to a task of another channel, a submit, a release or a move.
-use Rattle.std.specs.Prelude.{nat_eq}
-use Rattle.channel_move.specs.Moving.{shifted_in, told_by, first_told}
-use Rattle.channel_move.specs.Stages.{stage_after, joining_after}
-use Rattle.channel_move.specs.declared.mover.Stage.TheVariants.{Releasing}
-use Rattle.channel_move.specs.declared.shifted.Shifted.{Shifted}
 use Rattle.channel_move.proofs.AskByStage.{HopAsked, MoveAsks, AsksFirst, AsksSubmit, AsksRest, move-asks, rest-length}
-use Rattle.link_steps.specs.Scan.{is_row_at_hop, names_first_hop, clock_of, scan_of}
 use Rattle.link_steps.proofs.SearchAndFilter.{Each-find}
 use Rattle.channel_laws.proofs.SizeLaw.{NamesContract, legal-sizes}
 use Rattle.channel_laws.proofs.SendReplies.{found-at-hop, submit-committed, release-committed}
-use Rattle.call_script.specs.Owners.{UsedOnce, ClosesOnce, PacketsOff, TaskOff, SendsOnce, IsMoveFrom, IsMoveOnto}
-use Rattle.call_script.specs.Scripts.{move_between, Learnt, is_established}
 use Rattle.run_engine.specs.channels.Hops.{terms_at}
-use Rattle.channel_laws.specs.Unsent.{IsPlanned}
 use Rattle.channel_laws.proofs.UnsentPlans.{unsent-left, row-at-hop}
 use Rattle.channel_laws.proofs.UnsentSubmits.{unplanned-submit}
 use Rattle.run_engine.proofs.Runs.RunLegal.{part-admissible}
 use Rattle.std.proofs.Common.{◌≡◌, ◌≢◌, suc, ℕ, ◌+◌, ◌≤◌, Bool, true, false, List, [], ◌∷◌, ◌++◌, length, Option, Some, None, refl, sym, ap, ◌∙◌, subst, inl, inr, arith}
-use Rattle.std.proofs.lemmas.Bool.{cases_Bool, ne_eqb}
-use Rattle.std.proofs.lemmas.List.{length_push}
-use Rattle.std.proofs.lemmas.Option.{same_Some, slice_get_within}
-use Rattle.std.specs.List.{slice_get}
-use Rattle.net_units.specs.Numbers.{link_number, channel_number}
-use Rattle.hop_reservation.specs.Routes.{link_of}
-use Rattle.hop_reservation.specs.declared.route.Hop.{Hop}
-use Rattle.link_steps.specs.declared.asks.Ask.{Ask}
-use Rattle.link_steps.specs.declared.asks.Ask.TheVariants.{Submit, Release}
-use Rattle.link_steps.specs.declared.replies.Reply.{Reply}
-use Rattle.link_steps.specs.Lists.{Each}
-use Rattle.link_steps.specs.Replies.{reply_at}
-use Rattle.setup_protocol.specs.Hops.{RequestFits}
-use Rattle.setup_protocol.specs.Teardown.{first_count}
-use Rattle.setup_protocol.specs.declared.request.Request.{Request}
-use Rattle.run_record.specs.declared.done.Done.{Done}
-use Rattle.call_script.specs.Fits.{NetworkFits}
-use Rattle.call_script.specs.declared.tasks.Task.{Task}
-use Rattle.call_script.specs.declared.tasks.Task.TheVariants.{Opens, Sends, Closes, Moves}
-use Rattle.call_script.specs.Tasks.{Network}
-use Rattle.run_record.specs.Runs.{part_of}
-use Rattle.run_engine.specs.runs.Runs.{IsNext}
+use Rattle.run_engine.proofs.Words.{nat_eq, shifted_in, told_by, first_told, stage_after, joining_after, Releasing, Shifted, is_row_at_hop, names_first_hop, clock_of, scan_of, UsedOnce, ClosesOnce, PacketsOff, TaskOff, SendsOnce, IsMoveFrom, IsMoveOnto, move_between, Learnt, is_established, IsPlanned, cases_Bool, ne_eqb, length_push, same_Some, slice_get_within, slice_get, link_number, channel_number, link_of, Hop, Ask, Submit, Release, Reply, Each, reply_at, RequestFits, first_count, Request, Done, NetworkFits, Task, Opens, Sends, Closes, Moves, Network, part_of, IsNext, IsSendReply, IsReleased, IsOff, progress_of}
 use Rattle.run_engine.proofs.Channels.HopsAt.{hop-at}
 use Rattle.setup_protocol.proofs.HopHolds.{IsComm}
 use Rattle.run_engine.proofs.Channels.RowsFollow.{held-elsewhere, hop-reply, other-hop, held_at_hop}
-use Rattle.channel_laws.specs.Reservations.{IsSendReply, IsReleased}
-use Rattle.channel_laws.specs.Asks.{IsOff}
 use Rattle.setup_protocol.proofs.HopAsks.{asked-at, first-named}
 use Rattle.run_engine.proofs.Tasks.SingleAskTask.{once-asked}
 use Rattle.run_engine.proofs.Replies.ClosingStands.{AllComm, Unsent, left_in, left_by, IsUnjoined, Closing, MovingFrom, MovingOnto, comm-later, unsent-later, send-later, Aside, Opening, Sending, UnderWay, between-later, setup-unsent, unsent-more, BetweenTasks}
@@ -52,7 +20,6 @@ use Rattle.run_engine.proofs.Replies.OwnerKinds.{OwnKind, off-leaving, stage-tol
 use Rattle.run_engine.specs.channels.Paths.{HopAt}
 use Rattle.run_engine.proofs.Runs.EachRun.{OwnStep}
 use Rattle.run_engine.proofs.Replies.RunGoes.{OwnedOnce, owned-asked, step-setup}
-use Rattle.setup_protocol.specs.Setup.{progress_of}
 
 -- ---- one reply to the owner
 

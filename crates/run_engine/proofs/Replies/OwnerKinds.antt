@@ -1,29 +1,9 @@
 -- What kinds of entry the owner of a channel makes: one of another channel, one of its setup, a submit on it, or a release of it.
 use Rattle.std.proofs.Common.{◌≡◌, ◌≢◌, ◌⊎◌, ℕ, suc, List, [], ◌∷◌, ◌++◌, length, Some, refl, ap, ◌∙◌, subst, inl, inr, sym}
-use Rattle.std.proofs.lemmas.Bool.{cases_Bool}
-use Rattle.std.specs.Prelude.{nat_eq}
-use Rattle.net_units.specs.Numbers.{link_number, channel_number}
-use Rattle.net_units.specs.declared.numbers.ChanNo.{ChanNo}
-use Rattle.net_units.specs.declared.numbers.LinkNo.{LinkNo}
-use Rattle.link_steps.specs.declared.asks.Ask.{Ask}
-use Rattle.link_steps.specs.declared.asks.Ask.TheVariants.{Submit, Release}
-use Rattle.link_steps.specs.declared.replies.Reply.{Reply}
+use Rattle.run_engine.proofs.Words.{cases_Bool, nat_eq, link_number, channel_number, ChanNo, LinkNo, Ask, Submit, Release, Reply, IsOff, kept_in, shifted_in, told_by, stage_after, joining_after, Leaving, Releasing, Shifted, Progress, asked, first_count, told_count, Request, TaskOff, IsMoveFrom, Network, Task, Opens, Sends, Closes, Moves, Done}
 use Rattle.link_steps.specs.declared.replies.Reply.TheVariants as Is
-use Rattle.channel_laws.specs.Asks.{IsOff}
-use Rattle.channel_move.specs.Moving.{kept_in, shifted_in, told_by}
-use Rattle.channel_move.specs.Stages.{stage_after, joining_after}
-use Rattle.channel_move.specs.declared.mover.Stage.TheVariants.{Leaving, Releasing}
-use Rattle.channel_move.specs.declared.shifted.Shifted.{Shifted}
-use Rattle.setup_protocol.specs.Setup.{Progress, asked}
-use Rattle.setup_protocol.specs.Teardown.{first_count, told_count}
-use Rattle.setup_protocol.specs.declared.request.Request.{Request}
 use Rattle.setup_protocol.proofs.HopAsks.{of-setup}
 use Rattle.setup_protocol.proofs.HopHolds.{IsComm}
-use Rattle.call_script.specs.Owners.{TaskOff, IsMoveFrom}
-use Rattle.call_script.specs.Tasks.{Network}
-use Rattle.call_script.specs.declared.tasks.Task.{Task}
-use Rattle.call_script.specs.declared.tasks.Task.TheVariants.{Opens, Sends, Closes, Moves}
-use Rattle.run_record.specs.declared.done.Done.{Done}
 use Rattle.run_engine.specs.channels.Paths.{HopAt}
 use Rattle.run_engine.proofs.Channels.RowsFollow.{held_at_hop, SetupRows}
 

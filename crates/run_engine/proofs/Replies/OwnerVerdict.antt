@@ -1,27 +1,16 @@
 -- The caller that opens a request is one of the actors, and what the request has come to, as this caller knows it, is the verdict
 -- over the replies of the run.
 use Rattle.std.proofs.Common.{◌≡◌, ℕ, ◌<◌, Option, Some, List, length, sym, ap, ◌∙◌, arith}
-use Rattle.std.proofs.lemmas.Option.{same_Some}
-use Rattle.std.specs.List.{slice_get}
-use Rattle.net_units.specs.Numbers.{actor_number, channel_number}
-use Rattle.setup_protocol.specs.Setup.{Outcome, verdict_of}
+use Rattle.run_engine.proofs.Words.{same_Some, slice_get, actor_number, channel_number, Outcome, verdict_of, PlanParts, IsPlan, moved_off, outcome_in, standing_of, network_of, Shifted, IsRun, replies_to, Done}
 use Rattle.call_script.proofs.PlansFit.{request-fits}
 use Rattle.call_script.proofs.OneOwner.{owned-by}
-use Rattle.call_script.specs.Parts.{PlanParts}
-use Rattle.call_script.specs.Plans.{IsPlan}
-use Rattle.call_script.specs.Scripts.{moved_off, outcome_in, standing_of}
 use Rattle.call_script.specs.Standing.{standing_in}
-use Rattle.call_script.specs.Tasks.{network_of}
 use Rattle.call_script.specs.declared.entries.RequestEntry.{RequestEntry}
-use Rattle.channel_move.specs.declared.shifted.Shifted.{Shifted}
 use Rattle.run_engine.specs.channels.Moves.{moved_in}
-use Rattle.run_engine.specs.runs.Runs.{IsRun}
 use Rattle.run_engine.specs.replies.Verdicts.{setup_replies}
 use Rattle.run_engine.proofs.Keeping.KeptActors.{plane-number}
 use Rattle.run_engine.proofs.Keeping.Lookups.{held}
 use Rattle.run_engine.proofs.Replies.VerdictHolds.{verdicts-follow}
-use Rattle.run_record.specs.Runs.{replies_to}
-use Rattle.run_record.specs.declared.done.Done.{Done}
 
 pub owner-within : (parts : PlanParts) (number : ℕ) (entry : RequestEntry) → IsPlan parts → slice_get parts.requests number ≡ Some entry → actor_number entry.caller < length parts.callers
 owner-within parts number entry plan found =

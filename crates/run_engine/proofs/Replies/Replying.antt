@@ -1,60 +1,22 @@
 -- In every run of a network whose channels each have one owner, each reply is one that its actor expects.
 use Rattle.std.proofs.Common.{◌++◌, Bool, arith, ◌≡◌, ℕ, true, List, [], ◌∷◌, length, Option, Some, None, refl, sym, ap, ◌∙◌, subst, inl, inr}
-use Rattle.std.proofs.lemmas.Option.{slice_get_within, same_Some}
-use Rattle.std.specs.Prelude.{find, nat_le, ◌≤◌, nat_eq}
-use Rattle.hop_reservation.specs.Routes.{link_of}
+use Rattle.run_engine.proofs.Words.{slice_get_within, same_Some, find, nat_le, ◌≤◌, nat_eq, link_of, held_by, IsSendReply, IsReleased, IsArriveReply, Committed, LinkShape, change_first, Each, submit_reply, submit_to, tick_reply, reply_at, reply_to, Reservation, is_phase, Row, left_at, planned_from, Scan, plan_row, after, is_row_at_hop, clock_of, scan_of, RequestFits, IsPlanned, ChanNo, answers, answers_next, next_of_move, OwnedFully, TaskOff, AllOwned, move_between, Standing, packets_ask, once_next, standing, answers_submit, first_expects, Learnt, is_established, cases_Bool, eqb-true, eqb-false, slice_get, link_number, actor_number, channel_number, LinkNo, next_levels, Ask, Submit, Release, Arrive, Tick, Entry, Reply, Link, Progress, Reserving, Undoing, Relaxing, Settled, answers_reserve, answers_deny, answers_relax, is_expected, asked, next_ask, progress_of, is_closing, next_release, Request, NetworkFits, Network, Task, Opens, Sends, Closes, Moves, plane_no, plane_at, IsNext, IsRun, replies_to, part_of, Done, next_due, ask_due, answers_arrive, answers_tick, plane_expects, Flight}
 use Rattle.channel_move.proofs.AskByStage.{HopAsked, MoveAsks, AsksFirst, AsksSubmit, AsksRest, move-asks, move-ask-is}
 use Rattle.channel_laws.proofs.ChannelRows.{find-passes}
 use Rattle.channel_laws.proofs.SendReplies.{found-at-hop, best-answered, of-released}
-use Rattle.channel_laws.specs.Reservations.{held_by, IsSendReply, IsReleased, IsArriveReply}
-use Rattle.link_steps.specs.declared.replies.Phase.TheVariants.{Committed}
-use Rattle.link_steps.specs.declared.shape.LinkShape.{LinkShape}
-use Rattle.link_steps.specs.Lists.{change_first, Each}
-use Rattle.link_steps.specs.Replies.{submit_reply, submit_to, tick_reply, reply_at, reply_to}
-use Rattle.link_steps.specs.Reservation.{Reservation, is_phase}
-use Rattle.link_steps.specs.Rows.{Row, left_at, planned_from}
-use Rattle.link_steps.specs.Scan.{Scan, plan_row, after, is_row_at_hop, clock_of, scan_of}
-use Rattle.setup_protocol.specs.Hops.{RequestFits}
 use Rattle.setup_protocol.proofs.HopHolds.{IsComm}
 use Rattle.run_engine.specs.channels.Moves.{plan_in, plan_at}
 use Rattle.run_engine.proofs.Channels.HopsAt.{hop-at}
-use Rattle.channel_laws.specs.Unsent.{IsPlanned}
 use Rattle.channel_laws.proofs.UnsentPlans.{unsent-left}
-use Rattle.run_engine.proofs.Replies.ClosingStands.{AllComm, Unsent, IsUnjoined, Denied, Closing, MovingFrom, MovingOnto, UnderWay, Aside, Opening, Sending}
+use Rattle.run_engine.proofs.Replies.ClosingStands.{AllComm, Unsent, IsUnjoined, Closing, MovingFrom, MovingOnto, UnderWay, Aside, Opening, Sending}
 use Rattle.run_engine.proofs.Runs.RunLegal.{part-on, plane-next, caller-next}
-use Rattle.net_units.specs.declared.numbers.ChanNo.{ChanNo}
-use Rattle.channel_move.specs.Moving.{answers, answers_next, next_of_move}
-use Rattle.call_script.specs.Owners.{OwnedFully, TaskOff, AllOwned}
-use Rattle.call_script.specs.Scripts.{move_between, Standing, packets_ask, once_next, standing, answers_submit, first_expects, Learnt, is_established}
 use Rattle.run_engine.proofs.Moves.SizesKept.{first-small}
-use Rattle.std.proofs.lemmas.Bool.{cases_Bool, eqb-true, eqb-false}
-use Rattle.std.specs.List.{slice_get}
-use Rattle.net_units.specs.Numbers.{link_number, actor_number, channel_number}
-use Rattle.net_units.specs.declared.numbers.LinkNo.{LinkNo}
-use Rattle.hop_reservation.specs.Offers.{next_levels}
-use Rattle.link_steps.specs.declared.asks.Ask.{Ask}
-use Rattle.link_steps.specs.declared.asks.Ask.TheVariants.{Submit, Release, Arrive, Tick}
-use Rattle.link_steps.specs.declared.replies.Entry.{Entry}
 use Rattle.link_steps.specs.declared.replies.Refusal.TheVariants as Why
-use Rattle.link_steps.specs.declared.replies.Reply.{Reply}
 use Rattle.link_steps.specs.declared.replies.Reply.TheVariants as Is
 use Rattle.link_steps.specs.Effects.{effect_of}
-use Rattle.link_steps.specs.Split.{Link}
-use Rattle.setup_protocol.specs.Setup.{Progress, Reserving, Undoing, Relaxing, Settled, answers_reserve, answers_deny, answers_relax, is_expected, asked, next_ask, progress_of}
-use Rattle.setup_protocol.specs.Teardown.{is_closing, next_release}
-use Rattle.setup_protocol.specs.declared.request.Request.{Request}
-use Rattle.call_script.specs.Fits.{NetworkFits}
-use Rattle.call_script.specs.Tasks.{Network}
-use Rattle.call_script.specs.declared.tasks.Task.{Task}
-use Rattle.call_script.specs.declared.tasks.Task.TheVariants.{Opens, Sends, Closes, Moves}
 use Rattle.channel_laws.proofs.ArriveReplies.{arrive-told, of-arrive}
 use Rattle.run_engine.specs.replies.Answers.{IsReserveReply, IsRelaxed, IsTicked, IsReplyOf}
 use Rattle.run_engine.specs.runs.Laws.{EveryReplyIsExpected, EveryAskIsAnswered}
-use Rattle.run_engine.specs.runs.Runs.{plane_no, plane_at, IsNext, IsRun}
-use Rattle.run_record.specs.Runs.{replies_to, part_of}
-use Rattle.run_record.specs.declared.done.Done.{Done}
-use Rattle.tick_plane.specs.Planes.{next_due, ask_due, answers_arrive, answers_tick, plane_expects}
-use Rattle.tick_plane.specs.declared.flight.Flight.{Flight}
 use Rattle.run_engine.proofs.Replies.ClosingSteps.{IsUsualReply, IfReleased, IfPlanned}
 use Rattle.run_engine.proofs.Replies.RunCloses.{owned-once, step-usual, step-under}
 use Rattle.run_engine.proofs.Replies.RunGoes.{step-setup}

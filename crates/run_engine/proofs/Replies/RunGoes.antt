@@ -1,37 +1,13 @@
 -- In every run each reply to a setup is one of its ask's.
 use Rattle.std.proofs.Common.{◌≡◌, ◌≢◌, ℕ, ◌<◌, ◌≤◌, Bool, true, false, List, [], ◌∷◌, length, get_or, Option, Some, None, refl, sym, ap, ◌∙◌, subst, inl, inr, arith}
-use Rattle.std.proofs.lemmas.Bool.{cases_lt}
-use Rattle.std.proofs.lemmas.Option.{same_Some}
-use Rattle.std.specs.List.{slice_get}
-use Rattle.net_units.specs.Numbers.{link_number, actor_number, channel_number}
-use Rattle.hop_reservation.specs.Offers.{AreLevels}
-use Rattle.link_steps.specs.declared.replies.Phase.TheVariants.{Tentative, Closing}
-use Rattle.link_steps.specs.declared.replies.Reply.{Reply}
-use Rattle.link_steps.specs.Lists.{Each}
-use Rattle.link_steps.specs.Reservation.{Reservation, is_phase}
-use Rattle.link_steps.specs.Scan.{clock_of, scan_of}
+use Rattle.run_engine.proofs.Words.{cases_lt, same_Some, slice_get, link_number, actor_number, channel_number, AreLevels, Tentative, Closing, Reply, Each, Reservation, is_phase, clock_of, scan_of, RequestFits, Outcome, Accepts, Denies, Progress, Relaxing, Settled, offers_in, reach_after, next_ask, progress_of, verdict_of, Request, IsOff, IsMild, channel_packets, held_by, IsOpen, ComesOf, Stays, Closed, NetworkFits, TaskOff, Learnt, outcome_in, standing, Standing, Network, Task, Opens, part_of, replies_to, Done, IsNext, IsRun}
 use Rattle.link_steps.proofs.LegalChannels.{legal-channels}
 use Rattle.link_steps.proofs.SearchAndFilter.{Each-if}
-use Rattle.setup_protocol.specs.Hops.{RequestFits}
-use Rattle.setup_protocol.specs.Setup.{Outcome, Accepts, Denies, Progress, Reserving, Undoing, Relaxing, Settled, offers_in, reach_after, next_ask, progress_of, verdict_of}
-use Rattle.setup_protocol.specs.declared.request.Request.{Request}
 use Rattle.setup_protocol.proofs.HopHolds.{IsTent, IsComm, HopStands, reserved_of, IsTail}
 use Rattle.setup_protocol.proofs.SetupAdvances.{progress-none}
-use Rattle.channel_laws.specs.Asks.{IsOff, IsMild}
-use Rattle.channel_laws.specs.Channels.{channel_packets}
-use Rattle.channel_laws.specs.Reservations.{held_by, IsOpen, ComesOf, Stays, Closed}
 use Rattle.channel_laws.proofs.TermsAfter.{held-off, comes-mild}
-use Rattle.call_script.specs.Fits.{NetworkFits}
-use Rattle.call_script.specs.Owners.{TaskOff}
-use Rattle.call_script.specs.Scripts.{Learnt, outcome_in, standing, Standing}
-use Rattle.call_script.specs.Tasks.{Network}
-use Rattle.call_script.specs.declared.tasks.Task.{Task}
-use Rattle.call_script.specs.declared.tasks.Task.TheVariants.{Opens}
-use Rattle.run_record.specs.Runs.{part_of, replies_to}
-use Rattle.run_record.specs.declared.done.Done.{Done}
 use Rattle.run_engine.specs.channels.Hops.{ChannelAsked}
 use Rattle.run_engine.specs.channels.Paths.{HopAt, packets_at}
-use Rattle.run_engine.specs.runs.Runs.{IsNext, IsRun}
 use Rattle.run_engine.proofs.Channels.HopsAt.{HaveLevelsAt}
 use Rattle.run_engine.proofs.Channels.RowLevels.{levels-held, none-comes}
 use Rattle.run_engine.proofs.Channels.RowsFollow.{held_at_hop, SetupRows, SetupGoes, setup-goes, KeptTerms, AfterRows, Settles, setup-settles, held-here}
@@ -90,11 +66,9 @@ pub open-comm : (request : Request) (levels : List ℕ) (i : ℕ) (held : Option
 open-comm request levels i held comm terms is = (let same : comm.terms ≡ terms = same_Some comm.terms terms (sym comm.is ∙ is) in ap (λ t. is_phase t.phase Closing) (sym same) ∙ ap (λ p. is_phase p Closing) comm.phase)
 
 open-tail : (request : Request) (p : Progress) (i : ℕ) (held : Option Reservation) → IsTail None Some request p i held → IsOpen held
-open-tail request (Reserving os reach) i held none = open-none held none
-open-tail request (Undoing left deny) i held none = open-none held none
 open-tail request (Relaxing left levels) i held comm = open-comm request levels i held comm
 open-tail request (Settled (Accepts levels delay)) i held comm = open-comm request levels i held comm
-open-tail request (Settled (Denies deny)) i held none = open-none held none
+open-tail request _ i held none = open-none held none
 
 open-stands : (request : Request) (offers : List ℕ) (p : Progress) (i : ℕ) (held : Option Reservation) → HopStands None Some request offers p i held → IsOpen held
 open-stands request offers p i held stands =

@@ -1,24 +1,9 @@
 -- In every run what a request has come to is the verdict over the replies to its setup.
 use Rattle.std.proofs.Common.{◌≡◌, ℕ, ◌≤◌, true, false, List, [], ◌∷◌, ◌++◌, length, Option, Some, None, refl, sym, ap, ◌∙◌}
-use Rattle.std.proofs.lemmas.Bool.{eq-eqb, ne_eqb}
-use Rattle.std.specs.List.{slice_get}
-use Rattle.net_units.specs.Numbers.{channel_number}
-use Rattle.net_units.specs.declared.numbers.LinkNo.{LinkNo}
-use Rattle.link_steps.specs.declared.asks.Ask.{Ask}
-use Rattle.link_steps.specs.declared.asks.Ask.TheVariants.{Reserve, Relax, Deny}
-use Rattle.link_steps.specs.declared.replies.Reply.{Reply}
-use Rattle.channel_laws.specs.Asks.{IsMild}
-use Rattle.setup_protocol.specs.Setup.{Outcome, Progress, Settled, asked, progress_of, settled_in, verdict_of}
-use Rattle.setup_protocol.specs.declared.request.Request.{Request}
+use Rattle.run_engine.proofs.Words.{eq-eqb, ne_eqb, slice_get, channel_number, LinkNo, Ask, Reserve, Relax, Deny, Reply, IsMild, Outcome, Progress, Settled, asked, progress_of, settled_in, verdict_of, Request, Standing, standing, outcome_in, Network, Task, replies_to, Done, IsRun}
 use Rattle.setup_protocol.proofs.HopAsks.{of-setup}
 use Rattle.setup_protocol.proofs.SetupAdvances.{none-settled}
-use Rattle.call_script.specs.Scripts.{Standing, standing, outcome_in}
-use Rattle.call_script.specs.Tasks.{Network}
-use Rattle.call_script.specs.declared.tasks.Task.{Task}
-use Rattle.run_record.specs.Runs.{replies_to}
-use Rattle.run_record.specs.declared.done.Done.{Done}
 use Rattle.run_engine.specs.runs.Laws.{VerdictsFollowTheReplies}
-use Rattle.run_engine.specs.runs.Runs.{IsRun}
 use Rattle.run_engine.specs.replies.Verdicts.{is_setup_ask, setup_replies}
 use Rattle.run_engine.proofs.Replies.RunCloses.{owned-once}
 use Rattle.run_engine.proofs.Replies.RunGoes.{OwnedOnce, opens-once}

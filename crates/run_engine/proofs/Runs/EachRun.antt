@@ -1,24 +1,7 @@
 -- What is so before the first step of a run, and is kept by each step of one caller and by each step of the others, is so of where that
 -- caller stands after every run.
 use Rattle.std.proofs.Common.{◌≡◌, ◌≢◌, ℕ, true, false, List, [], ◌∷◌, ◌++◌, Option, Some, None, refl, sym, ap, ◌∙◌, subst, inl, inr}
-use Rattle.std.proofs.lemmas.Bool.{cases_Bool, cond_both, eqb-true, eqb-false}
-use Rattle.std.specs.List.{slice_get}
-use Rattle.std.specs.Prelude.{nat_eq}
-use Rattle.net_units.specs.Numbers.{actor_number}
-use Rattle.net_units.specs.declared.numbers.LinkNo.{LinkNo}
-use Rattle.link_steps.specs.declared.asks.Ask.{Ask}
-use Rattle.link_steps.specs.declared.asks.Ask.TheVariants.{Arrive, Tick}
-use Rattle.link_steps.specs.declared.asks.Packet.{Packet}
-use Rattle.link_steps.specs.declared.replies.Reply.{Reply}
-use Rattle.link_steps.specs.Lists.{Each}
-use Rattle.call_script.specs.Scripts.{Learnt, Standing, task_ask, takes_step, ready, from_step, begun, outcome_by, continued, resumed, standing, first_ask}
-use Rattle.call_script.specs.Tasks.{Network}
-use Rattle.call_script.specs.declared.tasks.Task.{Task}
-use Rattle.tick_plane.specs.declared.flight.Flight.{Flight}
-use Rattle.tick_plane.specs.Planes.{next_due, ask_due}
-use Rattle.run_record.specs.Runs.{replies_to}
-use Rattle.run_record.specs.declared.done.Done.{Done}
-use Rattle.run_engine.specs.runs.Runs.{plane_no, plane_at, IsNext, IsRun}
+use Rattle.run_engine.proofs.Words.{cases_Bool, cond_both, eqb-true, eqb-false, slice_get, nat_eq, actor_number, LinkNo, Ask, Arrive, Tick, Packet, Reply, Each, Learnt, Standing, task_ask, takes_step, ready, from_step, begun, outcome_by, continued, resumed, standing, first_ask, Network, Task, Flight, next_due, ask_due, replies_to, Done, plane_no, plane_at, IsNext, IsRun}
 use Rattle.run_engine.proofs.Runs.RunLegal.{plane-next, caller-next, replies-by, replies-off, owner-asks}
 use Rattle.run_engine.proofs.Tasks.CallerAsksFit.{standing-more}
 

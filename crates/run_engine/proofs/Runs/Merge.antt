@@ -1,12 +1,7 @@
 -- The merge of lists by falling stamps: its stamps fall, it has what stands in the lists, and the entries of one link in it are that
 -- link's list. Two lists whose stamps fall are the same where they hold the same.
 use Rattle.std.proofs.Common.{◌≡◌, ◌≢◌, ℕ, zero, suc, ◌+◌, ◌<◌, ◌≤◌, ◌⊎◌, Bool, true, false, cond, List, [], ◌∷◌, Some, refl, sym, ap, ◌∙◌, subst, inl, inr, arith}
-use Rattle.std.proofs.lemmas.Bool.{cases_Bool, cases_lt, eq-eqb, ne_eqb, ltb-true, lt-ltb, cond_both}
-use Rattle.std.proofs.lemmas.Option.{same_Some}
-use Rattle.std.specs.List.{slice_get}
-use Rattle.std.specs.Prelude.{filter, nat_eq, nat_lt}
-use Rattle.net_units.specs.Numbers.{link_number}
-use Rattle.link_steps.specs.Lists.{Each, Among}
+use Rattle.run_engine.proofs.Words.{cases_Bool, cases_lt, eq-eqb, ne_eqb, ltb-true, lt-ltb, cond_both, same_Some, slice_get, filter, nat_eq, nat_lt, link_number, Each, Among}
 use Rattle.link_steps.proofs.SearchAndFilter.{Each-among}
 use Rattle.run_engine.specs.runs.Weave.{Stamped, put, put_all, woven_of, IsUnder, Falls, IsUnlike, AreStampedApart, PairsApart, AreOf, InOne, StandsIn}
 

@@ -1,15 +1,9 @@
 -- What holds of the part of a run on each link, after every entry: the held rows pass, and it has the hop guarantee.
 use Rattle.std.proofs.Common.{◌≡◌, ℕ, List, [], ◌∷◌, Some}
-use Rattle.std.specs.List.{slice_get}
-use Rattle.link_steps.specs.Split.{Link}
+use Rattle.run_engine.proofs.Words.{slice_get, Link, NetworkFits, Network, IsRun, part_of, Done}
 use Rattle.link_steps.proofs.AdmissionHolds.{held_rows-pass, last-pass}
 use Rattle.link_steps.proofs.HopHolds.{hop-guarantee}
-use Rattle.call_script.specs.Fits.{NetworkFits}
-use Rattle.call_script.specs.Tasks.{Network}
 use Rattle.run_engine.specs.runs.Laws.{HeldRowsPassOn, HeldRowsPassOnEveryLink, EveryHopIsGuaranteed, ClocksFollowThePlane}
-use Rattle.run_engine.specs.runs.Runs.{IsRun}
-use Rattle.run_record.specs.Runs.{part_of}
-use Rattle.run_record.specs.declared.done.Done.{Done}
 use Rattle.run_engine.proofs.Runs.RunLegal.{part-admissible, run-stands}
 
 rows-pass : (network : Network) (run : List Done) (n : ℕ) (link : Link) → NetworkFits network → IsRun network run → slice_get network.links n ≡ Some link → HeldRowsPassOn link n run

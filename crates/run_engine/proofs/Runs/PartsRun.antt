@@ -1,18 +1,6 @@
 -- A list whose part on each link is legal there, and whose part for each actor is asked by its own rules, is a run.
 use Rattle.std.proofs.Common.{◌≡◌, ◌≢◌, ℕ, List, [], ◌∷◌, length, map, Some, refl, sym, ap, ◌∙◌, subst, inl, inr}
-use Rattle.std.proofs.lemmas.Bool.{cases_Bool, eqb-true, eqb-false, eq-eqb, ne_eqb}
-use Rattle.std.specs.List.{slice_get}
-use Rattle.std.specs.Prelude.{nat_eq}
-use Rattle.net_units.specs.Numbers.{link_number, actor_number}
-use Rattle.link_steps.specs.Split.{Link}
-use Rattle.link_steps.specs.Legal.{IsLegal}
-use Rattle.link_steps.specs.Lists.{Each}
-use Rattle.run_record.specs.declared.done.Done.{Done}
-use Rattle.call_script.specs.Scripts.{script_ask}
-use Rattle.call_script.specs.Tasks.{Network}
-use Rattle.tick_plane.specs.Planes.{plane_of, plane_ask}
-use Rattle.run_record.specs.Runs.{is_by, part_of, replies_to}
-use Rattle.run_engine.specs.runs.Runs.{plane_no, next_for, IsRun}
+use Rattle.run_engine.proofs.Words.{cases_Bool, eqb-true, eqb-false, eq-eqb, ne_eqb, slice_get, nat_eq, link_number, actor_number, Link, IsLegal, Each, Done, script_ask, Network, plane_of, plane_ask, is_by, part_of, replies_to, plane_no, next_for, IsRun}
 use Rattle.run_engine.specs.runs.Parts.{reply_of, next_after, IsAsked, own_of, IsLinked}
 use Rattle.run_engine.proofs.Runs.RunLegal.{part-on, part-off}
 

@@ -1,9 +1,6 @@
 -- A prefix of a run's entries, in the order of time, is a run, and the entry after it is its next step; with that step it is a run again.
 use Rattle.std.proofs.Common.{◌≡◌, ℕ, ◌+◌, ◌<◌, List, [], ◌∷◌, ◌++◌, length, get_or, take, drop, reverse, sym, ap, ◌∙◌, subst}
-use Rattle.std.proofs.lemmas.List.{reverse-append, take-append-drop, take_more}
-use Rattle.call_script.specs.Tasks.{Network}
-use Rattle.run_engine.specs.runs.Runs.{IsNext, IsRun}
-use Rattle.run_record.specs.declared.done.Done.{Done}
+use Rattle.run_engine.proofs.Words.{reverse-append, take-append-drop, take_more, Network, IsNext, IsRun, Done}
 
 -- what was done before is a run
 later-run : (network : Network) (later past : List Done) → IsRun network (later ++ past) → IsRun network past

@@ -2,37 +2,10 @@
 use Rattle.channel_laws.proofs.FewLeft.{few-cancelled}
 use Rattle.run_engine.proofs.Tasks.CallerAsksFit.{IfRelease, FewShifted, few-told, IsCallers, StandingFits, standing-asks, begun-fits, replied-fits, AsksLink}
 use Rattle.std.proofs.Common.{◌≡◌, ◌≢◌, ℕ, suc, ◌+◌, ◌<◌, ◌≤◌, cond, List, [], ◌∷◌, length, Option, Some, None, refl, sym, ap, ◌∙◌, subst, inl, inr, arith, lit<}
+use Rattle.run_engine.proofs.Words.{cases_Bool, cond_both, eqb-true, eqb-false, eq-eqb, ne_eqb, le-ltb, same_Some, slice_get_within, slice_get, nat_eq, nat_lt, link_number, actor_number, link_at, LinkNo, Ask, Packet, Release, Arrive, Tick, Entry, Reply, LinkShape, IsAdmissible, Link, SplitFits, AskFits, PacketFits, IsLegal, Each, tick_reply, reply_to, clock_with, clock_of, scan_of, MayReplyTo, Done, TaskFits, NetworkFits, Task, Network, standing, ask_at, script_ask, Flight, Plane, is_due, next_due, ask_due, plane_ask, flight_in, plane_with, plane_after, plane_of, entry_of, replies_to, part_of, plane_no, plane_at, next_for, IsNext, IsRun}
 use Rattle.std.proofs.Math.Nat.{lt_of_le_of_lt}
-use Rattle.std.proofs.lemmas.Bool.{cases_Bool, cond_both, eqb-true, eqb-false, eq-eqb, ne_eqb, le-ltb}
-use Rattle.std.proofs.lemmas.Option.{same_Some, slice_get_within}
-use Rattle.std.specs.List.{slice_get}
-use Rattle.std.specs.Prelude.{nat_eq, nat_lt}
-use Rattle.net_units.specs.Numbers.{link_number, actor_number, link_at}
-use Rattle.net_units.specs.declared.numbers.LinkNo.{LinkNo}
-use Rattle.link_steps.specs.declared.asks.Ask.{Ask}
-use Rattle.link_steps.specs.declared.asks.Packet.{Packet}
-use Rattle.link_steps.specs.declared.asks.Ask.TheVariants.{Release, Arrive, Tick}
-use Rattle.link_steps.specs.declared.replies.Entry.{Entry}
-use Rattle.link_steps.specs.declared.replies.Reply.{Reply}
-use Rattle.link_steps.specs.declared.shape.LinkShape.{LinkShape}
-use Rattle.link_steps.specs.Admissible.{IsAdmissible}
-use Rattle.link_steps.specs.Split.{Link, SplitFits}
-use Rattle.link_steps.specs.Legal.{AskFits, PacketFits, IsLegal}
-use Rattle.link_steps.specs.Lists.{Each}
-use Rattle.link_steps.specs.Replies.{tick_reply, reply_to}
-use Rattle.link_steps.specs.Scan.{clock_with, clock_of, scan_of}
 use Rattle.link_steps.proofs.LegalAdmissible.{may-answer, legal-has, legal-admissible}
-use Rattle.channel_laws.specs.Asks.{MayReplyTo}
 use Rattle.link_steps.proofs.SearchAndFilter.{Each-find}
-use Rattle.run_record.specs.declared.done.Done.{Done}
-use Rattle.call_script.specs.Fits.{TaskFits, NetworkFits}
-use Rattle.call_script.specs.declared.tasks.Task.{Task}
-use Rattle.call_script.specs.Tasks.{Network}
-use Rattle.call_script.specs.Scripts.{standing, ask_at, script_ask}
-use Rattle.tick_plane.specs.declared.flight.Flight.{Flight}
-use Rattle.tick_plane.specs.Planes.{Plane, is_due, next_due, ask_due, plane_ask, flight_in, plane_with, plane_after, plane_of}
-use Rattle.run_record.specs.Runs.{entry_of, replies_to, part_of}
-use Rattle.run_engine.specs.runs.Runs.{plane_no, plane_at, next_for, IsNext, IsRun}
 use Rattle.link_steps.proofs.ListParts.{Each-at}
 use Rattle.channel_laws.proofs.SentInTime.{sent-facts, sent-fits, tick-answer}
 use Rattle.tick_plane.proofs.PlaneFlights.{AsksDue, asks-due, flight-in, flights-with}

@@ -1,17 +1,7 @@
 -- A run of a plan is short: each actor makes at most 1,048,576 steps, and there are at most 65 actors.
 use Rattle.std.proofs.Common.{◌≡◌, ℕ, zero, suc, ◌+◌, ◌*◌, ◌^◌, ◌<◌, ◌≤◌, None, Some, List, [], ◌∷◌, length, refl, sym, ap, inl, inr, arith}
-use Rattle.std.proofs.lemmas.Bool.{cases_eq, cases_lt, ne_eqb}
-use Rattle.std.proofs.lemmas.Option.{slice_get_past}
-use Rattle.net_units.specs.Numbers.{actor_number}
-use Rattle.net_units.specs.declared.numbers.ActorNo.{ActorNo}
-use Rattle.net_units.specs.declared.numbers.LinkNo.{LinkNo}
-use Rattle.link_steps.specs.declared.asks.Ask.{Ask}
+use Rattle.run_engine.proofs.Words.{cases_eq, cases_lt, ne_eqb, slice_get_past, actor_number, ActorNo, LinkNo, Ask, NetworkFits, PlanParts, IsPlan, Network, network_of, plane_no, next_for, IsRun, step, run_from, replies_to, Done}
 use Rattle.call_script.proofs.PlansFit.{plan-fits}
-use Rattle.call_script.specs.Fits.{NetworkFits}
-use Rattle.call_script.specs.Parts.{PlanParts}
-use Rattle.call_script.specs.Plans.{IsPlan}
-use Rattle.call_script.specs.Tasks.{Network, network_of}
-use Rattle.run_engine.specs.runs.Runs.{plane_no, next_for, IsRun, step, run_from}
 use Rattle.run_engine.specs.schedules.Schedules.{HaveSteps, FollowsTurns, repeated}
 use Rattle.run_engine.proofs.Keeping.KeptActors.{plane-number}
 use Rattle.run_engine.proofs.Tasks.StepCounts.{first-most, steps-most}
@@ -19,8 +9,6 @@ use Rattle.run_engine.proofs.Keeping.NextStep.{callers-few}
 use Rattle.run_engine.proofs.Runs.RunLegal.{replies-by, replies-off}
 use Rattle.run_engine.proofs.Runs.RunOf.{step-run}
 use Rattle.run_engine.proofs.Tasks.StepsRunOut.{steps-end}
-use Rattle.run_record.specs.Runs.{replies_to}
-use Rattle.run_record.specs.declared.done.Done.{Done}
 
 -- an actor that asks something is a caller or the plane
 pub asked-below : (network : Network) (past : List Done) (actor : ℕ) (to : LinkNo) (ask : Ask) → next_for network actor past ≡ Some (to, ask) → actor ≤ plane_no network

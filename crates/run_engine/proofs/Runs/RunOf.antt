@@ -1,17 +1,7 @@
 -- A run goes on with the next step of any actor, and is the run of its list of actors.
 use Rattle.std.proofs.Common.{◌≡◌, List, [], ◌∷◌, ◌++◌, map, Option, Some, None, refl, sym, ap, ◌∙◌}
-use Rattle.std.proofs.lemmas.List.{reverse-append}
-use Rattle.std.specs.List.{slice_get}
-use Rattle.std.specs.Prelude.{reverse}
-use Rattle.net_units.specs.Numbers.{link_number, actor_number}
-use Rattle.net_units.specs.declared.numbers.ActorNo.{ActorNo}
-use Rattle.net_units.specs.declared.numbers.LinkNo.{LinkNo}
-use Rattle.link_steps.specs.declared.asks.Ask.{Ask}
-use Rattle.link_steps.specs.Split.{Link}
-use Rattle.call_script.specs.Tasks.{Network}
+use Rattle.run_engine.proofs.Words.{reverse-append, slice_get, reverse, link_number, actor_number, ActorNo, LinkNo, Ask, Link, Network, done_at, stepped, step, run_from, next_for, IsNext, IsRun, Done}
 use Rattle.run_engine.specs.runs.Laws.{actor_of, RunsFollowTheirActors}
-use Rattle.run_engine.specs.runs.Runs.{done_at, stepped, step, run_from, next_for, IsNext, IsRun}
-use Rattle.run_record.specs.declared.done.Done.{Done}
 
 -- ---- the list of its actors gives a run
 

@@ -1,20 +1,10 @@
 -- The merge of the links' journals by stamp is a run, where each journal is legal and each actor's own entries are asked by its
 -- rules.
 use Rattle.std.proofs.Common.{◌≡◌, ℕ, suc, ◌+◌, ◌<◌, ◌≤◌, Bool, List, [], ◌∷◌, length, map, Some, None, refl, sym, ap, ◌∙◌, subst, inl, inr, arith}
-use Rattle.std.proofs.lemmas.Bool.{cases_Bool, eqb-true, eq-eqb}
-use Rattle.std.proofs.lemmas.Option.{slice_get_within}
-use Rattle.std.specs.List.{slice_get}
-use Rattle.std.specs.Prelude.{filter}
-use Rattle.net_units.specs.Numbers.{link_number, actor_number}
-use Rattle.link_steps.specs.Legal.{IsLegal}
-use Rattle.link_steps.specs.Lists.{Each}
+use Rattle.run_engine.proofs.Words.{cases_Bool, eqb-true, eq-eqb, slice_get_within, slice_get, filter, link_number, actor_number, IsLegal, Each, Network, is_by, part_of, Done, next_for, IsRun}
 use Rattle.link_steps.proofs.SearchAndFilter.{Among-filter}
 use Rattle.link_steps.proofs.PacketRows.{Among-passes}
-use Rattle.call_script.specs.Tasks.{Network}
-use Rattle.run_record.specs.Runs.{is_by, part_of}
-use Rattle.run_record.specs.declared.done.Done.{Done}
 use Rattle.run_engine.specs.runs.Parts.{reply_of, next_after, IsAsked, own_of, IsLinked}
-use Rattle.run_engine.specs.runs.Runs.{next_for, IsRun}
 use Rattle.run_engine.specs.runs.Weave.{Stamped, woven_of, Falls, AreOf, done_of, entry_in, AreOwn, AreJournals, AreAsked, run_of, JournalsWeaveToARun}
 use Rattle.run_engine.proofs.Runs.Merge.{is_at, HoldTheSame, falls-woven, woven-part, each-woven, woven-in, in-woven, pairs-apart, falls-same, falls-filter}
 use Rattle.run_engine.proofs.Runs.PartsRun.{next-is, parts-run}

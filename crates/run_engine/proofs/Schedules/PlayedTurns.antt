@@ -1,24 +1,14 @@
 -- What the steps of an engine make of a schedule.
 use Rattle.std.proofs.Common.{◌≡◌, ℕ, suc, ◌+◌, ◌-◌, ◌<◌, true, false, Option, Some, None, IsSome, List, [], ◌∷◌, ◌++◌, length, take, drop, get_or, refl, sym, ap, ◌∙◌, subst, arith}
-use Rattle.std.proofs.lemmas.List.{take-append-drop}
-use Rattle.net_units.specs.Numbers.{actor_number, actor_at}
-use Rattle.net_units.specs.declared.numbers.ActorNo.{ActorNo}
-use Rattle.net_units.specs.declared.numbers.LinkNo.{LinkNo}
-use Rattle.link_steps.specs.declared.asks.Ask.{Ask}
-use Rattle.link_steps.specs.declared.replies.Reply.{Reply}
+use Rattle.run_engine.proofs.Words.{take-append-drop, actor_number, actor_at, ActorNo, LinkNo, Ask, Reply, PlanParts, Network, network_of, Do, plane_no, next_for, run_from, Done}
 use Rattle.call_script.proofs.Walks.{before-at, left-at}
-use Rattle.call_script.specs.Parts.{PlanParts}
-use Rattle.call_script.specs.Tasks.{Network, network_of}
-use Rattle.call_script.specs.declared.schedule.Do.{Do}
 use Rattle.call_script.specs.declared.schedule.Schedule.{Schedule}
-use Rattle.run_engine.specs.runs.Runs.{plane_no, next_for, run_from}
 use Rattle.run_engine.specs.schedules.Schedules.{Turn, turn_of, repeated, lined_turns, turns_of, HaveSteps, FollowsTurns, Stops, StepsOut, PlayedOut, PlayedBy, IsPlayed, IsStop, IsMissing}
 use Rattle.run_engine.specs.schedules.Standing.{StepsTo}
 use Rattle.run_engine.specs.declared.playing.PlayFault.{PlayFault}
 use Rattle.run_engine.specs.declared.playing.PlayFault.TheVariants.{Memory, Step}
 use Rattle.run_engine.proofs.Keeping.KeptActors.{plane-number}
 use Rattle.run_engine.proofs.Schedules.ScheduleOutcome.{follows-none, follows-one, follows-more, repeated-more, repeated-split, repeated-actors, lined-append, lined-one, turns-append, turns-one, stops-after, stops-before, stops-now}
-use Rattle.run_record.specs.declared.done.Done.{Done}
 
 -- ---- turns
 

@@ -1,21 +1,11 @@
 -- A schedule comes to a run, or asks too much: to exactly one of these, and to one run or one line. What it comes to is a run.
 use Rattle.std.proofs.Common.{◌≡◌, ℕ, zero, suc, ◌+◌, ◌-◌, ◌<◌, ◌≤◌, Bool, true, false, Option, Some, None, IsSome, List, [], ◌∷◌, ◌++◌, length, map, refl, sym, ap, ◌∙◌, subst, arith}
-use Rattle.std.proofs.lemmas.List.{append_assoc, append-nil, map-append}
-use Rattle.net_units.specs.Numbers.{actor_number, actor_at}
-use Rattle.net_units.specs.declared.numbers.ActorNo.{ActorNo}
-use Rattle.net_units.specs.declared.numbers.LinkNo.{LinkNo}
-use Rattle.link_steps.specs.declared.asks.Ask.{Ask}
-use Rattle.call_script.specs.Fits.{NetworkFits}
-use Rattle.call_script.specs.Tasks.{Network}
-use Rattle.call_script.specs.declared.schedule.Do.{Do}
+use Rattle.run_engine.proofs.Words.{append_assoc, append-nil, map-append, actor_number, actor_at, ActorNo, LinkNo, Ask, NetworkFits, Network, Do, plane_no, next_for, IsRun, step, run_from, replies_to, Done}
 use Rattle.call_script.specs.declared.schedule.Schedule.{Schedule}
-use Rattle.run_engine.specs.runs.Runs.{plane_no, next_for, IsRun, step, run_from}
 use Rattle.run_engine.specs.schedules.Schedules.{Turn, actor_in, turn_of, repeated, lined_turns, turns_of, HaveSteps, FollowsTurns, Stops, StepsOut, PlayedOut, PlayedBy, StopsBy, ComesTo, ARun, TooMuch, SchedulesComeToOneEnd}
 use Rattle.run_engine.specs.runs.Turns.{most_left}
 use Rattle.run_engine.proofs.Runs.RunOf.{step-run, none-run, from-run}
 use Rattle.run_engine.proofs.Tasks.StepsRunOut.{makes-one}
-use Rattle.run_record.specs.Runs.{replies_to}
-use Rattle.run_record.specs.declared.done.Done.{Done}
 use Rattle.run_record.proofs.OneSortedList.{head-of}
 use Rattle.run_engine.proofs.Keeping.Lookups.{tail-same}
 
@@ -130,14 +120,15 @@ data TurnsEnd (network : Network) (past : List Done) (turns : List Turn) : Type 
   AllServed : HaveSteps network past (map actor_in turns) → TurnsEnd network past turns
   OneStops : (line made : ℕ) → Stops network past turns line made → TurnsEnd network past turns
 
-with-turn : (network : Network) (past : List Done) (turn : Turn) (turns : List Turn) → IsSome (next_for network (actor_number turn.actor) past) → TurnsEnd network (step network turn.actor past) turns → TurnsEnd network past (turn ∷ turns)
-unfolding HaveSteps
-with-turn network past turn turns some (AllServed have) = AllServed (some, have)
-with-turn network past turn turns some (OneStops line made stop) = OneStops line made (stops-after network past (step network turn.actor past) (turn ∷ []) turns line made (follows-one network past (step network turn.actor past) turn.actor some refl) stop)
+module _ (network : Network) (past : List Done) (turn : Turn) (turns : List Turn) where
+  with-turn : IsSome (next_for network (actor_number turn.actor) past) → TurnsEnd network (step network turn.actor past) turns → TurnsEnd network past (turn ∷ turns)
+  unfolding HaveSteps
+  with-turn some (AllServed have) = AllServed (some, have)
+  with-turn some (OneStops line made stop) = OneStops line made (stops-after network past (step network turn.actor past) (turn ∷ []) turns line made (follows-one network past (step network turn.actor past) turn.actor some refl) stop)
 
-turns-next : (network : Network) (past : List Done) (turn : Turn) (turns : List Turn) (next : Option (LinkNo × Ask)) → next_for network (actor_number turn.actor) past ≡ next → TurnsEnd network (step network turn.actor past) turns → TurnsEnd network past (turn ∷ turns)
-turns-next network past turn turns None is rest = OneStops turn.line (length (replies_to (actor_number turn.actor) past)) (stops-now network past turn turns _ _ is refl refl)
-turns-next network past turn turns (Some to) is rest = with-turn network past turn turns (subst (λ (o : Option (LinkNo × Ask)). IsSome o) (sym is) refl) rest
+  turns-next : (next : Option (LinkNo × Ask)) → next_for network (actor_number turn.actor) past ≡ next → TurnsEnd network (step network turn.actor past) turns → TurnsEnd network past (turn ∷ turns)
+  turns-next None is rest = OneStops turn.line (length (replies_to (actor_number turn.actor) past)) (stops-now network past turn turns _ _ is refl refl)
+  turns-next (Some to) is rest = with-turn (subst (λ (o : Option (LinkNo × Ask)). IsSome o) (sym is) refl) rest
 
 turns-end : (network : Network) (past : List Done) (turns : List Turn) → TurnsEnd network past turns
 unfolding HaveSteps
@@ -163,117 +154,118 @@ record SameStop (before other : List Turn) (turn turn_other : Turn) : Type 0 whe
   pub befores : before ≡ other
   pub turns : turn ≡ turn_other
 
-same-stop : (network : Network) (past : List Done) (before other : List Turn) (turn turn_other : Turn) (after after_other : List Turn) → before ++ turn ∷ after ≡ other ++ turn_other ∷ after_other → HaveSteps network past (map actor_in before) → HaveSteps network past (map actor_in other)
-    → next_for network (actor_number turn.actor) (run_from network past (map actor_in before)) ≡ None → next_for network (actor_number turn_other.actor) (run_from network past (map actor_in other)) ≡ None → SameStop before other turn turn_other
-unfolding HaveSteps run_from
-same-stop network past [] [] turn turn_other after after_other same have have_other over over_other = record { befores = refl; turns = head-of turn turn_other after after_other same }
-same-stop network past [] (first ∷ other) turn turn_other after after_other same have have_other over over_other =
-    absurd (not-left _ over (subst (λ (t : Turn). IsSome (next_for network (actor_number t.actor) past)) (sym (head-of turn first after (other ++ turn_other ∷ after_other) same)) have_other.0))
-same-stop network past (first ∷ before) [] turn turn_other after after_other same have have_other over over_other =
-    absurd (not-left _ over_other (subst (λ (t : Turn). IsSome (next_for network (actor_number t.actor) past)) (head-of first turn_other (before ++ turn ∷ after) after_other same) have.0))
-same-stop network past (first ∷ before) (second ∷ other) turn turn_other after after_other same have have_other over over_other =
-    let head : second ≡ first = sym (head-of first second (before ++ turn ∷ after) (other ++ turn_other ∷ after_other) same) in
-    let mine : HaveSteps network (step network first.actor past) (map actor_in other) = subst (λ (t : Turn). HaveSteps network (step network t.actor past) (map actor_in other)) head have_other.1 in
-    let ends : next_for network (actor_number turn_other.actor) (run_from network (step network first.actor past) (map actor_in other)) ≡ None = subst (λ (t : Turn). next_for network (actor_number turn_other.actor) (run_from network (step network t.actor past) (map actor_in other)) ≡ None) head over_other in
-    let rest = same-stop network (step network first.actor past) before other turn turn_other after after_other (tail-same first (before ++ turn ∷ after) second (other ++ turn_other ∷ after_other) same) have.1 mine over ends in
-    record { befores = ap (λ (t : Turn). t ∷ before) (sym head) ∙ ap (λ ts. second ∷ ts) rest.befores; turns = rest.turns }
+module _ (network : Network) where
+  same-stop : (past : List Done) (before other : List Turn) (turn turn_other : Turn) (after after_other : List Turn) → before ++ turn ∷ after ≡ other ++ turn_other ∷ after_other → HaveSteps network past (map actor_in before) → HaveSteps network past (map actor_in other)
+      → next_for network (actor_number turn.actor) (run_from network past (map actor_in before)) ≡ None → next_for network (actor_number turn_other.actor) (run_from network past (map actor_in other)) ≡ None → SameStop before other turn turn_other
+  unfolding HaveSteps run_from
+  same-stop past [] [] turn turn_other after after_other same have have_other over over_other = record { befores = refl; turns = head-of turn turn_other after after_other same }
+  same-stop past [] (first ∷ other) turn turn_other after after_other same have have_other over over_other =
+      absurd (not-left _ over (subst (λ (t : Turn). IsSome (next_for network (actor_number t.actor) past)) (sym (head-of turn first after (other ++ turn_other ∷ after_other) same)) have_other.0))
+  same-stop past (first ∷ before) [] turn turn_other after after_other same have have_other over over_other =
+      absurd (not-left _ over_other (subst (λ (t : Turn). IsSome (next_for network (actor_number t.actor) past)) (head-of first turn_other (before ++ turn ∷ after) after_other same) have.0))
+  same-stop past (first ∷ before) (second ∷ other) turn turn_other after after_other same have have_other over over_other =
+      let head : second ≡ first = sym (head-of first second (before ++ turn ∷ after) (other ++ turn_other ∷ after_other) same) in
+      let mine : HaveSteps network (step network first.actor past) (map actor_in other) = subst (λ (t : Turn). HaveSteps network (step network t.actor past) (map actor_in other)) head have_other.1 in
+      let ends : next_for network (actor_number turn_other.actor) (run_from network (step network first.actor past) (map actor_in other)) ≡ None = subst (λ (t : Turn). next_for network (actor_number turn_other.actor) (run_from network (step network t.actor past) (map actor_in other)) ≡ None) head over_other in
+      let rest = same-stop (step network first.actor past) before other turn turn_other after after_other (tail-same first (before ++ turn ∷ after) second (other ++ turn_other ∷ after_other) same) have.1 mine over ends in
+      record { befores = ap (λ (t : Turn). t ∷ before) (sym head) ∙ ap (λ ts. second ∷ ts) rest.befores; turns = rest.turns }
 
-stops-once : (network : Network) (past : List Done) (turns : List Turn) (line made line_other made_other : ℕ) → Stops network past turns line made → Stops network past turns line_other made_other → (line ≡ line_other) × (made ≡ made_other)
-stops-once network past turns line made line_other made_other one two =
-    let is = same-stop network past one.before two.before one.turn two.turn one.after two.after (sym one.are ∙ two.are) one.served two.served one.over two.over in (
-      one.asks ∙ ap (λ (t : Turn). t.line) is.turns ∙ sym two.asks,
-      one.has_made ∙ ap (λ ts. length (replies_to (actor_number one.turn.actor) (run_from network past (map actor_in ts)))) is.befores
-          ∙ ap (λ (t : Turn). length (replies_to (actor_number t.actor) (run_from network past (map actor_in two.before)))) is.turns ∙ sym two.has_made,
-    )
+  stops-once : (past : List Done) (turns : List Turn) (line made line_other made_other : ℕ) → Stops network past turns line made → Stops network past turns line_other made_other → (line ≡ line_other) × (made ≡ made_other)
+  stops-once past turns line made line_other made_other one two =
+      let is = same-stop past one.before two.before one.turn two.turn one.after two.after (sym one.are ∙ two.are) one.served two.served one.over two.over in (
+        one.asks ∙ ap (λ (t : Turn). t.line) is.turns ∙ sym two.asks,
+        one.has_made ∙ ap (λ ts. length (replies_to (actor_number one.turn.actor) (run_from network past (map actor_in ts)))) is.befores
+            ∙ ap (λ (t : Turn). length (replies_to (actor_number t.actor) (run_from network past (map actor_in two.before)))) is.turns ∙ sym two.has_made,
+      )
 
--- ---- each actor to its end
+  -- ---- each actor to its end
 
--- an actor comes to its end once
-same-end : (network : Network) (past run other : List Done) (actor : ActorNo) (count count_other : ℕ) → FollowsTurns network past (repeated count actor) run → FollowsTurns network past (repeated count_other actor) other → next_for network (actor_number actor) run ≡ None → next_for network (actor_number actor) other ≡ None → run ≡ other
-unfolding repeated HaveSteps run_from
-same-end network past run other actor zero zero one two over over_other = one.is ∙ sym two.is
-same-end network past run other actor zero (suc count) one two over over_other = absurd (not-left _ (ap (next_for network (actor_number actor)) (sym one.is) ∙ over) two.served.0)
-same-end network past run other actor (suc count) zero one two over over_other = absurd (not-left _ (ap (next_for network (actor_number actor)) (sym two.is) ∙ over_other) one.served.0)
-same-end network past run other actor (suc count) (suc more) one two over over_other =
-    same-end network (step network actor past) run other actor count more (record { served = one.served.1; is = one.is }) (record { served = two.served.1; is = two.is }) over over_other
+  -- an actor comes to its end once
+  same-end : (past run other : List Done) (actor : ActorNo) (count count_other : ℕ) → FollowsTurns network past (repeated count actor) run → FollowsTurns network past (repeated count_other actor) other → next_for network (actor_number actor) run ≡ None → next_for network (actor_number actor) other ≡ None → run ≡ other
+  unfolding repeated HaveSteps run_from
+  same-end past run other actor zero zero one two over over_other = one.is ∙ sym two.is
+  same-end past run other actor zero (suc count) one two over over_other = absurd (not-left _ (ap (next_for network (actor_number actor)) (sym one.is) ∙ over) two.served.0)
+  same-end past run other actor (suc count) zero one two over over_other = absurd (not-left _ (ap (next_for network (actor_number actor)) (sym two.is) ∙ over_other) one.served.0)
+  same-end past run other actor (suc count) (suc more) one two over over_other =
+      same-end (step network actor past) run other actor count more (record { served = one.served.1; is = one.is }) (record { served = two.served.1; is = two.is }) over over_other
 
-out-once : (network : Network) (past run other : List Done) (actor : ActorNo) → StepsOut network past actor run → StepsOut network past actor other → run ≡ other
-out-once network past run other actor one two = same-end network past run other actor one.count two.count one.steps two.steps one.over two.over
+  out-once : (past run other : List Done) (actor : ActorNo) → StepsOut network past actor run → StepsOut network past actor other → run ≡ other
+  out-once past run other actor one two = same-end past run other actor one.count two.count one.steps two.steps one.over two.over
 
-played-once : (network : Network) (n : ℕ) (run other : List Done) → PlayedOut network n run → PlayedOut network n other → run ≡ other
-unfolding PlayedOut
-played-once network zero run other one two = one ∙ sym two
-played-once network (suc n) run other one two =
-    let same = played-once network n one.0 two.0 one.1 two.1 in
-    out-once network one.0 run other (actor_at n) one.2 (subst (λ past. StepsOut network past (actor_at n) other) (sym same) two.2)
+  played-once : (n : ℕ) (run other : List Done) → PlayedOut network n run → PlayedOut network n other → run ≡ other
+  unfolding PlayedOut
+  played-once zero run other one two = one ∙ sym two
+  played-once (suc n) run other one two =
+      let same = played-once n one.0 two.0 one.1 two.1 in
+      out-once one.0 run other (actor_at n) one.2 (subst (λ past. StepsOut network past (actor_at n) other) (sym same) two.2)
 
--- one step more, and to the end
-pub out-more : (network : Network) (past run : List Done) (actor : ActorNo) → IsSome (next_for network (actor_number actor) past) → StepsOut network (step network actor past) actor run → StepsOut network past actor run
-unfolding repeated HaveSteps run_from
-out-more network past run actor some out = record { count = suc out.count; steps = record { served = (some, out.steps.served); is = out.steps.is }; over = out.over }
+  -- one step more, and to the end
+  pub out-more : (past run : List Done) (actor : ActorNo) → IsSome (next_for network (actor_number actor) past) → StepsOut network (step network actor past) actor run → StepsOut network past actor run
+  unfolding repeated HaveSteps run_from
+  out-more past run actor some out = record { count = suc out.count; steps = record { served = (some, out.steps.served); is = out.steps.is }; over = out.over }
 
-out-now : (network : Network) (past : List Done) (actor : ActorNo) → next_for network (actor_number actor) past ≡ None → StepsOut network past actor past
-unfolding repeated
-out-now network past actor none = record { count = 0; steps = follows-none network past; over = none }
+  out-now : (past : List Done) (actor : ActorNo) → next_for network (actor_number actor) past ≡ None → StepsOut network past actor past
+  unfolding repeated
+  out-now past actor none = record { count = 0; steps = follows-none network past; over = none }
 
--- at its end, or one step before
-at-end : (network : Network) (most : ℕ) (past : List Done) (actor : ActorNo) → NetworkFits network → IsRun network past → most_left network (actor_number actor) past ≤ most → (next : Option (LinkNo × Ask)) → next_for network (actor_number actor) past ≡ next
-    → ((more : List Done) → IsRun network more → most_left network (actor_number actor) more < most_left network (actor_number actor) past → (run : List Done) × StepsOut network more actor run) → (run : List Done) × StepsOut network past actor run
-at-end network most past actor fits run few None is further = (past, out-now network past actor is)
-at-end network most past actor fits run few (Some to) is further =
-    let some : IsSome (next_for network (actor_number actor) past) = subst (λ (o : Option (LinkNo × Ask)). IsSome o) (sym is) refl in
-    let one = makes-one network past actor fits run some in
-    let rest = further (step network actor past) (step-run network past actor run) one.fewer in
-    (rest.0, out-more network past rest.0 actor some rest.1)
+  -- at its end, or one step before
+  at-end : (most : ℕ) (past : List Done) (actor : ActorNo) → NetworkFits network → IsRun network past → most_left network (actor_number actor) past ≤ most → (next : Option (LinkNo × Ask)) → next_for network (actor_number actor) past ≡ next
+      → ((more : List Done) → IsRun network more → most_left network (actor_number actor) more < most_left network (actor_number actor) past → (run : List Done) × StepsOut network more actor run) → (run : List Done) × StepsOut network past actor run
+  at-end most past actor fits run few None is further = (past, out-now past actor is)
+  at-end most past actor fits run few (Some to) is further =
+      let some : IsSome (next_for network (actor_number actor) past) = subst (λ (o : Option (LinkNo × Ask)). IsSome o) (sym is) refl in
+      let one = makes-one network past actor fits run some in
+      let rest = further (step network actor past) (step-run network past actor run) one.fewer in
+      (rest.0, out-more past rest.0 actor some rest.1)
 
--- each actor comes to its end, as it has fewer steps left with each
-steps-out : (network : Network) (most : ℕ) (past : List Done) (actor : ActorNo) → NetworkFits network → IsRun network past → most_left network (actor_number actor) past ≤ most → (run : List Done) × StepsOut network past actor run
-steps-out network zero past actor fits run few = at-end network zero past actor fits run few (next_for network (actor_number actor) past) refl (λ next is_run less. absurd (omega (arith, few, less)))
-steps-out network (suc most) past actor fits run few = at-end network (suc most) past actor fits run few (next_for network (actor_number actor) past) refl (λ next is_run less. steps-out network most next actor fits is_run (omega (arith, few, less)))
+  -- each actor comes to its end, as it has fewer steps left with each
+  steps-out : (most : ℕ) (past : List Done) (actor : ActorNo) → NetworkFits network → IsRun network past → most_left network (actor_number actor) past ≤ most → (run : List Done) × StepsOut network past actor run
+  steps-out zero past actor fits run few = at-end zero past actor fits run few (next_for network (actor_number actor) past) refl (λ next is_run less. absurd (omega (arith, few, less)))
+  steps-out (suc most) past actor fits run few = at-end (suc most) past actor fits run few (next_for network (actor_number actor) past) refl (λ next is_run less. steps-out most next actor fits is_run (omega (arith, few, less)))
 
-out-run : (network : Network) (past run : List Done) (actor : ActorNo) → IsRun network past → StepsOut network past actor run → IsRun network run
-out-run network past run actor is out = subst (IsRun network) (sym out.steps.is) (from-run network past (repeated out.count actor) is)
+  out-run : (past run : List Done) (actor : ActorNo) → IsRun network past → StepsOut network past actor run → IsRun network run
+  out-run past run actor is out = subst (IsRun network) (sym out.steps.is) (from-run network past (repeated out.count actor) is)
 
-played-run : (network : Network) (n : ℕ) (run : List Done) → PlayedOut network n run → IsRun network run
-unfolding PlayedOut
-played-run network zero run played = subst (IsRun network) (sym played) (none-run network)
-played-run network (suc n) run played = out-run network played.0 run (actor_at n) (played-run network n played.0 played.1) played.2
+  played-run : (n : ℕ) (run : List Done) → PlayedOut network n run → IsRun network run
+  unfolding PlayedOut
+  played-run zero run played = subst (IsRun network) (sym played) (none-run network)
+  played-run (suc n) run played = out-run played.0 run (actor_at n) (played-run n played.0 played.1) played.2
 
--- every actor in turn
-plays-out : (network : Network) (n : ℕ) → NetworkFits network → (run : List Done) × PlayedOut network n run
-unfolding PlayedOut
-plays-out network zero fits = ([], refl)
-plays-out network (suc n) fits =
-    let before = plays-out network n fits in
-    let out = steps-out network (most_left network (actor_number (actor_at n)) before.0) before.0 (actor_at n) fits (played-run network n before.0 before.1) (omega arith) in
-    (out.0, (before.0, before.1, out.1))
+  -- every actor in turn
+  plays-out : (n : ℕ) → NetworkFits network → (run : List Done) × PlayedOut network n run
+  unfolding PlayedOut
+  plays-out zero fits = ([], refl)
+  plays-out (suc n) fits =
+      let before = plays-out n fits in
+      let out = steps-out (most_left network (actor_number (actor_at n)) before.0) before.0 (actor_at n) fits (played-run n before.0 before.1) (omega arith) in
+      (out.0, (before.0, before.1, out.1))
 
--- ---- the law
+  -- ---- the law
 
-written-or-not : (network : Network) (schedule : Schedule) (written : Bool) → NetworkFits network → schedule.written ≡ written → ComesTo network schedule
-written-or-not network schedule true fits is = by-turns (turns-end network [] (lined_turns schedule.items)) where
-  by-turns : TurnsEnd network [] (lined_turns schedule.items) → ComesTo network schedule
-  by-turns (AllServed have) = ARun (run_from network [] (turns_of schedule.items)) (subst (λ w. PlayedBy network w schedule.items (run_from network [] (turns_of schedule.items))) (sym is) (record { served = have; is = refl }))
-  by-turns (OneStops line made stop) = TooMuch line made (subst (λ w. StopsBy network w schedule.items line made) (sym is) stop)
-written-or-not network schedule false fits is =
-    let out = plays-out network (suc (plane_no network)) fits in
-    ARun out.0 (subst (λ w. PlayedBy network w schedule.items out.0) (sym is) out.1)
+  written-or-not : (schedule : Schedule) (written : Bool) → NetworkFits network → schedule.written ≡ written → ComesTo network schedule
+  written-or-not schedule true fits is = by-turns (turns-end network [] (lined_turns schedule.items)) where
+    by-turns : TurnsEnd network [] (lined_turns schedule.items) → ComesTo network schedule
+    by-turns (AllServed have) = ARun (run_from network [] (turns_of schedule.items)) (subst (λ w. PlayedBy network w schedule.items (run_from network [] (turns_of schedule.items))) (sym is) (record { served = have; is = refl }))
+    by-turns (OneStops line made stop) = TooMuch line made (subst (λ w. StopsBy network w schedule.items line made) (sym is) stop)
+  written-or-not schedule false fits is =
+      let out = plays-out (suc (plane_no network)) fits in
+      ARun out.0 (subst (λ w. PlayedBy network w schedule.items out.0) (sym is) out.1)
 
-by-not-both : (network : Network) (written : Bool) (items : List Do) (run : List Done) (line made : ℕ) → PlayedBy network written items run → StopsBy network written items line made → ⊥
-by-not-both network true items run line made played stop = follows-or-stops network [] run (lined_turns items) line made played stop
-by-not-both network false items run line made played stop = stop
+  by-not-both : (written : Bool) (items : List Do) (run : List Done) (line made : ℕ) → PlayedBy network written items run → StopsBy network written items line made → ⊥
+  by-not-both true items run line made played stop = follows-or-stops network [] run (lined_turns items) line made played stop
+  by-not-both false items run line made played stop = stop
 
-by-one-run : (network : Network) (written : Bool) (items : List Do) (run other : List Done) → PlayedBy network written items run → PlayedBy network written items other → run ≡ other
-by-one-run network true items run other one two = one.is ∙ sym two.is
-by-one-run network false items run other one two = played-once network (suc (plane_no network)) run other one two
+  by-one-run : (written : Bool) (items : List Do) (run other : List Done) → PlayedBy network written items run → PlayedBy network written items other → run ≡ other
+  by-one-run true items run other one two = one.is ∙ sym two.is
+  by-one-run false items run other one two = played-once (suc (plane_no network)) run other one two
 
-by-one-line : (network : Network) (written : Bool) (items : List Do) (line made line_other made_other : ℕ) → StopsBy network written items line made → StopsBy network written items line_other made_other → (line ≡ line_other) × (made ≡ made_other)
-by-one-line network true items line made line_other made_other one two = stops-once network [] (lined_turns items) line made line_other made_other one two
-by-one-line network false items line made line_other made_other one two = absurd one
+  by-one-line : (written : Bool) (items : List Do) (line made line_other made_other : ℕ) → StopsBy network written items line made → StopsBy network written items line_other made_other → (line ≡ line_other) × (made ≡ made_other)
+  by-one-line true items line made line_other made_other one two = stops-once [] (lined_turns items) line made line_other made_other one two
+  by-one-line false items line made line_other made_other one two = absurd one
 
-by-run : (network : Network) (written : Bool) (items : List Do) (run : List Done) → PlayedBy network written items run → IsRun network run
-by-run network true items run played = subst (IsRun network) (sym played.is) (from-run network [] (turns_of items) (none-run network))
-by-run network false items run played = played-run network (suc (plane_no network)) run played
+  by-run : (written : Bool) (items : List Do) (run : List Done) → PlayedBy network written items run → IsRun network run
+  by-run true items run played = subst (IsRun network) (sym played.is) (from-run network [] (turns_of items) (none-run network))
+  by-run false items run played = played-run (suc (plane_no network)) run played
 
 pub one-end : SchedulesComeToOneEnd
 one-end = record {

@@ -1,42 +1,15 @@
 -- Where a caller stands, its tasks and the offers of its setup fit, and what it asks meets the conditions on an ask.
 use Rattle.channel_move.proofs.AskByStage.{hop-asked, MoveAsks, AsksFirst, AsksSubmit, AsksRest, move-asks}
-use Rattle.channel_move.specs.Moving.{shifted_in}
 use Rattle.net_units.specs.Limits.{most_packets}
-use Rattle.net_units.specs.declared.numbers.ChanNo.{ChanNo}
-use Rattle.std.specs.Prelude.{nat_eq, not, ◌&&◌}
 use Rattle.std.proofs.Common.{arith, ◌≡◌, ℕ, zero, suc, ◌-◌, ◌≤◌, true, List, [], ◌∷◌, ◌++◌, length, Option, Some, None, refl, sym, ap, ◌∙◌, subst, inl, inr}
-use Rattle.std.proofs.lemmas.Bool.{cases_Bool, cases_lt, cond_both, eqb-false}
-use Rattle.std.proofs.lemmas.Option.{same_Some}
-use Rattle.std.specs.List.{slice_get}
-use Rattle.net_units.specs.Numbers.{link_number, level_number}
-use Rattle.net_units.specs.declared.numbers.LinkNo.{LinkNo}
+use Rattle.run_engine.proofs.Words.{shifted_in, ChanNo, nat_eq, not, ◌&&◌, cases_Bool, cases_lt, cond_both, eqb-false, same_Some, slice_get, link_number, level_number, LinkNo, AreLevels, IsLevelOf, Hop, Ask, Relax, Submit, Deny, Release, Arrive, Tick, Entry, Reply, LinkShape, Link, AskFits, SubmitFits, Each, Progress, Reserving, Settled, is_offer, level_in, offers_in, after_offers, reach_after, undoing, relaxing, on_the_way, after_test, at_destination, asked, asked_of, reserve_of, next_ask, progress_of, first_count, Request, TaskFits, IsHopOf, RequestFits, Task, Opens, Sends, Closes, Moves, Learnt, Settles, PlannedOn, MovedTo, Standing, Packets, packets_ask, task_ask, takes_step, ready, from_step, begun, is_that, newest, or_before, packets_by, packets_in, last_packets, move_between, outcome_by, continued, resumed, replied, standing, first_ask, ask_at, FewCancelled, MayReplyTo, IsReserve}
 use Rattle.net_units.specs.declared.numbers.Level.{Level}
-use Rattle.hop_reservation.specs.Offers.{AreLevels, IsLevelOf}
-use Rattle.hop_reservation.specs.declared.route.Hop.{Hop}
 use Rattle.hop_reservation.proofs.OneMoreOffer.{AreLevels-push}
-use Rattle.link_steps.specs.declared.asks.Ask.{Ask}
-use Rattle.link_steps.specs.declared.asks.Ask.TheVariants.{Relax, Submit, Deny, Release, Arrive, Tick}
-use Rattle.link_steps.specs.declared.replies.Entry.{Entry}
-use Rattle.link_steps.specs.declared.replies.Reply.{Reply}
 use Rattle.link_steps.specs.declared.replies.Reply.TheVariants as Is
-use Rattle.link_steps.specs.declared.shape.LinkShape.{LinkShape}
-use Rattle.link_steps.specs.Split.{Link}
-use Rattle.link_steps.specs.Legal.{AskFits, SubmitFits}
-use Rattle.link_steps.specs.Lists.{Each}
 use Rattle.relaxation.specs.declared.EndDenial.{EndDenial}
-use Rattle.setup_protocol.specs.Setup.{Progress, Reserving, Settled, is_offer, level_in, offers_in, after_offers, reach_after, undoing, relaxing, on_the_way, after_test, at_destination, asked, asked_of, reserve_of, next_ask, progress_of}
-use Rattle.setup_protocol.specs.Teardown.{first_count}
-use Rattle.setup_protocol.specs.declared.request.Request.{Request}
 use Rattle.setup_protocol.specs.declared.verdict.Deny.{Deny as Denial}
 use Rattle.setup_protocol.proofs.SetupAsksFit.{ask-fits}
 use Rattle.setup_protocol.proofs.SetupAdvances.{offers-other, offers-more, progress-on_the_way, progress-tested}
-use Rattle.call_script.specs.Fits.{TaskFits}
-use Rattle.setup_protocol.specs.Hops.{IsHopOf, RequestFits}
-use Rattle.call_script.specs.declared.tasks.Task.{Task}
-use Rattle.call_script.specs.declared.tasks.Task.TheVariants.{Opens, Sends, Closes, Moves}
-use Rattle.call_script.specs.Scripts.{Learnt, Settles, PlannedOn, MovedTo, Standing, Packets, packets_ask, task_ask, takes_step, ready, from_step, begun, is_that, newest, or_before, packets_by, packets_in, last_packets, move_between, outcome_by, continued, resumed, replied, standing, first_ask, ask_at}
-use Rattle.channel_laws.specs.Unsent.{FewCancelled}
-use Rattle.channel_laws.specs.Asks.{MayReplyTo, IsReserve}
 use Rattle.link_steps.proofs.ListParts.{Each-at}
 use Rattle.channel_laws.proofs.OfferAnswers.{offer-answers}
 use Rattle.run_engine.proofs.Tasks.SingleAskTask.{once-asked, packets-hold}
@@ -237,7 +210,6 @@ offered-level links hop to link h ask (Is.Offer level reach) is same found answe
     let tells = offer-answers link.shape h ask level reach answered in
     let bounds : hop.bounds ≡ link.shape.bounds = is.bounds ∙ ap (λ l. l.shape.bounds) (sym (same-link links hop to link is same found)) in
     (record { least = level.least; most = subst (λ bs. level_number level ≤ length bs) (sym bounds) tells.most }, tells.reserve)
-offered-level links hop to link h ask (Is.Relaxed clock) is same found answered offer = cc
 offered-level links hop to link h ask _ is same found answered offer = cc
 
 reserve-asks : (found : Option Hop) (to : LinkNo) (ask : Ask) (own : Hop → Ask) → asked_of found own ≡ Some (to, ask) → (hop : Hop) × (found ≡ Some hop) × (to ≡ hop.link)

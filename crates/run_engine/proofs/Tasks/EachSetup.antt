@@ -1,23 +1,7 @@
 -- What the steps of a request's setup keep, and those before it, after it and of other callers, is so of where its owner stands after
 -- every run.
 use Rattle.std.proofs.Common.{◌≡◌, ◌≢◌, ℕ, ◌⊎◌, true, false, List, [], ◌∷◌, ◌++◌, Option, Some, None, refl, sym, ap, ◌∙◌, subst, inl, inr}
-use Rattle.std.proofs.lemmas.Bool.{eq-eqb, ne_eqb}
-use Rattle.std.specs.List.{slice_get}
-use Rattle.net_units.specs.Numbers.{actor_number, channel_number}
-use Rattle.net_units.specs.declared.numbers.LinkNo.{LinkNo}
-use Rattle.link_steps.specs.declared.asks.Ask.{Ask}
-use Rattle.link_steps.specs.declared.replies.Reply.{Reply}
-use Rattle.link_steps.specs.Lists.{Each}
-use Rattle.channel_laws.specs.Asks.{IsMild}
-use Rattle.setup_protocol.specs.Setup.{Outcome, next_ask, verdict_of}
-use Rattle.setup_protocol.specs.declared.request.Request.{Request}
-use Rattle.call_script.specs.Scripts.{Learnt, Settles, Standing, newest, settled_as, task_ask, takes_step, ready, begun, outcome_by, outcome_in, standing}
-use Rattle.call_script.specs.Tasks.{Network}
-use Rattle.call_script.specs.declared.tasks.Task.{Task}
-use Rattle.call_script.specs.declared.tasks.Task.TheVariants.{Opens}
-use Rattle.run_record.specs.Runs.{replies_to}
-use Rattle.run_record.specs.declared.done.Done.{Done}
-use Rattle.run_engine.specs.runs.Runs.{IsNext, IsRun}
+use Rattle.run_engine.proofs.Words.{eq-eqb, ne_eqb, slice_get, actor_number, channel_number, LinkNo, Ask, Reply, Each, IsMild, Outcome, next_ask, verdict_of, Request, Learnt, Settles, Standing, newest, settled_as, task_ask, takes_step, ready, begun, outcome_by, outcome_in, standing, Network, Task, Opens, replies_to, Done, IsNext, IsRun}
 use Rattle.run_engine.proofs.Runs.EachRun.{from-step-by, OwnStep, KeptBySteps, each-run}
 use Rattle.run_engine.proofs.Tasks.TaskAsks.{IsNoOpeningOf, ready-other, task-mild, others-from, entry-mild}
 use Rattle.run_engine.proofs.Runs.RunFronts.{run-more}

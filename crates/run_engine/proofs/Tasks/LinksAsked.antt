@@ -1,38 +1,10 @@
 -- Every ask of a run goes to a link of the network. A caller asks hops of its routes, and links at which it pours; the plane
 -- ticks links of the network, and lets packets arrive at the next links of rows, which reserves have named.
 use Rattle.channel_move.proofs.AskByStage.{HopAsked, MoveAsks, AsksFirst, AsksSubmit, AsksRest, move-asks}
-use Rattle.call_script.specs.Scripts.{move_between, packets_ask, first_ask, ask_at, script_ask, standing, task_ask}
 use Rattle.std.proofs.Common.{◌≡◌, ℕ, suc, ◌-◌, ◌<◌, List, [], ◌∷◌, length, Option, Some, None, refl, sym, ap, ◌∙◌, subst, inl, inr, option_map, arith}
-use Rattle.std.proofs.lemmas.Bool.{cases_Bool, eqb-true, eqb-false}
-use Rattle.std.proofs.lemmas.Option.{slice_get_cases}
-use Rattle.std.specs.List.{slice_get}
-use Rattle.std.specs.Prelude.{nat_eq}
-use Rattle.net_units.specs.Numbers.{link_number, actor_number, link_at}
-use Rattle.net_units.specs.declared.numbers.LinkNo.{LinkNo}
-use Rattle.hop_reservation.specs.declared.route.Hop.{Hop}
-use Rattle.link_steps.specs.declared.asks.Ask.{Ask}
-use Rattle.link_steps.specs.declared.asks.Ask.TheVariants.{Tick}
-use Rattle.link_steps.specs.declared.replies.Entry.{Entry}
-use Rattle.link_steps.specs.declared.replies.Reply.{Reply}
-use Rattle.link_steps.specs.declared.shape.LinkShape.{LinkShape}
-use Rattle.link_steps.specs.Lists.{Each}
-use Rattle.link_steps.specs.Replies.{tick_reply, reply_to}
-use Rattle.link_steps.specs.Scan.{Scan, clock_of, scan_of}
-use Rattle.link_steps.specs.Split.{Link}
+use Rattle.run_engine.proofs.Words.{move_between, packets_ask, first_ask, ask_at, script_ask, standing, task_ask, cases_Bool, eqb-true, eqb-false, slice_get_cases, slice_get, nat_eq, link_number, actor_number, link_at, LinkNo, Hop, Ask, Tick, Entry, Reply, LinkShape, Each, tick_reply, reply_to, Scan, clock_of, scan_of, Link, Progress, Reserving, Undoing, Relaxing, Settled, asked, asked_of, hop_link, progress_of, Request, TaskFits, NetworkFits, IsHopOf, Network, Task, Opens, Sends, Closes, Moves, Plane, is_due, next_due, ask_due, flight_in, plane_with, plane_of, Flight, replies_to, part_of, Done, plane_no, plane_at, IsNext, IsRun}
 use Rattle.link_steps.proofs.SearchAndFilter.{Each-find}
-use Rattle.setup_protocol.specs.Setup.{Progress, Reserving, Undoing, Relaxing, Settled, asked, asked_of, hop_link, progress_of}
-use Rattle.setup_protocol.specs.declared.request.Request.{Request}
-use Rattle.call_script.specs.Fits.{TaskFits, NetworkFits}
-use Rattle.setup_protocol.specs.Hops.{IsHopOf}
-use Rattle.call_script.specs.Tasks.{Network}
-use Rattle.call_script.specs.declared.tasks.Task.{Task}
-use Rattle.call_script.specs.declared.tasks.Task.TheVariants.{Opens, Sends, Closes, Moves}
-use Rattle.tick_plane.specs.Planes.{Plane, is_due, next_due, ask_due, flight_in, plane_with, plane_of}
-use Rattle.tick_plane.specs.declared.flight.Flight.{Flight}
-use Rattle.run_record.specs.Runs.{replies_to, part_of}
-use Rattle.run_record.specs.declared.done.Done.{Done}
 use Rattle.run_engine.specs.runs.Linked.{IsLinkThere, EveryAskGoesToALink}
-use Rattle.run_engine.specs.runs.Runs.{plane_no, plane_at, IsNext, IsRun}
 use Rattle.link_steps.proofs.ListParts.{Each-at}
 use Rattle.run_engine.proofs.Runs.RunLegal.{asked-plane, asked-caller, caller-next, plane-next, link_at-number, run-stands, by-part, by-actor}
 use Rattle.channel_laws.proofs.NextLinks.{NamesNext, NextsAre, after-nexts, sent-next}
@@ -52,60 +24,61 @@ record AsksThere (links : List Link) (to : LinkNo) (ask : Ask) : Type 0 where
   linked : IsLinkThere links to
   next : NamesNext (NextLinked links) ask
 
-hop-linked : (links : List Link) (hop : Hop) → IsHopOf links hop → IsLinkThere links hop.link
-hop-linked links hop is = record { link = is.link; found = is.linked }
+module _ (links : List Link) where
+  hop-linked : (hop : Hop) → IsHopOf links hop → IsLinkThere links hop.link
+  hop-linked hop is = record { link = is.link; found = is.linked }
 
-found-hop : (links : List Link) (route : List Hop) (i : ℕ) (found : Option Hop) → Each (IsHopOf links) route → slice_get route i ≡ found → NextLinked links (option_map hop_link found)
-found-hop links route i None hops is = tt
-found-hop links route i (Some hop) hops is = hop-linked links hop (Each-at (IsHopOf links) route i hop hops is)
+  found-hop : (route : List Hop) (i : ℕ) (found : Option Hop) → Each (IsHopOf links) route → slice_get route i ≡ found → NextLinked links (option_map hop_link found)
+  found-hop route i None hops is = tt
+  found-hop route i (Some hop) hops is = hop-linked hop (Each-at (IsHopOf links) route i hop hops is)
 
-asks-hop : (links : List Link) (route : List Hop) (i : ℕ) (own : Hop → Ask) (to : LinkNo) (ask : Ask) → Each (IsHopOf links) route → ((hop : Hop) → NamesNext (NextLinked links) (own hop)) → asked_of (slice_get route i) own ≡ Some (to, ask) → AsksThere links to ask
-asks-hop links route i own to ask hops next same =
-    let at = asked-at route i own to ask same in
-    record {
-      linked = subst (IsLinkThere links) (sym at.at) (hop-linked links at.hop (Each-at (IsHopOf links) route i at.hop hops at.stands));
-      next = subst (NamesNext (NextLinked links)) (sym at.is) (next at.hop);
+  asks-hop : (route : List Hop) (i : ℕ) (own : Hop → Ask) (to : LinkNo) (ask : Ask) → Each (IsHopOf links) route → ((hop : Hop) → NamesNext (NextLinked links) (own hop)) → asked_of (slice_get route i) own ≡ Some (to, ask) → AsksThere links to ask
+  asks-hop route i own to ask hops next same =
+      let at = asked-at route i own to ask same in
+      record {
+        linked = subst (IsLinkThere links) (sym at.at) (hop-linked at.hop (Each-at (IsHopOf links) route i at.hop hops at.stands));
+        next = subst (NamesNext (NextLinked links)) (sym at.is) (next at.hop);
+      }
+
+  setup-there : (request : Request) (progress : Progress) (to : LinkNo) (ask : Ask) → Each (IsHopOf links) request.route → asked request progress ≡ Some (to, ask) → AsksThere links to ask
+  setup-there request (Reserving offers reach) to ask hops same =
+      asks-hop request.route (length offers) _ to ask hops
+      (λ hop. found-hop request.route (suc (length offers)) (slice_get request.route (suc (length offers))) hops refl) same
+  setup-there request (Undoing left deny) to ask hops same = asks-hop request.route (left - 1) _ to ask hops (λ hop. tt) same
+  setup-there request (Relaxing left levels) to ask hops same = asks-hop request.route (left - 1) _ to ask hops (λ hop. tt) same
+  setup-there request (Settled outcome) to ask hops same = cc
+
+  task-there : (task : Task) (replies : List Reply) (to : LinkNo) (ask : Ask) → TaskFits links task → task_ask task replies ≡ Some (to, ask) → AsksThere links to ask
+  task-there (Opens request) replies to ask fits same = setup-there request (progress_of request replies) to ask fits.hops same
+  task-there (Sends at chan count gap size) replies to ask fits same =
+      let once = once-asked at (packets_ask chan count gap size) replies to ask same in
+      record {
+        linked = subst (IsLinkThere links) once.at (record { link = fits.link; found = fits.linked });
+        next = subst (NamesNext (NextLinked links)) once.is (packets-hold (NamesNext (NextLinked links)) chan count gap size (λ own. tt) tt);
+      }
+  task-there (Closes request) replies to ask fits same = asks-hop request.route (length replies) _ to ask fits.hops (λ hop. tt) same
+  task-there (Moves old new gap size) replies to ask fits same = by (move-asks (move_between old new gap size) replies to ask same) where
+    at-hop : (route : List Hop) (n : ℕ) (own : Ask) → Each (IsHopOf links) route → NamesNext (NextLinked links) own → HopAsked route n to → ask ≡ own → AsksThere links to ask
+    at-hop route n own hops next at is = record {
+      linked = subst (IsLinkThere links) (sym at.at) (hop-linked at.hop (Each-at (IsHopOf links) route n at.hop hops at.stands));
+      next = subst (NamesNext (NextLinked links)) (sym is) next;
     }
 
-setup-there : (links : List Link) (request : Request) (progress : Progress) (to : LinkNo) (ask : Ask) → Each (IsHopOf links) request.route → asked request progress ≡ Some (to, ask) → AsksThere links to ask
-setup-there links request (Reserving offers reach) to ask hops same =
-    asks-hop links request.route (length offers) _ to ask hops
-    (λ hop. found-hop links request.route (suc (length offers)) (slice_get request.route (suc (length offers))) hops refl) same
-setup-there links request (Undoing left deny) to ask hops same = asks-hop links request.route (left - 1) _ to ask hops (λ hop. tt) same
-setup-there links request (Relaxing left levels) to ask hops same = asks-hop links request.route (left - 1) _ to ask hops (λ hop. tt) same
-setup-there links request (Settled outcome) to ask hops same = cc
+    by : MoveAsks (move_between old new gap size) replies to ask → AsksThere links to ask
+    by (AsksFirst none at is) = at-hop old.route 0 _ fits.of_old.hops tt at is
+    by (AsksSubmit first one some at is) = at-hop new.route 0 _ fits.of_new.hops tt at is
+    by (AsksRest told made stage at is) = at-hop old.route made _ fits.of_old.hops tt at is
 
-task-there : (links : List Link) (task : Task) (replies : List Reply) (to : LinkNo) (ask : Ask) → TaskFits links task → task_ask task replies ≡ Some (to, ask) → AsksThere links to ask
-task-there links (Opens request) replies to ask fits same = setup-there links request (progress_of request replies) to ask fits.hops same
-task-there links (Sends at chan count gap size) replies to ask fits same =
-    let once = once-asked at (packets_ask chan count gap size) replies to ask same in
-    record {
-      linked = subst (IsLinkThere links) once.at (record { link = fits.link; found = fits.linked });
-      next = subst (NamesNext (NextLinked links)) once.is (packets-hold (NamesNext (NextLinked links)) chan count gap size (λ own. tt) tt);
-    }
-task-there links (Closes request) replies to ask fits same = asks-hop links request.route (length replies) _ to ask fits.hops (λ hop. tt) same
-task-there links (Moves old new gap size) replies to ask fits same = by (move-asks (move_between old new gap size) replies to ask same) where
-  at-hop : (route : List Hop) (n : ℕ) (own : Ask) → Each (IsHopOf links) route → NamesNext (NextLinked links) own → HopAsked route n to → ask ≡ own → AsksThere links to ask
-  at-hop route n own hops next at is = record {
-    linked = subst (IsLinkThere links) (sym at.at) (hop-linked links at.hop (Each-at (IsHopOf links) route n at.hop hops at.stands));
-    next = subst (NamesNext (NextLinked links)) (sym is) next;
-  }
+  tasks-there : (tasks : List Task) (replies : List Reply) (to : LinkNo) (ask : Ask) → Each (TaskFits links) tasks → first_ask tasks replies ≡ Some (to, ask) → AsksThere links to ask
+  tasks-there [] replies to ask fits same = cc
+  tasks-there (task ∷ tasks) replies to ask fits same = task-there task replies to ask fits.0 same
 
-  by : MoveAsks (move_between old new gap size) replies to ask → AsksThere links to ask
-  by (AsksFirst none at is) = at-hop old.route 0 _ fits.of_old.hops tt at is
-  by (AsksSubmit first one some at is) = at-hop new.route 0 _ fits.of_new.hops tt at is
-  by (AsksRest told made stage at is) = at-hop old.route made _ fits.of_old.hops tt at is
+  -- ---- flights
 
-tasks-there : (links : List Link) (tasks : List Task) (replies : List Reply) (to : LinkNo) (ask : Ask) → Each (TaskFits links) tasks → first_ask tasks replies ≡ Some (to, ask) → AsksThere links to ask
-tasks-there links [] replies to ask fits same = cc
-tasks-there links (task ∷ tasks) replies to ask fits same = task-there links task replies to ask fits.0 same
-
--- ---- flights
-
--- the flight of a tick's reply
-tick-flight : (links : List Link) (shape : LinkShape) (t : ℕ) (scan : Scan) (reply : Reply) → reply ≡ tick_reply shape t scan → NextsAre (NextLinked links) scan → Each (λ flight. IsLinkThere links flight.to) (flight_in reply)
-tick-flight links shape t scan reply same nexts =
-    flight-in (λ flight. IsLinkThere links flight.to) reply (λ clock full sent best_sent best_lost to told next. subst (NextLinked links) next (sent-next (NextLinked links) tt shape t scan clock full sent best_sent best_lost nexts (told ∙ same)))
+  -- the flight of a tick's reply
+  tick-flight : (shape : LinkShape) (t : ℕ) (scan : Scan) (reply : Reply) → reply ≡ tick_reply shape t scan → NextsAre (NextLinked links) scan → Each (λ flight. IsLinkThere links flight.to) (flight_in reply)
+  tick-flight shape t scan reply same nexts =
+      flight-in (λ flight. IsLinkThere links flight.to) reply (λ clock full sent best_sent best_lost to told next. subst (NextLinked links) next (sent-next (NextLinked links) tt shape t scan clock full sent best_sent best_lost nexts (told ∙ same)))
 
 -- ---- every run
 
@@ -139,38 +112,39 @@ due-there network plane (Some flight) to ask fits within flights is same = recor
 plane-there : (network : Network) (past : List Done) (to : LinkNo) (ask : Ask) → NetworkFits network → IsRun network past → RunLinked network past → ask_due (plane_at network past).ticked (next_due (plane_at network past)) ≡ (to, ask) → AsksThere network.links to ask
 plane-there network past to ask fits run was same = due-there network (plane_at network past) (next_due (plane_at network past)) to ask fits (run-stands network past fits run).ticked was.flights refl same
 
-next-there : (network : Network) (past : List Done) (done : Done) → NetworkFits network → IsRun network past → RunLinked network past → IsNext network past done → AsksThere network.links done.link done.ask
-next-there network past done fits run was next =
-    elim (cases_Bool (nat_eq (actor_number done.actor) (plane_no network))) [
-      | inl plane ↦ plane-there network past done.link done.ask fits run was (plane-next network past done next (eqb-true (actor_number done.actor) (plane_no network) plane)).asks
-      | inr caller ↦
-          (let asks = caller-next network past done next (eqb-false (actor_number done.actor) (plane_no network) caller) in
-          caller-there network past (actor_number done.actor) asks.tasks done.link done.ask fits run asks.found asks.asks)
-    ]
+module _ (network : Network) (past : List Done) (done : Done) where
+  next-there : NetworkFits network → IsRun network past → RunLinked network past → IsNext network past done → AsksThere network.links done.link done.ask
+  next-there fits run was next =
+      elim (cases_Bool (nat_eq (actor_number done.actor) (plane_no network))) [
+        | inl plane ↦ plane-there network past done.link done.ask fits run was (plane-next network past done next (eqb-true (actor_number done.actor) (plane_no network) plane)).asks
+        | inr caller ↦
+            (let asks = caller-next network past done next (eqb-false (actor_number done.actor) (plane_no network) caller) in
+            caller-there network past (actor_number done.actor) asks.tasks done.link done.ask fits run asks.found asks.asks)
+      ]
 
-parts-there : (network : Network) (past : List Done) (done : Done) → RunLinked network past → (next : IsNext network past done) → NamesNext (NextLinked network.links) done.ask → (n : ℕ) (link : Link) → slice_get network.links n ≡ Some link → NextsAre (NextLinked network.links) (scan_of link.shape (part_of n (done ∷ past)))
-unfolding scan_of
-parts-there network past done was next own n link found =
-    by-part (λ h. NextsAre (NextLinked network.links) (scan_of link.shape h)) n done past
-    (λ on. after-nexts (NextLinked network.links) tt link.shape (clock_of (part_of n past)) (scan_of link.shape (part_of n past)) done.ask done.reply own (was.parts n link found))
-    (λ off. was.parts n link found)
+  parts-there : RunLinked network past → (next : IsNext network past done) → NamesNext (NextLinked network.links) done.ask → (n : ℕ) (link : Link) → slice_get network.links n ≡ Some link → NextsAre (NextLinked network.links) (scan_of link.shape (part_of n (done ∷ past)))
+  unfolding scan_of
+  parts-there was next own n link found =
+      by-part (λ h. NextsAre (NextLinked network.links) (scan_of link.shape h)) n done past
+      (λ on. after-nexts (NextLinked network.links) tt link.shape (clock_of (part_of n past)) (scan_of link.shape (part_of n past)) done.ask done.reply own (was.parts n link found))
+      (λ off. was.parts n link found)
 
--- the flights after the plane's step
-flights-there : (network : Network) (past : List Done) (done : Done) → RunLinked network past → (next : IsNext network past done) → ask_due (plane_at network past).ticked (next_due (plane_at network past)) ≡ (done.link, done.ask)
-    → Each (λ flight. IsLinkThere network.links flight.to) (plane_with (length network.links) (plane_at network past) (next_due (plane_at network past)) done.reply).flights
-flights-there network past done was next asks = flights-with (λ flight. IsLinkThere network.links flight.to) (length network.links) (plane_at network past) (next_due (plane_at network past)) done.reply was.flights fresh where
-  fresh : next_due (plane_at network past) ≡ None → Each (λ flight. IsLinkThere network.links flight.to) (flight_in done.reply)
-  fresh none =
-      let tick : Tick ≡ done.ask = ap (λ pair. pair.1) (ap (ask_due (plane_at network past).ticked) (sym none) ∙ asks) in
-      let h : List Entry = part_of (link_number done.link) past in
-      let is : done.reply ≡ tick_reply next.link.shape (clock_of h) (scan_of next.link.shape h) = next.answered ∙ ap (reply_to next.link h) (sym tick) ∙ tick-answer next.link h in
-      tick-flight network.links next.link.shape (clock_of h) (scan_of next.link.shape h) done.reply is (was.parts (link_number done.link) next.link next.linked)
+  -- the flights after the plane's step
+  flights-there : RunLinked network past → (next : IsNext network past done) → ask_due (plane_at network past).ticked (next_due (plane_at network past)) ≡ (done.link, done.ask)
+      → Each (λ flight. IsLinkThere network.links flight.to) (plane_with (length network.links) (plane_at network past) (next_due (plane_at network past)) done.reply).flights
+  flights-there was next asks = flights-with (λ flight. IsLinkThere network.links flight.to) (length network.links) (plane_at network past) (next_due (plane_at network past)) done.reply was.flights fresh where
+    fresh : next_due (plane_at network past) ≡ None → Each (λ flight. IsLinkThere network.links flight.to) (flight_in done.reply)
+    fresh none =
+        let tick : Tick ≡ done.ask = ap (λ pair. pair.1) (ap (ask_due (plane_at network past).ticked) (sym none) ∙ asks) in
+        let h : List Entry = part_of (link_number done.link) past in
+        let is : done.reply ≡ tick_reply next.link.shape (clock_of h) (scan_of next.link.shape h) = next.answered ∙ ap (reply_to next.link h) (sym tick) ∙ tick-answer next.link h in
+        tick-flight network.links next.link.shape (clock_of h) (scan_of next.link.shape h) done.reply is (was.parts (link_number done.link) next.link next.linked)
 
-linked-next : (network : Network) (past : List Done) (done : Done) → NetworkFits network → IsRun network past → RunLinked network past → IsNext network past done → RunLinked network (done ∷ past)
-linked-next network past done fits run was next = record {
-  parts = parts-there network past done was next (next-there network past done fits run was next).next;
-  flights = by-actor (λ p. Each (λ flight. IsLinkThere network.links flight.to) p.flights) network done past next (λ asks. flights-there network past done was next asks.asks) (λ asks. was.flights);
-}
+  linked-next : NetworkFits network → IsRun network past → RunLinked network past → IsNext network past done → RunLinked network (done ∷ past)
+  linked-next fits run was next = record {
+    parts = parts-there was next (next-there fits run was next).next;
+    flights = by-actor (λ p. Each (λ flight. IsLinkThere network.links flight.to) p.flights) network done past next (λ asks. flights-there was next asks.asks) (λ asks. was.flights);
+  }
 
 run-linked : (network : Network) (run : List Done) → NetworkFits network → IsRun network run → RunLinked network run
 unfolding IsRun part_of replies_to plane_of scan_of

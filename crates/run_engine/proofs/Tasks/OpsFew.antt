@@ -1,20 +1,10 @@
 -- A caller of a plan has few operations: a channel is opened once, closed once and joined once at most, and few packets are sent and
 -- poured.
 use Rattle.std.proofs.Common.{◌≡◌, ℕ, zero, suc, ◌+◌, ◌*◌, ◌<◌, ◌≤◌, Bool, true, false, not, eqb, Option, Some, None, List, [], ◌∷◌, ◌++◌, length, refl, sym, ap, ◌∙◌, subst, inl, inr, append_assoc, arith}
-use Rattle.std.proofs.lemmas.Bool.{cases_Bool, and_parts, eq-eqb, eqb-true, leb-true, ne_eqb}
-use Rattle.std.proofs.lemmas.List.{length-append, length-map}
+use Rattle.run_engine.proofs.Words.{cases_Bool, and_parts, eq-eqb, eqb-true, leb-true, ne_eqb, length-append, length-map, same_Some, slice_get_within, list_all, list_any, slice_get, AllByRecursion, IsDistinct, nat_le, ◌||◌, channel_number, ChanNo, Each, total, PlanParts, openings_in, openings_of, opening_of, HasTerms, IsPlan}
 use Rattle.std.proofs.lemmas.List.Folds.{list_any-append}
 use Rattle.std.proofs.lemmas.Map.Steps.{length-le_from_distinct_below}
 use Rattle.std.proofs.lemmas.Nat.{mul-le}
-use Rattle.std.proofs.lemmas.Option.{same_Some, slice_get_within}
-use Rattle.std.specs.List.{list_all, list_any, slice_get, AllByRecursion, IsDistinct}
-use Rattle.std.specs.Prelude.{nat_le, ◌||◌}
-use Rattle.net_units.specs.Numbers.{channel_number}
-use Rattle.net_units.specs.declared.numbers.ChanNo.{ChanNo}
-use Rattle.link_steps.specs.Lists.{Each}
-use Rattle.traffic_contract.specs.Admission.{total}
-use Rattle.call_script.specs.Parts.{PlanParts, openings_in, openings_of, opening_of}
-use Rattle.call_script.specs.Plans.{HasTerms, IsPlan}
 use Rattle.call_script.specs.Operations.{attributes_of}
 use Rattle.call_script.specs.Rules.{are_within_load, each_after, hops_of, is_after, is_apart, is_in, load_in, load_of, loads_after, loads_with, named, op_in_range, ops_load, ops_over}
 use Rattle.call_script.specs.declared.entries.CallerEntry.{CallerEntry}

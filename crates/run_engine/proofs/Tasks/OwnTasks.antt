@@ -1,23 +1,10 @@
 -- Each task of the owner of a request, in its script and where it stands, if it names the request's channel, is one of the request's own: its
 -- opening, a send at its first hop, its closing, a move from it or a move onto it.
 use Rattle.std.proofs.Common.{◌≡◌, ◌≢◌, ℕ, List, [], ◌∷◌, Some, sym, subst, inl, inr, refl, None, ◌⊎◌}
-use Rattle.std.specs.List.{slice_get}
-use Rattle.net_units.specs.Numbers.{channel_number}
-use Rattle.link_steps.specs.declared.replies.Reply.{Reply}
-use Rattle.link_steps.specs.Lists.{Each}
+use Rattle.run_engine.proofs.Words.{slice_get, channel_number, Reply, Each, Request, TaskOff, IsSendOn, IsMoveFrom, IsMoveOnto, ClosesOnce, SendsOnce, UsedOnce, FullScript, OwnedFully, IsOwned, IsUnnamed, AllOwned, Learnt, Standing, standing, ready, Network, replies_to, Done, Task, Opens, Sends, Closes, Moves, cases_Bool, eqb-true, eqb-false, nat_eq}
 use Rattle.link_steps.proofs.SearchAndFilter.{Each-if}
-use Rattle.setup_protocol.specs.declared.request.Request.{Request}
-use Rattle.call_script.specs.Owners.{TaskOff, IsSendOn, IsMoveFrom, IsMoveOnto, ClosesOnce, SendsOnce, UsedOnce, FullScript, OwnedFully, IsOwned, IsUnnamed, AllOwned}
-use Rattle.call_script.specs.Scripts.{Learnt, Standing, standing, ready}
-use Rattle.call_script.specs.Tasks.{Network}
-use Rattle.run_record.specs.Runs.{replies_to}
-use Rattle.run_record.specs.declared.done.Done.{Done}
-use Rattle.call_script.specs.declared.tasks.Task.{Task}
-use Rattle.call_script.specs.declared.tasks.Task.TheVariants.{Opens, Sends, Closes, Moves}
 use Rattle.run_engine.proofs.Runs.EachRun.{each-standing, OwnStep}
 use Rattle.call_script.proofs.TaskBegins.{ready-keeps}
-use Rattle.std.proofs.lemmas.Bool.{cases_Bool, eqb-true, eqb-false}
-use Rattle.std.specs.Prelude.{nat_eq}
 
 -- a move from the channel is the request's, to another; and so is one onto it
 pub record MoveIs (request old new : Request) : Type 0 where
@@ -31,54 +18,53 @@ OwnTask request (Sends link (Some chan) count gap size) = channel_number chan �
 OwnTask request (Closes own) = channel_number own.chan ≡ channel_number request.chan → own ≡ request
 OwnTask request (Moves old new gap size) = MoveIs request old new
 
--- ---- the tasks of a script
+module _ (request : Request) where
+  -- ---- the tasks of a script
 
-off-own : (request : Request) (task : Task) → TaskOff (channel_number request.chan) task → OwnTask request task
-off-own request (Opens own) off = λ same. absurd (off same)
-off-own request (Sends link None count gap size) off = tt
-off-own request (Sends link (Some chan) count gap size) off = λ same. absurd (off same)
-off-own request (Closes own) off = λ same. absurd (off same)
-off-own request (Moves old new gap size) off = record { leaves = λ same. absurd (off.0 same); joins = λ same. absurd (off.1 same) }
+  off-own : (task : Task) → TaskOff (channel_number request.chan) task → OwnTask request task
+  off-own (Sends link None count gap size) off = tt
+  off-own (Moves old new gap size) off = record { leaves = λ same. absurd (off.0 same); joins = λ same. absurd (off.1 same) }
+  off-own _ off = λ same. absurd (off same)
 
-send-own : (request : Request) (task : Task) → IsSendOn request task → OwnTask request task
-send-own request task own = subst (OwnTask request) (sym own.is) (λ same. record { hop = own.hop; count = own.count; gap = own.gap; size = own.size; stands = own.stands; is = refl })
+  send-own : (task : Task) → IsSendOn request task → OwnTask request task
+  send-own task own = subst (OwnTask request) (sym own.is) (λ same. record { hop = own.hop; count = own.count; gap = own.gap; size = own.size; stands = own.stands; is = refl })
 
-close-own : (request : Request) (task : Task) → task ≡ Closes request → OwnTask request task
-close-own request task is = subst (OwnTask request) (sym is) (λ same. refl)
+  close-own : (task : Task) → task ≡ Closes request → OwnTask request task
+  close-own task is = subst (OwnTask request) (sym is) (λ same. refl)
 
-from-own : (request : Request) (task : Task) → IsMoveFrom request task → OwnTask request task
-from-own request task own = subst (OwnTask request) (sym own.is) (record { leaves = λ same. (refl, own.other); joins = λ same. absurd (own.other same) })
+  from-own : (task : Task) → IsMoveFrom request task → OwnTask request task
+  from-own task own = subst (OwnTask request) (sym own.is) (record { leaves = λ same. (refl, own.other); joins = λ same. absurd (own.other same) })
 
-onto-own : (request : Request) (task : Task) → IsMoveOnto request task → OwnTask request task
-onto-own request task own = subst (OwnTask request) (sym own.is) (record { leaves = λ same. absurd (own.other same); joins = λ same. refl })
+  onto-own : (task : Task) → IsMoveOnto request task → OwnTask request task
+  onto-own task own = subst (OwnTask request) (sym own.is) (record { leaves = λ same. absurd (own.other same); joins = λ same. refl })
 
-closing-own : (request : Request) (tasks : List Task) → ClosesOnce request tasks → Each (OwnTask request) tasks
-closing-own request [] closes = tt
-closing-own request (task ∷ tasks) (inl off) = (off-own request task off.0, closing-own request tasks off.1)
-closing-own request (task ∷ tasks) (inr own) = (close-own request task own.0, Each-if (TaskOff (channel_number request.chan)) (OwnTask request) tasks (off-own request) own.1)
+  closing-own : (tasks : List Task) → ClosesOnce request tasks → Each (OwnTask request) tasks
+  closing-own [] closes = tt
+  closing-own (task ∷ tasks) (inl off) = (off-own task off.0, closing-own tasks off.1)
+  closing-own (task ∷ tasks) (inr own) = (close-own task own.0, Each-if (TaskOff (channel_number request.chan)) (OwnTask request) tasks off-own own.1)
 
-sending-own : (request : Request) (tasks : List Task) → SendsOnce request tasks → Each (OwnTask request) tasks
-sending-own request [] sends = tt
-sending-own request (task ∷ tasks) (inl off) = (off-own request task off.0, sending-own request tasks off.1)
-sending-own request (task ∷ tasks) (inr (inl own)) = (send-own request task own.0, sending-own request tasks own.1)
-sending-own request (task ∷ tasks) (inr (inr (inl own))) = (close-own request task own.0, Each-if (TaskOff (channel_number request.chan)) (OwnTask request) tasks (off-own request) own.1)
-sending-own request (task ∷ tasks) (inr (inr (inr own))) = (from-own request task own.0, closing-own request tasks own.1)
+  sending-own : (tasks : List Task) → SendsOnce request tasks → Each (OwnTask request) tasks
+  sending-own [] sends = tt
+  sending-own (task ∷ tasks) (inl off) = (off-own task off.0, sending-own tasks off.1)
+  sending-own (task ∷ tasks) (inr (inl own)) = (send-own task own.0, sending-own tasks own.1)
+  sending-own (task ∷ tasks) (inr (inr (inl own))) = (close-own task own.0, Each-if (TaskOff (channel_number request.chan)) (OwnTask request) tasks off-own own.1)
+  sending-own (task ∷ tasks) (inr (inr (inr own))) = (from-own task own.0, closing-own tasks own.1)
 
-using-own : (request : Request) (tasks : List Task) → UsedOnce request tasks → Each (OwnTask request) tasks
-using-own request [] used = tt
-using-own request (task ∷ tasks) (inl off) = (off-own request task off.0, using-own request tasks off.1)
-using-own request (task ∷ tasks) (inr (inl own)) = (onto-own request task own.0, sending-own request tasks own.1)
-using-own request (task ∷ tasks) (inr (inr own)) = sending-own request (task ∷ tasks) (inr own)
+  using-own : (tasks : List Task) → UsedOnce request tasks → Each (OwnTask request) tasks
+  using-own [] used = tt
+  using-own (task ∷ tasks) (inl off) = (off-own task off.0, using-own tasks off.1)
+  using-own (task ∷ tasks) (inr (inl own)) = (onto-own task own.0, sending-own tasks own.1)
+  using-own (task ∷ tasks) (inr (inr own)) = sending-own (task ∷ tasks) (inr own)
 
-pub script-own : (request : Request) (tasks : List Task) → FullScript request tasks → Each (OwnTask request) tasks
-script-own request [] full = tt
-script-own request (task ∷ tasks) (inl off) = (off-own request task off.0, script-own request tasks off.1)
-script-own request (task ∷ tasks) (inr own) = (subst (OwnTask request) (sym own.0) (λ same. refl), using-own request tasks own.1)
+  pub script-own : (tasks : List Task) → FullScript request tasks → Each (OwnTask request) tasks
+  script-own [] full = tt
+  script-own (task ∷ tasks) (inl off) = (off-own task off.0, script-own tasks off.1)
+  script-own (task ∷ tasks) (inr own) = (subst (OwnTask request) (sym own.0) (λ same. refl), using-own tasks own.1)
 
--- ---- where the owner stands
+  -- ---- where the owner stands
 
-ready-own : (request : Request) (outcomes : List Learnt) (task : Task) → OwnTask request task → OwnTask request (ready outcomes task)
-ready-own request outcomes task own = ready-keeps (OwnTask request) (λ old new gap size other_gap other_size is. is) outcomes task own
+  ready-own : (outcomes : List Learnt) (task : Task) → OwnTask request task → OwnTask request (ready outcomes task)
+  ready-own outcomes task own = ready-keeps (OwnTask request) (λ old new gap size other_gap other_size is. is) outcomes task own
 
 pub standing-is : (network : Network) (request : Request) (owner : ℕ) (script : List Task) (replies : List Reply) → OwnedFully network request owner → slice_get network.scripts owner ≡ Some script → Each (OwnTask request) (standing script replies).tasks
 standing-is network request owner script replies full found = each-standing (OwnTask request) (ready-own request) script replies (script-own request script (full.own script found))

@@ -1,32 +1,9 @@
 -- A request that is opened once is offered at most once at each link of its route, and nowhere else.
 use Rattle.std.proofs.Common.{◌≡◌, ◌≢◌, ℕ, suc, ◌+◌, ◌<◌, ◌≤◌, true, false, List, [], ◌∷◌, ◌++◌, length, Option, Some, refl, sym, ap, ◌∙◌, subst, inl, inr, arith}
-use Rattle.std.proofs.lemmas.Bool.{cases_Bool, cases_lt, cond_both, eqb-true, eqb-false, ne_eqb}
-use Rattle.std.proofs.lemmas.List.{length_push}
-use Rattle.std.specs.List.{slice_get}
-use Rattle.std.specs.Prelude.{nat_eq}
-use Rattle.net_units.specs.Numbers.{link_number, channel_number}
-use Rattle.net_units.specs.declared.numbers.LinkNo.{LinkNo}
-use Rattle.hop_reservation.specs.Routes.{IsRoute}
-use Rattle.hop_reservation.specs.declared.route.Hop.{Hop}
-use Rattle.link_steps.specs.declared.asks.Ask.{Ask}
-use Rattle.link_steps.specs.declared.asks.Ask.TheVariants.{Reserve}
-use Rattle.link_steps.specs.declared.replies.Entry.{Entry}
-use Rattle.link_steps.specs.declared.replies.Reply.{Reply}
+use Rattle.run_engine.proofs.Words.{cases_Bool, cases_lt, cond_both, eqb-true, eqb-false, ne_eqb, length_push, slice_get, nat_eq, link_number, channel_number, LinkNo, IsRoute, Hop, Ask, Reserve, Entry, Reply, LinkShape, MayReplyTo, IsReserve, IsMild, Outcome, is_offer, level_in, offers_in, after_offers, reach_after, on_the_way, asked, reserve_of, next_ask, Request, Done, HopTerms, offers_with, offers_to, OffersTerms, AllOfferTerms, NetworkFits, Standing, standing, Task, Network, part_of, replies_to, IsRun}
 use Rattle.link_steps.specs.declared.replies.Reply.TheVariants as Is
-use Rattle.link_steps.specs.declared.shape.LinkShape.{LinkShape}
-use Rattle.channel_laws.specs.Asks.{MayReplyTo, IsReserve, IsMild}
-use Rattle.setup_protocol.specs.Setup.{Outcome, is_offer, level_in, offers_in, after_offers, reach_after, on_the_way, asked, reserve_of, next_ask}
-use Rattle.setup_protocol.specs.declared.request.Request.{Request}
 use Rattle.setup_protocol.proofs.SetupAdvances.{after-other, offers-more, progress-on_the_way, progress-tested}
-use Rattle.run_record.specs.declared.done.Done.{Done}
-use Rattle.channel_laws.specs.Channels.{HopTerms, offers_with, offers_to, OffersTerms, AllOfferTerms}
-use Rattle.call_script.specs.Fits.{NetworkFits}
-use Rattle.call_script.specs.Scripts.{Standing, standing}
 use Rattle.run_engine.specs.channels.Hops.{terms_at, ChannelAsked}
-use Rattle.call_script.specs.declared.tasks.Task.{Task}
-use Rattle.call_script.specs.Tasks.{Network}
-use Rattle.run_record.specs.Runs.{part_of, replies_to}
-use Rattle.run_engine.specs.runs.Runs.{IsRun}
 use Rattle.channel_laws.proofs.OfferAnswers.{offer-answers}
 use Rattle.run_engine.proofs.Keeping.Lookups.{held}
 use Rattle.run_engine.proofs.Tasks.CallerAsksFit.{undone-asks, tested-asks}

@@ -1,14 +1,6 @@
 -- A task that asks once: which link it asks, and for what packets.
 use Rattle.std.proofs.Common.{◌≡◌, ℕ, Option, Some, None, List, [], ◌∷◌, refl, ap}
-use Rattle.std.proofs.lemmas.Option.{same_Some}
-use Rattle.net_units.specs.declared.numbers.ChanNo.{ChanNo}
-use Rattle.net_units.specs.declared.numbers.LinkNo.{LinkNo}
-use Rattle.link_steps.specs.declared.asks.Ask.{Ask}
-use Rattle.link_steps.specs.declared.asks.Ask.TheVariants.{Submit}
-use Rattle.link_steps.specs.declared.replies.Reply.{Reply}
-use Rattle.call_script.specs.Owners.{PacketsOff}
-use Rattle.call_script.specs.Scripts.{once_next, packets_ask}
-use Rattle.channel_laws.specs.Asks.{IsOff}
+use Rattle.run_engine.proofs.Words.{same_Some, ChanNo, LinkNo, Ask, Submit, Reply, PacketsOff, once_next, packets_ask, IsOff}
 
 -- it has no reply yet, and asks its link for what it is
 pub record AsksOnce (link : LinkNo) (own : Ask) (replies : List Reply) (to : LinkNo) (ask : Ask) : Type 0 where

@@ -1,42 +1,22 @@
 -- How many steps an actor of a plan makes in all: 32 to open a request, 16 to close one, 17 to move one's packets to another and one
 -- to send packets, and two for each link and round of the plane. So it is at most 1,048,576.
 use Rattle.std.proofs.Common.{◌≡◌, ℕ, eqb, ◌+◌, ◌*◌, ◌-◌, ◌<◌, ◌≤◌, Some, None, Option, List, [], ◌∷◌, length, map, refl, sym, ap, ◌∙◌, subst, inl, inr, arith}
-use Rattle.std.proofs.lemmas.Bool.{cases_Bool, and_parts, eqb-true, eqb-false, leb-true}
-use Rattle.std.proofs.lemmas.List.{length-map}
-use Rattle.std.proofs.lemmas.Option.{same_Some, slice_get-map}
-use Rattle.std.specs.List.{slice_get}
-use Rattle.std.specs.Prelude.{nat_le, option_map}
+use Rattle.run_engine.proofs.Words.{cases_Bool, and_parts, eqb-true, eqb-false, leb-true, length-map, same_Some, slice_get-map, slice_get, nat_le, actor_number, channel_number, ChanNo, Hop, Request, total, NetworkFits, PlanParts, openings_in, HasTerms, IsPlan, standing, standing_of, entry_link, groups_in, Network, move_for, network_of, request_of, script_of, send_on, task_for, tasks_of, with_task, Task, Opens, Sends, Closes, plane_no, next_for, IsRun, step, is_by, replies_to, Done, plane_of}
+use Rattle.std.specs.Prelude.{option_map}
 use Rattle.net_units.specs.Limits.{most_steps}
-use Rattle.net_units.specs.Numbers.{actor_number, channel_number}
-use Rattle.net_units.specs.declared.numbers.ChanNo.{ChanNo}
-use Rattle.hop_reservation.specs.declared.route.Hop.{Hop}
 use Rattle.link_steps.proofs.ListParts.{Each-at}
-use Rattle.setup_protocol.specs.declared.request.Request.{Request}
-use Rattle.traffic_contract.specs.Admission.{total}
 use Rattle.call_script.proofs.RulesAreKept.{keeps-rules}
-use Rattle.call_script.specs.Fits.{NetworkFits}
-use Rattle.call_script.specs.Parts.{PlanParts, openings_in}
-use Rattle.call_script.specs.Plans.{HasTerms, IsPlan}
 use Rattle.call_script.specs.Rules.{are_within_load, load_in}
-use Rattle.call_script.specs.Scripts.{standing, standing_of}
-use Rattle.call_script.specs.Splits.{entry_link, groups_in}
-use Rattle.call_script.specs.Tasks.{Network, move_for, network_of, request_of, script_of, send_on, task_for, tasks_of, with_task}
 use Rattle.call_script.specs.declared.entries.CallerEntry.{CallerEntry}
 use Rattle.call_script.specs.declared.entries.RequestEntry.{RequestEntry}
 use Rattle.call_script.specs.declared.operations.Op.{Op}
 use Rattle.call_script.specs.declared.operations.Op.TheVariants.{Open, Send, Close, Move}
 use Rattle.call_script.specs.declared.roles.Role.TheVariants as role
-use Rattle.call_script.specs.declared.tasks.Task.{Task}
-use Rattle.call_script.specs.declared.tasks.Task.TheVariants.{Opens, Sends, Closes}
-use Rattle.run_engine.specs.runs.Runs.{plane_no, next_for, IsRun, step}
 use Rattle.run_engine.specs.runs.Turns.{caller_most, most_left, most_over}
 use Rattle.run_engine.proofs.Tasks.OpsFew.{carries, channels_in, kinds-few}
 use Rattle.run_engine.proofs.Schedules.PlayedTurns.{step-some}
 use Rattle.run_engine.proofs.Runs.RunOf.{step-is}
 use Rattle.run_engine.proofs.Tasks.StepsRunOut.{from-step-most, steps-end}
-use Rattle.run_record.specs.Runs.{is_by, replies_to}
-use Rattle.run_record.specs.declared.done.Done.{Done}
-use Rattle.tick_plane.specs.Planes.{plane_of}
 
 -- ---- the steps of a caller's tasks
 

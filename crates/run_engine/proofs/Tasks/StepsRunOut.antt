@@ -1,45 +1,18 @@
 -- An actor's steps come to an end: the greatest number of steps that it may have left falls with each step that it makes.
 use Rattle.channel_move.proofs.AskByStage.{MoveAsks, AsksFirst, AsksSubmit, AsksRest, move-asks, rest-length}
-use Rattle.call_script.specs.Fits.{TaskFits, NetworkFits}
-use Rattle.link_steps.specs.Lists.{Each, without_first}
-use Rattle.call_script.specs.Scripts.{move_between, last_packets, ready, Learnt, standing, standing_of, resumed, continued, from_step, takes_step, outcome_by, task_ask, first_ask, ask_at}
 use Rattle.std.proofs.Common.{◌≡◌, ◌≢◌, ℕ, zero, suc, ◌+◌, ◌*◌, ◌-◌, ◌<◌, ◌≤◌, Bool, Option, Some, None, IsSome, List, [], ◌∷◌, ◌++◌, length, find, refl, sym, ap, ◌∙◌, subst, inl, inr, arith}
+use Rattle.run_engine.proofs.Words.{TaskFits, NetworkFits, Each, without_first, move_between, last_packets, ready, Learnt, standing, standing_of, resumed, continued, from_step, takes_step, outcome_by, task_ask, first_ask, ask_at, cases_Bool, cases_lt, cond_both, eqb-true, eqb-false, eq-eqb, ne_eqb, length-append, slice_get_within, slice_get, nat_eq, link_number, actor_number, ActorNo, LinkNo, AreLevels, Hop, Ask, Reply, Sent, reply_to, Link, offers_in, after_offers, undoing, relaxing, on_the_way, after_test, asked, asked_of, next_ask, Request, Network, Task, Opens, Sends, Closes, Moves, plane_no, plane_at, next_for, IsNext, IsRun, done_at, stepped, step, replies_to, part_of, Done, Plane, is_due, next_due, flight_to, flight_in, plane_with, Flight}
 use Rattle.std.proofs.Math.Nat.{suc-mul}
-use Rattle.std.proofs.lemmas.Bool.{cases_Bool, cases_lt, cond_both, eqb-true, eqb-false, eq-eqb, ne_eqb}
-use Rattle.std.proofs.lemmas.List.{length-append}
-use Rattle.std.proofs.lemmas.Option.{slice_get_within}
-use Rattle.std.specs.List.{slice_get}
-use Rattle.std.specs.Prelude.{nat_eq}
-use Rattle.net_units.specs.Numbers.{link_number, actor_number}
-use Rattle.net_units.specs.declared.numbers.ActorNo.{ActorNo}
-use Rattle.net_units.specs.declared.numbers.LinkNo.{LinkNo}
-use Rattle.hop_reservation.specs.Offers.{AreLevels}
-use Rattle.hop_reservation.specs.declared.route.Hop.{Hop}
 use Rattle.hop_reservation.proofs.OneMoreOffer.{levels-fit}
-use Rattle.link_steps.specs.declared.asks.Ask.{Ask}
-use Rattle.link_steps.specs.declared.replies.Reply.{Reply}
 use Rattle.link_steps.specs.declared.replies.Reply.TheVariants as Is
-use Rattle.link_steps.specs.declared.replies.Sent.{Sent}
-use Rattle.link_steps.specs.Replies.{reply_to}
-use Rattle.link_steps.specs.Split.{Link}
 use Rattle.relaxation.specs.declared.EndDenial.{EndDenial}
-use Rattle.setup_protocol.specs.Setup.{offers_in, after_offers, undoing, relaxing, on_the_way, after_test, asked, asked_of, next_ask}
-use Rattle.setup_protocol.specs.declared.request.Request.{Request}
 use Rattle.setup_protocol.specs.declared.verdict.Deny.{Deny}
 use Rattle.setup_protocol.proofs.SetupAdvances.{progress-on_the_way, progress-tested}
-use Rattle.call_script.specs.Tasks.{Network}
-use Rattle.call_script.specs.declared.tasks.Task.{Task}
-use Rattle.call_script.specs.declared.tasks.Task.TheVariants.{Opens, Sends, Closes, Moves}
-use Rattle.run_engine.specs.runs.Runs.{plane_no, plane_at, next_for, IsNext, IsRun, done_at, stepped, step}
 use Rattle.run_engine.specs.runs.Turns.{most_steps, most_over, caller_most, plane_most, most_left, MakesOne, StepsComeToAnEnd}
 use Rattle.run_engine.proofs.Tasks.CallerAsksFit.{OffersFit, first-fits, StandingFits}
 use Rattle.run_engine.proofs.Tasks.LinksAsked.{asks-linked}
 use Rattle.run_engine.proofs.Runs.RunLegal.{run-stands, caller-next, plane-next, plane-off, plane-by, replies-by, replies-off}
 use Rattle.run_engine.proofs.Runs.RunOf.{step-is}
-use Rattle.run_record.specs.Runs.{replies_to, part_of}
-use Rattle.run_record.specs.declared.done.Done.{Done}
-use Rattle.tick_plane.specs.Planes.{Plane, is_due, next_due, flight_to, flight_in, plane_with}
-use Rattle.tick_plane.specs.declared.flight.Flight.{Flight}
 use Rattle.setup_protocol.proofs.AskedOnceMore.{count-all}
 
 -- ---- a setup takes at most two steps a hop
@@ -142,7 +115,6 @@ flight_to-few sent None = omega arith
 flight_to-few sent (Some to) = omega arith
 
 flight_in-few : (reply : Reply) → length (flight_in reply) ≤ 1
-flight_in-few (Is.Ticked clock full None best_sent best_lost) = omega arith
 flight_in-few (Is.Ticked clock full (Some sent) best_sent best_lost) = flight_to-few sent sent.next
 flight_in-few _ = omega arith
 

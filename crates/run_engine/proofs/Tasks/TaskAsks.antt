@@ -1,25 +1,10 @@
 -- What is asked by tasks that name another channel, or that don't open it: an ask of another channel, or one that neither reserves,
 -- relaxes nor denies it.
 use Rattle.std.proofs.Common.{◌≡◌, ◌≢◌, ℕ, List, length, Some, subst}
-use Rattle.std.specs.List.{slice_get}
-use Rattle.net_units.specs.Numbers.{actor_number, channel_number}
-use Rattle.net_units.specs.declared.numbers.LinkNo.{LinkNo}
-use Rattle.link_steps.specs.declared.asks.Ask.{Ask}
-use Rattle.link_steps.specs.declared.asks.Ask.TheVariants.{Reserve, Relax, Deny, Release}
-use Rattle.link_steps.specs.declared.replies.Reply.{Reply}
-use Rattle.link_steps.specs.Lists.{Each}
-use Rattle.channel_laws.specs.Asks.{IsOff, IsMild}
+use Rattle.run_engine.proofs.Words.{slice_get, actor_number, channel_number, LinkNo, Ask, Reserve, Relax, Deny, Release, Reply, Each, IsOff, IsMild, progress_of, TaskOff, Learnt, packets_ask, move_between, task_ask, ready, from_step, standing, first_ask, Network, Task, Opens, Sends, Closes, Moves, Done, IsNext}
 use Rattle.channel_move.proofs.AskByStage.{move-ask-is}
-use Rattle.setup_protocol.specs.Setup.{progress_of}
 use Rattle.setup_protocol.proofs.HopAsks.{of-hop, of-setup}
-use Rattle.call_script.specs.Owners.{TaskOff}
-use Rattle.call_script.specs.Scripts.{Learnt, packets_ask, move_between, task_ask, ready, from_step, standing, first_ask}
-use Rattle.call_script.specs.Tasks.{Network}
-use Rattle.call_script.specs.declared.tasks.Task.{Task}
-use Rattle.call_script.specs.declared.tasks.Task.TheVariants.{Opens, Sends, Closes, Moves}
 use Rattle.call_script.proofs.TaskBegins.{ready-keeps}
-use Rattle.run_record.specs.declared.done.Done.{Done}
-use Rattle.run_engine.specs.runs.Runs.{IsNext}
 use Rattle.run_engine.proofs.Runs.EachRun.{each-left, each-standing, first-asks, entry-asks}
 use Rattle.run_engine.proofs.Tasks.SingleAskTask.{once-asked, packets-hold, packets-off}
 

@@ -1,16 +1,6 @@
 -- What a task notes once it is over: what its request has come to, that its packets were planned, or what its move has told; or nothing.
 use Rattle.std.proofs.Common.{◌≡◌, ℕ, List, ◌∷◌, ◌++◌, Option, Some, None, refl}
-use Rattle.net_units.specs.declared.numbers.ChanNo.{ChanNo}
-use Rattle.net_units.specs.declared.numbers.LinkNo.{LinkNo}
-use Rattle.link_steps.specs.declared.replies.Reply.{Reply}
-use Rattle.link_steps.specs.declared.replies.Reply.TheVariants.{Planned}
-use Rattle.channel_move.specs.Moving.{first_told}
-use Rattle.channel_move.specs.declared.shifted.Shifted.{Shifted}
-use Rattle.setup_protocol.specs.Setup.{Outcome, verdict_of}
-use Rattle.setup_protocol.specs.declared.request.Request.{Request}
-use Rattle.call_script.specs.Scripts.{Learnt, Settles, PlannedOn, MovedTo, settled_as, planned_as, moved_as, outcome_by}
-use Rattle.call_script.specs.declared.tasks.Task.{Task}
-use Rattle.call_script.specs.declared.tasks.Task.TheVariants.{Opens, Sends, Closes, Moves}
+use Rattle.run_engine.proofs.Words.{ChanNo, LinkNo, Reply, Planned, first_told, Shifted, Outcome, verdict_of, Request, Learnt, Settles, PlannedOn, MovedTo, settled_as, planned_as, moved_as, outcome_by, Task, Opens, Sends, Closes, Moves}
 
 -- so what each of these notes keeps, and what is so without one, is so of what its caller has learnt then
 pub once-over : (P : List Learnt → Type 0) (task : Task) (replies : List Reply) (outcomes : List Learnt)

@@ -1,22 +1,8 @@
 -- A run that rests goes on by quiet rounds, tick by tick.
 use Rattle.std.proofs.Common.{◌≡◌, ◌≢◌, ℕ, zero, suc, ◌+◌, ◌*◌, ◌<◌, ◌≤◌, List, [], ◌∷◌, length, refl, sym, ap, ◌∙◌, subst, inl, inr, arith}
-use Rattle.std.proofs.lemmas.Bool.{cases_lt, eq-eqb, ne_eqb}
-use Rattle.std.specs.List.{slice_get}
-use Rattle.std.specs.Prelude.{nat_eq, if◌then◌else◌}
-use Rattle.net_units.specs.Numbers.{actor_number, link_at, link_number}
-use Rattle.net_units.specs.declared.numbers.ActorNo.{ActorNo}
-use Rattle.link_steps.specs.declared.asks.Ask.TheVariants.{Tick}
-use Rattle.link_steps.specs.declared.replies.Entry.{Entry}
-use Rattle.link_steps.specs.Quiet.{quiet_reply, quiet_ticks}
-use Rattle.link_steps.specs.Replies.{reply_to}
-use Rattle.call_script.specs.Fits.{NetworkFits}
-use Rattle.call_script.specs.Tasks.{Network}
-use Rattle.tick_plane.specs.Planes.{Plane, plane_ask, plane_after, next_due}
+use Rattle.run_engine.proofs.Words.{cases_lt, eq-eqb, ne_eqb, slice_get, nat_eq, if◌then◌else◌, actor_number, link_at, link_number, ActorNo, Tick, Entry, quiet_reply, quiet_ticks, reply_to, NetworkFits, Network, Plane, plane_ask, plane_after, next_due, entry_of, replies_to, part_of, Done, plane_no, plane_at, IsNext, IsRun}
 use Rattle.tick_plane.proofs.QuietRounds.{none-yet, after-still, asks-tick}
-use Rattle.run_record.specs.Runs.{entry_of, replies_to, part_of}
-use Rattle.run_record.specs.declared.done.Done.{Done}
 use Rattle.run_engine.specs.schedules.Quiet.{quiet_step, quiet_round, quiet_rounds, the_plane, rested, RestsFor, GoesOnAtRest, QuietRoundsGoOn}
-use Rattle.run_engine.specs.runs.Runs.{plane_no, plane_at, IsNext, IsRun}
 use Rattle.run_engine.specs.schedules.Schedules.{repeated, FollowsTurns}
 use Rattle.run_engine.specs.schedules.Standing.{StepsTo}
 use Rattle.run_engine.proofs.Keeping.Lookups.{held}

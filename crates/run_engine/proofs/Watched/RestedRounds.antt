@@ -1,33 +1,16 @@
 -- An engine whose links and plane have rested for n rounds stands for the run continued by n quiet rounds.
-use Rattle.std.proofs.Common.{◌≡◌, ℕ, suc, ◌+◌, ◌-◌, ◌<◌, ◌≤◌, ◌^◌, Some, List, [], ◌∷◌, length, take, get_or, set, refl, sym, ap, ◌∙◌, subst, inl, inr, arith, length-set}
-use Rattle.std.proofs.lemmas.Bool.{cases_eq, le-ltb}
-use Rattle.std.proofs.lemmas.Option.{same_Some, slice_get_within}
-use Rattle.std.specs.List.{slice_get}
-use Rattle.link_quota.specs.Any.{any_clock, any_account, any_rules, AnyStands, any-clock-is}
-use Rattle.link_quota.specs.declared.any_link.AnyLink.{AnyLink}
-use Rattle.link_steps.specs.declared.asks.Ask.TheVariants.{Tick}
-use Rattle.link_steps.specs.declared.replies.Entry.{Entry}
-use Rattle.link_steps.specs.Lists.{Each}
-use Rattle.link_steps.specs.Quiet.{RestsUntil, quiet_reply, quiet_ticks}
-use Rattle.link_steps.specs.Replies.{reply_to}
-use Rattle.link_steps.specs.Scan.{clock_of}
-use Rattle.link_steps.specs.Split.{Link}
+use Rattle.std.proofs.Common.{◌≡◌, ℕ, ◌+◌, ◌-◌, ◌<◌, ◌≤◌, ◌^◌, Some, List, [], ◌∷◌, length, take, get_or, set, refl, sym, ap, ◌∙◌, subst, inl, inr, arith, length-set}
+use Rattle.run_engine.proofs.Words.{cases_eq, le-ltb, same_Some, slice_get_within, slice_get, any_clock, any_account, any_rules, AnyStands, any-clock-is, AnyLink, Tick, Entry, Each, RestsUntil, quiet_reply, quiet_ticks, reply_to, clock_of, Link, NetworkFits, PlanParts, Network, network_of, Plane, part_of, Done, plane_at, IsRun}
+use Rattle.link_steps.proofs.ListParts.{Each-by_place}
 use Rattle.link_steps.proofs.SearchAndFilter.{Each-append, Each-if}
 use Rattle.call_script.proofs.PlansFit.{plan-fits}
 use Rattle.call_script.proofs.Walks.{before-at}
-use Rattle.call_script.specs.Fits.{NetworkFits}
-use Rattle.call_script.specs.Parts.{PlanParts}
 use Rattle.call_script.specs.Standing.{CallerStands}
-use Rattle.call_script.specs.Tasks.{Network, network_of}
 use Rattle.tick_plane.specs.QuietRounds.{HasQuietRounds, rounds_later}
 use Rattle.tick_plane.specs.Coming.{IsDueFrom}
 use Rattle.tick_plane.specs.PlaneAccount.{PlaneAccount}
-use Rattle.tick_plane.specs.Planes.{Plane}
-use Rattle.run_record.specs.Runs.{part_of}
-use Rattle.run_record.specs.declared.done.Done.{Done}
 use Rattle.run_engine.specs.schedules.Quiet.{rested, RestsFor, GoesOnAtRest}
 use Rattle.run_engine.specs.schedules.Resting.{RestsBy, HasRested, HaveRested, EngineRests, MakesStride}
-use Rattle.run_engine.specs.runs.Runs.{plane_at, IsRun}
 use Rattle.run_engine.specs.schedules.Standing.{CallersStand, EngineStands, LinksStand, PlaneStands}
 use Rattle.run_engine.specs.declared.engine.Engine.{Engine}
 use Rattle.run_engine.proofs.Keeping.KeptActors.{plane-number}
@@ -63,11 +46,6 @@ clock-starts network links run k link fits is stand starts found =
     clock ∙ clocks-follow network run k fits is within ∙ none
 
 -- ---- links
-
--- what holds of each element that is there
-pub each-held : {X : Type 0} (P : X → Type 0) (xs : List X) → ((k : ℕ) (x : X) → slice_get xs k ≡ Some x → P x) → Each P xs
-each-held P [] there = tt
-each-held P (x ∷ xs) there = (there 0 x refl, each-held P xs (λ k. there (suc k)))
 
 -- one link more rests for as many ticks
 pub least-more : (links : List AnyLink) (i : ℕ) (link : AnyLink) (until ticks now : ℕ) → i < length links → link ≡ get_or links i link → RestsUntil (any_rules link).shape until (any_account link) → now ≤ ticks → now ≤ until - any_clock link → (1 ≤ ticks → Each (RestsBy ticks) (take i links)) → 1 ≤ now
@@ -131,7 +109,7 @@ module _ (parts : PlanParts) (engine : Engine) (run : List Done) (n : ℕ) (stan
   clock-in k link found = clock-starts (network_of parts) engine.links.items run k link fits-parts stands.run stands.links ahead-in.starts found
 
   pub all-early : Each (λ link. any_clock link + n ≤ 2 ^ 61) engine.links.items
-  all-early = each-held (λ link. any_clock link + n ≤ 2 ^ 61) engine.links.items (λ k link found. (let clock = clock-in k link found in let left = ahead-in.left in let few = fits-parts.rounds in omega (arith, clock, left, few)))
+  all-early = Each-by_place (λ link. any_clock link + n ≤ 2 ^ 61) engine.links.items (λ k link found. (let clock = clock-in k link found in let left = ahead-in.left in let few = fits-parts.rounds in omega (arith, clock, left, few)))
 
 module _ (parts : PlanParts) (engine : Engine) (news : List AnyLink) (run : List Done) (n : ℕ) (stands : EngineStands parts engine run) (ahead : HasQuietRounds engine.actors.plane.rounds n engine.actors.plane.at) (have : HaveRested n engine.links.items news) where
   abbrev network : Network

@@ -1,14 +1,7 @@
 -- What an engine's steps make of a schedule while a watcher sees them.
 use Rattle.std.proofs.Common.{◌≡◌, ℕ, ◌+◌, ◌^◌, ◌<◌, true, false, None, List, [], ◌∷◌, length, take, get_or, refl, sym, ap, ◌∙◌, subst}
-use Rattle.net_units.specs.Numbers.{actor_number, actor_at}
-use Rattle.net_units.specs.declared.numbers.ActorNo.{ActorNo}
-use Rattle.net_units.specs.declared.numbers.LinkNo.{LinkNo}
-use Rattle.link_steps.specs.declared.asks.Ask.{Ask}
-use Rattle.call_script.specs.Parts.{PlanParts}
-use Rattle.call_script.specs.Tasks.{network_of}
-use Rattle.call_script.specs.declared.schedule.Do.{Do}
+use Rattle.run_engine.proofs.Words.{actor_number, actor_at, ActorNo, LinkNo, Ask, PlanParts, network_of, Do, next_for, step, Done}
 use Rattle.call_script.specs.declared.schedule.Schedule.{Schedule}
-use Rattle.run_engine.specs.runs.Runs.{next_for, step}
 use Rattle.run_engine.specs.schedules.Schedules.{repeated, turns_of}
 use Rattle.run_engine.specs.schedules.Standing.{CallersStand, IsAboutTo, MakesStep, StepsTo}
 use Rattle.run_engine.specs.schedules.Watching.{WatchStands, IsAsked, GoesOn, PlaysOn, PlaysOut, HavePlayedOut, IsNextSeen, IsPlayedSeen}
@@ -17,7 +10,6 @@ use Rattle.run_engine.specs.declared.engine.Engine.{Engine}
 use Rattle.run_engine.proofs.Schedules.PlayedTurns.{step-follows, follows-start, follows-again, items-again, none-played, none-out, out-again, played-written, played-out}
 use Rattle.run_engine.proofs.Runs.RunLength.{never-so-many}
 use Rattle.run_engine.proofs.Runs.RunOf.{step-is}
-use Rattle.run_record.specs.declared.done.Done.{Done}
 
 module _ {W : Type 0} (saw : W → PlanParts → List Done → Type 0) (parts : PlanParts) where
   -- ---- one step

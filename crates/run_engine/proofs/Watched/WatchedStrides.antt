@@ -1,24 +1,14 @@
 -- What strides make of a run that is watched, and of the turns of one actor.
 use Rattle.std.proofs.Common.{◌≡◌, ℕ, zero, suc, ◌+◌, ◌*◌, ◌≤◌, None, List, [], ◌∷◌, ◌++◌, length, refl, sym, ap, ◌∙◌, subst, arith}
-use Rattle.std.proofs.lemmas.List.{length-map}
-use Rattle.std.specs.Prelude.{Result, Ok, Err, OnOk}
-use Rattle.net_units.specs.Numbers.{actor_number}
-use Rattle.net_units.specs.declared.numbers.ActorNo.{ActorNo}
+use Rattle.run_engine.proofs.Words.{length-map, Result, Ok, Err, OnOk, actor_number, ActorNo, PlanParts, IsPlan, entry_link, groups_in, Network, network_of, Plane, next_for, plane_at, run_from, Done}
 use Rattle.call_script.proofs.PlansFit.{plan-fits}
-use Rattle.call_script.specs.Parts.{PlanParts}
-use Rattle.call_script.specs.Plans.{IsPlan}
-use Rattle.call_script.specs.Splits.{entry_link, groups_in}
-use Rattle.call_script.specs.Tasks.{Network, network_of}
-use Rattle.tick_plane.specs.Planes.{Plane}
 use Rattle.run_engine.specs.schedules.Quiet.{quiet_round, quiet_rounds, quiet_step, rested, the_plane}
 use Rattle.run_engine.specs.schedules.Resting.{MakesStride}
-use Rattle.run_engine.specs.runs.Runs.{next_for, plane_at, run_from}
 use Rattle.run_engine.specs.schedules.Schedules.{repeated, FollowsTurns}
 use Rattle.run_engine.specs.schedules.Watching.{WatchStands, IsRestSeen, PlaysOn, PlaysOut}
 use Rattle.run_engine.specs.declared.engine.Engine.{Engine}
 use Rattle.run_engine.proofs.Schedules.ScheduleOutcome.{follows-more}
 use Rattle.run_engine.proofs.Watched.WatchedSteps.{plays-none, plays-out}
-use Rattle.run_record.specs.declared.done.Done.{Done}
 
 -- ---- turns of one actor
 

@@ -1,44 +1,11 @@
 -- The networks of the worked runs, and what a run of their actors tells, computed from the definitions.
-use Rattle.std.specs.Prelude.{map, reverse, false}
 use Rattle.std.proofs.Common.{ℕ, suc, zero, List, [], ◌∷◌, Option, Some, None, refl, lit≤, lit<}
-use Rattle.net_units.specs.declared.numbers.ChanNo.{ChanNo}
-use Rattle.net_units.specs.declared.numbers.ActorNo.{ActorNo}
-use Rattle.net_units.specs.Numbers.{link_at}
-use Rattle.traffic_contract.specs.Admission.{work_in, work_up_to, load, some_upto, passes_up_to, passes, admits, first_level, best_level}
-use Rattle.traffic_contract.specs.Contract.{Traffic, terms_of, most_in}
-use Rattle.traffic_contract.specs.Keeping.{may_follow}
+use Rattle.run_engine.proofs.Words.{map, reverse, false, ChanNo, ActorNo, link_at, work_in, work_up_to, load, some_upto, passes_up_to, passes, admits, first_level, best_level, Traffic, terms_of, most_in, may_follow, first_from, eligible, Hop, delay_over, bound_at_end, allotment, planned_from, eligible_next, hold_ended, clock_of, with_arrival, without_expired, with_sources, with_best, best_step_at, after_tick, after, scan_of, slots_of, need_of, held_units, free_units, held_packets, step_of, source_packets, rows_after, dropped_in, change_first, without_first, LinkShape, whole, Offer, Ticked, Reply, Sent, goes_before, first_in_line, is_waiting, serve_tick, starts_below, here_at, reserve_reply, relax_reply, deny_reply, submit_reply, release_reply, arrive_reply, sent_at, best_sent_at, reply_at, reply_to, offers_in, after_offers, reach_after, Request, last_packets, Learnt, standing, resumed, from_step, is_established, newest, moved_off, Network, Task, Done, replies_to, part_of, plane_of, next_for, run_from}
 use Rattle.traffic_contract.specs.declared.admission.Test.TheVariants.{Whole}
-use Rattle.traffic_contract.specs.Eligible.{first_from, eligible}
-use Rattle.hop_reservation.specs.declared.route.Hop.{Hop}
-use Rattle.hop_reservation.specs.Offers.{delay_over}
-use Rattle.relaxation.specs.Allotment.{bound_at_end, allotment}
-use Rattle.link_steps.specs.Rows.{planned_from}
 use Rattle.link_steps.specs.Room.{whole_room, room_of}
-use Rattle.link_steps.specs.Regulator.{eligible_next}
-use Rattle.link_steps.specs.Hold.{hold_ended}
-use Rattle.link_steps.specs.Scan.{clock_of, with_arrival, without_expired, with_sources, with_best, best_step_at, after_tick, after, scan_of}
-use Rattle.link_steps.specs.Buffer.{slots_of, need_of, held_units, free_units, held_packets}
-use Rattle.link_steps.specs.Sources.{step_of, source_packets, rows_after, dropped_in}
-use Rattle.link_steps.specs.Lists.{change_first, without_first}
-use Rattle.link_steps.specs.declared.shape.LinkShape.{LinkShape}
-use Rattle.link_steps.specs.Split.{whole}
-use Rattle.link_steps.specs.declared.replies.Reply.TheVariants.{Offer, Ticked}
-use Rattle.link_steps.specs.declared.replies.Reply.{Reply}
 use Rattle.link_steps.specs.BestEffort.{best_step, waiting_best}
-use Rattle.link_steps.specs.declared.replies.Sent.{Sent}
 use Rattle.link_steps.specs.Levels.{level_of}
-use Rattle.link_steps.specs.Service.{goes_before, first_in_line, is_waiting, serve_tick, starts_below, here_at}
-use Rattle.link_steps.specs.Replies.{reserve_reply, relax_reply, deny_reply, submit_reply, release_reply, arrive_reply, sent_at, best_sent_at, reply_at, reply_to}
-use Rattle.setup_protocol.specs.Setup.{offers_in, after_offers, reach_after}
-use Rattle.setup_protocol.specs.declared.request.Request.{Request}
 use Rattle.setup_protocol.specs.declared.request.Control.TheVariants.{Rate}
-use Rattle.call_script.specs.Scripts.{last_packets, Learnt, standing, resumed, from_step, is_established, newest, moved_off}
-use Rattle.call_script.specs.Tasks.{Network}
-use Rattle.call_script.specs.declared.tasks.Task.{Task}
-use Rattle.run_record.specs.declared.done.Done.{Done}
-use Rattle.run_record.specs.Runs.{replies_to, part_of}
-use Rattle.tick_plane.specs.Planes.{plane_of}
-use Rattle.run_engine.specs.runs.Runs.{next_for, run_from}
 
 -- ---- two callers, their channels, and links that carry a unit a tick
 

@@ -1,7 +1,6 @@
 -- Worked schedules, computed from the definitions: the turns of items that are spelled out, and where a schedule asks too much.
 use Rattle.std.proofs.Common.{◌≡◌, ℕ, [], ◌∷◌, refl}
-use Rattle.call_script.specs.declared.schedule.Do.{Do}
-use Rattle.net_units.specs.declared.numbers.ActorNo.{ActorNo}
+use Rattle.run_engine.proofs.Words.{Do, ActorNo}
 use Rattle.run_engine.specs.schedules.Schedules.{lined_turns, repeated, turns_of, turn_of}
 use Rattle.run_engine.proofs.Worked.Networks.{k1, k2, plane}
 use Rattle.run_engine.proofs.Worked.Setups.{in_turn}

@@ -1,38 +1,11 @@
 -- Worked runs, computed from the definitions: a request that stays pending, two setups that meet in a ring of two links, and
 -- two callers over two links with a packet that crosses both.
-use Rattle.std.specs.List.{slice_get}
 use Rattle.std.proofs.Common.{◌≡◌, ℕ, List, [], ◌∷◌, ◌++◌, Option, Some, None, refl}
-use Rattle.net_units.specs.declared.numbers.ChanNo.{ChanNo}
-use Rattle.net_units.specs.declared.numbers.ActorNo.{ActorNo}
-use Rattle.net_units.specs.Numbers.{actor_number, link_at}
-use Rattle.traffic_contract.specs.Admission.{work_in, work_up_to, load, some_upto, passes_up_to, passes, admits, first_level, best_level}
-use Rattle.traffic_contract.specs.Contract.{most_in}
-use Rattle.traffic_contract.specs.Keeping.{may_follow}
-use Rattle.traffic_contract.specs.Eligible.{first_from, eligible}
-use Rattle.hop_reservation.specs.Offers.{delay_over}
-use Rattle.relaxation.specs.Allotment.{bound_at_end, allotment}
-use Rattle.link_steps.specs.Rows.{planned_from}
+use Rattle.run_engine.proofs.Words.{slice_get, ChanNo, ActorNo, actor_number, link_at, work_in, work_up_to, load, some_upto, passes_up_to, passes, admits, first_level, best_level, most_in, may_follow, first_from, eligible, delay_over, bound_at_end, allotment, planned_from, eligible_next, hold_ended, clock_of, with_arrival, without_expired, with_sources, with_best, best_step_at, after_tick, after, scan_of, slots_of, need_of, held_units, free_units, held_packets, step_of, source_packets, rows_after, dropped_in, change_first, without_first, Relaxed, Denied, Planned, Taken, Refused, goes_before, first_in_line, is_waiting, serve_tick, starts_below, here_at, reserve_reply, relax_reply, deny_reply, submit_reply, release_reply, arrive_reply, sent_at, best_sent_at, reply_at, reply_to, Outcome, Accepts, Denies, offers_in, after_offers, reach_after, Request, Opens, Sends, standing, resumed, from_step, is_established, outcome_in, newest, Network, replies_to, part_of, plane_of, next_for, run_from}
 use Rattle.link_steps.specs.Room.{whole_room, room_of}
-use Rattle.link_steps.specs.Regulator.{eligible_next}
-use Rattle.link_steps.specs.Hold.{hold_ended}
-use Rattle.link_steps.specs.Scan.{clock_of, with_arrival, without_expired, with_sources, with_best, best_step_at, after_tick, after, scan_of}
-use Rattle.link_steps.specs.Buffer.{slots_of, need_of, held_units, free_units, held_packets}
 use Rattle.link_steps.specs.declared.replies.Refusal.TheVariants.{NoLevel}
-use Rattle.link_steps.specs.Sources.{step_of, source_packets, rows_after, dropped_in}
-use Rattle.link_steps.specs.Lists.{change_first, without_first}
-use Rattle.link_steps.specs.declared.replies.Reply.TheVariants.{Relaxed, Denied, Planned, Taken, Refused}
 use Rattle.link_steps.specs.BestEffort.{best_step, waiting_best}
-use Rattle.link_steps.specs.Service.{goes_before, first_in_line, is_waiting, serve_tick, starts_below, here_at}
-use Rattle.link_steps.specs.Replies.{reserve_reply, relax_reply, deny_reply, submit_reply, release_reply, arrive_reply, sent_at, best_sent_at, reply_at, reply_to}
-use Rattle.setup_protocol.specs.Setup.{Outcome, Accepts, Denies, offers_in, after_offers, reach_after}
-use Rattle.setup_protocol.specs.declared.request.Request.{Request}
 use Rattle.setup_protocol.specs.declared.verdict.Deny.TheVariants.{Hop as AtHop}
-use Rattle.call_script.specs.declared.tasks.Task.TheVariants.{Opens, Sends}
-use Rattle.call_script.specs.Scripts.{standing, resumed, from_step, is_established, outcome_in, newest}
-use Rattle.call_script.specs.Tasks.{Network}
-use Rattle.run_record.specs.Runs.{replies_to, part_of}
-use Rattle.tick_plane.specs.Planes.{plane_of}
-use Rattle.run_engine.specs.runs.Runs.{next_for, run_from}
 use Rattle.run_engine.proofs.Worked.Networks.{k1, k2, plane, chan0, chan1, narrow_link, wide_link, request_over, network_of, outcomes_in, played, offer, ticked, times}
 
 -- what a caller's request has come to

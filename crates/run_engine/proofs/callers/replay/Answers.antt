@@ -1,6 +1,6 @@
 -- The next entry is the next step of its actor, and the callers stand after it.
 use Rattle.std.proofs.Common.{◌≡◌, ◌<◌, length, get_or, reverse, take, sym, subst}
-use Rattle.call_script.specs.Tasks.{network_of}
+use Rattle.run_engine.proofs.Words.{network_of}
 use Rattle.run_engine.specs.schedules.Standing.{CallersStand, IsNextStep}
 use Rattle.run_engine.proofs.Runs.RunFronts.{front-run, front-more, front-next}
 use Rattle.run_engine.proofs.callers.replay.Goals as goal

@@ -1,6 +1,6 @@
 -- The next entry is the next step of its actor; the callers stand after it, and it is seen.
 use Rattle.std.proofs.Common.{◌≡◌, ◌<◌, length, get_or, refl, reverse, take, sym, subst, ◌∙◌}
-use Rattle.call_script.specs.Tasks.{network_of}
+use Rattle.run_engine.proofs.Words.{network_of}
 use Rattle.run_engine.specs.schedules.Standing.{IsNextStep}
 use Rattle.run_engine.specs.schedules.Watching.{IsNextSeen, IsSeen}
 use Rattle.run_engine.proofs.Runs.RunFronts.{front-run, front-more, front-next}

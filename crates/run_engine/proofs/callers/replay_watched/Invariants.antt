@@ -1,5 +1,5 @@
 use Rattle.std.proofs.Common.{◌≡◌, reverse, take}
-use Rattle.call_script.specs.Plans.{IsPlan}
+use Rattle.run_engine.proofs.Words.{IsPlan}
 use Rattle.run_engine.specs.schedules.Watching.{IsSeen}
 use Rattle.run_engine.proofs.callers.replay_watched.Given as goal
 

@@ -1,9 +1,6 @@
 -- The link is whole, or split as the plan says.
 use Rattle.std.proofs.Common.{ap, sym, ◌∙◌, subst}
-use Rattle.std.proofs.lemmas.Option.{slice_get_within}
-use Rattle.net_units.specs.Numbers.{link_number}
-use Rattle.link_steps.specs.Split.{SplitFits, whole}
-use Rattle.call_script.specs.Splits.{groups_in}
+use Rattle.run_engine.proofs.Words.{slice_get_within, link_number, SplitFits, whole, groups_in}
 use Rattle.run_engine.proofs.Keeping.SplitLinks.{unsplit, split-so, entry-split-fits}
 use Rattle.run_engine.proofs.links.new_link.Goals as goal
 

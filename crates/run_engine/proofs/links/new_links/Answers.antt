@@ -1,10 +1,6 @@
 -- One more link, and then all.
 use Rattle.std.proofs.Common.{Some, sym, ap, subst, ◌∙◌, ◌≡◌, [], ◌∷◌, refl, length, arith}
-use Rattle.std.proofs.lemmas.List.{length-append}
-use Rattle.std.proofs.lemmas.Option.{slice_get_read}
-use Rattle.std.specs.List.{slice_get}
-use Rattle.call_script.specs.Splits.{groups_in}
-use Rattle.call_script.specs.Tasks.{network_of}
+use Rattle.run_engine.proofs.Words.{length-append, slice_get_read, slice_get, groups_in, network_of}
 use Rattle.run_engine.proofs.Keeping.KeptLinks.{LinksMade, one-made, all-made}
 use Rattle.run_engine.proofs.links.new_links.Goals as goal
 

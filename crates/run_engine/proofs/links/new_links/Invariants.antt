@@ -1,5 +1,5 @@
 use Rattle.std.proofs.Common.{◌≡◌, length}
-use Rattle.call_script.specs.Splits.{groups_in}
+use Rattle.run_engine.proofs.Words.{groups_in}
 use Rattle.run_engine.proofs.Keeping.KeptLinks.{LinksMade}
 use Rattle.run_engine.proofs.links.new_links.Given as goal
 

@@ -1,11 +1,6 @@
 -- What one tick at rest says of its link, said of the list of the links.
 use Rattle.std.proofs.Common.{◌≡◌, ◌∷◌, ℕ, get_or, sym, ap, ◌∙◌, subst, arith}
-use Rattle.std.proofs.lemmas.Option.{get_or_from_slice_get}
-use Rattle.link_quota.specs.Any.{any_clock, any_rules, AnyStands}
-use Rattle.link_quota.specs.declared.any_link.AnyLink.{AnyLink}
-use Rattle.link_steps.specs.Quiet.{quiet_reply, quiet_ticks}
-use Rattle.link_steps.specs.Replies.{reply_to}
-use Rattle.link_steps.specs.declared.asks.Ask.TheVariants.{Tick}
+use Rattle.run_engine.proofs.Words.{get_or_from_slice_get, any_clock, any_rules, AnyStands, AnyLink, quiet_reply, quiet_ticks, reply_to, Tick}
 use Rattle.run_engine.proofs.Keeping.Lookups.{get-set-same}
 use Rattle.run_engine.proofs.Watched.RestedRounds.{first-told, one-tick}
 use Rattle.run_engine.proofs.links.rest_link.Goals as goal

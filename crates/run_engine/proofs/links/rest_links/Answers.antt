@@ -1,7 +1,6 @@
 -- One more link has rested, and then all.
 use Rattle.std.proofs.Common.{◌+◌, ◌^◌, ◌<◌, ◌≤◌, length, get_or, refl, sym, subst, arith}
-use Rattle.link_quota.specs.Any.{any_clock}
-use Rattle.link_quota.specs.declared.any_link.AnyLink.{AnyLink}
+use Rattle.run_engine.proofs.Words.{any_clock, AnyLink}
 use Rattle.link_steps.proofs.ListParts.{Each-at}
 use Rattle.run_engine.specs.schedules.Resting.{HasRested, RestsBy}
 use Rattle.run_engine.proofs.Watched.RestedRounds.{rested-more, next-stays, all-rested}

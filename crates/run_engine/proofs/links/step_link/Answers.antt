@@ -1,10 +1,6 @@
 -- What the step says of its link, said of the list of the links.
 use Rattle.std.proofs.Common.{◌≡◌, List, ◌∷◌, sym, subst}
-use Rattle.std.proofs.lemmas.Option.{get_or_from_slice_get}
-use Rattle.link_quota.specs.Any.{any_rules, AnyStands}
-use Rattle.link_quota.specs.declared.any_link.AnyLink.{AnyLink}
-use Rattle.link_steps.specs.Replies.{reply_to}
-use Rattle.link_steps.specs.declared.replies.Entry.{Entry}
+use Rattle.run_engine.proofs.Words.{get_or_from_slice_get, any_rules, AnyStands, AnyLink, reply_to, Entry}
 use Rattle.run_engine.proofs.Keeping.Lookups.{get-set-same, if-ok, if-err}
 use Rattle.run_engine.proofs.links.step_link.Goals as goal
 

@@ -1,5 +1,5 @@
 use Rattle.std.proofs.Common.{◌≤◌, take}
-use Rattle.link_steps.specs.Lists.{Each}
+use Rattle.run_engine.proofs.Words.{Each}
 use Rattle.run_engine.specs.schedules.Resting.{RestsBy}
 use Rattle.run_engine.proofs.links.ticks_at_rest.Given as goal
 

@@ -1,9 +1,7 @@
 -- The actor of the number after those of the callers is the plane.
 use Rattle.std.proofs.Common.{◌≡◌, length, sym, ap, ◌∙◌, arith}
-use Rattle.std.proofs.lemmas.Bool.{eqb-true}
+use Rattle.run_engine.proofs.Words.{eqb-true, actor_number, network_of}
 use Rattle.net_units.proofs.KnownByNumber.{same-actor}
-use Rattle.net_units.specs.Numbers.{actor_number}
-use Rattle.call_script.specs.Tasks.{network_of}
 use Rattle.run_engine.specs.schedules.Quiet.{the_plane}
 use Rattle.run_engine.proofs.Keeping.NextPlaneStep.{own-number}
 use Rattle.run_engine.proofs.playing.is_plane.Goals as goal

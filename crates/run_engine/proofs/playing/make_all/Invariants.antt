@@ -1,7 +1,7 @@
 use Rattle.std.proofs.Common.{◌≡◌, List}
+use Rattle.run_engine.proofs.Words.{Done}
 use Rattle.run_engine.specs.schedules.Watching.{WatchStands}
 use Rattle.run_engine.proofs.Watched.WatchedStrides.{PlaysAtLeast}
-use Rattle.run_record.specs.declared.done.Done.{Done}
 use Rattle.run_engine.proofs.playing.make_all.Given as goal
 
 -- so many steps of the actor are made at least

@@ -1,6 +1,6 @@
 -- Some turns more of the item, or its first that finds no step left.
 use Rattle.std.proofs.Common.{◌+◌, ◌-◌, refl, ◌∙◌, arith}
-use Rattle.call_script.specs.Tasks.{network_of}
+use Rattle.run_engine.proofs.Words.{network_of}
 use Rattle.run_engine.specs.declared.playing.PlayFault.TheVariants.{Step}
 use Rattle.run_engine.proofs.Schedules.PlayedTurns.{item-stops}
 use Rattle.run_engine.proofs.Watched.WatchedStrides.{none-made, plays-more, plays-same}

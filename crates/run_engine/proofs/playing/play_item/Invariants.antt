@@ -1,7 +1,7 @@
 use Rattle.std.proofs.Common.{◌≡◌, ◌-◌, ◌≤◌, List}
+use Rattle.run_engine.proofs.Words.{Done}
 use Rattle.run_engine.specs.schedules.Schedules.{repeated}
 use Rattle.run_engine.specs.schedules.Watching.{PlaysOn, WatchStands}
-use Rattle.run_record.specs.declared.done.Done.{Done}
 use Rattle.run_engine.proofs.playing.play_item.Given as goal
 
 -- the turns but for those that are left are made

@@ -1,7 +1,7 @@
 -- One more item, or the first that asks for a step that isn't left.
 use Rattle.std.proofs.Common.{refl, ◌∙◌}
+use Rattle.run_engine.proofs.Words.{network_of}
 use Rattle.std.proofs.lemmas.Result.{err_from_is_err_and}
-use Rattle.call_script.specs.Tasks.{network_of}
 use Rattle.run_engine.proofs.Schedules.PlayedTurns.{items-stop}
 use Rattle.run_engine.proofs.Watched.WatchedSteps.{items-begin, items-on}
 use Rattle.run_engine.proofs.playing.play_items.Goals as goal

@@ -1,6 +1,6 @@
 -- The plane's number is the one after those of the callers.
 use Rattle.std.proofs.Common.{length, sym, ap, ◌∙◌, arith}
-use Rattle.net_units.specs.Numbers.{actor_at}
+use Rattle.run_engine.proofs.Words.{actor_at}
 use Rattle.run_engine.proofs.Keeping.KeptActors.{plane-number}
 use Rattle.run_engine.proofs.Keeping.NextStep.{callers-few}
 use Rattle.run_engine.proofs.quiet.plane_of.Goals as goal

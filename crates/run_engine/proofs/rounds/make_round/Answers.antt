@@ -1,6 +1,6 @@
 -- One turn more, or none is left.
 use Rattle.std.proofs.Common.{refl, ◌∙◌, arith}
-use Rattle.call_script.specs.Tasks.{network_of}
+use Rattle.run_engine.proofs.Words.{network_of}
 use Rattle.run_engine.specs.schedules.Quiet.{the_plane}
 use Rattle.run_engine.proofs.Watched.WatchedStrides.{none-made}
 use Rattle.run_engine.proofs.Watched.WatchedSteps.{plays-none, plays-one, plays-again}

@@ -1,9 +1,8 @@
 use Rattle.std.proofs.Common.{◌≡◌, ◌-◌, ◌≤◌, List}
-use Rattle.call_script.specs.Tasks.{network_of}
+use Rattle.run_engine.proofs.Words.{network_of, Done}
 use Rattle.run_engine.specs.schedules.Quiet.{the_plane}
 use Rattle.run_engine.specs.schedules.Schedules.{repeated}
 use Rattle.run_engine.specs.schedules.Watching.{PlaysOn, WatchStands}
-use Rattle.run_record.specs.declared.done.Done.{Done}
 use Rattle.run_engine.proofs.rounds.make_round.Given as goal
 
 -- so many turns of the plane are made

@@ -1,8 +1,6 @@
 -- The link makes the tick for each run that both stand for, the plane goes on, and the tick is seen after that run.
 use Rattle.std.proofs.Common.{refl}
-use Rattle.call_script.specs.Tasks.{network_of}
-use Rattle.link_steps.specs.declared.asks.Ask.TheVariants.{Tick}
-use Rattle.link_steps.specs.Quiet.{quiet_reply}
+use Rattle.run_engine.proofs.Words.{network_of, Tick, quiet_reply}
 use Rattle.run_engine.specs.schedules.PlaneSteps.{plane_step}
 use Rattle.run_engine.specs.schedules.Quiet.{the_plane}
 use Rattle.run_engine.proofs.Keeping.NextPlaneStep.{makes-step, plane-gets}

@@ -1,6 +1,6 @@
 -- Some steps of the plane more, until none is left. A run is too short for the loop to end before.
 use Rattle.std.proofs.Common.{refl, ◌∙◌, arith}
-use Rattle.call_script.specs.Tasks.{network_of}
+use Rattle.run_engine.proofs.Words.{network_of}
 use Rattle.run_engine.specs.schedules.Quiet.{the_plane}
 use Rattle.run_engine.proofs.Watched.WatchedStrides.{least-none, least-more, out-now}
 use Rattle.run_engine.proofs.Watched.WatchedSteps.{never-ending}

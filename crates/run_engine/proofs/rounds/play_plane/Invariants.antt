@@ -1,9 +1,8 @@
 use Rattle.std.proofs.Common.{◌≡◌, List}
-use Rattle.call_script.specs.Tasks.{network_of}
+use Rattle.run_engine.proofs.Words.{network_of, Done}
 use Rattle.run_engine.specs.schedules.Quiet.{the_plane}
 use Rattle.run_engine.specs.schedules.Watching.{WatchStands}
 use Rattle.run_engine.proofs.Watched.WatchedStrides.{PlaysAtLeast}
-use Rattle.run_record.specs.declared.done.Done.{Done}
 use Rattle.run_engine.proofs.rounds.play_plane.Given as goal
 
 -- so many steps of the plane are made at least

@@ -1,6 +1,6 @@
 -- The link makes the step for each run that both stand for, the plane gets the reply, and the step is seen after that run.
 use Rattle.std.proofs.Common.{refl}
-use Rattle.call_script.specs.Tasks.{network_of}
+use Rattle.run_engine.proofs.Words.{network_of}
 use Rattle.run_engine.specs.schedules.PlaneSteps.{plane_step}
 use Rattle.run_engine.specs.schedules.Quiet.{the_plane}
 use Rattle.run_engine.proofs.Keeping.NextPlaneStep.{makes-step, plane-gets}

@@ -1,6 +1,6 @@
 -- The entry at hand is of the actor, or it isn't.
 use Rattle.std.proofs.Common.{sym, ◌∙◌, refl, arith}
-use Rattle.run_record.specs.Runs.{replies_to}
+use Rattle.run_engine.proofs.Words.{replies_to}
 use Rattle.run_engine.proofs.Keeping.NextStep.{steps-same, steps-other}
 use Rattle.run_engine.proofs.watching.steps_among.Goals as goal
 use Rattle.run_engine.proofs.watching.steps_among.Goals.{then-get, else-get}

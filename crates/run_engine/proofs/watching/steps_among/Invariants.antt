@@ -1,6 +1,5 @@
 use Rattle.std.proofs.Common.{◌≡◌, ◌≤◌, length, take, reverse}
-use Rattle.net_units.specs.Numbers.{actor_number}
-use Rattle.run_record.specs.Runs.{replies_to}
+use Rattle.run_engine.proofs.Words.{actor_number, replies_to}
 use Rattle.run_engine.proofs.watching.steps_among.Given as goal
 
 -- the steps so far, no more than the entries

@@ -1,7 +1,6 @@
 -- The plane's ask, a caller's, or none.
 use Rattle.std.proofs.Common.{◌≡◌, ◌<◌, ap, ◌∙◌, length, arith}
-use Rattle.net_units.specs.Numbers.{actor_number}
-use Rattle.run_record.specs.Runs.{replies_to}
+use Rattle.run_engine.proofs.Words.{actor_number, replies_to}
 use Rattle.run_engine.proofs.Keeping.KeptActors.{plane-asks, caller-asks, none-asks}
 use Rattle.run_engine.proofs.Keeping.Lookups.{found-at}
 use Rattle.run_engine.proofs.actors.Actors.next_ask.Goals as goal

@@ -1,7 +1,6 @@
 -- The plane is left where it stands after the tick, and the callers as they were.
 use Rattle.std.proofs.Common.{refl, sym, ap, ◌∙◌}
-use Rattle.link_steps.specs.Quiet.{quiet_reply}
-use Rattle.tick_plane.specs.Planes.{plane_after}
+use Rattle.run_engine.proofs.Words.{quiet_reply, plane_after}
 use Rattle.run_engine.proofs.Keeping.KeptActors.{plane-left, plane-taken}
 use Rattle.run_engine.proofs.Keeping.NextPlaneStep.{by-plane, quiet-due, quiet-made}
 use Rattle.run_engine.proofs.actors.Actors.pass_plane.Goals as goal

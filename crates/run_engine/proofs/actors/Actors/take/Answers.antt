@@ -1,6 +1,6 @@
 -- The plane takes its reply, or the caller its own.
 use Rattle.std.proofs.Common.{◌≡◌, ◌≢◌, refl, length, ◌∙◌, arith}
-use Rattle.net_units.specs.Numbers.{actor_number}
+use Rattle.run_engine.proofs.Words.{actor_number}
 use Rattle.run_engine.proofs.Keeping.KeptActors.{calls-next, calls-taken}
 use Rattle.run_engine.proofs.actors.Actors.take.Goals as goal
 

@@ -1,6 +1,6 @@
 -- The plane is left where it stands after the reply, and the callers as they were.
 use Rattle.std.proofs.Common.{refl, sym, ap, ◌∙◌, subst}
-use Rattle.tick_plane.specs.Planes.{next_due, plane_after, plane_expects, IsDueLater}
+use Rattle.run_engine.proofs.Words.{next_due, plane_after, plane_expects, IsDueLater}
 use Rattle.run_engine.proofs.Keeping.KeptActors.{plane-left, plane-expected, plane-later, plane-taken}
 use Rattle.run_engine.proofs.Keeping.NextPlaneStep.{by-plane}
 use Rattle.run_engine.proofs.actors.Actors.take_plane.Goals as goal

@@ -1,7 +1,6 @@
 -- The caller that opens the request is there, and knows of the move.
 use Rattle.std.proofs.Common.{◌<◌, length, refl, ◌∙◌, arith}
-use Rattle.net_units.specs.Numbers.{actor_number}
-use Rattle.run_record.specs.Runs.{replies_to}
+use Rattle.run_engine.proofs.Words.{actor_number, replies_to}
 use Rattle.run_engine.proofs.Replies.OwnerVerdict.{owner-within, read-moved}
 use Rattle.run_engine.proofs.Keeping.Lookups.{found-at}
 use Rattle.run_engine.proofs.callers.Callers.moved.Goals as goal

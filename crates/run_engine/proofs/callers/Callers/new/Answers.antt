@@ -1,9 +1,8 @@
 -- One more caller, and then all.
 use Rattle.std.proofs.Common.{sym, ap, subst, ◌∙◌, ◌≡◌, [], ◌∷◌, length, arith}
-use Rattle.std.proofs.lemmas.List.{length-append}
+use Rattle.run_engine.proofs.Words.{length-append, actor_number}
 use Rattle.run_engine.proofs.Keeping.KeptActors.{CallersMade, one-made, all-made}
 use Rattle.run_engine.proofs.Keeping.NextStep.{callers-few}
-use Rattle.net_units.specs.Numbers.{actor_number}
 use Rattle.run_engine.proofs.callers.Callers.new.Goals as goal
 
 pub actor_of-requires : goal.actor_of-requires

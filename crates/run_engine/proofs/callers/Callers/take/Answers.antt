@@ -1,8 +1,7 @@
 -- The caller takes its reply; that of the plane leaves them as they are.
 use Rattle.std.proofs.Common.{◌≢◌, set, ap, ◌∙◌, refl, length, arith}
+use Rattle.run_engine.proofs.Words.{actor_number, replies_to}
 use Rattle.std.specs.Vec.{with_item}
-use Rattle.net_units.specs.Numbers.{actor_number}
-use Rattle.run_record.specs.Runs.{replies_to}
 use Rattle.run_engine.proofs.Keeping.KeptActors.{callers-same, caller-within, caller-left, caller-expected, caller-taken}
 use Rattle.run_engine.proofs.Keeping.Lookups.{found-at, when-ok}
 use Rattle.run_engine.proofs.callers.Callers.take.Goals as goal

@@ -1,16 +1,11 @@
 -- The link's reply is that of the actor's next step in each run that the engine stands for.
 use Rattle.std.proofs.Common.{◌≡◌, ◌∷◌, length, sym, ap, subst, ◌∙◌, refl, arith}
-use Rattle.std.proofs.lemmas.List.{with_items_is}
-use Rattle.std.specs.List.{slice_get}
-use Rattle.net_units.specs.Numbers.{actor_number}
+use Rattle.run_engine.proofs.Words.{with_items_is, slice_get, actor_number, network_of, part_of, Done}
 use Rattle.call_script.proofs.PlansFit.{plan-fits}
-use Rattle.call_script.specs.Tasks.{network_of}
 use Rattle.run_engine.specs.schedules.Standing.{LinksStand}
 use Rattle.run_engine.proofs.Keeping.EngineStep.{asking-in, both-ok, more-err}
 use Rattle.run_engine.proofs.Keeping.KeptLinks.{clock-small, links-with}
 use Rattle.run_engine.proofs.Keeping.NextStep.{asked-within, fits-at, next-by, links-stepped}
-use Rattle.run_record.specs.Runs.{part_of}
-use Rattle.run_record.specs.declared.done.Done.{Done}
 use Rattle.run_engine.proofs.engine.Engine.ask_link.Goals as goal
 
 pub step_link-requires-clause-inside : goal.step_link-requires-clause-inside

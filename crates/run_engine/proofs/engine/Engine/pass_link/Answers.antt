@@ -1,17 +1,11 @@
 -- The quiet reply is that of the actor's next step in each run that the engine stands for.
 use Rattle.std.proofs.Common.{◌≡◌, ◌∷◌, length, sym, ap, subst, ◌∙◌, arith}
-use Rattle.std.proofs.lemmas.List.{with_items_is}
-use Rattle.std.specs.List.{slice_get}
-use Rattle.net_units.specs.Numbers.{actor_number, link_number}
+use Rattle.run_engine.proofs.Words.{with_items_is, slice_get, actor_number, link_number, network_of, Tick, quiet_reply, Done}
 use Rattle.call_script.proofs.PlansFit.{plan-fits}
-use Rattle.call_script.specs.Tasks.{network_of}
-use Rattle.link_steps.specs.declared.asks.Ask.TheVariants.{Tick}
-use Rattle.link_steps.specs.Quiet.{quiet_reply}
 use Rattle.run_engine.specs.schedules.Standing.{LinksStand}
 use Rattle.run_engine.proofs.Keeping.EngineStep.{asking-in}
 use Rattle.run_engine.proofs.Keeping.KeptLinks.{clock-small}
 use Rattle.run_engine.proofs.Keeping.NextStep.{asked-within, next-by, links-stepped}
-use Rattle.run_record.specs.declared.done.Done.{Done}
 use Rattle.run_engine.proofs.engine.Engine.pass_link.Goals as goal
 
 pub rest_link-requires-clause-inside : goal.rest_link-requires-clause-inside

@@ -1,8 +1,6 @@
 -- The links have rested for the rounds, and the plane has made them.
 use Rattle.std.proofs.Common.{◌≡◌, ◌+◌, ◌^◌, ◌≤◌, length, refl, sym, ap, subst, arith}
-use Rattle.std.proofs.lemmas.List.{with_items_is}
-use Rattle.link_quota.specs.Any.{any_clock}
-use Rattle.link_steps.specs.Lists.{Each}
+use Rattle.run_engine.proofs.Words.{with_items_is, any_clock, Each}
 use Rattle.run_engine.specs.schedules.Resting.{HaveRested}
 use Rattle.run_engine.proofs.Watched.RestedRounds.{all-early, makes-stride}
 use Rattle.run_engine.proofs.engine.Engine.stride.Goals as goal

@@ -1,7 +1,7 @@
 -- The rounds are recorded after the others.
 use Rattle.std.proofs.Common.{length, reverse, sym, ap, ◌∙◌, arith}
+use Rattle.run_engine.proofs.Words.{network_of}
 use Rattle.call_script.proofs.PlansFit.{plan-fits}
-use Rattle.call_script.specs.Tasks.{network_of}
 use Rattle.run_engine.proofs.Watched.WatchedStrides.{links-are, links-few, on-ok, rested-is}
 use Rattle.run_engine.proofs.watching.RecordWatch.rested.Goals as goal
 
