@@ -1,10 +1,6 @@
 -- A plan with what is wanted for one of its requests may be planned: its callers open what they open.
-use Rattle.std.proofs.Common.{◌≡◌, ℕ, List, map, sym, ap, ◌∙◌, subst}
-use Rattle.std.specs.List.{slice_get}
-use Rattle.net_units.specs.Numbers.{channel_number}
-use Rattle.link_steps.specs.Lists.{Each}
-use Rattle.call_script.specs.Parts.{PlanParts, parts_with, FollowsLink, ArePlanned}
-use Rattle.call_script.specs.Plans.{IsPlan}
+use Rattle.std.proofs.Common.{◌≡◌, ℕ, List, map, sym, ap, ◌∙◌}
+use Rattle.call_script.specs.Parts.{PlanParts, parts_with, ArePlanned}
 use Rattle.call_script.specs.declared.entries.CallerEntry.{CallerEntry}
 use Rattle.call_script.specs.declared.entries.LinkEntry.{LinkEntry}
 use Rattle.call_script.specs.declared.entries.RequestEntry.{RequestEntry}
@@ -12,21 +8,16 @@ use Rattle.call_script.specs.declared.version.Version.{Version}
 use Rattle.question_plans.specs.Alone.{changed}
 use Rattle.question_plans.specs.Kept.{changed_plan}
 use Rattle.question_plans.specs.declared.change.Change.{Change}
-use Rattle.question_plans.proofs.RequestsAlone.{IsChanged, changed-from, openings-same}
+use Rattle.question_plans.proofs.RequestsAlone.{changed-from, changed-number, changed-follows, openings-same}
 
 pub changed-may-be-planned : (change : Change) (parts : PlanParts) → ArePlanned parts → ArePlanned (changed_plan change parts)
 changed-may-be-planned change parts planned = record {
   links = planned.links;
-  requests = λ n entry found. number n entry (changed-from change parts.requests n entry found);
+  requests = λ n entry found. changed-number change parts planned n entry (changed-from change parts.requests n entry found);
   openings = planned.openings ∙ sym (openings-same change parts.requests);
-  hops = λ n entry found. follows n entry (changed-from change parts.requests n entry found);
+  hops = λ n entry found. changed-follows change parts planned n entry (changed-from change parts.requests n entry found);
   unused = planned.unused;
-} where
-  number : (n : ℕ) (entry : RequestEntry) → IsChanged change parts.requests n entry → channel_number entry.request.chan ≡ n
-  number n entry is = ap (λ (e : RequestEntry). channel_number e.request.chan) is.is ∙ planned.requests n is.from is.found
-
-  follows : (n : ℕ) (entry : RequestEntry) → IsChanged change parts.requests n entry → Each (FollowsLink parts.links) entry.request.route
-  follows n entry is = subst (λ (e : RequestEntry). Each (FollowsLink parts.links) e.request.route) (sym is.is) (planned.hops n is.from is.found)
+}
 
 -- the parts that are made are those
 pub parts-changed : (change : Change) (parts : PlanParts) (version : Version) (links : List LinkEntry) (groups : List (List ℕ)) (requests : List RequestEntry) (callers : List CallerEntry) (rounds tail : ℕ)

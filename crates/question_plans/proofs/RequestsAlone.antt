@@ -10,7 +10,7 @@ use Rattle.call_script.specs.declared.entries.CallerEntry.{CallerEntry}
 use Rattle.call_script.specs.declared.entries.LinkEntry.{LinkEntry}
 use Rattle.call_script.specs.declared.entries.RequestEntry.{RequestEntry}
 use Rattle.call_script.specs.declared.operations.Op.{Op}
-use Rattle.call_script.specs.declared.operations.Op.TheVariants.{Open, Send, Close, Pour, Move}
+use Rattle.call_script.specs.declared.operations.Op.TheVariants.{Open}
 use Rattle.call_script.specs.declared.version.Version.{Version}
 use Rattle.question_plans.specs.Alone.{alone_of, changed, opens_in, opens_of}
 use Rattle.question_plans.specs.declared.change.Change.{Change}
@@ -21,10 +21,7 @@ opens-same : (n : ℕ) (ops : List Op) → openings_in n (opens_in ops) ≡ open
 unfolding openings_in opens_in
 opens-same n [] = refl
 opens-same n (Open chan ∷ ops) = ap (λ rest. opened_by n (Open chan) ++ rest) (opens-same n ops)
-opens-same n (Send chan count gap size ∷ ops) = opens-same n ops
-opens-same n (Close chan ∷ ops) = opens-same n ops
-opens-same n (Pour link count gap size ∷ ops) = opens-same n ops
-opens-same n (Move old new ∷ ops) = opens-same n ops
+opens-same n (_ ∷ ops) = opens-same n ops
 
 pub callers-open-the-same : (n : ℕ) (callers : List CallerEntry) → openings_of n (map opens_of callers) ≡ openings_of n callers
 unfolding openings_of
@@ -54,21 +51,24 @@ changed-from change requests n entry found = by (slice_get requests n) refl wher
     is = same_Some entry (changed change from) (sym found ∙ slice_get-map (changed change) requests n ∙ ap (option_map (changed change)) some);
   }
 
+-- so it has its number, and its route follows the links
+module _ (change : Change) (parts : PlanParts) (planned : ArePlanned parts) (n : ℕ) (entry : RequestEntry) (is : IsChanged change parts.requests n entry) where
+  pub changed-number : channel_number entry.request.chan ≡ n
+  changed-number = ap (λ (e : RequestEntry). channel_number e.request.chan) is.is ∙ planned.requests n is.from is.found
+
+  pub changed-follows : Each (FollowsLink parts.links) entry.request.route
+  changed-follows = subst (λ (e : RequestEntry). Each (FollowsLink parts.links) e.request.route) (sym is.is) (planned.hops n is.from is.found)
+
 -- ---- the plan
 
 pub alone-may-be-planned : (change : Change) (parts : PlanParts) → ArePlanned parts → ArePlanned (alone_of change parts)
 alone-may-be-planned change parts planned = record {
   links = planned.links;
-  requests = λ n entry found. number n entry (changed-from change parts.requests n entry found);
+  requests = λ n entry found. changed-number change parts planned n entry (changed-from change parts.requests n entry found);
   openings = callers-open-the-same 0 parts.callers ∙ planned.openings ∙ sym (openings-same change parts.requests);
-  hops = λ n entry found. follows n entry (changed-from change parts.requests n entry found);
+  hops = λ n entry found. changed-follows change parts planned n entry (changed-from change parts.requests n entry found);
   unused = planned.unused;
-} where
-  number : (n : ℕ) (entry : RequestEntry) → IsChanged change parts.requests n entry → channel_number entry.request.chan ≡ n
-  number n entry is = ap (λ (e : RequestEntry). channel_number e.request.chan) is.is ∙ planned.requests n is.from is.found
-
-  follows : (n : ℕ) (entry : RequestEntry) → IsChanged change parts.requests n entry → Each (FollowsLink parts.links) entry.request.route
-  follows n entry is = subst (λ (e : RequestEntry). Each (FollowsLink parts.links) e.request.route) (sym is.is) (planned.hops n is.from is.found)
+}
 
 -- the parts that are made are those
 pub parts-alone : (change : Change) (parts : PlanParts) (version : Version) (links : List LinkEntry) (groups : List (List ℕ)) (requests : List RequestEntry) (callers : List CallerEntry)
