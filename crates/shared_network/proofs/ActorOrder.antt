@@ -1,13 +1,7 @@
 -- The actors of all passes of an opening, in any order: each actor has a pass, and no other pass has it.
 use Rattle.std.proofs.Common.{◌≡◌, ℕ, zero, suc, ◌<◌, List, [], ◌∷◌, map, Some, None, refl, sym, ap, ◌∙◌, subst, inl, inr, arith}
-use Rattle.std.specs.List.{slice_get}
-use Rattle.std.specs.List.Sorted.{IsPermutation}
-use Rattle.std.proofs.lemmas.List.{map-id}
-use Rattle.std.proofs.lemmas.List.Sorted.{IsPermutation-refl, IsPermutation-sym}
-use Rattle.std.proofs.lemmas.Option.{same_Some}
-use Rattle.link_steps.specs.Lists.{Each}
+use Rattle.shared_network.proofs.Words.{slice_get, IsPermutation, map-id, IsPermutation-refl, IsPermutation-sym, same_Some, Each, Has, Differ, up_to}
 use Rattle.link_steps.proofs.SearchAndFilter.{Each-append, Each-if}
-use Rattle.step_stamp.specs.Lists.{Has, Differ, up_to}
 use Rattle.step_stamp.proofs.ListMembers.{differ-both, each-has, has-each}
 use Rattle.shared_network.proofs.SeatsJoined.{up_to-has}
 use Rattle.shared_network.proofs.PermutedLists.{differ-permuted, each-permuted}

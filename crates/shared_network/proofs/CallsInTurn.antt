@@ -1,18 +1,10 @@
 -- A pass that goes on after each of two calls goes on after both, and what both add is above all that it had seen before them. So
 -- it is where nothing was called.
 use Rattle.std.proofs.Common.{ℕ, ◌<◌, List, ◌++◌, [], ◌∷◌, refl, sym, ap, ◌∙◌, arith}
-use Rattle.std.proofs.lemmas.List.{append_assoc, append-nil}
+use Rattle.shared_network.proofs.Words.{append_assoc, append-nil, TableId, ActorNo, Link, Ask, Reply, known_of, Token, Steps, last_seen, OwnEntry}
 use mathlib.Core.List.{IsPrefix}
-use Rattle.atomic_table.specs.Seated.{TableId}
-use Rattle.net_units.specs.declared.numbers.ActorNo.{ActorNo}
-use Rattle.link_steps.specs.Split.{Link}
-use Rattle.link_steps.specs.declared.asks.Ask.{Ask}
-use Rattle.link_steps.specs.declared.replies.Reply.{Reply}
 use Rattle.link_steps.proofs.SearchAndFilter.{Each-if, Each-append}
-use Rattle.step_stamp.specs.Views.{known_of}
 use Rattle.step_stamp.proofs.ListMembers.{begins-itself}
-use Rattle.link_ledger.specs.Tokens.{Token, Steps, last_seen}
-use Rattle.link_ledger.specs.declared.entries.OwnEntry.{OwnEntry}
 use Rattle.shared_network.specs.Added.{AddsAbove}
 use Rattle.shared_network.specs.Ready.{MayStep, PassGoesOn}
 

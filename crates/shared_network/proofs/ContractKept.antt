@@ -1,29 +1,10 @@
 -- Packets that are planned on an established channel keep its contract: its first hop holds a committed reservation on it.
 use Rattle.std.proofs.Common.{◌≡◌, ℕ, ◌≤◌, true, List, length, Some, sym, ap, ◌∙◌, subst, arith}
-use Rattle.std.specs.List.{slice_get}
-use Rattle.std.specs.Prelude.{find, Result, Ok, Err, IfOk, OnOk}
-use Rattle.atomic_table.specs.Seated.{TableId}
-use Rattle.net_units.specs.Numbers.{channel_number, link_number}
-use Rattle.net_units.specs.declared.numbers.ActorNo.{ActorNo}
-use Rattle.net_units.specs.declared.numbers.ChanNo.{ChanNo}
-use Rattle.net_units.specs.declared.numbers.LinkNo.{LinkNo}
-use Rattle.traffic_contract.specs.Contract.{Traffic}
-use Rattle.hop_reservation.specs.declared.route.Hop.{Hop}
-use Rattle.link_steps.specs.Lists.{Each}
-use Rattle.link_steps.specs.Replies.{reply_at, submit_to}
+use Rattle.shared_network.proofs.Words.{slice_get, find, Result, Ok, Err, IfOk, OnOk, TableId, channel_number, link_number, ActorNo, ChanNo, LinkNo, Traffic, Hop, Each, reply_at, submit_to, is_row_at_hop, Link, SplitFits, Ask, Submit, Reply, held_by, own_at, OwnsAsk, IsOwner, Token, Steps}
 use Rattle.link_steps.specs.Rows.{left_at}
-use Rattle.link_steps.specs.Scan.{is_row_at_hop}
-use Rattle.link_steps.specs.Split.{Link, SplitFits}
-use Rattle.link_steps.specs.declared.asks.Ask.{Ask}
-use Rattle.link_steps.specs.declared.asks.Ask.TheVariants.{Submit}
-use Rattle.link_steps.specs.declared.replies.Reply.{Reply}
 use Rattle.link_steps.specs.declared.replies.Reply.TheVariants as Is
 use Rattle.link_steps.proofs.ReservationFound.{submit-tells}
-use Rattle.channel_laws.specs.Reservations.{held_by}
 use Rattle.channel_laws.proofs.SendReplies.{found-at-hop}
-use Rattle.link_ledger.specs.Own.{own_at}
-use Rattle.link_ledger.specs.Owners.{OwnsAsk, IsOwner}
-use Rattle.link_ledger.specs.Tokens.{Token, Steps}
 use Rattle.shared_network.specs.Calls.{HoldsRoute}
 use Rattle.shared_network.specs.Holds.{hold_of, IsHeld}
 use Rattle.shared_network.specs.Ready.{MayStep, PassGoesOn}

@@ -1,23 +1,9 @@
 -- What a link holds of a channel, as the own entries tell it, is on the contract that the channel's reserves name.
 use Rattle.std.proofs.Common.{◌≡◌, ℕ, eqb, List, [], ◌∷◌}
-use Rattle.std.proofs.lemmas.Bool.{cond_both, eqb-true}
-use Rattle.std.specs.Prelude.{nat_eq}
-use Rattle.net_units.specs.Numbers.{channel_number, link_number}
-use Rattle.net_units.specs.declared.numbers.ChanNo.{ChanNo}
+use Rattle.shared_network.proofs.Words.{cond_both, eqb-true, nat_eq, channel_number, link_number, ChanNo, Traffic, link_of, Hop, Each, Reservation, tentative, committed, Ask, Reserve, Relax, Deny, Release, Reply, IsOff, own_at, OwnEntry}
 use Rattle.net_units.specs.declared.numbers.Level.{Level}
-use Rattle.traffic_contract.specs.Contract.{Traffic}
-use Rattle.hop_reservation.specs.Routes.{link_of}
-use Rattle.hop_reservation.specs.declared.route.Hop.{Hop}
-use Rattle.link_steps.specs.Lists.{Each}
-use Rattle.link_steps.specs.Reservation.{Reservation, tentative, committed}
-use Rattle.link_steps.specs.declared.asks.Ask.{Ask}
-use Rattle.link_steps.specs.declared.asks.Ask.TheVariants.{Reserve, Relax, Deny, Release}
-use Rattle.link_steps.specs.declared.replies.Reply.{Reply}
 use Rattle.link_steps.specs.declared.replies.Reply.TheVariants as Is
 use Rattle.link_steps.proofs.SearchAndFilter.{Each-filter}
-use Rattle.channel_laws.specs.Asks.{IsOff}
-use Rattle.link_ledger.specs.Own.{own_at}
-use Rattle.link_ledger.specs.declared.entries.OwnEntry.{OwnEntry}
 use Rattle.shared_network.specs.Calls.{hold_at}
 use Rattle.shared_network.specs.Holds.{Hold, Free, Holds, Untold, reserved, hold_relaxed, denied, freed, hold_with, hold_from}
 
@@ -38,42 +24,21 @@ IsOn contract Untold = Unit {0}
 
 reserved-on : (contract : Traffic) (hold : Hold) (terms : Level → Level → Reservation) (reply : Reply) → ((level reach : Level) → (terms level reach).contract ≡ contract) → IsOn contract hold → IsOn contract (reserved hold terms reply)
 reserved-on contract Free terms (Is.Offer level reach) all on = all level reach
-reserved-on contract (Holds old) terms (Is.Offer level reach) all on = tt
-reserved-on contract Untold terms (Is.Offer level reach) all on = tt
 reserved-on contract hold terms (Is.Refused refusal) all on = on
-reserved-on contract hold terms (Is.Relaxed clock) all on = tt
-reserved-on contract hold terms Is.Denied all on = tt
-reserved-on contract hold terms (Is.Planned clock) all on = tt
-reserved-on contract hold terms (Is.Closing count cancelled) all on = tt
-reserved-on contract hold terms (Is.Taken clock eligible) all on = tt
-reserved-on contract hold terms (Is.Ticked clock full sent best_sent best_lost) all on = tt
+reserved-on contract _ terms _ all on = tt
 
 relaxed-on : (contract : Traffic) (hold : Hold) (level : Level) (up_bound : ℕ) (reply : Reply) → IsOn contract hold → IsOn contract (hold_relaxed hold (committed level up_bound) reply)
-relaxed-on contract Free level up_bound (Is.Relaxed clock) on = tt
 relaxed-on contract (Holds terms) level up_bound (Is.Relaxed clock) on = on
-relaxed-on contract Untold level up_bound (Is.Relaxed clock) on = tt
 relaxed-on contract hold level up_bound (Is.Offer one reach) on = tt
-relaxed-on contract hold level up_bound Is.Denied on = tt
-relaxed-on contract hold level up_bound (Is.Planned clock) on = tt
-relaxed-on contract hold level up_bound (Is.Closing count cancelled) on = tt
-relaxed-on contract hold level up_bound (Is.Taken clock eligible) on = tt
-relaxed-on contract hold level up_bound (Is.Ticked clock full sent best_sent best_lost) on = tt
-relaxed-on contract hold level up_bound (Is.Refused refusal) on = tt
+relaxed-on contract _ level up_bound _ on = tt
 
 freed-on : (contract : Traffic) (hold : Hold) → IsOn contract (freed hold)
 freed-on contract Free = tt
-freed-on contract (Holds terms) = tt
-freed-on contract Untold = tt
+freed-on contract _ = tt
 
 denied-on : (contract : Traffic) (hold : Hold) (reply : Reply) → IsOn contract (denied hold reply)
 denied-on contract hold Is.Denied = freed-on contract hold
-denied-on contract hold (Is.Offer level reach) = tt
-denied-on contract hold (Is.Relaxed clock) = tt
-denied-on contract hold (Is.Planned clock) = tt
-denied-on contract hold (Is.Closing count cancelled) = tt
-denied-on contract hold (Is.Taken clock eligible) = tt
-denied-on contract hold (Is.Ticked clock full sent best_sent best_lost) = tt
-denied-on contract hold (Is.Refused refusal) = tt
+denied-on contract hold _ = tt
 
 -- one entry
 on-with : (c : ℕ) (contract : Traffic) (hold : Hold) (ask : Ask) (reply : Reply) → ReservesOn c contract ask → IsOn contract hold → IsOn contract (hold_with c hold ask reply)

@@ -2,42 +2,17 @@
 -- is the one of the rules for that; and after it, as the own entries with the new one tell. Where these submit nothing on a
 -- channel, its first submit is planned.
 use Rattle.std.proofs.Common.{◌≡◌, ◌≤◌, ℕ, true, List, [], ◌∷◌, ◌++◌, length, Option, refl, sym, ap, ◌∙◌, subst, inl}
-use Rattle.std.specs.Prelude.{nat_eq}
-use Rattle.atomic_table.specs.Seated.{TableId}
-use Rattle.net_units.specs.Numbers.{actor_number, channel_number, link_number}
-use Rattle.net_units.specs.declared.numbers.ActorNo.{ActorNo}
-use Rattle.net_units.specs.declared.numbers.ChanNo.{ChanNo}
+use Rattle.shared_network.proofs.Words.{nat_eq, TableId, actor_number, channel_number, link_number, ActorNo, ChanNo, IsLegal, Each, reply_at, reply_to, Reservation, Scan, clock_of, scan_of, Link, SplitFits, Ask, Submit, Release, Reply, Has, StampsRise, marks_of, known_of, Mark, MayReplyTo, IsUnsent, NoneSent, IsPlanned, FewCancelled, held_by, marks_in, done_in, history_in, journal_of, own_mark, own_entry, own_at, OwnsAsk, IsOwner, Token, Steps, OwnEntry}
 use Rattle.link_steps.specs.Admissible.{MayAnswer, IsAdmissible}
-use Rattle.link_steps.specs.Legal.{IsLegal}
-use Rattle.link_steps.specs.Lists.{Each}
-use Rattle.link_steps.specs.Replies.{reply_at, reply_to}
-use Rattle.link_steps.specs.Reservation.{Reservation}
-use Rattle.link_steps.specs.Scan.{Scan, clock_of, scan_of}
-use Rattle.link_steps.specs.Split.{Link, SplitFits}
-use Rattle.link_steps.specs.declared.asks.Ask.{Ask}
-use Rattle.link_steps.specs.declared.asks.Ask.TheVariants.{Submit, Release}
 use Rattle.link_steps.specs.declared.replies.Entry.{Entry as Done}
 use Rattle.link_steps.specs.declared.replies.Phase.TheVariants.{Committed}
-use Rattle.link_steps.specs.declared.replies.Reply.{Reply}
 use Rattle.link_steps.proofs.LegalAdmissible.{legal-admissible}
 use Rattle.link_steps.proofs.LegalChannels.{legal-channels}
-use Rattle.step_stamp.specs.Lists.{Has}
-use Rattle.step_stamp.specs.Marks.{StampsRise, marks_of}
-use Rattle.step_stamp.specs.Views.{known_of}
-use Rattle.step_stamp.specs.declared.marks.Mark.{Mark}
-use Rattle.channel_laws.specs.Asks.{MayReplyTo}
 use Rattle.channel_laws.specs.Laws.{held_after}
-use Rattle.channel_laws.specs.Unsent.{IsUnsent, NoneSent, IsPlanned, FewCancelled}
 use Rattle.channel_laws.proofs.EntryLaws.{packets-may-move}
-use Rattle.channel_laws.specs.Reservations.{held_by}
 use Rattle.link_steps.proofs.SearchAndFilter.{Each-append, Each-filter, Each-map}
 use Rattle.link_steps.proofs.ListParts.{Each-at, Each-parts}
-use Rattle.link_ledger.specs.Journals.{marks_in, done_in, history_in, journal_of}
 use Rattle.link_ledger.specs.Order.{AreInOrder}
-use Rattle.link_ledger.specs.Own.{own_mark, own_entry, own_at}
-use Rattle.link_ledger.specs.Owners.{OwnsAsk, IsOwner}
-use Rattle.link_ledger.specs.Tokens.{Token, Steps}
-use Rattle.link_ledger.specs.declared.entries.OwnEntry.{OwnEntry}
 use Rattle.link_ledger.proofs.JournalGrowth.{past_after, history-more, journal-told}
 use Rattle.link_ledger.proofs.OwnStaysExact.{one-at, rest-none}
 use Rattle.shared_network.specs.Holds.{Hold, Free, Holds, hold_with, hold_of, IsHeld}

@@ -1,42 +1,17 @@
 -- What a link holds of a channel goes with the owner's entries there: the entries of others leave it, and each own entry makes of it
 -- what it tells.
 use Rattle.std.proofs.Common.{◌≡◌, ◌≢◌, ℕ, eqb, Bool, true, false, cond, Option, Some, None, List, [], ◌∷◌, ◌++◌, refl, sym, ap, ◌∙◌, subst}
-use Rattle.std.proofs.lemmas.Bool.{cond_both, eqb-true, eqb-false}
-use Rattle.std.proofs.lemmas.List.{append-nil}
-use Rattle.std.proofs.lemmas.Option.{same_Some}
-use Rattle.std.specs.List.{slice_get}
-use Rattle.std.specs.Option.{option_map}
-use Rattle.net_units.specs.Numbers.{actor_number, channel_number}
-use Rattle.net_units.specs.declared.numbers.ActorNo.{ActorNo}
+use Rattle.shared_network.proofs.Words.{cond_both, eqb-true, eqb-false, append-nil, same_Some, slice_get, option_map, actor_number, channel_number, ActorNo, ChanNo, LinkNo, Traffic, IsLegal, Each, reply_to, Reservation, is_phase, tentative, committed, Scan, clock_of, scan_of, after, Link, SplitFits, Ask, Reserve, Relax, Deny, Submit, Release, Reply, marks_of, Mark, IsOff, held_by, history_in, journal_of, history_entry_of, OwnsAsk, IsOwner, OwnEntry}
 use Rattle.net_units.specs.declared.Kind.{Kind}
-use Rattle.net_units.specs.declared.numbers.ChanNo.{ChanNo}
 use Rattle.net_units.specs.declared.numbers.Level.{Level}
-use Rattle.net_units.specs.declared.numbers.LinkNo.{LinkNo}
-use Rattle.traffic_contract.specs.Contract.{Traffic}
-use Rattle.link_steps.specs.Legal.{IsLegal}
-use Rattle.link_steps.specs.Lists.{Each}
-use Rattle.link_steps.specs.Replies.{reply_to}
-use Rattle.link_steps.specs.Reservation.{Reservation, is_phase, tentative, committed}
-use Rattle.link_steps.specs.Scan.{Scan, clock_of, scan_of, after}
-use Rattle.link_steps.specs.Split.{Link, SplitFits}
-use Rattle.link_steps.specs.declared.asks.Ask.{Ask}
-use Rattle.link_steps.specs.declared.asks.Ask.TheVariants.{Reserve, Relax, Deny, Submit, Release}
 use Rattle.link_steps.specs.declared.replies.Entry.{Entry as Done}
 use Rattle.link_steps.specs.declared.replies.Phase.TheVariants.{Closing}
-use Rattle.link_steps.specs.declared.replies.Reply.{Reply}
 use Rattle.link_steps.specs.declared.replies.Reply.TheVariants as Is
 use Rattle.link_steps.specs.declared.shape.LinkShape.{LinkShape}
 use Rattle.link_steps.proofs.LegalAdmissible.{legal-admissible}
 use Rattle.link_steps.proofs.LegalChannels.{DifferInChannel, legal-channels}
-use Rattle.step_stamp.specs.Marks.{marks_of}
-use Rattle.step_stamp.specs.declared.marks.Mark.{Mark}
-use Rattle.channel_laws.specs.Asks.{IsOff}
 use Rattle.channel_laws.specs.Laws.{held_after}
-use Rattle.channel_laws.specs.Reservations.{held_by}
 use Rattle.channel_laws.proofs.TermsAfter.{held-off, held-offered, held-relaxed, held-denied, held-submitted}
-use Rattle.link_ledger.specs.Journals.{history_in, journal_of, history_entry_of}
-use Rattle.link_ledger.specs.Owners.{OwnsAsk, IsOwner}
-use Rattle.link_ledger.specs.declared.entries.OwnEntry.{OwnEntry}
 use Rattle.link_ledger.proofs.RepliesMakeOwn.{past-told}
 use Rattle.link_ledger.proofs.JournalGrowth.{past_after}
 use Rattle.shared_network.specs.Holds.{Hold, Free, Holds, Untold, reserved, hold_relaxed, denied, hold_with, hold_from, IsHeld}
@@ -71,41 +46,22 @@ module _ (shape : LinkShape) (chan : ChanNo) (t : ℕ) (scan : Scan) (differ : D
   held-reserved : (hold : Hold) (contract : Traffic) (kind : Kind) (delay up_reach : ℕ) (first : Bool) (next : Option LinkNo) (reply : Reply) → IsHeld hold now → IsHeld (reserved hold (λ level reach. tentative chan contract kind first next up_reach level reach) reply) (later (Reserve chan contract kind delay up_reach first next) reply)
   unfolding after
   held-reserved Free contract kind delay up_reach first next (Is.Offer level reach) is = (held-offered shape chan t scan contract kind delay up_reach first next level reach is, refl)
-  held-reserved (Holds terms) contract kind delay up_reach first next (Is.Offer level reach) is = tt
-  held-reserved Untold contract kind delay up_reach first next (Is.Offer level reach) is = tt
   held-reserved hold contract kind delay up_reach first next (Is.Refused refusal) is = is
-  held-reserved hold contract kind delay up_reach first next (Is.Relaxed clock) is = tt
-  held-reserved hold contract kind delay up_reach first next Is.Denied is = tt
-  held-reserved hold contract kind delay up_reach first next (Is.Planned clock) is = tt
-  held-reserved hold contract kind delay up_reach first next (Is.Closing count cancelled) is = tt
-  held-reserved hold contract kind delay up_reach first next (Is.Taken clock eligible) is = tt
-  held-reserved hold contract kind delay up_reach first next (Is.Ticked clock full sent best_sent best_lost) is = tt
+  held-reserved _ contract kind delay up_reach first next _ is = tt
 
   -- a relax
   held-settled : (hold : Hold) (level : Level) (up_bound : ℕ) (reply : Reply) → IsHeld hold now → IsHeld (hold_relaxed hold (committed level up_bound) reply) (later (Relax chan level up_bound) reply)
   held-settled Free level up_bound (Is.Relaxed clock) is = held-relaxed shape chan t scan level up_bound clock ∙ ap (option_map (committed level up_bound)) is
   held-settled (Holds terms) level up_bound (Is.Relaxed clock) is = (held-relaxed shape chan t scan level up_bound clock ∙ ap (option_map (committed level up_bound)) is.0, refl)
-  held-settled Untold level up_bound (Is.Relaxed clock) is = tt
   held-settled hold level up_bound (Is.Offer one reach) is = tt
-  held-settled hold level up_bound Is.Denied is = tt
-  held-settled hold level up_bound (Is.Planned clock) is = tt
-  held-settled hold level up_bound (Is.Closing count cancelled) is = tt
-  held-settled hold level up_bound (Is.Taken clock eligible) is = tt
-  held-settled hold level up_bound (Is.Ticked clock full sent best_sent best_lost) is = tt
-  held-settled hold level up_bound (Is.Refused refusal) is = tt
+  held-settled _ level up_bound _ is = tt
 
   -- and a deny
   held-freed : (hold : Hold) (reply : Reply) → IsHeld hold now → IsHeld (denied hold reply) (later (Deny chan) reply)
   held-freed Free Is.Denied is = held-denied shape chan t scan differ
   held-freed (Holds terms) Is.Denied is = held-denied shape chan t scan differ
-  held-freed Untold Is.Denied is = tt
   held-freed hold (Is.Offer level reach) is = tt
-  held-freed hold (Is.Relaxed clock) is = tt
-  held-freed hold (Is.Planned clock) is = tt
-  held-freed hold (Is.Closing count cancelled) is = tt
-  held-freed hold (Is.Taken clock eligible) is = tt
-  held-freed hold (Is.Ticked clock full sent best_sent best_lost) is = tt
-  held-freed hold (Is.Refused refusal) is = tt
+  held-freed _ _ is = tt
 
   -- each entry makes of it what it tells
   pub held-next : (hold : Hold) (ask : Ask) (reply : Reply) → IsHeld hold now → IsHeld (hold_with c hold ask reply) (later ask reply)

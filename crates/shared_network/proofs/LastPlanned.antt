@@ -1,22 +1,9 @@
 -- What a send and a move tell of the packets that were planned last. A submit that is planned tells its own, and one that isn't
 -- tells nothing. A move submits on the channel that is joined alone, packets of its gap and size, and only where some are shifted.
 use Rattle.std.proofs.Common.{◌≡◌, ℕ, true, cond, List, [], ◌∷◌, ◌++◌, map, Option, Some, None, refl, sym, ap, ◌∙◌, subst, inl, inr}
-use Rattle.std.proofs.lemmas.Bool.{cases_Bool, eq-eqb}
-use Rattle.std.proofs.lemmas.List.{append_assoc, append-nil}
-use Rattle.std.proofs.lemmas.Option.{same_Some}
-use Rattle.std.specs.Prelude.{◌==◌, nat_eq}
-use Rattle.net_units.specs.Numbers.{channel_number}
-use Rattle.net_units.specs.declared.numbers.ChanNo.{ChanNo}
-use Rattle.net_units.specs.declared.numbers.LinkNo.{LinkNo}
-use Rattle.link_steps.specs.Lists.{Each}
-use Rattle.link_steps.specs.declared.asks.Ask.{Ask}
-use Rattle.link_steps.specs.declared.asks.Ask.TheVariants.{Submit, Release}
-use Rattle.link_steps.specs.declared.replies.Reply.{Reply}
+use Rattle.shared_network.proofs.Words.{cases_Bool, eq-eqb, append_assoc, append-nil, same_Some, ◌==◌, nat_eq, channel_number, ChanNo, LinkNo, Each, Ask, Submit, Release, Reply, IsUnsent, Move, shifted_in, told_by, further, next_of_move, OwnEntry}
 use Rattle.link_steps.specs.declared.replies.Reply.TheVariants as Is
-use Rattle.channel_laws.specs.Unsent.{IsUnsent}
-use Rattle.channel_move.specs.Moving.{Move, shifted_in, told_by, further, next_of_move}
 use Rattle.channel_move.proofs.AskByStage.{hop-asked, move-ask-is}
-use Rattle.link_ledger.specs.declared.entries.OwnEntry.{OwnEntry}
 use Rattle.shared_network.specs.Added.{Asked, asked_in}
 use Rattle.shared_network.specs.Calls.{Follows}
 use Rattle.shared_network.specs.Shifts.{NoneSubmitted, Packets, planned_with, last_planned, WerePlanned}

@@ -1,3 +1,4 @@
+pub mod Words
 pub mod NumbersFromZero
 mod NetworkOpened
 pub mod LinkNumbers

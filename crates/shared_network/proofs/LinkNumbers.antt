@@ -1,15 +1,8 @@
 -- Links are told apart by their numbers, and a network's locked links stand in the order of theirs.
 use Rattle.std.proofs.Common.{◌≡◌, ℕ, ◌<◌, Some, None, Option, List, length, map, refl, sym, ap, ◌∙◌, subst}
-use Rattle.std.proofs.lemmas.Option.{same_Some, slice_get-map}
-use Rattle.std.proofs.lemmas.List.{length-map}
-use Rattle.std.specs.List.{slice_get}
-use Rattle.std.specs.Prelude.{option_map, Result, Ok, Err, IfOk, OnOk}
-use Rattle.link_steps.specs.Legal.{AskFits}
-use Rattle.link_steps.specs.Split.{Link}
-use Rattle.link_steps.specs.declared.asks.Ask.{Ask}
+use Rattle.shared_network.proofs.Words.{same_Some, slice_get-map, length-map, slice_get, Result, Ok, Err, IfOk, OnOk, AskFits, Link, Ask, up_to, shape_at}
+use Rattle.std.specs.Prelude.{option_map}
 use Rattle.link_steps.specs.declared.shape.LinkShape.{LinkShape}
-use Rattle.step_stamp.specs.Lists.{up_to}
-use Rattle.link_ledger.specs.Tokens.{shape_at}
 use Rattle.shared_network.specs.Sight.{FitsAt}
 use Rattle.shared_network.proofs.NumbersFromZero.{up_to-get, up_to-length}
 

@@ -2,44 +2,17 @@
 -- reservations, so each release is answered; and the other channel holds its route, and nothing was submitted on it, so its submit is
 -- planned.
 use Rattle.std.proofs.Common.{◌≡◌, ◌≢◌, ℕ, suc, ◌+◌, ◌<◌, ◌≤◌, true, List, [], ◌∷◌, ◌++◌, length, map, Option, Some, refl, sym, ap, ◌∙◌, subst, inl, inr, arith}
-use Rattle.std.proofs.lemmas.Bool.{cases_Bool}
-use Rattle.std.proofs.lemmas.List.{append_assoc, append-nil, map-append}
-use Rattle.std.proofs.lemmas.Option.{slice_get_within}
-use Rattle.std.specs.List.{slice_get}
-use Rattle.std.specs.Prelude.{nat_eq, IsTrue}
-use Rattle.atomic_table.specs.Seated.{TableId}
+use Rattle.shared_network.proofs.Words.{cases_Bool, append_assoc, append-nil, map-append, slice_get_within, slice_get, nat_eq, IsTrue, TableId, channel_number, link_number, ActorNo, ChanNo, LinkNo, Traffic, IsRoute, link_of, Hop, AskFits, SubmitFits, Each, reply_at, Link, SplitFits, Ask, Release, Submit, Reply, IsHopOf, held_by, IsReleased, IsUnsent, IsPlanned, FewCancelled, Move, shifted_in, told_by, answers, answers_next, next_of_move, shifted_of, own_at, OwnsAsk, IsOwner, NextBelow, Token, IsLink, Steps, last_seen, OwnEntry}
 use Rattle.net_units.specs.Limits.{most_packets}
-use Rattle.net_units.specs.Numbers.{channel_number, link_number}
-use Rattle.net_units.specs.declared.numbers.ActorNo.{ActorNo}
-use Rattle.net_units.specs.declared.numbers.ChanNo.{ChanNo}
-use Rattle.net_units.specs.declared.numbers.LinkNo.{LinkNo}
-use Rattle.traffic_contract.specs.Contract.{Traffic}
-use Rattle.hop_reservation.specs.Routes.{IsRoute, link_of}
-use Rattle.hop_reservation.specs.declared.route.Hop.{Hop}
-use Rattle.link_steps.specs.Legal.{AskFits, SubmitFits}
-use Rattle.link_steps.specs.Lists.{Each}
-use Rattle.link_steps.specs.Replies.{reply_at}
-use Rattle.link_steps.specs.Split.{Link, SplitFits}
-use Rattle.link_steps.specs.declared.asks.Ask.{Ask}
-use Rattle.link_steps.specs.declared.asks.Ask.TheVariants.{Release, Submit}
-use Rattle.link_steps.specs.declared.replies.Reply.{Reply}
 use Rattle.link_steps.specs.declared.replies.Reply.TheVariants as Is
 use Rattle.link_steps.proofs.SearchAndFilter.{Each-append}
 use Rattle.link_steps.proofs.ListParts.{Each-at}
-use Rattle.setup_protocol.specs.Hops.{IsHopOf}
-use Rattle.channel_laws.specs.Reservations.{held_by, IsReleased}
-use Rattle.channel_laws.specs.Unsent.{IsUnsent, IsPlanned, FewCancelled}
 use Rattle.channel_laws.proofs.SendReplies.{release-committed, of-released}
-use Rattle.channel_move.specs.Moving.{Move, shifted_in, told_by, answers, answers_next, next_of_move, shifted_of}
 use Rattle.channel_move.specs.Stages.{stage_after, joining_after, ask_in, released_in}
 use Rattle.channel_move.specs.Standing.{Moves, move_of}
 use Rattle.channel_move.specs.declared.mover.Mover.{Mover}
 use Rattle.channel_move.specs.declared.shifted.Shifted.{Shifted}
 use Rattle.channel_move.proofs.AskByStage.{HopAsked, stage-asks, move-ask-is}
-use Rattle.link_ledger.specs.Own.{own_at}
-use Rattle.link_ledger.specs.Owners.{OwnsAsk, IsOwner, NextBelow}
-use Rattle.link_ledger.specs.Tokens.{Token, IsLink, Steps, last_seen}
-use Rattle.link_ledger.specs.declared.entries.OwnEntry.{OwnEntry}
 use Rattle.hop_reservation.proofs.DistinctLinks.{index-apart}
 use Rattle.net_units.proofs.KnownByNumber.{same-link}
 use Rattle.shared_network.specs.Added.{AddsAbove, IsSamePass}
@@ -105,23 +78,11 @@ shifting-first table owners links move pass mover terms stands packets apart hop
 
 few-shifted : (reply : Reply) → FewCancelled reply → shifted_in reply ≤ most_packets
 few-shifted (Is.Closing count cancelled) few = few
-few-shifted (Is.Offer level reach) few = omega arith
-few-shifted (Is.Relaxed clock) few = omega arith
-few-shifted Is.Denied few = omega arith
-few-shifted (Is.Planned clock) few = omega arith
-few-shifted (Is.Taken clock eligible) few = omega arith
-few-shifted (Is.Ticked clock full sent best_sent best_lost) few = omega arith
-few-shifted (Is.Refused refusal) few = omega arith
+few-shifted _ few = omega arith
 
 planned-answers : (chan : ChanNo) (count gap size : ℕ) (reply : Reply) → IsPlanned reply → answers (Submit chan count gap size) reply ≡ true
 planned-answers chan count gap size (Is.Planned clock) is = refl
-planned-answers chan count gap size (Is.Closing count' cancelled) is = absurd is
-planned-answers chan count gap size (Is.Offer level reach) is = absurd is
-planned-answers chan count gap size (Is.Relaxed clock) is = absurd is
-planned-answers chan count gap size Is.Denied is = absurd is
-planned-answers chan count gap size (Is.Taken clock eligible) is = absurd is
-planned-answers chan count gap size (Is.Ticked clock full sent best_sent best_lost) is = absurd is
-planned-answers chan count gap size (Is.Refused refusal) is = absurd is
+planned-answers chan count gap size _ is = absurd is
 
 -- the first of replies, with one more
 same-first : (one other : Reply) (xs ys : List Reply) → one ∷ xs ≡ other ∷ ys → one ≡ other

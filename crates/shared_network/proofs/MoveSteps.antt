@@ -1,15 +1,7 @@
 -- A step of a move releases the next hop of the channel that is left, or submits on the other channel, which happens once at
 -- most; and each step leaves fewer asks.
 use Rattle.std.proofs.Common.{◌≡◌, ℕ, suc, ◌+◌, ◌-◌, ◌<◌, ◌≤◌, false, Option, Some, None, List, [], ◌∷◌, ◌++◌, length, refl, sym, ap, ◌∙◌, subst, inl, inr, arith}
-use Rattle.std.proofs.lemmas.Bool.{cases_Bool, cond_both, ne_eqb, eqb-false}
-use Rattle.std.proofs.lemmas.List.{length_push}
-use Rattle.std.specs.Prelude.{nat_eq}
-use Rattle.net_units.specs.declared.numbers.LinkNo.{LinkNo}
-use Rattle.link_steps.specs.declared.asks.Ask.{Ask}
-use Rattle.link_steps.specs.declared.asks.Ask.TheVariants.{Release, Submit}
-use Rattle.link_steps.specs.declared.replies.Reply.{Reply}
-use Rattle.link_steps.specs.Scan.{names_first_hop}
-use Rattle.channel_move.specs.Moving.{Move, shifted_in, told_by, next_of_move}
+use Rattle.shared_network.proofs.Words.{cases_Bool, cond_both, ne_eqb, eqb-false, length_push, nat_eq, LinkNo, Ask, Release, Submit, Reply, names_first_hop, Move, shifted_in, told_by, next_of_move}
 use Rattle.channel_move.specs.Stages.{stage_after, joining_after}
 use Rattle.channel_move.specs.declared.mover.Stage.{Stage}
 use Rattle.channel_move.specs.declared.mover.Stage.TheVariants.{Leaving, Joining, Releasing}

@@ -1,23 +1,9 @@
 -- At opening: the links are locked in the order of their numbers, and a pass that was never used may step every link.
 use Rattle.std.proofs.Common.{◌≡◌, ℕ, true, false, List, [], ◌∷◌, ◌++◌, length, map, refl, sym, ap, ◌∙◌, subst, arith}
-use Rattle.std.proofs.lemmas.List.{append_assoc, length-append}
-use Rattle.std.specs.List.{slice_get}
-use Rattle.atomic_table.specs.Seated.{TableId}
-use Rattle.net_units.specs.Numbers.{actor_number}
-use Rattle.net_units.specs.declared.numbers.ActorNo.{ActorNo}
-use Rattle.link_steps.specs.Legal.{IsLegal}
-use Rattle.link_steps.specs.Lists.{Each}
-use Rattle.link_steps.specs.Split.{Link, SplitFits}
+use Rattle.shared_network.proofs.Words.{append_assoc, length-append, slice_get, TableId, actor_number, ActorNo, IsLegal, Each, Link, SplitFits, up_to, IsNewLink, IsNewPass, shelf_of, first_view, new_pass, View, told_after, Token, IsLink, scan_of}
 use Rattle.link_steps.proofs.SearchAndFilter.{Each-if}
-use Rattle.step_stamp.specs.Lists.{up_to}
-use Rattle.step_stamp.specs.Opening.{IsNewLink, IsNewPass}
-use Rattle.step_stamp.specs.Views.{shelf_of, first_view, new_pass}
 use Rattle.step_stamp.specs.declared.seats.LinkSeat.{LinkSeat}
 use Rattle.step_stamp.specs.declared.seats.PassSeat.{PassSeat}
-use Rattle.step_stamp.specs.declared.views.View.{View}
-use Rattle.link_ledger.specs.Journals.{told_after}
-use Rattle.link_ledger.specs.Tokens.{Token, IsLink}
-use Rattle.link_steps.specs.Scan.{scan_of}
 use Rattle.shared_network.specs.Holds.{hold_from}
 use Rattle.shared_network.specs.Ready.{KnowsLink, MayStep, IsNew}
 use Rattle.shared_network.specs.Sight.{IsUnusedLink}

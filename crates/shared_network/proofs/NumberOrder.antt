@@ -1,12 +1,7 @@
 -- Numbers that don't fall and all differ rise; and as many rising numbers as there are below a number are those from 0 on.
 use Rattle.std.proofs.Common.{◌≡◌, ℕ, zero, suc, ◌+◌, ◌<◌, ◌≤◌, List, [], ◌∷◌, ◌++◌, length, map, refl, ap, ◌∙◌, subst, ⊎_elim, arith}
-use Rattle.std.specs.Prelude.{slice_index_or}
-use Rattle.std.specs.List.Sorted.{IsNonDecreasingBy}
-use Rattle.std.proofs.lemmas.Bool.{cases_eq}
-use Rattle.std.proofs.lemmas.List.{length-map}
-use Rattle.link_steps.specs.Lists.{Each}
+use Rattle.shared_network.proofs.Words.{slice_index_or, IsNonDecreasingBy, cases_eq, length-map, Each, Has, Differ, up_to}
 use Rattle.link_steps.proofs.SearchAndFilter.{Each-map}
-use Rattle.step_stamp.specs.Lists.{Has, Differ, up_to}
 use Rattle.step_stamp.proofs.ListMembers.{each-has, has-each}
 use Rattle.shared_network.proofs.ToldAtClosing.{map-has}
 

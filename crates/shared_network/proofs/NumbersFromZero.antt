@@ -1,17 +1,7 @@
 -- The numbers from 0 on, what an iterator over a vector has left, and how many stamps a pass has drawn.
 use Rattle.std.proofs.Common.{◌≡◌, ℕ, zero, suc, ◌<◌, Some, List, [], ◌∷◌, ◌++◌, length, refl, sym, ap, ◌∙◌, inl, inr, arith}
-use Rattle.std.proofs.lemmas.Bool.{cases_lt}
-use Rattle.std.proofs.lemmas.List.{length-append, length-map}
-use Rattle.std.proofs.lemmas.Option.{same_Some}
-use Rattle.std.specs.List.{slice_get}
-use Rattle.std.specs.Vec.Iter.{into_iter_items, into_iter_len}
+use Rattle.shared_network.proofs.Words.{cases_lt, length-append, length-map, same_Some, slice_get, into_iter_items, into_iter_len, TableId, ActorNo, Link, up_to, own_drawn, Token, stamps_drawn}
 use Rattle.std.specs.declared.vec.IntoIter.{IntoIter}
-use Rattle.atomic_table.specs.Seated.{TableId}
-use Rattle.net_units.specs.declared.numbers.ActorNo.{ActorNo}
-use Rattle.link_steps.specs.Split.{Link}
-use Rattle.step_stamp.specs.Lists.{up_to}
-use Rattle.link_ledger.specs.Own.{own_drawn}
-use Rattle.link_ledger.specs.Tokens.{Token, stamps_drawn}
 use Rattle.link_ledger.proofs.OwnStaysExact.{get-left, get-last}
 use Rattle.shared_network.specs.Ready.{MayStep}
 

@@ -1,26 +1,10 @@
 -- Entries that don't name a channel leave it as it was: one that was established still is, and one that no entry names has none. The
 -- entries of a setup and of a teardown name their own channel alone, and those of a move two.
 use Rattle.std.proofs.Common.{◌≡◌, ◌≢◌, ℕ, List, [], ◌∷◌, ◌++◌, length, Option, Some, None, sym, ◌∙◌, subst}
-use Rattle.std.specs.List.{slice_get}
-use Rattle.net_units.specs.Numbers.{channel_number, link_number}
-use Rattle.net_units.specs.declared.numbers.ChanNo.{ChanNo}
-use Rattle.net_units.specs.declared.numbers.LinkNo.{LinkNo}
-use Rattle.traffic_contract.specs.Contract.{Traffic}
-use Rattle.link_steps.specs.Lists.{Each}
-use Rattle.link_steps.specs.declared.asks.Ask.{Ask}
-use Rattle.link_steps.specs.declared.asks.Ask.TheVariants.{Release}
-use Rattle.link_steps.specs.declared.replies.Reply.{Reply}
-use Rattle.link_steps.specs.Split.{Link}
+use Rattle.shared_network.proofs.Words.{slice_get, channel_number, link_number, ChanNo, LinkNo, Traffic, Each, Ask, Release, Reply, Link, next_ask, progress_of, first_count, next_release, Request, IsOff, Move, next_of_move, OwnEntry, Token, Steps}
 use Rattle.link_steps.proofs.SearchAndFilter.{Each-append}
-use Rattle.setup_protocol.specs.Setup.{next_ask, progress_of}
-use Rattle.setup_protocol.specs.Teardown.{first_count, next_release}
-use Rattle.setup_protocol.specs.declared.request.Request.{Request}
 use Rattle.setup_protocol.proofs.HopAsks.{of-hop, of-setup}
-use Rattle.channel_laws.specs.Asks.{IsOff}
-use Rattle.channel_move.specs.Moving.{Move, next_of_move}
 use Rattle.channel_move.proofs.AskByStage.{MoveAsks, AsksFirst, AsksSubmit, AsksRest, move-asks, move-ask-is}
-use Rattle.link_ledger.specs.declared.entries.OwnEntry.{OwnEntry}
-use Rattle.link_ledger.specs.Tokens.{Token, Steps}
 use Rattle.shared_network.specs.Calls.{HasNone, Follows, HoldsRoute, IsEstablished, OthersStay, hold_at}
 use Rattle.shared_network.specs.Holds.{Free, Holds}
 use Rattle.shared_network.specs.Sight.{IsSend}

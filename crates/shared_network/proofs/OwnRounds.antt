@@ -1,33 +1,12 @@
 -- Each own entry of a pass stands in the journal that the pass knows of its link, so its reply is the legal one after a history of
 -- that link. So the packets that the replies to a plane's ticks set on their way fly to links of the network.
 use Rattle.std.proofs.Common.{◌≡◌, ℕ, zero, suc, ◌*◌, ◌^◌, ◌<◌, ◌≤◌, true, eqb, List, [], ◌∷◌, length, map, refl, sym, ap, subst, inl, inr, arith}
-use Rattle.std.proofs.lemmas.Bool.{eq-eqb}
-use Rattle.std.proofs.lemmas.List.{length-map, length-reverse, reverse-append}
-use Rattle.std.specs.Prelude.{reverse}
-use Rattle.atomic_table.specs.Seated.{TableId}
-use Rattle.net_units.specs.Numbers.{link_number}
-use Rattle.net_units.specs.declared.numbers.ActorNo.{ActorNo}
-use Rattle.link_steps.specs.Legal.{IsLegal}
-use Rattle.link_steps.specs.Lists.{Each}
-use Rattle.link_steps.specs.Replies.{reply_to}
-use Rattle.link_steps.specs.Scan.{clock_of}
-use Rattle.link_steps.specs.Split.{Link, SplitFits}
+use Rattle.shared_network.proofs.Words.{eq-eqb, length-map, length-reverse, reverse-append, reverse, TableId, link_number, ActorNo, IsLegal, Each, reply_to, clock_of, Link, SplitFits, Reply, Has, known_of, Mark, flight_in, mark_in, done_in, history_entry_of, marks_in, history_in, journal_of, told_after, own_at, own_entry, NextBelow, Token, IsLink, Entry, OwnEntry}
 use Rattle.link_steps.specs.declared.replies.Entry.{Entry as Done}
-use Rattle.link_steps.specs.declared.replies.Reply.{Reply}
 use Rattle.link_steps.proofs.FoundElements.{Each-passes}
 use Rattle.link_steps.proofs.SearchAndFilter.{Each-both, Each-filter, Each-if, Each-map, Each-mapped}
 use Rattle.link_steps.proofs.ListParts.{Each-at}
-use Rattle.step_stamp.specs.Lists.{Has}
-use Rattle.step_stamp.specs.Views.{known_of}
-use Rattle.step_stamp.specs.declared.marks.Mark.{Mark}
 use Rattle.step_stamp.proofs.ListMembers.{each-has, has-left, has-right, has-each, has-kept, has-passed}
-use Rattle.tick_plane.specs.Planes.{flight_in}
-use Rattle.link_ledger.specs.Journals.{mark_in, done_in, history_entry_of, marks_in, history_in, journal_of, told_after}
-use Rattle.link_ledger.specs.Own.{own_at, own_entry}
-use Rattle.link_ledger.specs.Owners.{NextBelow}
-use Rattle.link_ledger.specs.Tokens.{Token, IsLink}
-use Rattle.link_ledger.specs.declared.entries.Entry.{Entry}
-use Rattle.link_ledger.specs.declared.entries.OwnEntry.{OwnEntry}
 use Rattle.shared_network.specs.Calls.{reply_in}
 use Rattle.shared_network.specs.Planes.{is_round, rounds_in}
 use Rattle.shared_network.specs.Ready.{KnowsLink, MayStep}

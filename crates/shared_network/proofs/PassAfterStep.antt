@@ -1,35 +1,14 @@
 -- A pass that may step goes on after a step: its entries are exact again, and what it knows of each link is as it was, or, of the
 -- link that was asked, the journal with its new entry.
 use Rattle.std.proofs.Common.{◌≡◌, ℕ, ◌+◌, ◌<◌, ◌≤◌, List, [], ◌∷◌, ◌++◌, length, map, refl, sym, ap, ◌∙◌, subst, inl, ⊎_elim, arith}
-use Rattle.std.proofs.lemmas.Bool.{cases_eq}
-use Rattle.std.proofs.lemmas.List.{map-append, length-append, length-map}
-use Rattle.std.proofs.lemmas.Option.{same_Some, slice_get_within}
+use Rattle.shared_network.proofs.Words.{cases_eq, map-append, length-append, length-map, same_Some, slice_get_within, TableId, actor_number, channel_number, link_number, ActorNo, LinkNo, IsLegal, Each, Link, SplitFits, Ask, Reply, Has, StampsRise, known_of, saw, Mark, history_in, journal_of, entries_of, marks_in, IsExact, IsAtPlace, own_mark, own_entry, own_at, Token, IsLink, Steps, Entry, OwnEntry, IsOwner}
 use mathlib.Core.List.{IsPrefix}
-use Rattle.atomic_table.specs.Seated.{TableId}
-use Rattle.net_units.specs.Numbers.{actor_number, channel_number, link_number}
-use Rattle.net_units.specs.declared.numbers.ActorNo.{ActorNo}
-use Rattle.net_units.specs.declared.numbers.LinkNo.{LinkNo}
-use Rattle.link_steps.specs.Legal.{IsLegal}
-use Rattle.link_steps.specs.Lists.{Each}
-use Rattle.link_steps.specs.Split.{Link, SplitFits}
-use Rattle.link_steps.specs.declared.asks.Ask.{Ask}
-use Rattle.link_steps.specs.declared.replies.Reply.{Reply}
 use Rattle.link_steps.proofs.SearchAndFilter.{Each-if, Each-append, Each-map}
-use Rattle.step_stamp.specs.Lists.{Has}
-use Rattle.step_stamp.specs.Marks.{StampsRise}
-use Rattle.step_stamp.specs.Views.{known_of, saw}
-use Rattle.step_stamp.specs.declared.marks.Mark.{Mark}
 use Rattle.step_stamp.proofs.ListMembers.{begins-itself, begins-longer}
 use Rattle.step_stamp.proofs.RisingStamps.{rises-append}
-use Rattle.link_ledger.specs.Journals.{history_in, journal_of, entries_of, marks_in}
 use Rattle.link_ledger.specs.Order.{AreInOrder}
-use Rattle.link_ledger.specs.Own.{IsExact, IsAtPlace, own_mark, own_entry, own_at}
-use Rattle.link_ledger.specs.Tokens.{Token, IsLink, Steps}
-use Rattle.link_ledger.specs.declared.entries.Entry.{Entry}
-use Rattle.link_ledger.specs.declared.entries.OwnEntry.{OwnEntry}
 use Rattle.link_ledger.proofs.JournalGrowth.{marks-more, journal-told}
 use Rattle.link_ledger.proofs.OwnStaysExact.{exact-after, none-at}
-use Rattle.link_ledger.specs.Owners.{IsOwner}
 use Rattle.channel_laws.specs.Laws.{held_after}
 use Rattle.shared_network.specs.Holds.{hold_of, IsHeld}
 use Rattle.shared_network.specs.Added.{Adds}

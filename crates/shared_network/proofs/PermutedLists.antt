@@ -1,13 +1,7 @@
 -- What holds of each element, and numbers that all differ, through a change of the order.
 use Rattle.std.proofs.Common.{◌≡◌, ℕ, eqb, false, List, [], ◌∷◌, map, sym, ◌∙◌, inl, inr, ⊎_elim, ne_eqb}
-use Rattle.std.specs.List.{All, IsDistinct, AllByRecursion}
-use Rattle.std.specs.List.Sorted.{IsPermutation}
-use Rattle.std.proofs.lemmas.Bool.{cases_eq, eq-eqb}
-use Rattle.std.proofs.lemmas.List.Elements.{All-nil, All-cons, All-head, All-tail}
-use Rattle.std.proofs.lemmas.List.Sorted.{All-permutation, IsPermutation-map}
+use Rattle.shared_network.proofs.Words.{All, IsDistinct, AllByRecursion, IsPermutation, cases_eq, eq-eqb, All-nil, All-cons, All-head, All-tail, All-permutation, IsPermutation-map, Each, Has, Differ}
 use Rattle.std.proofs.lemmas.Map.Keys.{IsDistinct-IsPermutation}
-use Rattle.link_steps.specs.Lists.{Each}
-use Rattle.step_stamp.specs.Lists.{Has, Differ}
 
 -- two ways to say what holds of each element
 pub each-all : {X : Type 0} (P : X → Type 0) (xs : List X) → Each P xs → All P xs

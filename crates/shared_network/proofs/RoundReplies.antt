@@ -1,32 +1,18 @@
 -- The legal replies to the plane's asks are ones that it expects. What leaves a link in a tick flies to a link of the network, and
 -- meets the conditions on a packet that arrives there.
 use Rattle.std.proofs.Common.{◌≡◌, ℕ, ◌+◌, ◌^◌, ◌<◌, ◌≤◌, true, List, Option, Some, None, refl, sym, ap, ◌∙◌, subst, arith}
+use Rattle.shared_network.proofs.Words.{link_number, ActorNo, LinkNo, Ask, Reserve, Arrive, Tick, Reply, AskFits, PacketFits, IsLegal, Each, tick_reply, reply_to, clock_of, scan_of, Link, SplitFits, IsOff, IsArriveReply, Plane, is_due, next_due, ask_due, plane_ask, flight_in, answers_arrive, answers_tick, plane_expects, IsDueLater, OwnsAsk, NextBelow, IsBelow}
 use Rattle.std.proofs.Math.Nat.{min-le_right}
-use Rattle.net_units.specs.Numbers.{link_number}
-use Rattle.net_units.specs.declared.numbers.ActorNo.{ActorNo}
-use Rattle.net_units.specs.declared.numbers.LinkNo.{LinkNo}
-use Rattle.link_steps.specs.declared.asks.Ask.{Ask}
-use Rattle.link_steps.specs.declared.asks.Ask.TheVariants.{Reserve, Arrive, Tick}
 use Rattle.link_steps.specs.declared.replies.Entry.{Entry}
-use Rattle.link_steps.specs.declared.replies.Reply.{Reply}
 use Rattle.link_steps.specs.declared.shape.LinkShape.{LinkShape}
 use Rattle.link_steps.specs.Admissible.{IsAdmissible}
-use Rattle.link_steps.specs.Legal.{AskFits, PacketFits, IsLegal}
-use Rattle.link_steps.specs.Lists.{Each}
-use Rattle.link_steps.specs.Replies.{tick_reply, reply_to}
-use Rattle.link_steps.specs.Scan.{clock_of, scan_of}
 use Rattle.link_steps.specs.Service.{leaves_at}
-use Rattle.link_steps.specs.Split.{Link, SplitFits}
 use Rattle.link_steps.proofs.LegalAdmissible.{legal-admissible}
 use Rattle.link_steps.proofs.SearchAndFilter.{Each-find, Each-if}
-use Rattle.channel_laws.specs.Asks.{IsOff}
 use Rattle.channel_laws.specs.Departing.{ticked}
-use Rattle.channel_laws.specs.Reservations.{IsArriveReply}
 use Rattle.channel_laws.proofs.ArriveReplies.{arrive-told, of-arrive}
 use Rattle.channel_laws.proofs.SentInTime.{sent-facts, sent-fits, tick-answer}
 use Rattle.tick_plane.specs.declared.flight.Flight.{Flight}
-use Rattle.tick_plane.specs.Planes.{Plane, is_due, next_due, ask_due, plane_ask, flight_in, answers_arrive, answers_tick, plane_expects, IsDueLater}
-use Rattle.link_ledger.specs.Owners.{OwnsAsk, NextBelow, IsBelow}
 use Rattle.shared_network.specs.Planes.{is_round}
 use Rattle.channel_laws.proofs.NextLinks.{NamesNext, history-nexts, sent-next}
 use Rattle.tick_plane.proofs.PlaneFlights.{asks-due, flight-in}

@@ -1,28 +1,11 @@
 -- A step of the plane over a network: its ask meets the conditions, its reply is expected, and with it the arrives and ticks of the
 -- pass are again the plane's.
 use Rattle.std.proofs.Common.{◌≡◌, ℕ, ◌<◌, ◌≤◌, true, List, [], ◌∷◌, ◌++◌, length, map, Some, refl, sym, ap, ◌∙◌, subst}
-use Rattle.std.proofs.lemmas.List.{map-append, reverse-append}
-use Rattle.std.proofs.lemmas.List.Elements.{filter-append}
-use Rattle.std.specs.Prelude.{reverse}
-use Rattle.atomic_table.specs.Seated.{TableId}
-use Rattle.net_units.specs.Numbers.{actor_number, link_number}
-use Rattle.net_units.specs.declared.numbers.ActorNo.{ActorNo}
-use Rattle.net_units.specs.declared.numbers.LinkNo.{LinkNo}
-use Rattle.link_steps.specs.Legal.{IsLegal}
-use Rattle.link_steps.specs.Lists.{Each}
-use Rattle.link_steps.specs.Split.{Link, SplitFits}
-use Rattle.link_steps.specs.declared.asks.Ask.{Ask}
-use Rattle.link_steps.specs.declared.replies.Reply.{Reply}
+use Rattle.shared_network.proofs.Words.{map-append, reverse-append, filter-append, reverse, TableId, actor_number, link_number, ActorNo, LinkNo, IsLegal, Each, Link, SplitFits, Ask, Reply, next_due, plane_ask, plane_after, plane_of, plane_expects, IsDueLater, done_in, history_in, own_entry, own_mark, Token, Steps, OwnEntry, known_of}
 use Rattle.tick_plane.specs.PlaneAccount.{PlaneAccount}
-use Rattle.tick_plane.specs.Planes.{next_due, plane_ask, plane_after, plane_of, plane_expects, IsDueLater}
-use Rattle.link_ledger.specs.Journals.{done_in, history_in}
-use Rattle.link_ledger.specs.Own.{own_entry, own_mark}
-use Rattle.link_ledger.specs.Tokens.{Token, Steps}
-use Rattle.link_ledger.specs.declared.entries.OwnEntry.{OwnEntry}
 use Rattle.shared_network.specs.Calls.{Follows, reply_in}
 use Rattle.shared_network.specs.Planes.{is_round, rounds_in, next_round, IsPlanes, MakesRound}
 use Rattle.shared_network.specs.Ready.{MayStep}
-use Rattle.step_stamp.specs.Views.{known_of}
 use Rattle.shared_network.proofs.SetupUnderWay.{follows-more}
 use Rattle.net_units.proofs.KnownByNumber.{same-link}
 use Rattle.shared_network.proofs.OwnRounds.{rounds-fly}

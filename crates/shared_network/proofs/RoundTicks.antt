@@ -1,27 +1,12 @@
 -- The clock of the link that the plane of a pass asks for a tick is at least the plane's round: among the pass's own entries that
 -- link has one tick for each round before, and these stand in the link's journal. So what leaves in the tick is due after the round.
 use Rattle.std.proofs.Common.{◌≡◌, ◌≢◌, ℕ, ◌+◌, ◌<◌, ◌≤◌, Bool, eqb, List, [], ◌∷◌, ◌++◌, map, Option, Some, None, refl, sym, ap, ◌∙◌, subst, inl, inr, arith}
-use Rattle.std.proofs.lemmas.Bool.{cases_Bool, eqb-true, eqb-false, eq-eqb, ne_eqb, le-ltb}
-use Rattle.std.proofs.lemmas.List.{append-nil, append_assoc, reverse-append}
-use Rattle.std.specs.Prelude.{nat_eq, filter, reverse}
+use Rattle.shared_network.proofs.Words.{cases_Bool, eqb-true, eqb-false, eq-eqb, ne_eqb, le-ltb, append-nil, append_assoc, reverse-append, nat_eq, filter, reverse, actor_number, link_number, LinkNo, Ask, Arrive, Tick, Reply, clock_with, clock_of, Plane, next_due, ask_due, flight_in, plane_ask, plane_with, plane_of, mark_in, done_in, marks_in, history_in, own_at, Entry, OwnEntry, marks_of, Mark}
 use mathlib.Core.List.{IsPrefix}
-use Rattle.net_units.specs.Numbers.{actor_number, link_number}
-use Rattle.net_units.specs.declared.numbers.LinkNo.{LinkNo}
-use Rattle.link_steps.specs.declared.asks.Ask.{Ask}
-use Rattle.link_steps.specs.declared.asks.Ask.TheVariants.{Arrive, Tick}
 use Rattle.link_steps.specs.declared.replies.Entry.{Entry as Done}
-use Rattle.link_steps.specs.declared.replies.Reply.{Reply}
-use Rattle.link_steps.specs.Scan.{clock_with, clock_of}
 use Rattle.tick_plane.specs.declared.flight.Flight.{Flight}
-use Rattle.tick_plane.specs.Planes.{Plane, next_due, ask_due, flight_in, plane_ask, plane_with, plane_of}
 use Rattle.tick_plane.proofs.PlaneFlights.{asks-due}
 use Rattle.tick_plane.proofs.TicksPerLink.{ticks_made, tick-clocks, other-clocks, ticked-with}
-use Rattle.link_ledger.specs.Journals.{mark_in, done_in, marks_in, history_in}
-use Rattle.link_ledger.specs.Own.{own_at}
-use Rattle.link_ledger.specs.declared.entries.Entry.{Entry}
-use Rattle.link_ledger.specs.declared.entries.OwnEntry.{OwnEntry}
-use Rattle.step_stamp.specs.Marks.{marks_of}
-use Rattle.step_stamp.specs.declared.marks.Mark.{Mark}
 use Rattle.shared_network.specs.Calls.{Follows, reply_in}
 use Rattle.shared_network.specs.Planes.{next_round}
 

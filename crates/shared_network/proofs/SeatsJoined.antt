@@ -1,30 +1,13 @@
 -- Seats joined at closing: each keeps what the others knew, and the links' seats then tell that all was drawn.
 use Rattle.std.proofs.Common.{◌≡◌, ℕ, zero, suc, ◌<◌, ◌≤◌, ◌⊎◌, false, List, [], ◌∷◌, ◌++◌, map, refl, sym, ap, ◌∙◌, subst, inl, inr, arith}
-use Rattle.std.proofs.lemmas.Bool.{cases_lt}
-use Rattle.std.proofs.lemmas.List.{append_assoc, append-nil, map-append}
-use Rattle.std.proofs.lemmas.Option.{same_Some}
-use Rattle.std.specs.List.{slice_get}
+use Rattle.shared_network.proofs.Words.{cases_lt, append_assoc, append-nil, map-append, same_Some, slice_get, TableId, ActorNo, Each, Link, Has, up_to, RisesFrom, StampsRise, NoTwice, drawn_for, longer, Gathered, known_of, Mark, View, done_in, marks_in, own_mark, own_drawn, Token, IsLink, Journal, OwnEntry}
 use mathlib.Core.List.{IsPrefix}
-use Rattle.atomic_table.specs.Seated.{TableId}
-use Rattle.net_units.specs.declared.numbers.ActorNo.{ActorNo}
 use Rattle.link_steps.specs.Journals.{IsLegalJournal}
-use Rattle.link_steps.specs.Lists.{Each}
-use Rattle.link_steps.specs.Split.{Link}
 use Rattle.link_steps.proofs.SearchAndFilter.{Each-if, Each-append}
-use Rattle.step_stamp.specs.Lists.{Has, up_to}
-use Rattle.step_stamp.specs.Marks.{RisesFrom, StampsRise, NoTwice, drawn_for, longer}
-use Rattle.step_stamp.specs.Seats.{Gathered, Settled}
-use Rattle.step_stamp.specs.Views.{known_of}
+use Rattle.step_stamp.specs.Seats.{Settled}
 use Rattle.step_stamp.specs.declared.marks.Drawn.{Drawn}
-use Rattle.step_stamp.specs.declared.marks.Mark.{Mark}
-use Rattle.step_stamp.specs.declared.views.View.{View}
 use Rattle.step_stamp.proofs.ListMembers.{each-has, has-left, has-right}
 use Rattle.step_stamp.proofs.RisingStamps.{longer-whole, longer-second}
-use Rattle.link_ledger.specs.Journals.{done_in, marks_in}
-use Rattle.link_ledger.specs.Own.{own_mark, own_drawn}
-use Rattle.link_ledger.specs.Tokens.{Token, IsLink}
-use Rattle.link_ledger.specs.declared.entries.Journal.{Journal}
-use Rattle.link_ledger.specs.declared.entries.OwnEntry.{OwnEntry}
 use Rattle.shared_network.specs.Closing.{kept_pass, number_of, HaveGivenUp}
 use Rattle.shared_network.specs.Gathering.{token_actor, all_drawn, IsPartOf, AreGathered, IsSettled}
 use Rattle.shared_network.specs.Ready.{MayStep}

@@ -1,36 +1,17 @@
 -- Each reply to a setup is one of its ask's, and the hops then hold what the replies with it have made.
 use Rattle.std.proofs.Common.{◌≡◌, ◌≢◌, ℕ, suc, ◌<◌, eqb, true, false, cond, List, [], ◌∷◌, ◌++◌, length, get_or, Some, refl, sym, ap, ◌∙◌, subst}
-use Rattle.std.proofs.lemmas.Bool.{eq-eqb}
-use Rattle.std.proofs.lemmas.Option.{same_Some, slice_get_within}
-use Rattle.std.specs.List.{slice_get}
-use Rattle.net_units.specs.Numbers.{channel_number, link_number, level_number}
-use Rattle.net_units.specs.declared.numbers.ChanNo.{ChanNo}
+use Rattle.shared_network.proofs.Words.{eq-eqb, same_Some, slice_get_within, slice_get, channel_number, link_number, level_number, ChanNo, link_of, Hop, deny_reply, relax_reply, reply_at, committed, Link, Ask, Deny, Reply, Reserving, is_offer, level_in, offers_in, after_offers, reach_after, undoing, relaxing, asked, reserve_of, bound_given, next_ask, progress_of, is_expected, Request, held_by, IsLink, own_at, OwnEntry, IsHopOf, RequestFits}
 use Rattle.hop_reservation.specs.Offers.{AreLevels}
-use Rattle.hop_reservation.specs.Routes.{link_of}
-use Rattle.hop_reservation.specs.declared.route.Hop.{Hop}
 use Rattle.hop_reservation.proofs.OneMoreOffer.{AreLevels-push}
 use Rattle.link_steps.specs.Admissible.{MayAnswer}
 use Rattle.link_steps.specs.Levels.{level_of}
-use Rattle.link_steps.specs.Replies.{deny_reply, relax_reply, reply_at}
-use Rattle.link_steps.specs.Reservation.{committed}
-use Rattle.link_steps.specs.Split.{Link}
-use Rattle.link_steps.specs.declared.asks.Ask.{Ask}
-use Rattle.link_steps.specs.declared.asks.Ask.TheVariants.{Deny}
-use Rattle.link_steps.specs.declared.replies.Reply.{Reply}
 use Rattle.link_steps.specs.declared.replies.Reply.TheVariants as Is
 use Rattle.relaxation.specs.Laws.{AreWithinReach}
-use Rattle.setup_protocol.specs.Setup.{Reserving, is_offer, level_in, offers_in, after_offers, reach_after, undoing, relaxing, asked, reserve_of, bound_given, next_ask, progress_of, is_expected}
-use Rattle.setup_protocol.specs.declared.request.Request.{Request}
 use Rattle.setup_protocol.specs.declared.verdict.Deny.{Deny as Denial}
 use Rattle.setup_protocol.proofs.SetupAdvances.{offers-other, offers-more}
-use Rattle.channel_laws.specs.Reservations.{held_by}
 use Rattle.link_steps.proofs.ListParts.{Each-at}
-use Rattle.link_ledger.specs.Tokens.{IsLink}
-use Rattle.link_ledger.specs.Own.{own_at}
-use Rattle.link_ledger.specs.declared.entries.OwnEntry.{OwnEntry}
 use Rattle.link_ledger.proofs.OwnStaysExact.{one-at, none-at}
 use Rattle.shared_network.specs.Calls.{hold_at}
-use Rattle.setup_protocol.specs.Hops.{IsHopOf, RequestFits}
 use Rattle.shared_network.specs.Holds.{Hold, Free, Holds, reserved, denied, hold_with, hold_of, IsHeld}
 use Rattle.shared_network.proofs.HoldsByOwner.{hold-more}
 use Rattle.shared_network.proofs.HoldSteps.{AnswersOf}
@@ -170,12 +151,7 @@ module _ (links : List Link) (request : Request) (own : List OwnEntry) (replies 
         }
     by-reply (Is.Refused refusal) told usual =
         plain-rows (ap is_offer told) (refused-goes Free Holds request (HopOf request) now later replies e.reply rows.stands alone is refusal told usual (changes-at n here ask (Is.Refused refusal) Free on asked.is told (held-then (Is.Refused refusal))))
-    by-reply (Is.Relaxed clock) told is_so = absurd is_so
-    by-reply Is.Denied told is_so = absurd is_so
-    by-reply (Is.Planned clock) told is_so = absurd is_so
-    by-reply (Is.Closing count cancelled) told is_so = absurd is_so
-    by-reply (Is.Taken clock eligible) told is_so = absurd is_so
-    by-reply (Is.Ticked clock full sent best_sent best_lost) told is_so = absurd is_so
+    by-reply _ told is_so = absurd is_so
 
   -- each reply
   pub setup-goes : next_ask request replies ≡ Some (e.link, e.ask) → SetupGoes request own replies e

@@ -1,61 +1,34 @@
 -- A setup goes on with each step: its entries are what it asks, and fewer asks are left.
 use Rattle.std.proofs.Common.{◌≡◌, ℕ, zero, suc, ◌+◌, ◌-◌, ◌<◌, ◌≤◌, true, false, List, [], ◌∷◌, ◌++◌, length, map, Option, Some, None, refl, sym, ap, ◌∙◌, subst, arith}
-use Rattle.std.proofs.lemmas.Bool.{cond_both}
-use Rattle.std.proofs.lemmas.List.{append_assoc, append-nil, length-append, map-append, length_push}
-use Rattle.std.proofs.lemmas.Option.{same_Some, slice_get_within}
-use Rattle.std.specs.List.{slice_get}
-use Rattle.std.specs.Prelude.{nat_lt}
-use Rattle.atomic_table.specs.Seated.{TableId}
-use Rattle.net_units.specs.Numbers.{channel_number, link_number, level_number}
-use Rattle.net_units.specs.declared.numbers.ActorNo.{ActorNo}
-use Rattle.net_units.specs.declared.numbers.LinkNo.{LinkNo}
+use Rattle.shared_network.proofs.Words.{cond_both, append_assoc, append-nil, length-append, map-append, length_push, same_Some, slice_get_within, slice_get, nat_lt, TableId, channel_number, link_number, level_number, ActorNo, LinkNo, IsRoute, Hop, Each, Link, SplitFits, Ask, Reply, Progress, Reserving, Undoing, Relaxing, Settled, offers_in, after_offers, undoing, relaxing, after_test, at_destination, next_ask, progress_of, is_expected, Request, own_at, IsOwner, Token, IsLink, Steps, last_seen, OwnEntry, option_map, Result, Ok, Err, IsOk, OnOk, IsContract, Outcome, Accepts, Denies, asked, hop_link, reach_after, settled_in, IsOff, OwnsAsk, NextBelow, IsBelow, IsHopOf, RequestFits}
 use Rattle.hop_reservation.specs.Offers.{AreLevels, next_bound}
-use Rattle.hop_reservation.specs.Routes.{IsRoute}
-use Rattle.hop_reservation.specs.declared.route.Hop.{Hop}
-use Rattle.link_steps.specs.Lists.{Each}
-use Rattle.link_steps.specs.Split.{Link, SplitFits}
-use Rattle.link_steps.specs.declared.asks.Ask.{Ask}
-use Rattle.link_steps.specs.declared.replies.Reply.{Reply}
 use Rattle.link_steps.specs.declared.replies.Reply.TheVariants as Is
 use Rattle.relaxation.specs.Allotment.{denial_of, allotted}
 use Rattle.relaxation.specs.declared.EndDenial.{EndDenial}
 use Rattle.setup_protocol.specs.Requests.{jitter_of}
-use Rattle.setup_protocol.specs.Setup.{Progress, Reserving, Undoing, Relaxing, Settled, offers_in, after_offers, undoing, relaxing, after_test, at_destination, next_ask, progress_of, is_expected}
 use Rattle.setup_protocol.specs.Standing.{progress_in, SetupStands}
 use Rattle.setup_protocol.specs.State.{with_offers, after_reserve, advance, progress_at, IsStateOf}
-use Rattle.setup_protocol.specs.declared.request.Request.{Request}
 use Rattle.setup_protocol.specs.declared.setup.Setup.{Setup}
 use Rattle.setup_protocol.specs.declared.setup.State.{State}
 use Rattle.setup_protocol.specs.declared.setup.State.TheVariants as state
 use Rattle.setup_protocol.specs.declared.verdict.Deny.{Deny as Denial}
 use Rattle.setup_protocol.specs.declared.verdict.Deny.TheVariants.{End}
 use Rattle.net_units.specs.Allotted.{levels_of}
-use Rattle.link_ledger.specs.Own.{own_at}
-use Rattle.link_ledger.specs.Owners.{IsOwner}
-use Rattle.link_ledger.specs.Tokens.{Token, IsLink, Steps, last_seen}
-use Rattle.link_ledger.specs.declared.entries.OwnEntry.{OwnEntry}
 use Rattle.shared_network.specs.Added.{AddsAbove, IsSamePass}
 use Rattle.shared_network.specs.Calls.{Follows, reply_in}
 use Rattle.shared_network.specs.Ready.{MayStep, PassGoesOn}
 use Rattle.shared_network.proofs.CallsInTurn.{goes-none, goes-both, above-none, above-both, above-step}
 use Rattle.shared_network.proofs.PassAfterStep.{drawn-own}
 use Rattle.shared_network.proofs.SetupGoes.{SetupRows, SetupGoes}
-use Rattle.std.specs.Option.{option_map}
-use Rattle.std.specs.Prelude.{Result, Ok, Err, IsOk, OnOk}
 use Rattle.std.specs.Result.{is_err}
 use Rattle.net_units.specs.LevelBounds.{are_bounds}
-use Rattle.traffic_contract.specs.Contract.{IsContract}
 use Rattle.link_steps.proofs.SearchAndFilter.{Each-append, Each-if}
 use Rattle.relaxation.specs.Laws.{HaveBounds}
 use Rattle.setup_protocol.specs.Laws.{AsksHop, is_accepted}
-use Rattle.setup_protocol.specs.Setup.{Outcome, Accepts, Denies, asked, hop_link, reach_after, settled_in}
 use Rattle.setup_protocol.proofs.SetupAsksFit.{ask-fits}
 use Rattle.setup_protocol.proofs.SetupAdvances.{progress-advances, progress-none}
-use Rattle.channel_laws.specs.Asks.{IsOff}
 use Rattle.link_steps.proofs.ListParts.{Each-at}
-use Rattle.link_ledger.specs.Owners.{OwnsAsk, NextBelow, IsBelow}
 use Rattle.shared_network.specs.Calls.{HasNone, IsEstablished, hold_at}
-use Rattle.setup_protocol.specs.Hops.{IsHopOf, RequestFits}
 use Rattle.shared_network.specs.Holds.{Free, Holds, hold_of}
 use Rattle.shared_network.specs.Sight.{FitsAt}
 use Rattle.shared_network.proofs.HoldSteps.{AnswersOf, answers}
@@ -114,13 +87,7 @@ left-refused request offers deny few = (let is = left-undoing (length request.ro
 
 left-reserved : (request : Request) (offers : List ℕ) (reply : Reply) → length offers < length request.route → asks_left (length request.route) (after_reserve request offers reply) < length request.route + length request.route - length offers
 left-reserved request offers (Is.Offer level reach) few = left-offered request offers (level_number level) (next_bound request.route offers (level_number reach)) few
-left-reserved request offers (Is.Relaxed clock) few = left-refused request offers _ few
-left-reserved request offers Is.Denied few = left-refused request offers _ few
-left-reserved request offers (Is.Planned clock) few = left-refused request offers _ few
-left-reserved request offers (Is.Closing count cancelled) few = left-refused request offers _ few
-left-reserved request offers (Is.Taken clock eligible) few = left-refused request offers _ few
-left-reserved request offers (Is.Ticked clock full sent best_sent best_lost) few = left-refused request offers _ few
-left-reserved request offers (Is.Refused refusal) few = left-refused request offers _ few
+left-reserved request offers _ few = left-refused request offers _ few
 
 left-state : (request : Request) (offers : List ℕ) (reach : ℕ) (s : State) (reply : Reply) → IsStateOf request.route offers s → is_expected request (progress_at offers reach s) reply ≡ true → asks_left (length request.route) (advance request (progress_at offers reach s) reply) < asks_left (length request.route) (progress_at offers reach s)
 left-state request offers reach state.Reserving reply range expected = left-reserved request offers reply range
@@ -270,10 +237,8 @@ module _ (table : TableId) (owners : List ActorNo) (links : List Link) (request 
 -- ---- at the end
 
 settled-is : (p : Progress) (outcome : Outcome) → Some outcome ≡ settled_in p → p ≡ Settled outcome
-settled-is (Reserving offers reach) outcome is = absurd (let clash : Some outcome ≡ None = is in cc)
-settled-is (Undoing left deny) outcome is = absurd (let clash : Some outcome ≡ None = is in cc)
-settled-is (Relaxing left levels) outcome is = absurd (let clash : Some outcome ≡ None = is in cc)
 settled-is (Settled own) outcome is = ap Settled (same_Some own outcome (sym is))
+settled-is _ outcome is = absurd (let clash : Some outcome ≡ None = is in cc)
 
 -- each reserve of the channel names the request's contract
 setup-reserves : (table : TableId) (owners : List ActorNo) (links : List Link) (request : Request) (pass0 pass : Token) (setup : Setup) → HasNone request.chan pass0.own → SettingUp table owners links request pass0 pass setup → Each (λ (e : OwnEntry). ReservesOn (channel_number request.chan) request.contract e.ask) pass.own

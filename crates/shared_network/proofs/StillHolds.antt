@@ -1,23 +1,8 @@
 -- Entries that don't change what a link holds of a channel: those that name another channel, or none, and those that send. What the
 -- own entries tell is the same with them, so a channel that holds its route still does.
 use Rattle.std.proofs.Common.{◌≡◌, ◌≢◌, ℕ, cond, List, [], ◌∷◌, ◌++◌, sym, refl, ap, ◌∙◌, subst}
-use Rattle.std.proofs.lemmas.Bool.{ne_eqb}
-use Rattle.std.proofs.lemmas.List.Elements.{filter-append}
-use Rattle.std.specs.Prelude.{nat_eq}
-use Rattle.net_units.specs.Numbers.{channel_number, link_number}
-use Rattle.net_units.specs.declared.numbers.ChanNo.{ChanNo}
-use Rattle.traffic_contract.specs.Contract.{Traffic}
-use Rattle.hop_reservation.specs.Routes.{link_of}
-use Rattle.hop_reservation.specs.declared.route.Hop.{Hop}
-use Rattle.link_steps.specs.Lists.{Each}
-use Rattle.link_steps.specs.Reservation.{tentative, committed}
-use Rattle.link_steps.specs.declared.asks.Ask.{Ask}
-use Rattle.link_steps.specs.declared.asks.Ask.TheVariants.{Reserve, Relax, Deny, Release, Arrive, Tick}
-use Rattle.link_steps.specs.declared.replies.Reply.{Reply}
+use Rattle.shared_network.proofs.Words.{ne_eqb, filter-append, nat_eq, channel_number, link_number, ChanNo, Traffic, link_of, Hop, Each, tentative, committed, Ask, Reserve, Relax, Deny, Release, Arrive, Tick, Reply, IsOff, own_at, OwnEntry}
 use Rattle.link_steps.proofs.SearchAndFilter.{Each-filter, Each-if}
-use Rattle.channel_laws.specs.Asks.{IsOff}
-use Rattle.link_ledger.specs.Own.{own_at}
-use Rattle.link_ledger.specs.declared.entries.OwnEntry.{OwnEntry}
 use Rattle.shared_network.specs.Calls.{HasNone, HoldsRoute, IsCommitted, hold_at}
 use Rattle.shared_network.specs.Holds.{Hold, Free, Untold, reserved, hold_relaxed, denied, hold_with, hold_from, hold_of}
 use Rattle.shared_network.specs.Sight.{IsSend}

@@ -1,28 +1,13 @@
 -- What calls leave of the submits on a channel: the entries of a setup, of a teardown and of the plane submit on none, those of a
 -- move on the channel that is joined alone, and a send on its own. So these tell which packets were planned last.
 use Rattle.std.proofs.Common.{◌≡◌, ◌≢◌, ℕ, cond, List, [], ◌∷◌, ◌++◌, map, Option, Some, None, refl, sym, ap, ◌∙◌, subst}
-use Rattle.std.proofs.lemmas.Bool.{ne_eqb, eq-eqb}
-use Rattle.std.specs.List.{slice_get}
-use Rattle.net_units.specs.Numbers.{channel_number}
-use Rattle.net_units.specs.declared.numbers.ChanNo.{ChanNo}
-use Rattle.net_units.specs.declared.numbers.LinkNo.{LinkNo}
-use Rattle.link_steps.specs.Lists.{Each}
-use Rattle.link_steps.specs.declared.asks.Ask.{Ask}
-use Rattle.link_steps.specs.declared.asks.Ask.TheVariants.{Submit, Release}
-use Rattle.link_steps.specs.declared.replies.Reply.{Reply}
+use Rattle.shared_network.proofs.Words.{ne_eqb, eq-eqb, slice_get, channel_number, ChanNo, LinkNo, Each, Ask, Submit, Release, Reply, next_ask, progress_of, first_count, next_release, Request, Plane, ask_due, next_due, plane_ask, IsUnsent, Move, next_of_move, OwnEntry}
 use Rattle.link_steps.specs.declared.replies.Reply.TheVariants as Is
 use Rattle.link_steps.proofs.SearchAndFilter.{Each-append}
-use Rattle.setup_protocol.specs.Setup.{next_ask, progress_of}
-use Rattle.setup_protocol.specs.Teardown.{first_count, next_release}
-use Rattle.setup_protocol.specs.declared.request.Request.{Request}
 use Rattle.setup_protocol.proofs.HopAsks.{of-hop, of-setup}
-use Rattle.tick_plane.specs.Planes.{Plane, ask_due, next_due, plane_ask}
 use Rattle.tick_plane.specs.declared.flight.Flight.{Flight}
 use Rattle.tick_plane.proofs.PlaneFlights.{asks-due}
-use Rattle.channel_laws.specs.Unsent.{IsUnsent}
-use Rattle.channel_move.specs.Moving.{Move, next_of_move}
 use Rattle.channel_move.proofs.AskByStage.{move-ask-is}
-use Rattle.link_ledger.specs.declared.entries.OwnEntry.{OwnEntry}
 use Rattle.shared_network.specs.Added.{Asked, asked_in}
 use Rattle.shared_network.specs.Calls.{Follows}
 use Rattle.shared_network.specs.Shifts.{NoneSubmitted, Packets, planned_with, planned_after, last_planned, WerePlanned}
@@ -72,13 +57,7 @@ planned-more chan own own' e is = ap (planned_after (channel_number chan) None) 
 -- so one on the channel, after which the packets are its own or those before
 submit-with : (chan : ChanNo) (last : Option Packets) (count gap size : ℕ) (reply : Reply) → ((p : Packets) → last ≡ Some p → (gap ≡ p.gap) × (size ≡ p.size)) → (p : Packets) → planned_with (channel_number chan) last (Submit chan count gap size) reply ≡ Some p → (gap ≡ p.gap) × (size ≡ p.size)
 submit-with chan last count gap size (Is.Planned clock) was p is = (let e : Some (record { gap = gap; size = size }) ≡ Some p = sym (ap (λ b. cond b (Some (record { gap = gap; size = size })) last) (eq-eqb (channel_number chan) (channel_number chan) refl)) ∙ is in (cc (e), cc (e)))
-submit-with chan last count gap size (Is.Offer level reach) was p is = was p is
-submit-with chan last count gap size (Is.Relaxed clock) was p is = was p is
-submit-with chan last count gap size Is.Denied was p is = was p is
-submit-with chan last count gap size (Is.Closing count' cancelled) was p is = was p is
-submit-with chan last count gap size (Is.Taken clock eligible) was p is = was p is
-submit-with chan last count gap size (Is.Ticked clock full sent best_sent best_lost) was p is = was p is
-submit-with chan last count gap size (Is.Refused refusal) was p is = was p is
+submit-with chan last count gap size _ was p is = was p is
 
 pub were-planned : (chan : ChanNo) (count gap size : ℕ) (own own' : List OwnEntry) (e : OwnEntry) → own' ≡ own ++ e ∷ [] → e.ask ≡ Submit chan count gap size → WerePlanned chan gap size own → WerePlanned chan gap size own'
 were-planned chan count gap size own own' e is asked was = λ p same.

@@ -1,36 +1,13 @@
 -- A teardown goes on with each step: the hops that weren't asked yet hold their committed reservations, so each release is
 -- answered.
 use Rattle.std.proofs.Common.{◌≡◌, ◌≢◌, ℕ, ◌-◌, ◌<◌, ◌≤◌, true, List, [], ◌∷◌, ◌++◌, length, map, Option, Some, None, refl, sym, ap, ◌∙◌, subst, arith}
-use Rattle.std.proofs.lemmas.List.{append_assoc, append-nil, map-append, length_push, length-map}
-use Rattle.std.proofs.lemmas.Option.{slice_get_within}
-use Rattle.std.specs.List.{slice_get}
-use Rattle.std.specs.Prelude.{nat_eq, unwrap_or}
-use Rattle.atomic_table.specs.Seated.{TableId}
-use Rattle.net_units.specs.Numbers.{channel_number, link_number}
-use Rattle.net_units.specs.declared.numbers.ActorNo.{ActorNo}
-use Rattle.net_units.specs.declared.numbers.LinkNo.{LinkNo}
-use Rattle.hop_reservation.specs.Routes.{IsRoute, link_of}
-use Rattle.hop_reservation.specs.declared.route.Hop.{Hop}
-use Rattle.link_steps.specs.Lists.{Each}
-use Rattle.link_steps.specs.Replies.{reply_at}
-use Rattle.link_steps.specs.Split.{Link, SplitFits}
-use Rattle.link_steps.specs.declared.asks.Ask.{Ask}
-use Rattle.link_steps.specs.declared.asks.Ask.TheVariants.{Release}
-use Rattle.link_steps.specs.declared.replies.Reply.{Reply}
+use Rattle.shared_network.proofs.Words.{append_assoc, append-nil, map-append, length_push, length-map, slice_get_within, slice_get, nat_eq, unwrap_or, TableId, channel_number, link_number, ActorNo, LinkNo, IsRoute, link_of, Hop, Each, reply_at, Link, SplitFits, Ask, Release, Reply, is_closing, told_count, first_count, next_release, Request, held_by, IsReleased, own_at, OwnsAsk, IsOwner, NextBelow, Token, IsLink, Steps, last_seen, OwnEntry, IsHopOf}
 use Rattle.setup_protocol.specs.Releases.{Releases}
-use Rattle.setup_protocol.specs.Teardown.{is_closing, told_count, first_count, next_release}
-use Rattle.setup_protocol.specs.declared.request.Request.{Request}
 use Rattle.setup_protocol.specs.declared.teardown.Teardown.{Teardown}
-use Rattle.channel_laws.specs.Reservations.{held_by, IsReleased}
 use Rattle.link_steps.proofs.ListParts.{Each-at}
 use Rattle.channel_laws.proofs.SendReplies.{release-committed, of-released}
-use Rattle.link_ledger.specs.Own.{own_at}
-use Rattle.link_ledger.specs.Owners.{OwnsAsk, IsOwner, NextBelow}
-use Rattle.link_ledger.specs.Tokens.{Token, IsLink, Steps, last_seen}
-use Rattle.link_ledger.specs.declared.entries.OwnEntry.{OwnEntry}
 use Rattle.shared_network.specs.Added.{AddsAbove, IsSamePass}
 use Rattle.shared_network.specs.Calls.{Follows, IsCommitted, IsEstablished, TearsDown, reply_in, hold_at}
-use Rattle.setup_protocol.specs.Hops.{IsHopOf}
 use Rattle.shared_network.specs.Holds.{hold_of, IsHeld}
 use Rattle.shared_network.specs.Ready.{MayStep, PassGoesOn}
 use Rattle.shared_network.proofs.CallsInTurn.{goes-none, goes-both, above-none, above-both, above-step}

@@ -1,33 +1,13 @@
 -- What is told after closing. Each mark of a journal was drawn by a pass, and each own entry has its place in what its pass knew,
 -- which begins the journal. Stamps rise and stand once, so entries and own entries go together one by one.
 use Rattle.std.proofs.Common.{◌≡◌, ◌≢◌, ℕ, zero, suc, eqb, ◌-◌, ◌<◌, ◌≤◌, List, [], ◌∷◌, length, map, Some, None, refl, sym, ap, ◌∙◌, subst, inl, inr, ⊎_elim, arith}
-use Rattle.std.proofs.lemmas.Bool.{eq-eqb}
-use Rattle.std.proofs.lemmas.Option.{same_Some, slice_get_within}
-use Rattle.std.specs.List.{slice_get}
+use Rattle.shared_network.proofs.Words.{eq-eqb, same_Some, slice_get_within, slice_get, TableId, actor_number, link_number, ActorNo, IsLegal, Each, reply_to, Link, Has, RisesFrom, StampsRise, NoTwice, drawn_for, known_of, Mark, View, mark_in, done_in, history_entry_of, marks_in, history_in, told_after, journal_of, own_mark, own_drawn, own_entry, own_at, IsAtPlace, Token, Entry, Journal, OwnEntry}
 use mathlib.Core.List.{IsPrefix}
-use Rattle.atomic_table.specs.Seated.{TableId}
-use Rattle.net_units.specs.Numbers.{actor_number, link_number}
-use Rattle.net_units.specs.declared.numbers.ActorNo.{ActorNo}
-use Rattle.link_steps.specs.Legal.{IsLegal}
-use Rattle.link_steps.specs.Lists.{Each}
-use Rattle.link_steps.specs.Replies.{reply_to}
-use Rattle.link_steps.specs.Split.{Link}
 use Rattle.link_steps.specs.declared.replies.Entry.{Entry as Done}
 use Rattle.link_steps.proofs.LegalJournals.{journals-are-histories}
 use Rattle.link_steps.proofs.SearchAndFilter.{Each-if}
-use Rattle.step_stamp.specs.Lists.{Has}
-use Rattle.step_stamp.specs.Marks.{RisesFrom, StampsRise, NoTwice, drawn_for}
-use Rattle.step_stamp.specs.Views.{known_of}
 use Rattle.step_stamp.specs.declared.marks.Drawn.{Drawn}
-use Rattle.step_stamp.specs.declared.marks.Mark.{Mark}
-use Rattle.step_stamp.specs.declared.views.View.{View}
 use Rattle.step_stamp.proofs.ListMembers.{each-has, has-each, has-split, has-kept, has-passed, get-has, has-get}
-use Rattle.link_ledger.specs.Journals.{mark_in, done_in, history_entry_of, marks_in, history_in, told_after, journal_of}
-use Rattle.link_ledger.specs.Own.{own_mark, own_drawn, own_entry, own_at, IsAtPlace}
-use Rattle.link_ledger.specs.Tokens.{Token}
-use Rattle.link_ledger.specs.declared.entries.Entry.{Entry}
-use Rattle.link_ledger.specs.declared.entries.Journal.{Journal}
-use Rattle.link_ledger.specs.declared.entries.OwnEntry.{OwnEntry}
 use Rattle.link_ledger.proofs.JournalGrowth.{journal-told, told-append, past_after}
 use Rattle.link_ledger.proofs.OwnStaysExact.{get-left}
 use Rattle.shared_network.specs.Closing.{number_of, StandsIn, IsOfOne, IsClosed}

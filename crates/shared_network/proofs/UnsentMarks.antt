@@ -1,22 +1,9 @@
 -- Marks in which nothing is submitted on a channel: those of its owner tell it, since nobody else asks for the channel.
 use Rattle.std.proofs.Common.{◌≡◌, ℕ, eqb, true, false, cond, List, [], ◌∷◌, map, refl}
-use Rattle.std.proofs.lemmas.Bool.{eqb-false}
-use Rattle.net_units.specs.Numbers.{actor_number, channel_number}
-use Rattle.net_units.specs.declared.numbers.ActorNo.{ActorNo}
-use Rattle.net_units.specs.declared.numbers.ChanNo.{ChanNo}
-use Rattle.link_steps.specs.Lists.{Each}
-use Rattle.link_steps.specs.declared.asks.Ask.{Ask}
-use Rattle.link_steps.specs.declared.asks.Ask.TheVariants.{Submit}
+use Rattle.shared_network.proofs.Words.{eqb-false, actor_number, channel_number, ActorNo, ChanNo, Each, Ask, Submit, marks_of, Mark, IsOff, IsUnsent, NoneSent, mark_in, done_in, marks_in, history_in, OwnsAsk, IsOwner, Entry}
 use Rattle.link_steps.specs.declared.replies.Entry.{Entry as Done}
 use Rattle.link_steps.proofs.SearchAndFilter.{Each-if, Each-map, Each-mapped}
 use Rattle.link_steps.proofs.ListParts.{Each-reverse}
-use Rattle.step_stamp.specs.Marks.{marks_of}
-use Rattle.step_stamp.specs.declared.marks.Mark.{Mark}
-use Rattle.channel_laws.specs.Asks.{IsOff}
-use Rattle.channel_laws.specs.Unsent.{IsUnsent, NoneSent}
-use Rattle.link_ledger.specs.Journals.{mark_in, done_in, marks_in, history_in}
-use Rattle.link_ledger.specs.Owners.{OwnsAsk, IsOwner}
-use Rattle.link_ledger.specs.declared.entries.Entry.{Entry}
 use Rattle.shared_network.proofs.HoldsByOwner.{off-ask, off-marks}
 
 abbrev pub AreUnsent : ℕ → List Mark → Type 0

@@ -1,39 +1,15 @@
 -- The worked networks meet what their calls require: each request has one hop over one of their links, and each actor owns the
 -- channels that it asks for.
 use Rattle.std.proofs.Common.{◌≡◌, ◌≤◌, ℕ, ◌<◌, Option, Some, None, List, [], ◌∷◌, length, map, refl, sym, ap, ◌∙◌, subst, arith}
-use Rattle.std.proofs.lemmas.Option.{same_Some, slice_get-map}
-use Rattle.std.specs.List.{slice_get}
-use Rattle.std.specs.Option.{option_map}
-use Rattle.std.specs.List.Sorted.{IsPermutation}
-use Rattle.std.proofs.lemmas.List.Sorted.{IsPermutation-reverse}
-use Rattle.atomic_table.specs.Seated.{TableId}
-use Rattle.net_units.specs.Numbers.{actor_number, channel_number}
-use Rattle.net_units.specs.declared.numbers.ActorNo.{ActorNo}
-use Rattle.net_units.specs.declared.numbers.ChanNo.{ChanNo}
-use Rattle.net_units.specs.declared.numbers.LinkNo.{LinkNo}
-use Rattle.hop_reservation.specs.declared.route.Hop.{Hop}
-use Rattle.link_steps.specs.Lists.{Each}
-use Rattle.link_steps.specs.Split.{Link}
-use Rattle.link_steps.specs.declared.asks.Ask.TheVariants.{Submit}
-use Rattle.link_steps.specs.declared.replies.Reply.{Reply}
+use Rattle.shared_network.proofs.Words.{same_Some, slice_get-map, slice_get, option_map, IsPermutation, IsPermutation-reverse, TableId, actor_number, channel_number, ActorNo, ChanNo, LinkNo, Hop, Each, Link, Submit, Reply, Outcome, Request, up_to, AreLinks, ArePasses, seat_actor, plane_start, plane_of, IsOwner, Token, IsLink, stamps_drawn, OwnEntry, IsHopOf}
 use Rattle.link_steps.proofs.SearchAndFilter.{Each-if}
-use Rattle.setup_protocol.specs.Setup.{Outcome}
-use Rattle.setup_protocol.specs.declared.request.Request.{Request}
-use Rattle.step_stamp.specs.Lists.{up_to}
-use Rattle.step_stamp.specs.Opening.{AreLinks, ArePasses}
-use Rattle.step_stamp.specs.Seats.{seat_actor}
 use Rattle.step_stamp.specs.declared.seats.LinkSeat.{LinkSeat}
 use Rattle.step_stamp.specs.declared.seats.PassSeat.{PassSeat}
 use Rattle.tick_plane.specs.PlaneAccount.{PlaneAccount}
-use Rattle.tick_plane.specs.Planes.{plane_start, plane_of}
-use Rattle.link_ledger.specs.Owners.{IsOwner}
-use Rattle.link_ledger.specs.Tokens.{Token, IsLink, stamps_drawn}
-use Rattle.link_ledger.specs.declared.entries.OwnEntry.{OwnEntry}
 use Rattle.shared_network.specs.Added.{Adds}
 use Rattle.shared_network.specs.Calls.{HasNone, Follows, IsEstablished, SetsUp}
 use Rattle.shared_network.specs.Shifts.{NoneSubmitted, WerePlanned}
 use Rattle.shared_network.proofs.SubmitsOfCalls.{unsent-stays, none-planned, setup-unsent, one-unsent, one-planned}
-use Rattle.setup_protocol.specs.Hops.{IsHopOf}
 use Rattle.shared_network.specs.Gathering.{AreAll}
 use Rattle.shared_network.proofs.ActorOrder.{actors-in_order}
 use Rattle.shared_network.specs.Planes.{IsPlanes}

@@ -1,7 +1,5 @@
 use Rattle.std.proofs.Common.{◌≡◌, ℕ, List, [], ◌∷◌, ◌++◌, length, sym, ap, ◌∙◌, arith}
-use Rattle.std.proofs.lemmas.List.{append_assoc, length-append}
-use Rattle.std.specs.Vec.Iter.{into_iter_items}
-use Rattle.link_ledger.specs.Tokens.{Token}
+use Rattle.shared_network.proofs.Words.{append_assoc, length-append, into_iter_items, Token}
 use Rattle.shared_network.specs.Ready.{MayStep}
 use Rattle.shared_network.proofs.SeatsJoined.{gathered-first, gathered-next, given-none, given-more, after}
 use Rattle.shared_network.proofs.closing.gather.Goals as goal

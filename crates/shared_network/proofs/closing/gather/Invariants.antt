@@ -1,7 +1,5 @@
 use Rattle.std.proofs.Common.{◌≡◌, ◌≤◌, ◌+◌, ◌++◌, List, length, vec_capacity}
-use Rattle.std.specs.Vec.Iter.{into_iter_items}
-use Rattle.step_stamp.specs.Seats.{pass_table, pass_view}
-use Rattle.link_ledger.specs.Tokens.{Token}
+use Rattle.shared_network.proofs.Words.{into_iter_items, pass_table, pass_view, Token}
 use Rattle.shared_network.specs.Closing.{HaveGivenUp}
 use Rattle.shared_network.specs.Gathering.{AreGathered}
 use Rattle.shared_network.proofs.closing.gather.Given as goal

@@ -1,9 +1,5 @@
 use Rattle.std.proofs.Common.{◌<◌, length, sym, ap, ◌∙◌, subst, rules}
-use Rattle.std.specs.Prelude.{◌≡◌, List}
-use Rattle.std.proofs.lemmas.List.Sorted.{IsNonDecreasingBy-from_sort_by_key, length_permutation}
-use Rattle.link_steps.specs.Lists.{Each}
-use Rattle.step_stamp.specs.Lists.{up_to}
-use Rattle.link_ledger.specs.declared.entries.Journal.{Journal}
+use Rattle.shared_network.proofs.Words.{◌≡◌, List, IsNonDecreasingBy-from_sort_by_key, length_permutation, Each, up_to, Journal}
 use Rattle.shared_network.specs.Closing.{number_of}
 use Rattle.shared_network.specs.Gathering.{IsBelow}
 use Rattle.shared_network.proofs.NumberOrder.{ordered-numbers}

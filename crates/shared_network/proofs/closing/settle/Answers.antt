@@ -1,10 +1,5 @@
 use Rattle.std.proofs.Common.{◌≡◌, List, ◌++◌, length, take, drop, sym, ap, ◌∙◌, subst, arith}
-use Rattle.std.proofs.lemmas.List.{append-nil, drop_all, take_all}
-use Rattle.std.proofs.lemmas.List.Sorted.{length_permutation}
-use Rattle.link_steps.specs.Lists.{Each}
-use Rattle.step_stamp.specs.Lists.{up_to}
-use Rattle.step_stamp.specs.Seats.{pass_view}
-use Rattle.link_ledger.specs.declared.entries.Journal.{Journal}
+use Rattle.shared_network.proofs.Words.{append-nil, drop_all, take_all, length_permutation, Each, up_to, pass_view, Journal}
 use Rattle.shared_network.specs.Gathering.{IsBelow, IsSettled, AreSettled}
 use Rattle.shared_network.proofs.PermutedLists.{each-permuted}
 use Rattle.shared_network.proofs.closing.settle.Goals as goal

@@ -1,14 +1,7 @@
 use Rattle.std.proofs.Common.{◌≡◌, ◌+◌, ◌<◌, ℕ, List, [], ◌∷◌, ◌++◌, length, map, sym, ap, ◌∙◌, subst, ⊎_elim, arith}
-use Rattle.std.proofs.lemmas.List.{length-append, map-append}
-use Rattle.std.proofs.lemmas.Option.{slice_get_within}
-use Rattle.net_units.specs.Numbers.{link_number}
-use Rattle.link_steps.specs.Lists.{Each}
+use Rattle.shared_network.proofs.Words.{length-append, map-append, slice_get_within, link_number, Each, Has, Differ, pass_view, link_view, seat_link, View, Journal}
 use Rattle.link_steps.proofs.SearchAndFilter.{Each-append}
-use Rattle.step_stamp.specs.Lists.{Has, Differ}
-use Rattle.step_stamp.specs.Seats.{pass_view, link_view, seat_link}
-use Rattle.step_stamp.specs.declared.views.View.{View}
 use Rattle.step_stamp.proofs.ListMembers.{has-left, has-right, has-split, differ-both}
-use Rattle.link_ledger.specs.declared.entries.Journal.{Journal}
 use Rattle.shared_network.specs.Closing.{number_of}
 use Rattle.shared_network.specs.Gathering.{IsBelow, IsSettled}
 use Rattle.shared_network.proofs.SeatsJoined.{settled-next}

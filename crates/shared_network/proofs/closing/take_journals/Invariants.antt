@@ -1,8 +1,5 @@
 use Rattle.std.proofs.Common.{◌≡◌, ℕ, ◌≤◌, ◌+◌, length, map, vec_capacity}
-use Rattle.std.specs.Vec.Iter.{into_iter_items}
-use Rattle.link_steps.specs.Lists.{Each}
-use Rattle.step_stamp.specs.Lists.{Has, Differ}
-use Rattle.step_stamp.specs.Seats.{pass_table, pass_view}
+use Rattle.shared_network.proofs.Words.{into_iter_items, Each, Has, Differ, pass_table, pass_view}
 use Rattle.shared_network.specs.Closing.{number_of}
 use Rattle.shared_network.specs.Gathering.{IsBelow, IsSettled}
 use Rattle.shared_network.proofs.SeatsJoined.{StaysGathered}

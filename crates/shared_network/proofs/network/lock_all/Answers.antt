@@ -1,11 +1,5 @@
 use Rattle.std.proofs.Common.{◌≡◌, ℕ, List, [], ◌∷◌, ◌++◌, length, map, rules, sym, ap, ◌∙◌, subst, arith}
-use Rattle.std.proofs.lemmas.List.{map-append}
-use Rattle.std.proofs.lemmas.List.Elements.{same_from_all_zip}
-use Rattle.std.specs.Vec.Iter.{into_iter_items}
-use Rattle.net_units.specs.Numbers.{link_number}
-use Rattle.link_steps.specs.Lists.{Each}
-use Rattle.link_steps.specs.Split.{Link}
-use Rattle.step_stamp.specs.Seats.{seat_link}
+use Rattle.shared_network.proofs.Words.{map-append, same_from_all_zip, into_iter_items, link_number, Each, Link, seat_link}
 use Rattle.shared_network.specs.Sight.{IsUnusedLink}
 use Rattle.shared_network.proofs.NumbersFromZero.{none-left}
 use Rattle.shared_network.proofs.NetworkOpened.{Locking, locking-start, locking-left, locking-link, locking-next, locking-end}

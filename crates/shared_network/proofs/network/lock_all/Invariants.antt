@@ -1,8 +1,5 @@
 use Rattle.std.proofs.Common.{[], map}
-use Rattle.std.specs.Vec.Iter.{into_iter_items}
-use Rattle.net_units.specs.Numbers.{link_number}
-use Rattle.link_steps.specs.Lists.{Each}
-use Rattle.step_stamp.specs.Seats.{seat_link}
+use Rattle.shared_network.proofs.Words.{into_iter_items, link_number, Each, seat_link}
 use Rattle.shared_network.specs.Sight.{IsUnusedLink}
 use Rattle.shared_network.proofs.NetworkOpened.{Locking}
 use Rattle.shared_network.proofs.network.lock_all.Given as goal

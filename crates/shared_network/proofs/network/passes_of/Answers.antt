@@ -1,11 +1,6 @@
 use Rattle.std.proofs.Common.{ℕ, List, [], ◌∷◌, ◌++◌, length, map, sym, ap, ◌∙◌, subst}
-use Rattle.std.proofs.lemmas.List.{map-append, append_assoc}
-use Rattle.std.specs.Vec.Iter.{into_iter_items}
-use Rattle.net_units.specs.Numbers.{actor_number}
-use Rattle.link_steps.specs.Lists.{Each}
+use Rattle.shared_network.proofs.Words.{map-append, append_assoc, into_iter_items, actor_number, Each, IsNewPass, seat_actor}
 use Rattle.link_steps.proofs.SearchAndFilter.{Each-append}
-use Rattle.step_stamp.specs.Opening.{IsNewPass}
-use Rattle.step_stamp.specs.Seats.{seat_actor}
 use Rattle.shared_network.specs.Ready.{IsNew}
 use Rattle.shared_network.proofs.NetworkOpened.{pass-new}
 use Rattle.shared_network.proofs.network.passes_of.Goals as goal

@@ -1,10 +1,5 @@
 use Rattle.std.proofs.Common.{◌≡◌, ◌++◌, length, map}
-use Rattle.std.specs.Vec.Iter.{into_iter_items}
-use Rattle.net_units.specs.Numbers.{actor_number}
-use Rattle.link_steps.specs.Lists.{Each}
-use Rattle.step_stamp.specs.Lists.{up_to}
-use Rattle.step_stamp.specs.Opening.{IsNewPass}
-use Rattle.step_stamp.specs.Seats.{seat_actor}
+use Rattle.shared_network.proofs.Words.{into_iter_items, actor_number, Each, up_to, IsNewPass, seat_actor}
 use Rattle.shared_network.specs.Ready.{IsNew}
 use Rattle.shared_network.proofs.network.passes_of.Given as goal
 

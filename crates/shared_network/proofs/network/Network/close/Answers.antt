@@ -1,7 +1,5 @@
 use Rattle.std.proofs.Common.{length, map, sym, subst, arith}
-use Rattle.net_units.specs.Numbers.{link_number}
-use Rattle.step_stamp.specs.Lists.{Has}
-use Rattle.step_stamp.specs.Seats.{pass_view}
+use Rattle.shared_network.proofs.Words.{link_number, Has, pass_view}
 use Rattle.shared_network.specs.Closing.{IsClosed}
 use Rattle.shared_network.proofs.ToldAtClosing.{closed-told}
 use Rattle.shared_network.specs.Gathering.{token_actor}

@@ -1,6 +1,5 @@
 use Rattle.std.proofs.Common.{[], ◌∷◌, sym, subst}
-use Rattle.net_units.specs.Numbers.{channel_number}
-use Rattle.channel_laws.specs.Asks.{IsOff}
+use Rattle.shared_network.proofs.Words.{channel_number, IsOff}
 use Rattle.shared_network.proofs.SetupUnderWay.{ok-no-err, on-ok}
 use Rattle.shared_network.proofs.OtherChannels.{established-stays}
 use Rattle.shared_network.proofs.CallsInTurn.{above-step}

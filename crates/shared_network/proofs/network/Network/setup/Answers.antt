@@ -1,6 +1,5 @@
 use Rattle.std.proofs.Common.{map, sym, ap, ◌∙◌, arith}
-use Rattle.setup_protocol.specs.Setup.{next_ask}
-use Rattle.setup_protocol.specs.declared.request.Request.{Request}
+use Rattle.shared_network.proofs.Words.{next_ask, Request}
 use Rattle.shared_network.specs.Calls.{reply_in}
 use Rattle.shared_network.proofs.SetupUnderWay.{setting-first, to-below, fits-there, owned-there, next-there, expected-there, left-less, setting-next, setup-established, drew-some, ok-no-err, on-ok}
 use Rattle.shared_network.proofs.OtherChannels.{setup-others}

@@ -1,5 +1,5 @@
 use Rattle.std.proofs.Common.{map, sym, ap, ◌∙◌, refl}
-use Rattle.channel_move.specs.Moving.{Move, next_of_move}
+use Rattle.shared_network.proofs.Words.{Move, next_of_move}
 use Rattle.channel_move.specs.Standing.{move_of}
 use Rattle.shared_network.specs.Calls.{reply_in}
 use Rattle.shared_network.proofs.SetupUnderWay.{ok-no-err, on-ok}

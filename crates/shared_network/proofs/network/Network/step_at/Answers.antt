@@ -1,10 +1,7 @@
 use Rattle.std.proofs.Common.{◌≡◌, length, sym, ◌∙◌, subst, arith}
-use Rattle.std.proofs.lemmas.Option.{slice_get_read}
+use Rattle.shared_network.proofs.Words.{slice_get_read, link_number, known_of, Steps}
 use Rattle.std.proofs.lemmas.Result.{IfOk-weaker}
-use Rattle.net_units.specs.Numbers.{link_number}
-use Rattle.step_stamp.specs.Views.{known_of}
 use Rattle.link_ledger.specs.Order.{AreInOrder}
-use Rattle.link_ledger.specs.Tokens.{Steps}
 use Rattle.shared_network.specs.Ready.{PassGoesOn}
 use Rattle.shared_network.specs.Sight.{FitsAt}
 use Rattle.shared_network.proofs.LinkNumbers.{numbered-length, numbered-at, fits-shape, both-ok, ok-then}

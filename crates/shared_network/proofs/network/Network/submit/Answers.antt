@@ -1,7 +1,6 @@
 use Rattle.std.proofs.Common.{[], ◌∷◌, sym, subst}
+use Rattle.shared_network.proofs.Words.{channel_number, IsOff}
 use Rattle.std.proofs.lemmas.Result.{IfOk-weaker}
-use Rattle.net_units.specs.Numbers.{channel_number}
-use Rattle.channel_laws.specs.Asks.{IsOff}
 use Rattle.shared_network.proofs.ContractKept.{keeps-contract, ok-where}
 use Rattle.shared_network.proofs.LinkNumbers.{ok-then}
 use Rattle.shared_network.proofs.OtherChannels.{sent-established, unopened-stays}

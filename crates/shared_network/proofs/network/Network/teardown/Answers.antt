@@ -1,7 +1,6 @@
 use Rattle.std.proofs.Common.{map, sym, ap, ◌∙◌, arith}
-use Rattle.std.specs.Prelude.{Some}
+use Rattle.shared_network.proofs.Words.{Some, next_release}
 use Rattle.std.specs.Option.{unwrap_or}
-use Rattle.setup_protocol.specs.Teardown.{next_release}
 use Rattle.shared_network.specs.Calls.{reply_in}
 use Rattle.shared_network.proofs.SetupUnderWay.{drew-some, ok-no-err, on-ok}
 use Rattle.shared_network.proofs.OtherChannels.{teardown-others}
