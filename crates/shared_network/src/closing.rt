@@ -6,93 +6,19 @@ ghost use Rattle.step_stamp.specs.Seats.{stamps_table, pass_table, pass_view};
 ghost use Rattle.shared_network.specs.Closing.{IsClosed, HaveGivenUp, number_of};
 ghost use Rattle.shared_network.specs.Gathering.{AreAll, AreGathered, IsBelow, IsSettled, AreSettled};
 
+use crate::listed::Listed;
 use crate::network::Network;
 use link_ledger::{Home, Journal, LockedLink, Pass};
 use link_steps::LinkStep;
 use net_units::OutOfMemory;
 use std::alloc::Global;
-use std::marker::Model;
 use step_stamp::{PassSeat, Stamps};
 
 /// Journals in their order.
-///
-/// A contract sees the list of them.
-#[derive(Drop)]
-pub struct Journals {
-    journals: Vec<Journal>,
-}
-
-impl Model for Journals {
-    ghost use Rattle.std.specs.Prelude.{List};
-    ghost use Rattle.link_ledger.specs.declared.entries.Journal.{Journal};
-
-    ghost Value = { List Journal };
-
-    ghost view = { λ j. j.journals.items };
-}
-
-impl Journals {
-    /// These journals.
-    pub fn new(items: Vec<Journal>) -> Journals
-        ensures { result ≡ items.items }
-    {
-        Journals { journals: items }
-    }
-
-    /// The journals.
-    pub fn as_slice(&self) -> &[Journal]
-        ensures { result.now ≡ self.now }
-    {
-        self.journals.as_slice()
-    }
-
-    /// The journals, without taking memory.
-    pub fn into_vec(self) -> Vec<Journal>
-        ensures { result.items ≡ self }
-    {
-        self.journals
-    }
-}
+pub type Journals = Listed<Journal>;
 
 /// Passes in their order.
-///
-/// A contract sees the list of them.
-#[derive(Drop)]
-pub struct Passes {
-    passes: Vec<Pass>,
-}
-
-impl Model for Passes {
-    ghost use Rattle.std.specs.Prelude.{List};
-    ghost use Rattle.link_ledger.specs.Tokens.{Token};
-
-    ghost Value = { List Token };
-
-    ghost view = { λ p. p.passes.items };
-}
-
-impl Passes {
-    /// These passes.
-    pub fn new(items: Vec<Pass>) -> Passes
-        ensures { result ≡ items.items }
-    {
-        Passes { passes: items }
-    }
-
-    /// The passes.
-    pub fn as_slice(&self) -> &[Pass]
-        ensures { result.now ≡ self.now }
-    {
-        self.passes.as_slice()
-    }
-
-    /// The passes, without taking memory.
-    pub fn into_vec(self) -> Vec<Pass>
-        ensures { result.items ≡ self }
-    {
-        self.passes
-    }
-}
+pub type Passes = Listed<Pass>;
 
 /// What is left of a network: the journals of its links, in their order, and the passes, each with its own entries and
 /// without its seat.
