@@ -1,20 +1,15 @@
 -- What a core keeps: it stands for the run that it has recorded, and its steps come to an end.
 use Rattle.std.proofs.Common.{◌≡◌, ◌<◌, IsSome, List, [], ◌∷◌, sym, subst}
-use Rattle.net_units.specs.Numbers.{actor_number}
-use Rattle.net_units.specs.declared.numbers.ActorNo.{ActorNo}
+use Rattle.run_engine.proofs.Words.{actor_number, ActorNo, PlanParts, Network, network_of, next_for, step, run_from, Done}
 use Rattle.call_script.proofs.PlansFit.{plan-fits}
-use Rattle.call_script.specs.Parts.{PlanParts}
-use Rattle.call_script.specs.Tasks.{Network, network_of}
 use Rattle.interleave_core.proofs.Channels.GuaranteeLaw.{plan-guaranteed}
 use Rattle.interleave_core.specs.Cores.{CoreStands, run_in}
 use Rattle.interleave_core.specs.channels.Laws.{IsGuaranteedRun}
 use Rattle.interleave_core.specs.declared.stepping.Core.{Core}
 use Rattle.run_engine.proofs.Tasks.StepsRunOut.{makes-one}
-use Rattle.run_engine.specs.runs.Runs.{next_for, step, run_from}
 use Rattle.run_engine.specs.runs.Turns.{most_left}
 use Rattle.run_engine.specs.schedules.Schedules.{HaveSteps, FollowsTurns}
 use Rattle.run_engine.specs.schedules.Standing.{EngineStands}
-use Rattle.run_record.specs.declared.done.Done.{Done}
 
 -- a core stands where its engine stands for the run that it has recorded
 pub stands-by : (parts : PlanParts) (core : Core) (run : List Done) → run_in core ≡ run → EngineStands parts core.engine run → CoreStands parts core

@@ -1,29 +1,10 @@
 -- In every run a channel of which a packet was taken is accepted.
 use Rattle.std.proofs.Common.{◌≡◌, ℕ, zero, suc, ◌≤◌, Bool, true, false, List, [], ◌∷◌, ◌++◌, Option, Some, None, refl, sym, ap, ◌∙◌, subst, inl, inr, arith}
-use Rattle.std.proofs.lemmas.Bool.{cases_lt}
-use Rattle.std.proofs.lemmas.Option.{same_Some}
-use Rattle.net_units.specs.Numbers.{channel_number}
-use Rattle.net_units.specs.declared.numbers.LinkNo.{LinkNo}
-use Rattle.link_steps.specs.declared.asks.Ask.{Ask}
+use Rattle.run_engine.proofs.Words.{cases_lt, same_Some, channel_number, LinkNo, Ask, Reply, Each, Reservation, scan_of, RequestFits, Progress, Reserving, Undoing, Relaxing, Settled, Accepts, Denies, Outcome, asked, progress_of, undoing, relaxing, Request, NetworkFits, OwnedFully, Learnt, Standing, task_ask, continued, resumed, standing, outcome_in, Network, Task, part_of, replies_to, Done, IsNext, IsRun}
 use Rattle.link_steps.specs.declared.replies.Phase.TheVariants as Ph
-use Rattle.link_steps.specs.declared.replies.Reply.{Reply}
-use Rattle.link_steps.specs.Lists.{Each}
-use Rattle.link_steps.specs.Reservation.{Reservation}
-use Rattle.link_steps.specs.Scan.{scan_of}
-use Rattle.setup_protocol.specs.Hops.{RequestFits}
-use Rattle.setup_protocol.specs.Setup.{Progress, Reserving, Undoing, Relaxing, Settled, Accepts, Denies, Outcome, asked, progress_of, undoing, relaxing}
-use Rattle.setup_protocol.specs.declared.request.Request.{Request}
 use Rattle.setup_protocol.proofs.HopHolds.{IsTail, HopStands, reserved_of, View, OnWay, Back, Forth, view}
-use Rattle.call_script.specs.Fits.{NetworkFits}
-use Rattle.call_script.specs.Owners.{OwnedFully}
-use Rattle.call_script.specs.Scripts.{Learnt, Standing, task_ask, continued, resumed, standing, outcome_in}
-use Rattle.call_script.specs.Tasks.{Network}
-use Rattle.call_script.specs.declared.tasks.Task.{Task}
-use Rattle.run_record.specs.Runs.{part_of, replies_to}
-use Rattle.run_record.specs.declared.done.Done.{Done}
 use Rattle.interleave_core.specs.channels.Guarantee.{IsAccepted, AcceptedIn}
 use Rattle.run_engine.specs.channels.Paths.{HopAt, count_at}
-use Rattle.run_engine.specs.runs.Runs.{IsNext, IsRun}
 use Rattle.interleave_core.proofs.Channels.ChainLaw.{open-or-not}
 use Rattle.interleave_core.proofs.Channels.FarHolds.{first-same}
 use Rattle.run_engine.proofs.Channels.RowsFollow.{held_at_hop}
@@ -33,15 +14,16 @@ use Rattle.run_engine.proofs.Runs.EachRun.{each-resumed, entry-kept}
 use Rattle.run_engine.proofs.Tasks.EachSetup.{Before, Under, After, other-outcome}
 use Rattle.run_engine.proofs.Tasks.TaskAsks.{IsNoOpeningOf, ready-other}
 
--- ---- once accepted it stays so
+module _ (request : Request) (outcomes : List Learnt) (task : Task) (tasks : List Task) (replies : List Reply) where
+  -- ---- once accepted it stays so
 
-continued-kept : (request : Request) (outcomes : List Learnt) (task : Task) (tasks : List Task) (replies : List Reply) (next : Option (LinkNo × Ask)) → IsNoOpeningOf (channel_number request.chan) task → outcome_in request.chan (continued outcomes task tasks replies next).outcomes ≡ outcome_in request.chan outcomes
-continued-kept request outcomes task tasks replies (Some to) other = refl
-continued-kept request outcomes task tasks replies None other = other-outcome request task replies outcomes other
+  continued-kept : (next : Option (LinkNo × Ask)) → IsNoOpeningOf (channel_number request.chan) task → outcome_in request.chan (continued outcomes task tasks replies next).outcomes ≡ outcome_in request.chan outcomes
+  continued-kept (Some to) other = refl
+  continued-kept None other = other-outcome request task replies outcomes other
 
-resumed-kept : (request : Request) (outcomes : List Learnt) (task : Task) (tasks : List Task) (replies : List Reply) → IsNoOpeningOf (channel_number request.chan) task → outcome_in request.chan (resumed outcomes (task ∷ tasks) replies).outcomes ≡ outcome_in request.chan outcomes
-unfolding resumed
-resumed-kept request outcomes task tasks replies other = continued-kept request outcomes task tasks replies (task_ask task replies) other
+  resumed-kept : IsNoOpeningOf (channel_number request.chan) task → outcome_in request.chan (resumed outcomes (task ∷ tasks) replies).outcomes ≡ outcome_in request.chan outcomes
+  unfolding resumed
+  resumed-kept other = continued-kept (task_ask task replies) other
 
 goes-others : (network : Network) (request : Request) (run : List Done) (tasks : List Task) (replies : List Reply) (outcomes : List Learnt) (outcome : Outcome) → GoesAt network request run tasks replies outcomes → outcome_in request.chan outcomes ≡ Some outcome → Each (IsNoOpeningOf (channel_number request.chan)) tasks
 goes-others network request run tasks replies outcomes outcome (Before opened begun quiet none) accepted = absurd (let clash : None ≡ Some outcome = sym quiet ∙ accepted in cc)
@@ -77,11 +59,9 @@ stands-done request offers p held terms stands is phase =
       | inr from ↦ by-progress p from (stands.tail (omega (arith, from)))
     ] where
       by-progress : (q : Progress) → reserved_of offers q ≤ 0 → IsTail None Some request q 0 held → IsDone q
-      by-progress (Reserving os reach) from none = (let clash : None ≡ Some terms = sym none ∙ is in cc)
-      by-progress (Undoing left deny) from none = (let clash : None ≡ Some terms = sym none ∙ is in cc)
       by-progress (Relaxing left levels) from comm = from
       by-progress (Settled (Accepts levels delay)) from comm = tt
-      by-progress (Settled (Denies deny)) from none = (let clash : None ≡ Some terms = sym none ∙ is in cc)
+      by-progress _ from none = (let clash : None ≡ Some terms = sym none ∙ is in cc)
 
 record Settles' (request : Request) (replies : List Reply) : Type 0 where
   levels : List ℕ
@@ -100,37 +80,38 @@ settles-done request replies (Back left deny upto is) done = absurd (undone left
   undone (suc n) none = none
 settles-done request replies (Forth left upto whole none is) done = relaxed-settles request replies _ left is (subst IsDone is done)
 
--- so a request whose first hop is committed is accepted
-pub committed-accepted : (network : Network) (request : Request) (owner : ℕ) (first : HopAt network request 0) (run : List Done) → NetworkFits network → RequestFits network.links request → OwnedFully network request owner → IsRun network run → (terms : Reservation) → held_at_hop network request 0 first run ≡ Some terms → terms.phase ≡ Ph.Committed → AcceptedIn network request owner run
-committed-accepted network request owner first run fits sound full is terms held phase tasks found = by ((run-goes network request owner run fits sound (owned-once network request owner full) is).at tasks found) where
-  at : Standing
-  at = standing tasks (replies_to owner run)
+module _ (network : Network) (request : Request) (owner : ℕ) (first : HopAt network request 0) where
+  -- so a request whose first hop is committed is accepted
+  pub committed-accepted : (run : List Done) → NetworkFits network → RequestFits network.links request → OwnedFully network request owner → IsRun network run → (terms : Reservation) → held_at_hop network request 0 first run ≡ Some terms → terms.phase ≡ Ph.Committed → AcceptedIn network request owner run
+  committed-accepted run fits sound full is terms held phase tasks found = by ((run-goes network request owner run fits sound (owned-once network request owner full) is).at tasks found) where
+    at : Standing
+    at = standing tasks (replies_to owner run)
 
-  none-held : held_at_hop network request 0 first run ≡ None → ⊥
-  none-held none = (let clash : None ≡ Some terms = sym none ∙ held in cc)
+    none-held : held_at_hop network request 0 first run ≡ None → ⊥
+    none-held none = (let clash : None ≡ Some terms = sym none ∙ held in cc)
 
-  by-after : (after : IsAfter network request run (outcome_in request.chan at.outcomes)) → (accepted : Bool) → after.accepted ≡ accepted → IsAccepted request at
-  by-after after true ok = (let told = after.recorded.is ok in record { levels = after.levels; delay = told.0; is = told.1 })
-  by-after after false denied = absurd (none-held (after.denied denied 0 first))
+    by-after : (after : IsAfter network request run (outcome_in request.chan at.outcomes)) → (accepted : Bool) → after.accepted ≡ accepted → IsAccepted request at
+    by-after after true ok = (let told = after.recorded.is ok in record { levels = after.levels; delay = told.0; is = told.1 })
+    by-after after false denied = absurd (none-held (after.denied denied 0 first))
 
-  by : GoesAt network request run at.tasks at.replies at.outcomes → IsAccepted request at
-  by (Before opened begun quiet none) = absurd (none-held (none 0 first))
-  by (Under rest same others quiet to more rows) =
-      (let settles = settles-done request at.replies (view request at.replies) (stands-done request _ _ (held_at_hop network request 0 first run) terms (rows.hops 0 first) held phase) in
-      absurd (let clash : None ≡ Some to = sym (ap (asked request) settles.is) ∙ more in cc))
-  by (After others after) = by-after after after.accepted refl
+    by : GoesAt network request run at.tasks at.replies at.outcomes → IsAccepted request at
+    by (Before opened begun quiet none) = absurd (none-held (none 0 first))
+    by (Under rest same others quiet to more rows) =
+        (let settles = settles-done request at.replies (view request at.replies) (stands-done request _ _ (held_at_hop network request 0 first run) terms (rows.hops 0 first) held phase) in
+        absurd (let clash : None ≡ Some to = sym (ap (asked request) settles.is) ∙ more in cc))
+    by (After others after) = by-after after after.accepted refl
 
-taken-next : (network : Network) (request : Request) (owner : ℕ) (first : HopAt network request 0) (done : Done) (past : List Done) → NetworkFits network → RequestFits network.links request → OwnedFully network request owner → IsRun network past → (next : IsNext network past done) → (1 ≤ count_at network request 0 first past → AcceptedIn network request owner past) → 1 ≤ count_at network request 0 first (done ∷ past) → AcceptedIn network request owner (done ∷ past)
-taken-next network request owner first done past fits sound full run next was some =
-    let asked' = owned-asked network request owner fits sound (owned-once network request owner full) in
-    elim (open-or-not (held_at_hop network request 0 first past)) [
-      | inl opened ↦ accepted-later network request owner done past fits sound full run next (committed-accepted network request owner first past fits sound full run opened.0 opened.1 opened.2)
-      | inr quiet ↦ (let same = first-same network request first done past fits (asked' past run) run next (λ tick. quiet) in accepted-later network request owner done past fits sound full run next (was (omega (arith, same, some))))
-    ]
+  taken-next : (done : Done) (past : List Done) → NetworkFits network → RequestFits network.links request → OwnedFully network request owner → IsRun network past → (next : IsNext network past done) → (1 ≤ count_at network request 0 first past → AcceptedIn network request owner past) → 1 ≤ count_at network request 0 first (done ∷ past) → AcceptedIn network request owner (done ∷ past)
+  taken-next done past fits sound full run next was some =
+      let asked' = owned-asked network request owner fits sound (owned-once network request owner full) in
+      elim (open-or-not (held_at_hop network request 0 first past)) [
+        | inl opened ↦ accepted-later network request owner done past fits sound full run next (committed-accepted past fits sound full run opened.0 opened.1 opened.2)
+        | inr quiet ↦ (let same = first-same network request first done past fits (asked' past run) run next (λ tick. quiet) in accepted-later network request owner done past fits sound full run next (was (omega (arith, same, some))))
+      ]
 
--- a channel of which a packet was taken is accepted
-pub taken-accepted : (network : Network) (request : Request) (owner : ℕ) (first : HopAt network request 0) (run : List Done) → NetworkFits network → RequestFits network.links request → OwnedFully network request owner → IsRun network run → 1 ≤ count_at network request 0 first run → AcceptedIn network request owner run
-unfolding IsRun part_of scan_of
-taken-accepted network request owner first [] fits sound full is some = absurd (omega (arith, some))
-taken-accepted network request owner first (done ∷ past) fits sound full is some =
-    taken-next network request owner first done past fits sound full is.0 is.1 (λ before. taken-accepted network request owner first past fits sound full is.0 before) some
+  -- a channel of which a packet was taken is accepted
+  pub taken-accepted : (run : List Done) → NetworkFits network → RequestFits network.links request → OwnedFully network request owner → IsRun network run → 1 ≤ count_at network request 0 first run → AcceptedIn network request owner run
+  unfolding IsRun part_of scan_of
+  taken-accepted [] fits sound full is some = absurd (omega (arith, some))
+  taken-accepted (done ∷ past) fits sound full is some =
+      taken-next done past fits sound full is.0 is.1 (λ before. taken-accepted past fits sound full is.0 before) some

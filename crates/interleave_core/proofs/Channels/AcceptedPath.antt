@@ -1,21 +1,8 @@
 -- The delays of every accepted channel, over every run.
 use Rattle.std.proofs.Common.{◌≡◌, ℕ, List, Some, arith}
-use Rattle.std.proofs.lemmas.List.{length-map}
-use Rattle.std.specs.List.{slice_get}
-use Rattle.setup_protocol.specs.Hops.{RequestFits}
-use Rattle.setup_protocol.specs.Setup.{Accepts}
-use Rattle.setup_protocol.specs.declared.request.Request.{Request}
-use Rattle.run_record.specs.declared.done.Done.{Done}
-use Rattle.channel_laws.specs.Channels.{tick_of_packet}
-use Rattle.call_script.specs.Fits.{NetworkFits}
-use Rattle.call_script.specs.declared.tasks.Task.{Task}
-use Rattle.call_script.specs.Tasks.{Network}
-use Rattle.run_record.specs.Runs.{replies_to}
-use Rattle.run_engine.specs.runs.Runs.{IsRun}
-use Rattle.call_script.specs.Scripts.{standing, outcome_in}
+use Rattle.run_engine.proofs.Words.{length-map, slice_get, RequestFits, Accepts, Request, Done, tick_of_packet, NetworkFits, Task, Network, replies_to, IsRun, standing, outcome_in, OwnedFully}
 use Rattle.interleave_core.proofs.Delays.PathLaw.{path-law}
 use Rattle.interleave_core.proofs.Delays.PathDelays.{path-exact, passed}
-use Rattle.call_script.specs.Owners.{OwnedFully}
 use Rattle.run_engine.proofs.Replies.RunCloses.{owned-once}
 use Rattle.run_engine.proofs.Replies.RunGoes.{owned-asked, accepted-levels}
 use Rattle.run_engine.specs.channels.Paths.{packets_at, PathKept}

@@ -1,47 +1,20 @@
 -- The fates of a channel's reservations in every run, by one induction with what its teardown was told.
 use Rattle.std.proofs.Common.{◌≡◌, ◌≢◌, ℕ, zero, suc, ◌≤◌, ◌⊎◌, true, List, [], ◌∷◌, ◌++◌, length, Option, Some, None, refl, sym, ap, ◌∙◌, subst, inl, inr, arith}
-use Rattle.std.proofs.lemmas.Bool.{cases_lt}
-use Rattle.std.proofs.lemmas.Option.{same_Some}
-use Rattle.std.specs.List.{slice_get}
-use Rattle.std.specs.Prelude.{find}
-use Rattle.net_units.specs.Numbers.{link_number, channel_number}
-use Rattle.hop_reservation.specs.Routes.{link_of}
-use Rattle.link_steps.specs.declared.asks.Ask.{Ask}
-use Rattle.link_steps.specs.declared.asks.Ask.TheVariants.{Release, Tick}
-use Rattle.link_steps.specs.declared.replies.Phase.{Phase}
+use Rattle.run_engine.proofs.Words.{cases_lt, same_Some, slice_get, find, link_number, channel_number, link_of, Ask, Release, Tick, Phase, Reply, count_at_release, reply_at, release_to, Reservation, closing, clock_of, scan_of, is_row_at_hop, after, RequestFits, Progress, Relaxing, Settled, Accepts, first_count, told_count, Request, Done, channel_packets, channel_of, NetworkFits, Task, Network, part_of, replies_to, IsNext, IsRun, Learnt, Standing, standing, OwnedFully, IsReleased, held_by, IsOff, IsMild}
 use Rattle.link_steps.specs.declared.replies.Phase.TheVariants as Ph
-use Rattle.link_steps.specs.declared.replies.Reply.{Reply}
 use Rattle.link_steps.specs.declared.replies.Reply.TheVariants as Is
-use Rattle.link_steps.specs.Replies.{count_at_release, reply_at, release_to}
-use Rattle.link_steps.specs.Reservation.{Reservation, closing}
-use Rattle.link_steps.specs.Scan.{clock_of, scan_of, is_row_at_hop, after}
-use Rattle.setup_protocol.specs.Hops.{RequestFits}
-use Rattle.setup_protocol.specs.Setup.{Progress, Reserving, Undoing, Relaxing, Settled, Accepts, Denies}
-use Rattle.setup_protocol.specs.Teardown.{first_count, told_count}
-use Rattle.setup_protocol.specs.declared.request.Request.{Request}
-use Rattle.run_record.specs.declared.done.Done.{Done}
-use Rattle.channel_laws.specs.Channels.{channel_packets, channel_of}
-use Rattle.call_script.specs.Fits.{NetworkFits}
 use Rattle.run_engine.specs.channels.Hops.{packets_on, ChannelAsked}
-use Rattle.call_script.specs.declared.tasks.Task.{Task}
-use Rattle.call_script.specs.Tasks.{Network}
-use Rattle.run_record.specs.Runs.{part_of, replies_to}
-use Rattle.run_engine.specs.runs.Runs.{IsNext, IsRun}
-use Rattle.call_script.specs.Scripts.{Learnt, Standing, standing}
 use Rattle.channel_laws.proofs.ChannelRows.{own-count, find-passes}
 use Rattle.channel_laws.proofs.HoldFates.{Fate, FateOpen, TellsAll, NotCommitted, held-released, released-count}
 use Rattle.hop_reservation.proofs.DistinctLinks.{index-apart}
 use Rattle.setup_protocol.proofs.HopHolds.{IsComm, IsTail, HopStands, reserved_of}
 use Rattle.run_engine.proofs.Channels.RowsFollow.{held_at_hop, held-here, hop-reply, same-held}
-use Rattle.call_script.specs.Owners.{OwnedFully}
 use Rattle.run_engine.proofs.Replies.ClosingStands.{AllComm, comm-later, send-later}
 use Rattle.run_engine.proofs.Replies.RunCloses.{owned-once, others-off, step-kind}
 use Rattle.run_engine.proofs.Replies.RunGoes.{owned-asked, hop-comes}
 use Rattle.run_engine.proofs.Runs.EachRun.{OwnStep, KeptByOthers, KeptBySteps, each-run}
 use Rattle.run_engine.proofs.Keeping.Lookups.{held, head-same}
-use Rattle.channel_laws.specs.Reservations.{IsReleased, held_by}
 use Rattle.channel_laws.proofs.SendReplies.{release-committed}
-use Rattle.channel_laws.specs.Asks.{IsOff, IsMild}
 use Rattle.interleave_core.proofs.Channels.FarHolds.{hop-tells, hop-fate, first-same, committed-comes, Frozen, frozen-later}
 use Rattle.run_engine.specs.channels.Paths.{HopAt, count_at}
 use Rattle.run_engine.proofs.Tasks.TaskAsks.{off-mild}
@@ -140,11 +113,9 @@ setup-whole network request first run offers p stands terms held phase =
       | inr from ↦ by-progress p (λ i at. (stands i at).tail (omega (arith, from)))
     ] where
       by-progress : (q : Progress) → ((i : ℕ) (at : HopAt network request i) → IsTail None Some request q i (held_at_hop network request i at run)) → (levels : List ℕ) × AllComm network request levels 0 run
-      by-progress (Reserving os reach) tails = absurd (let clash : None ≡ Some terms = sym (tails 0 first) ∙ held in cc)
-      by-progress (Undoing left deny) tails = absurd (let clash : None ≡ Some terms = sym (tails 0 first) ∙ held in cc)
       by-progress (Relaxing left levels) tails = (levels, λ i at from. tails i at)
       by-progress (Settled (Accepts levels delay)) tails = (levels, λ i at from. tails i at)
-      by-progress (Settled (Denies deny)) tails = absurd (let clash : None ≡ Some terms = sym (tails 0 first) ∙ held in cc)
+      by-progress _ tails = absurd (let clash : None ≡ Some terms = sym (tails 0 first) ∙ held in cc)
 
 -- what the release at the first hop leaves
 record FirstReleased (network : Network) (request : Request) (first : HopAt network request 0) (done : Done) (past : List Done) : Type 0 where

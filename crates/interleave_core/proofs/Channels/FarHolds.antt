@@ -1,35 +1,14 @@
 -- In every run: once a packet of a channel was taken at its first hop, each hop holds it committed, or closing with a
 -- count of at least so many, or has taken so many and let it go.
 use Rattle.std.proofs.Common.{◌≡◌, ℕ, suc, ◌≤◌, Bool, List, ◌∷◌, ◌++◌, length, Option, Some, None, refl, sym, ap, ◌∙◌, subst, inl, inr, arith}
-use Rattle.std.proofs.lemmas.Bool.{cases_lt, eq-eqb}
-use Rattle.std.proofs.lemmas.List.{length-append}
+use Rattle.run_engine.proofs.Words.{cases_lt, eq-eqb, length-append, find, link_number, channel_number, Ask, Reserve, Tick, Entry, Reply, LinkShape, IsAdmissible, Reservation, Row, clock_of, scan_of, RequestFits, asked, Request, Done, is_of_channel, channel_packets, channel_of, offers_with, offers_to, RowTells, IsOnly, IsElsewhere, NetworkFits, Network, part_of, IsNext, IsRun, IsMild, held_by, ComesOf, Stays, Closed}
 use Rattle.std.proofs.lemmas.List.Elements.{filter-append}
-use Rattle.std.specs.Prelude.{find}
-use Rattle.net_units.specs.Numbers.{link_number, channel_number}
-use Rattle.link_steps.specs.declared.asks.Ask.{Ask}
-use Rattle.link_steps.specs.declared.asks.Ask.TheVariants.{Reserve, Tick}
-use Rattle.link_steps.specs.declared.replies.Entry.{Entry}
 use Rattle.link_steps.specs.declared.replies.Phase.TheVariants as Ph
-use Rattle.link_steps.specs.declared.replies.Reply.{Reply}
 use Rattle.link_steps.specs.declared.replies.Reply.TheVariants as Is
-use Rattle.link_steps.specs.declared.shape.LinkShape.{LinkShape}
-use Rattle.link_steps.specs.Admissible.{IsAdmissible}
-use Rattle.link_steps.specs.Reservation.{Reservation}
-use Rattle.link_steps.specs.Rows.{Row}
-use Rattle.link_steps.specs.Scan.{clock_of, scan_of}
 use Rattle.link_steps.proofs.LegalChannels.{legal-channels}
 use Rattle.link_steps.proofs.LegalOrder.{legal-order}
 use Rattle.link_steps.proofs.SearchAndFilter.{Each-find}
-use Rattle.setup_protocol.specs.Hops.{RequestFits}
-use Rattle.setup_protocol.specs.Setup.{asked}
-use Rattle.setup_protocol.specs.declared.request.Request.{Request}
-use Rattle.run_record.specs.declared.done.Done.{Done}
-use Rattle.channel_laws.specs.Channels.{is_of_channel, channel_packets, channel_of, offers_with, offers_to, RowTells, IsOnly, IsElsewhere}
-use Rattle.call_script.specs.Fits.{NetworkFits}
 use Rattle.run_engine.specs.channels.Hops.{packets_on, terms_at, ChannelAsked}
-use Rattle.call_script.specs.Tasks.{Network}
-use Rattle.run_record.specs.Runs.{part_of}
-use Rattle.run_engine.specs.runs.Runs.{IsNext, IsRun}
 use Rattle.channel_laws.proofs.ChannelRows.{own-count, legal-free}
 use Rattle.run_engine.proofs.Flights.FlightOrigins.{part-grows}
 use Rattle.channel_laws.proofs.HoldFates.{Fate, FateOpen, FateClosing, FateGone, NoSecond, TellsAll, NotCommitted, fate-after, first-quiet}
@@ -37,8 +16,6 @@ use Rattle.run_engine.proofs.Channels.ChannelsAt.{stands-at}
 use Rattle.run_engine.proofs.Channels.RowsFollow.{held_at_hop, hop-may}
 use Rattle.run_engine.proofs.Replies.RunGoes.{hop-comes}
 use Rattle.run_engine.proofs.Runs.RunLegal.{part-admissible, by-part}
-use Rattle.channel_laws.specs.Asks.{IsMild}
-use Rattle.channel_laws.specs.Reservations.{held_by, ComesOf, Stays, Closed}
 use Rattle.run_engine.specs.channels.Paths.{HopAt, packets_at, count_at}
 use Rattle.run_engine.proofs.Runs.RunFronts.{run-more}
 

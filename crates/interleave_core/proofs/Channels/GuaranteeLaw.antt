@@ -1,46 +1,17 @@
 -- Every run of a network whose parts fit, and whose channels each have one owner, is guaranteed after each of its entries.
 use Rattle.std.proofs.Common.{◌≡◌, ℕ, suc, ◌+◌, ◌-◌, ◌<◌, ◌≤◌, true, List, [], ◌∷◌, length, map, get_or, Some, None, refl, sym, ap, ◌∙◌, subst, inl, inr, arith}
-use Rattle.std.proofs.lemmas.Bool.{eq-eqb, ne_eqb, and_from, lt-ltb}
-use Rattle.std.proofs.lemmas.List.{take_all}
-use Rattle.std.proofs.lemmas.Option.{same_Some, slice_get_within}
-use Rattle.std.specs.List.{slice_get}
-use Rattle.std.specs.Prelude.{nat_eq, nat_lt}
-use Rattle.net_units.specs.Numbers.{link_number, actor_number, channel_number}
-use Rattle.net_units.specs.declared.Kind.TheVariants.{Jitter}
+use Rattle.run_engine.proofs.Words.{eq-eqb, ne_eqb, and_from, lt-ltb, take_all, same_Some, slice_get_within, slice_get, nat_eq, nat_lt, link_number, actor_number, channel_number, Jitter, Ask, Reserve, Arrive, Packet, Entry, Reply, LinkShape, IsAdmissible, LeavesInTime, HasLeftInTime, deadline_of, clock_of, scan_of, starts_of, Link, Each, Among, Arrival, Start, leaves_at, RequestFits, Accepts, Request, Done, HopTerms, is_of_channel, tick_of_packet, offers_with, offers_to, NetworkFits, Task, Network, network_of, part_of, replies_to, IsNext, IsRun, standing, outcome_in, OwnedFully, IsOwned, IsUnnamed, AllOwned, IsOff, delay_over}
 use Rattle.net_units.proofs.BoundsInOrder.{bound-least}
-use Rattle.link_steps.specs.declared.asks.Ask.{Ask}
-use Rattle.link_steps.specs.declared.asks.Ask.TheVariants.{Reserve, Arrive}
-use Rattle.link_steps.specs.declared.asks.Packet.{Packet}
-use Rattle.link_steps.specs.declared.replies.Entry.{Entry}
-use Rattle.link_steps.specs.declared.replies.Reply.{Reply}
 use Rattle.link_steps.specs.declared.replies.Reply.TheVariants as Is
-use Rattle.link_steps.specs.declared.shape.LinkShape.{LinkShape}
-use Rattle.link_steps.specs.Admissible.{IsAdmissible}
-use Rattle.link_steps.specs.HopGuarantee.{LeavesInTime, HasLeftInTime, deadline_of}
-use Rattle.link_steps.specs.Scan.{clock_of, scan_of, starts_of}
-use Rattle.link_steps.specs.Split.{Link}
-use Rattle.link_steps.specs.Lists.{Each, Among}
-use Rattle.link_steps.specs.Service.{Arrival, Start, leaves_at}
 use Rattle.link_steps.specs.SourceGuarantee.{arrival_of}
 use Rattle.link_steps.proofs.HopHolds.{guaranteed}
 use Rattle.link_steps.proofs.LegalOrder.{IsCarried, legal-order}
 use Rattle.link_steps.proofs.SearchAndFilter.{Each-among}
 use Rattle.link_steps.proofs.SourceHistory.{source-guarantee}
-use Rattle.setup_protocol.specs.Hops.{RequestFits}
 use Rattle.setup_protocol.specs.Laws.{KeepsRequest}
-use Rattle.setup_protocol.specs.Setup.{Accepts}
-use Rattle.setup_protocol.specs.declared.request.Request.{Request}
-use Rattle.run_record.specs.declared.done.Done.{Done}
-use Rattle.channel_laws.specs.Channels.{HopTerms, is_of_channel, tick_of_packet, offers_with, offers_to}
 use Rattle.call_script.proofs.OneOwner.{all-owned}
 use Rattle.call_script.proofs.PlansFit.{plan-fits}
-use Rattle.call_script.specs.Fits.{NetworkFits}
 use Rattle.run_engine.specs.channels.Hops.{packets_on, terms_at, ChannelAsked}
-use Rattle.call_script.specs.declared.tasks.Task.{Task}
-use Rattle.call_script.specs.Tasks.{Network, network_of}
-use Rattle.run_record.specs.Runs.{part_of, replies_to}
-use Rattle.run_engine.specs.runs.Runs.{IsNext, IsRun}
-use Rattle.call_script.specs.Scripts.{standing, outcome_in}
 use Rattle.interleave_core.proofs.Channels.AcceptedPath.{accepted-path}
 use Rattle.channel_laws.proofs.ChannelRows.{legal-free}
 use Rattle.channel_laws.proofs.DepartedCount.{channel-few}
@@ -52,11 +23,9 @@ use Rattle.link_steps.proofs.PacketRows.{Among-passes}
 use Rattle.interleave_core.proofs.Delays.PathDelays.{passed, close-delays}
 use Rattle.interleave_core.proofs.Channels.AcceptedOnly.{taken-accepted}
 use Rattle.interleave_core.proofs.Flights.ReadyRun.{arrives-taken, counts-first}
-use Rattle.call_script.specs.Owners.{OwnedFully, IsOwned, IsUnnamed, AllOwned}
 use Rattle.run_engine.proofs.Replies.RunCloses.{owned-once}
 use Rattle.run_engine.proofs.Replies.RunGoes.{owned-asked, accepted-levels}
 use Rattle.run_engine.proofs.Runs.RunLegal.{part-admissible, by-part}
-use Rattle.channel_laws.specs.Asks.{IsOff}
 use Rattle.interleave_core.proofs.Channels.KeptRequest.{accepted-kept}
 use Rattle.run_engine.specs.channels.Paths.{HopAt, reaches_at, bound_of, packets_at, hop_ticks, arrival_ticks, eligible_at, arrived_at, delay_before, Passed}
 use Rattle.interleave_core.specs.channels.Guarantee.{LeavesWithinBound, TakesArrive, IsOfAccepted, LinkGuaranteed, SourceKept, HasLeft, ChannelGuaranteed, Guaranteed}
@@ -65,7 +34,6 @@ use Rattle.interleave_core.specs.channels.Laws.{EveryRunIsGuaranteed, EveryRunOf
 use Rattle.run_engine.proofs.Channels.HopsAt.{hop-at, HaveLevelsAt}
 use Rattle.run_engine.proofs.Channels.ChannelsAt.{packets-numbered, packet-offered}
 use Rattle.link_steps.proofs.FoundElements.{Each-from_among}
-use Rattle.hop_reservation.specs.Offers.{delay_over}
 use Rattle.hop_reservation.proofs.OneMoreOffer.{AreLevels-at}
 use Rattle.run_engine.proofs.Tasks.TaskAsks.{entry-off}
 
@@ -231,7 +199,6 @@ arrive-taken network done past (Arrive packet) fits owned run next is =
       | inl own ↦ arrives-taken network own.request own.owner done past packet fits own.sound own.full run next is (sym own.chan)
       | inr unnamed ↦ absurd (unnamed-arrive network done past packet fits run next is unnamed)
     ]
-arrive-taken network done past (Reserve chan contract kind delay up_reach first next') fits owned run next is = tt
 arrive-taken network done past _ fits owned run next is = tt
 
 pub all-arrives : (network : Network) (run : List Done) → NetworkFits network → AllOwned network → IsRun network run → Each (λ done. TakesArrive done.ask done.reply) run

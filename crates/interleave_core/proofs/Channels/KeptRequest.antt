@@ -1,27 +1,11 @@
 -- In every run the levels of an accepted request keep what it asks for, and its delay is the sum over its route.
 use Rattle.std.proofs.Common.{◌≡◌, ℕ, zero, suc, ◌-◌, List, [], ◌∷◌, length, Option, Some, None, sym, ◌∙◌, subst, inl, inr}
-use Rattle.std.proofs.lemmas.Bool.{cases_lt}
-use Rattle.std.specs.List.{slice_get}
-use Rattle.net_units.specs.Numbers.{link_number}
-use Rattle.hop_reservation.specs.Offers.{AreLevels, delay_over}
-use Rattle.hop_reservation.specs.declared.route.Hop.{Hop}
-use Rattle.link_steps.specs.declared.replies.Reply.{Reply}
+use Rattle.run_engine.proofs.Words.{cases_lt, slice_get, link_number, AreLevels, delay_over, Hop, Reply, RequestFits, Outcome, Accepts, verdict_of, offers_in, after_offers, on_the_way, undoing, relaxing, after_test, settled_in, reach_after, Request, NetworkFits, OwnedFully, Standing, standing, outcome_in, Network, Task, part_of, replies_to, Done, IsRun}
 use Rattle.relaxation.specs.declared.EndDenial.{EndDenial}
-use Rattle.setup_protocol.specs.Hops.{RequestFits}
-use Rattle.setup_protocol.specs.Setup.{Outcome, Accepts, verdict_of, offers_in, after_offers, on_the_way, undoing, relaxing, after_test, settled_in, reach_after}
-use Rattle.setup_protocol.specs.declared.request.Request.{Request}
 use Rattle.setup_protocol.specs.declared.verdict.Deny.{Deny}
 use Rattle.setup_protocol.proofs.SettledRequest.{accepted-keep}
 use Rattle.setup_protocol.proofs.SetupAdvances.{progress-on_the_way, progress-tested}
-use Rattle.call_script.specs.Fits.{NetworkFits}
-use Rattle.call_script.specs.Owners.{OwnedFully}
-use Rattle.call_script.specs.Scripts.{Standing, standing, outcome_in}
-use Rattle.call_script.specs.Tasks.{Network}
-use Rattle.call_script.specs.declared.tasks.Task.{Task}
-use Rattle.run_record.specs.Runs.{part_of, replies_to}
-use Rattle.run_record.specs.declared.done.Done.{Done}
 use Rattle.interleave_core.specs.channels.Kept.{VerdictSums}
-use Rattle.run_engine.specs.runs.Runs.{IsRun}
 use Rattle.run_engine.proofs.Replies.RunCloses.{owned-once}
 use Rattle.run_engine.proofs.Replies.RunGoes.{opens-once}
 use Rattle.run_engine.proofs.Runs.RunLegal.{answered-may}

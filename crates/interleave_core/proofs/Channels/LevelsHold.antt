@@ -1,23 +1,9 @@
 -- In every run: once a packet of a channel was taken at its first hop, the packets and the reservations of all hops have
 -- the levels of one list.
 use Rattle.std.proofs.Common.{◌≡◌, ℕ, ◌≤◌, List, [], ◌∷◌, Option, Some, None, sym, ap, ◌∙◌, subst, inl, inr, arith}
-use Rattle.std.proofs.lemmas.Bool.{cases_lt}
-use Rattle.std.proofs.lemmas.Option.{same_Some}
-use Rattle.net_units.specs.Numbers.{channel_number}
-use Rattle.link_steps.specs.declared.asks.Ask.{Ask}
-use Rattle.link_steps.specs.declared.asks.Ask.TheVariants.{Tick}
+use Rattle.run_engine.proofs.Words.{cases_lt, same_Some, channel_number, Ask, Tick, Reservation, scan_of, RequestFits, Progress, Relaxing, Settled, Accepts, Request, Done, NetworkFits, Network, part_of, IsNext, IsRun, OwnedFully, IsOff, IsMild}
 use Rattle.link_steps.specs.declared.replies.Phase.TheVariants as Ph
-use Rattle.link_steps.specs.Reservation.{Reservation}
-use Rattle.link_steps.specs.Scan.{scan_of}
-use Rattle.setup_protocol.specs.Hops.{RequestFits}
-use Rattle.setup_protocol.specs.Setup.{Progress, Reserving, Undoing, Relaxing, Settled, Accepts, Denies}
-use Rattle.setup_protocol.specs.declared.request.Request.{Request}
-use Rattle.run_record.specs.declared.done.Done.{Done}
-use Rattle.call_script.specs.Fits.{NetworkFits}
 use Rattle.run_engine.specs.channels.Hops.{ChannelAsked}
-use Rattle.call_script.specs.Tasks.{Network}
-use Rattle.run_record.specs.Runs.{part_of}
-use Rattle.run_engine.specs.runs.Runs.{IsNext, IsRun}
 use Rattle.interleave_core.proofs.Channels.ChainLaw.{is-tick, open-or-not, run-chain}
 use Rattle.interleave_core.proofs.Channels.FarHolds.{first-same}
 use Rattle.channel_laws.proofs.HoldFates.{Fate, FateOpen, FateClosing, FateGone}
@@ -25,9 +11,7 @@ use Rattle.setup_protocol.proofs.HopHolds.{IsTail, HopStands, reserved_of}
 use Rattle.run_engine.proofs.Channels.RowsFollow.{held_at_hop, AfterRows, comm-kept}
 use Rattle.run_engine.proofs.Replies.ClosingStands.{AllComm, comm-later}
 use Rattle.run_engine.proofs.Replies.RunCloses.{owned-once}
-use Rattle.call_script.specs.Owners.{OwnedFully}
 use Rattle.run_engine.proofs.Replies.RunGoes.{HopLevels, levels-settled, levels-later, after-later, owned-asked}
-use Rattle.channel_laws.specs.Asks.{IsOff, IsMild}
 use Rattle.run_engine.specs.channels.Paths.{HopAt, count_at}
 use Rattle.interleave_core.proofs.Channels.OwnerEntries.{EntryIs, MildOne, SetupOne, entry-is}
 use Rattle.run_engine.proofs.Runs.RunFronts.{run-more}
@@ -63,11 +47,9 @@ setup-levelled network request first done past offers p least count fits is aske
       | inr from ↦ by-progress p (λ i at. (stands i at).tail (omega (arith, from)))
     ] where
       by-progress : (q : Progress) → ((i : ℕ) (at : HopAt network request i) → IsTail None Some request q i (held_at_hop network request i at (done ∷ past))) → Levelled network request (done ∷ past)
-      by-progress (Reserving os reach) tails = none-levelled network request done past fits is asked tails was
-      by-progress (Undoing left deny) tails = none-levelled network request done past fits is asked tails was
       by-progress (Relaxing left levels) tails = all-levelled network request (done ∷ past) levels fits is asked (λ i at from. tails i at)
       by-progress (Settled (Accepts levels delay)) tails = all-levelled network request (done ∷ past) levels fits is asked (λ i at from. tails i at)
-      by-progress (Settled (Denies deny)) tails = none-levelled network request done past fits is asked tails was
+      by-progress _ tails = none-levelled network request done past fits is asked tails was
 
 mild-levelled : (network : Network) (request : Request) (done : Done) (past : List Done) → NetworkFits network → IsRun network past → IsRun network (done ∷ past) → ChannelAsked request (done ∷ past) → IsMild (channel_number request.chan) done.ask → Levelled network request past → Levelled network request (done ∷ past)
 mild-levelled network request done past fits run is asked mild was =

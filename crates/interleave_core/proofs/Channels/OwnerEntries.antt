@@ -1,19 +1,6 @@
 -- What an entry of a run is to a channel: one of another actor, which doesn't name it, or one of the kinds that its owner makes.
 use Rattle.std.proofs.Common.{◌≢◌, ℕ, List, ◌∷◌, sym, subst, inl, inr}
-use Rattle.std.proofs.lemmas.Bool.{cases_Bool, eqb-true, eqb-false}
-use Rattle.std.specs.Prelude.{nat_eq}
-use Rattle.net_units.specs.Numbers.{actor_number, channel_number}
-use Rattle.link_steps.specs.declared.replies.Reply.{Reply}
-use Rattle.channel_laws.specs.Asks.{IsOff, IsMild}
-use Rattle.setup_protocol.specs.Hops.{RequestFits}
-use Rattle.setup_protocol.specs.declared.request.Request.{Request}
-use Rattle.call_script.specs.Fits.{NetworkFits}
-use Rattle.call_script.specs.Owners.{OwnedFully}
-use Rattle.call_script.specs.Scripts.{Learnt}
-use Rattle.call_script.specs.Tasks.{Network}
-use Rattle.call_script.specs.declared.tasks.Task.{Task}
-use Rattle.run_record.specs.declared.done.Done.{Done}
-use Rattle.run_engine.specs.runs.Runs.{IsNext, IsRun}
+use Rattle.run_engine.proofs.Words.{cases_Bool, eqb-true, eqb-false, nat_eq, actor_number, channel_number, Reply, IsOff, IsMild, RequestFits, Request, NetworkFits, OwnedFully, Learnt, Network, Task, Done, IsNext, IsRun}
 use Rattle.run_engine.proofs.Channels.RowsFollow.{SetupRows}
 use Rattle.run_engine.proofs.Keeping.Lookups.{held}
 use Rattle.run_engine.proofs.Replies.RunCloses.{others-off, step-kind}

@@ -1,31 +1,12 @@
 -- In every run each packet that a tick's reply tells as sent is of a start of its link, which stays among the link's starts.
 use Rattle.std.proofs.Common.{◌≡◌, ℕ, suc, ◌≤◌, Bool, List, [], ◌∷◌, Option, Some, None, refl, sym, ap, ◌∙◌, subst, inl, inr, arith}
-use Rattle.std.proofs.lemmas.Bool.{cond_both}
-use Rattle.std.proofs.lemmas.Option.{same_Some}
-use Rattle.std.specs.List.{slice_get}
-use Rattle.std.specs.Prelude.{filter}
-use Rattle.net_units.specs.Numbers.{link_number}
-use Rattle.link_steps.specs.declared.asks.Ask.TheVariants.{Tick}
-use Rattle.link_steps.specs.declared.replies.Entry.{Entry}
+use Rattle.run_engine.proofs.Words.{cond_both, same_Some, slice_get, filter, link_number, Tick, Entry, Sent, LinkShape, Link, reply_to, tick_reply, clock_with, clock_of, scan_of, starts_of, Arrival, Start, is_busy, is_waiting, first_in_line, add_start, serve_tick, starts_below, Among, Done, NetworkFits, Network, entry_of, part_of, IsNext, IsRun, ticked}
 use Rattle.link_steps.specs.declared.replies.Reply.TheVariants as Is
-use Rattle.link_steps.specs.declared.replies.Sent.{Sent}
-use Rattle.link_steps.specs.declared.shape.LinkShape.{LinkShape}
-use Rattle.link_steps.specs.Split.{Link}
-use Rattle.link_steps.specs.Replies.{reply_to, tick_reply}
-use Rattle.link_steps.specs.Scan.{clock_with, clock_of, scan_of, starts_of}
-use Rattle.link_steps.specs.Service.{Arrival, Start, is_busy, is_waiting, first_in_line, add_start, serve_tick, starts_below}
-use Rattle.link_steps.specs.Lists.{Among}
 use Rattle.link_steps.proofs.ServiceStarts.{starts_below-append}
-use Rattle.run_record.specs.declared.done.Done.{Done}
-use Rattle.call_script.specs.Fits.{NetworkFits}
-use Rattle.call_script.specs.Tasks.{Network}
-use Rattle.run_record.specs.Runs.{entry_of, part_of}
-use Rattle.run_engine.specs.runs.Runs.{IsNext, IsRun}
 use Rattle.interleave_core.proofs.Channels.ChainLaw.{is-tick}
 use Rattle.interleave_core.proofs.Flights.LegLaw.{quiet-clock, entry-tick}
 use Rattle.channel_laws.proofs.DepartedCount.{history-from}
 use Rattle.run_engine.proofs.Runs.RunLegal.{part-on, part-admissible, by-part}
-use Rattle.channel_laws.specs.Departing.{ticked}
 use Rattle.channel_laws.proofs.SentInTime.{sent-facts, tick-answer}
 use Rattle.interleave_core.specs.channels.Sent.{SentBy, TicksReportWhatHasLeft}
 

@@ -1,39 +1,14 @@
 -- Past the first hop a packet finds a slot: the packets of its channel that are here, and it, were eligible at the hop
 -- before within as many ticks as the bounds of both hops' levels together.
 use Rattle.std.proofs.Common.{◌≡◌, ℕ, suc, ◌+◌, ◌-◌, ◌<◌, ◌≤◌, Bool, true, false, List, [], ◌∷◌, length, get_or, Some, refl, sym, ap, ◌∙◌, subst, inl, inr, arith}
-use Rattle.std.proofs.lemmas.Bool.{cases_Bool, cases_lt, and_from, le-leb, lt-ltb}
-use Rattle.std.proofs.lemmas.List.{length-reverse, length-map}
-use Rattle.std.specs.List.{slice_get}
-use Rattle.std.specs.Prelude.{filter, find, nat_le, nat_lt}
-use Rattle.net_units.specs.LevelBounds.{bound_at}
-use Rattle.net_units.specs.Numbers.{link_number, channel_number, level_number}
-use Rattle.traffic_contract.specs.Contract.{most_in}
-use Rattle.traffic_contract.specs.Keeping.{Keeps}
+use Rattle.run_engine.proofs.Words.{cases_lt, and_from, le-leb, lt-ltb, length-reverse, length-map, slice_get, filter, find, nat_le, nat_lt, bound_at, link_number, channel_number, level_number, most_in, Keeps, Arrive, Packet, Phase, Tentative, Committed, Closing, LinkShape, stay_of, slots_of, held_packets, HasLeftInTime, deadline_of, Each, Among, Row, clock_of, scan_of, is_row_of, starts_of, Arrival, Start, here_at, is_here, starts_below, RequestFits, Request, Done, is_of_channel, channel_packets, tick_of_packet, channel_of, NetworkFits, Network, part_of, IsNext, IsRun}
 use Rattle.traffic_contract.specs.Window.{is_in_window, count_in}
 use Rattle.traffic_contract.proofs.LongerWindows.{most_in-mono}
 use Rattle.traffic_contract.proofs.WindowsAreBounded.{count_in-le}
-use Rattle.link_steps.specs.declared.asks.Ask.TheVariants.{Arrive}
-use Rattle.link_steps.specs.declared.asks.Packet.{Packet}
-use Rattle.link_steps.specs.declared.replies.Phase.{Phase}
-use Rattle.link_steps.specs.declared.replies.Phase.TheVariants.{Tentative, Committed, Closing}
-use Rattle.link_steps.specs.declared.shape.LinkShape.{LinkShape}
-use Rattle.link_steps.specs.Buffer.{stay_of, slots_of, held_packets}
-use Rattle.link_steps.specs.HopGuarantee.{HasLeftInTime, deadline_of}
-use Rattle.link_steps.specs.Lists.{Each, Among}
-use Rattle.link_steps.specs.Rows.{Row}
-use Rattle.link_steps.specs.Scan.{clock_of, scan_of, is_row_of, starts_of}
-use Rattle.link_steps.specs.Service.{Arrival, Start, here_at, is_here, starts_below}
+use Rattle.link_steps.proofs.FoundElements.{Each-passes}
 use Rattle.link_steps.proofs.HopHolds.{guaranteed}
 use Rattle.link_steps.proofs.SearchAndFilter.{Each-among, Each-filter}
-use Rattle.setup_protocol.specs.Hops.{RequestFits}
-use Rattle.setup_protocol.specs.declared.request.Request.{Request}
-use Rattle.run_record.specs.declared.done.Done.{Done}
-use Rattle.channel_laws.specs.Channels.{is_of_channel, channel_packets, tick_of_packet, channel_of}
-use Rattle.call_script.specs.Fits.{NetworkFits}
 use Rattle.run_engine.specs.channels.Hops.{packets_on, ChannelAsked}
-use Rattle.call_script.specs.Tasks.{Network}
-use Rattle.run_record.specs.Runs.{part_of}
-use Rattle.run_engine.specs.runs.Runs.{IsNext, IsRun}
 use Rattle.link_steps.proofs.ListParts.{Each-at}
 use Rattle.channel_laws.proofs.ChannelRows.{row-of, find-passes}
 use Rattle.channel_laws.proofs.DepartedCount.{channel-few}
@@ -69,15 +44,6 @@ covers-from test win [] [] less each last = absurd (omega arith)
 covers-from test win [] (d ∷ ds) less each last = last
 covers-from test win (q ∷ qs) [] less each last = absurd (omega arith)
 covers-from test win (q ∷ qs) (d ∷ ds) less each last = (each 0 q refl, covers-from test win qs ds (omega arith) (λ k x found. each (suc k) x found) last)
-
--- each that passes does
-Each-passes : (test : Arrival → Bool) (qs : List Arrival) → Each (λ q. test q ≡ true) (filter test qs)
-Each-passes test [] = tt
-Each-passes test (q ∷ qs) =
-    elim (cases_Bool (test q)) [
-      | inl on ↦ rw on (on, Each-passes test qs)
-      | inr off ↦ rw off (Each-passes test qs)
-    ]
 
 -- ---- the window
 

@@ -1,32 +1,11 @@
 -- In every run: once the clock of a hop has reached a packet's bound there, counted from the first hop on, the packet has
 -- departed from it.
 use Rattle.std.proofs.Common.{◌≡◌, ◌≢◌, ℕ, zero, suc, ◌+◌, ◌<◌, ◌≤◌, Bool, true, false, cond, List, [], ◌∷◌, length, map, get_or, Some, None, refl, sym, ap, ◌∙◌, subst, inl, inr, arith}
-use Rattle.std.proofs.lemmas.Bool.{cases_Bool, cases_lt, eqb-true, eqb-false, eq-eqb, and_parts, and_from, lt-ltb}
-use Rattle.std.proofs.lemmas.List.{length-map}
-use Rattle.std.proofs.lemmas.Option.{same_Some, slice_get_within}
-use Rattle.std.specs.List.{slice_get}
-use Rattle.std.specs.Prelude.{find, filter, nat_eq, nat_lt, reverse}
-use Rattle.net_units.specs.LevelBounds.{bound_at}
-use Rattle.net_units.specs.Numbers.{link_number, channel_number}
-use Rattle.traffic_contract.specs.Keeping.{Keeps, Spaced}
+use Rattle.run_engine.proofs.Words.{cases_Bool, cases_lt, eqb-true, eqb-false, eq-eqb, and_parts, and_from, lt-ltb, length-map, same_Some, slice_get_within, slice_get, find, filter, nat_eq, nat_lt, reverse, bound_at, link_number, channel_number, Keeps, Spaced, HasLeftInTime, clock_of, starts_of, Arrival, has_departed, starts_below, Among, RequestFits, Request, Done, is_of_channel, tick_of_packet, offers_to, NetworkFits, Network, Flight, is_due, part_of, plane_at, IsRun, OwnedFully, gone_of}
 use Rattle.traffic_contract.proofs.NewestFirst.{Decides-keeps_newest_first}
-use Rattle.link_steps.specs.HopGuarantee.{HasLeftInTime}
-use Rattle.link_steps.specs.Scan.{clock_of, starts_of}
-use Rattle.link_steps.specs.Service.{Arrival, has_departed, starts_below}
 use Rattle.link_steps.proofs.HopHolds.{guaranteed}
-use Rattle.link_steps.specs.Lists.{Among}
 use Rattle.link_steps.proofs.SearchAndFilter.{Each-among}
-use Rattle.setup_protocol.specs.Hops.{RequestFits}
-use Rattle.setup_protocol.specs.declared.request.Request.{Request}
-use Rattle.run_record.specs.declared.done.Done.{Done}
-use Rattle.channel_laws.specs.Channels.{is_of_channel, tick_of_packet, offers_to}
-use Rattle.call_script.specs.Fits.{NetworkFits}
 use Rattle.run_engine.specs.channels.Hops.{packets_on, terms_at, ChannelAsked, ComesFrom}
-use Rattle.call_script.specs.Tasks.{Network}
-use Rattle.tick_plane.specs.declared.flight.Flight.{Flight}
-use Rattle.tick_plane.specs.Planes.{is_due}
-use Rattle.run_record.specs.Runs.{part_of}
-use Rattle.run_engine.specs.runs.Runs.{plane_at, IsRun}
 use Rattle.channel_laws.proofs.ChannelRows.{legal-free}
 use Rattle.run_engine.proofs.Flights.FlightOrigins.{run-flights}
 use Rattle.interleave_core.proofs.Flights.FlightQueue.{IsQueue}
@@ -39,12 +18,10 @@ use Rattle.interleave_core.proofs.Delays.PathLaw.{delay-more, path-law}
 use Rattle.run_engine.proofs.Flights.Punctual.{run-punctual}
 use Rattle.interleave_core.proofs.Flights.QueueTicks.{leg}
 use Rattle.interleave_core.proofs.Flights.ReadyRun.{two_of, run-legs}
-use Rattle.call_script.specs.Owners.{OwnedFully}
 use Rattle.run_engine.proofs.Replies.RunCloses.{owned-once}
 use Rattle.run_engine.proofs.Replies.RunGoes.{owned-asked}
 use Rattle.run_engine.proofs.Runs.RunLegal.{run-stands, part-admissible}
 use Rattle.run_engine.specs.channels.Paths.{HopAt, packets_at, hop_ticks, delay_before, count_at}
-use Rattle.channel_laws.specs.Departing.{gone_of}
 use Rattle.channel_laws.proofs.DepartedCount.{channel-few}
 use Rattle.channel_laws.proofs.NumberedPackets.{HasNumber, packets-have_numbers}
 use Rattle.interleave_core.proofs.Channels.ChainLaw.{same-count}
@@ -89,33 +66,34 @@ first-rises network request first run j k fits is asked upto within =
           absurd (let e : length (hop_ticks network request 0 first run) ≡ 0 = ap (λ ps. length (map tick_of_packet ps)) free.packets in omega (arith, e, within)))
     ]
 
-pub hop-departed : (network : Network) (request : Request) (levels : List ℕ) (run : List Done) (first : HopAt network request 0) (i : ℕ) (at : HopAt network request i) (k : ℕ) → NetworkFits network → RequestFits network.links request → ((past : List Done) → IsRun network past → ChannelAsked request past) → IsRun network run → HaveLevelsAt network request levels run
-    → k < count_at network request i at run → get_or (hop_ticks network request 0 first run) k 0 + delay_before request levels (suc i) ≤ clock_of (part_of (link_number at.hop.link) run) + at.link.shape.prop
-    → (j : ℕ) (p : Arrival) → j ≤ k → slice_get (packets_at network request i at run) j ≡ Some p → has_departed at.link.shape.rate (starts_below at.link.shape.rate (packets_on at.link (link_number at.hop.link) run) (clock_of (part_of (link_number at.hop.link) run))) (clock_of (part_of (link_number at.hop.link) run)) p ≡ true
-hop-departed network request levels run first i at k fits sound asked is have taken due j p upto found =
-    let path = path-law network request levels run fits sound asked is have first i at in
-    let own = length-map (packets_at network request i at run) tick_of_packet in
-    let within = slice_get_within (packets_at network request i at run) j p found in
-    let after = path.after j (omega (arith, within, own)) in
-    let fewer = path.fewer in
-    let rising = first-rises network request first run j k fits is (asked run is) upto (omega (arith, fewer, own, taken)) in
-    let tick = (tick-at (packets_at network request i at run) j p found).1 in
-    let among = Among-at (packets_at network request i at run) j p found in
-    let level = Each-among (λ q. q.level ≡ get_or levels i 0) p _ (have.at i at) among in
-    let bound : bound_at at.link.shape.bounds p.level ≡ bound_at at.link.shape.bounds (get_or levels i 0) = ap (bound_at at.link.shape.bounds) level in
-    let more = delay-more network request levels i at (let n = have.count in let inside = slice_get_within request.route i at.hop at.stands in omega (arith, n, inside)) in
-    let there = (Rattle.link_steps.proofs.SearchAndFilter.Among-filter (is_of_channel (channel_number request.chan)) p (packets_on at.link (link_number at.hop.link) run) among) in
-    let legal = part-admissible network run (link_number at.hop.link) at.link fits is at.linked in
-    let few = channel-few at.link.shape (channel_number request.chan) p (Each-among (HasNumber at.link.shape.bounds) p _ (packets-have_numbers at.link.shape (part_of (link_number at.hop.link) run) legal) there.0) there.1 in
-    (Each-among (HasLeftInTime at.link.shape (clock_of (part_of (link_number at.hop.link) run)) (starts_of at.link.shape (part_of (link_number at.hop.link) run))) p _ (guaranteed at.link.shape (part_of (link_number at.hop.link) run) legal).in_time there.0).gone few
-    (omega (arith, after, rising, tick, bound, more, due))
+module _ (network : Network) (request : Request) (levels : List ℕ) (run : List Done) (first : HopAt network request 0) (i : ℕ) (at : HopAt network request i) (k : ℕ) where
+  pub hop-departed : NetworkFits network → RequestFits network.links request → ((past : List Done) → IsRun network past → ChannelAsked request past) → IsRun network run → HaveLevelsAt network request levels run
+      → k < count_at network request i at run → get_or (hop_ticks network request 0 first run) k 0 + delay_before request levels (suc i) ≤ clock_of (part_of (link_number at.hop.link) run) + at.link.shape.prop
+      → (j : ℕ) (p : Arrival) → j ≤ k → slice_get (packets_at network request i at run) j ≡ Some p → has_departed at.link.shape.rate (starts_below at.link.shape.rate (packets_on at.link (link_number at.hop.link) run) (clock_of (part_of (link_number at.hop.link) run))) (clock_of (part_of (link_number at.hop.link) run)) p ≡ true
+  hop-departed fits sound asked is have taken due j p upto found =
+      let path = path-law network request levels run fits sound asked is have first i at in
+      let own = length-map (packets_at network request i at run) tick_of_packet in
+      let within = slice_get_within (packets_at network request i at run) j p found in
+      let after = path.after j (omega (arith, within, own)) in
+      let fewer = path.fewer in
+      let rising = first-rises network request first run j k fits is (asked run is) upto (omega (arith, fewer, own, taken)) in
+      let tick = (tick-at (packets_at network request i at run) j p found).1 in
+      let among = Among-at (packets_at network request i at run) j p found in
+      let level = Each-among (λ q. q.level ≡ get_or levels i 0) p _ (have.at i at) among in
+      let bound : bound_at at.link.shape.bounds p.level ≡ bound_at at.link.shape.bounds (get_or levels i 0) = ap (bound_at at.link.shape.bounds) level in
+      let more = delay-more network request levels i at (let n = have.count in let inside = slice_get_within request.route i at.hop at.stands in omega (arith, n, inside)) in
+      let there = (Rattle.link_steps.proofs.SearchAndFilter.Among-filter (is_of_channel (channel_number request.chan)) p (packets_on at.link (link_number at.hop.link) run) among) in
+      let legal = part-admissible network run (link_number at.hop.link) at.link fits is at.linked in
+      let few = channel-few at.link.shape (channel_number request.chan) p (Each-among (HasNumber at.link.shape.bounds) p _ (packets-have_numbers at.link.shape (part_of (link_number at.hop.link) run) legal) there.0) there.1 in
+      (Each-among (HasLeftInTime at.link.shape (clock_of (part_of (link_number at.hop.link) run)) (starts_of at.link.shape (part_of (link_number at.hop.link) run))) p _ (guaranteed at.link.shape (part_of (link_number at.hop.link) run) legal).in_time there.0).gone few
+      (omega (arith, after, rising, tick, bound, more, due))
 
-pub hop-gone : (network : Network) (request : Request) (levels : List ℕ) (run : List Done) (first : HopAt network request 0) (i : ℕ) (at : HopAt network request i) (k : ℕ) → NetworkFits network → RequestFits network.links request → ((past : List Done) → IsRun network past → ChannelAsked request past) → IsRun network run → HaveLevelsAt network request levels run
-    → k < count_at network request i at run → get_or (hop_ticks network request 0 first run) k 0 + delay_before request levels (suc i) ≤ clock_of (part_of (link_number at.hop.link) run) + at.link.shape.prop
-    → k < gone_of at.link.shape (channel_number request.chan) (part_of (link_number at.hop.link) run)
-hop-gone network request levels run first i at k fits sound asked is have taken due =
-    front-gone (has_departed at.link.shape.rate (starts_below at.link.shape.rate (packets_on at.link (link_number at.hop.link) run) (clock_of (part_of (link_number at.hop.link) run))) (clock_of (part_of (link_number at.hop.link) run))) (packets_at network request i at run) k taken
-    (hop-departed network request levels run first i at k fits sound asked is have taken due)
+  pub hop-gone : NetworkFits network → RequestFits network.links request → ((past : List Done) → IsRun network past → ChannelAsked request past) → IsRun network run → HaveLevelsAt network request levels run
+      → k < count_at network request i at run → get_or (hop_ticks network request 0 first run) k 0 + delay_before request levels (suc i) ≤ clock_of (part_of (link_number at.hop.link) run) + at.link.shape.prop
+      → k < gone_of at.link.shape (channel_number request.chan) (part_of (link_number at.hop.link) run)
+  hop-gone fits sound asked is have taken due =
+      front-gone (has_departed at.link.shape.rate (starts_below at.link.shape.rate (packets_on at.link (link_number at.hop.link) run) (clock_of (part_of (link_number at.hop.link) run))) (clock_of (part_of (link_number at.hop.link) run))) (packets_at network request i at run) k taken
+      (hop-departed fits sound asked is have taken due)
 
 -- ---- what is on its way
 
@@ -217,33 +195,34 @@ clocks-near network run m n fits is a b =
 abbrev pub HaveTicks : Network → Request → List ℕ → Type 0
 HaveTicks network request levels = (i : ℕ) (at : HopAt network request i) → 1 ≤ bound_at at.link.shape.bounds (get_or levels i 0)
 
--- where the bound of packet k, less the hop's propagation, is at most the hop's clock, it has departed from the hop
-pub path-departs : (network : Network) (request : Request) (owner : ℕ) (levels : List ℕ) (run : List Done) (first : HopAt network request 0) (i : ℕ) (at : HopAt network request i) (k : ℕ) → NetworkFits network → RequestFits network.links request → OwnedFully network request owner → IsRun network run → HaveLevelsAt network request levels run → HaveTicks network request levels
-    → k < count_at network request 0 first run → get_or (hop_ticks network request 0 first run) k 0 + delay_before request levels (suc i) ≤ clock_of (part_of (link_number at.hop.link) run) + at.link.shape.prop
-    → k < gone_of at.link.shape (channel_number request.chan) (part_of (link_number at.hop.link) run)
-path-departs network request owner levels run first zero at k fits sound full is have ticks taken due =
-    let names = owned-asked network request owner fits sound (owned-once network request owner full) in
-    let same = same-count network request 0 at first run in
-    hop-gone network request levels run first 0 at k fits sound names is have (omega (arith, same, taken)) due
-path-departs network request owner levels run first (suc i) at k fits sound full is have ticks taken due =
-    let names = owned-asked network request owner fits sound (owned-once network request owner full) in
-    let within = slice_get_within request.route (suc i) at.hop at.stands in
-    let before = hop-at network request i sound (omega (arith, within)) in
-    let more = delay-more network request levels (suc i) at (let n = have.count in omega (arith, n, within)) in
-    let one = ticks (suc i) at in
-    let clocks = clocks-near network run (link_number at.hop.link) (link_number before.hop.link) fits is (slice_get_within network.links (link_number at.hop.link) at.link at.linked) (slice_get_within network.links (link_number before.hop.link) before.link before.linked) in
-    let gone = path-departs network request owner levels run first i before k fits sound full is have ticks taken (omega (arith, more, one, clocks, due)) in
-    let there = next-taken network request owner levels run first i before at k fits sound full is have gone (omega (arith, more, one, due)) in
-    hop-gone network request levels run first (suc i) at k fits sound names is have there due
+module _ (network : Network) (request : Request) (owner : ℕ) (levels : List ℕ) (run : List Done) (first : HopAt network request 0) where
+  -- where the bound of packet k, less the hop's propagation, is at most the hop's clock, it has departed from the hop
+  pub path-departs : (i : ℕ) (at : HopAt network request i) (k : ℕ) → NetworkFits network → RequestFits network.links request → OwnedFully network request owner → IsRun network run → HaveLevelsAt network request levels run → HaveTicks network request levels
+      → k < count_at network request 0 first run → get_or (hop_ticks network request 0 first run) k 0 + delay_before request levels (suc i) ≤ clock_of (part_of (link_number at.hop.link) run) + at.link.shape.prop
+      → k < gone_of at.link.shape (channel_number request.chan) (part_of (link_number at.hop.link) run)
+  path-departs zero at k fits sound full is have ticks taken due =
+      let names = owned-asked network request owner fits sound (owned-once network request owner full) in
+      let same = same-count network request 0 at first run in
+      hop-gone network request levels run first 0 at k fits sound names is have (omega (arith, same, taken)) due
+  path-departs (suc i) at k fits sound full is have ticks taken due =
+      let names = owned-asked network request owner fits sound (owned-once network request owner full) in
+      let within = slice_get_within request.route (suc i) at.hop at.stands in
+      let before = hop-at network request i sound (omega (arith, within)) in
+      let more = delay-more network request levels (suc i) at (let n = have.count in omega (arith, n, within)) in
+      let one = ticks (suc i) at in
+      let clocks = clocks-near network run (link_number at.hop.link) (link_number before.hop.link) fits is (slice_get_within network.links (link_number at.hop.link) at.link at.linked) (slice_get_within network.links (link_number before.hop.link) before.link before.linked) in
+      let gone = path-departs i before k fits sound full is have ticks taken (omega (arith, more, one, clocks, due)) in
+      let there = next-taken network request owner levels run first i before at k fits sound full is have gone (omega (arith, more, one, due)) in
+      hop-gone network request levels run first (suc i) at k fits sound names is have there due
 
--- it is taken there, and it has departed
-pub path-departed : (network : Network) (request : Request) (owner : ℕ) (levels : List ℕ) (run : List Done) (first : HopAt network request 0) (i : ℕ) (at : HopAt network request i) (k : ℕ) → NetworkFits network → RequestFits network.links request → OwnedFully network request owner → IsRun network run → HaveLevelsAt network request levels run → HaveTicks network request levels
-    → k < count_at network request 0 first run → get_or (hop_ticks network request 0 first run) k 0 + delay_before request levels (suc i) ≤ clock_of (part_of (link_number at.hop.link) run) + at.link.shape.prop
-    → (k < count_at network request i at run) × ((p : Arrival) → slice_get (packets_at network request i at run) k ≡ Some p → has_departed at.link.shape.rate (starts_below at.link.shape.rate (packets_on at.link (link_number at.hop.link) run) (clock_of (part_of (link_number at.hop.link) run))) (clock_of (part_of (link_number at.hop.link) run)) p ≡ true)
-path-departed network request owner levels run first i at k fits sound full is have ticks taken due =
-    let names = owned-asked network request owner fits sound (owned-once network request owner full) in
-    let gone = path-departs network request owner levels run first i at k fits sound full is have ticks taken due in
-    let fewer = count_by-le-length (has_departed at.link.shape.rate (starts_below at.link.shape.rate (packets_on at.link (link_number at.hop.link) run) (clock_of (part_of (link_number at.hop.link) run))) (clock_of (part_of (link_number at.hop.link) run))) (packets_at network request i at run) in
-    let kept = length-filter (has_departed at.link.shape.rate (starts_below at.link.shape.rate (packets_on at.link (link_number at.hop.link) run) (clock_of (part_of (link_number at.hop.link) run))) (clock_of (part_of (link_number at.hop.link) run))) (packets_at network request i at run) in
-    let there : k < count_at network request i at run = omega (arith, gone, fewer, kept) in
-    (there, λ p found. hop-departed network request levels run first i at k fits sound names is have there due k p (omega arith) found)
+  -- it is taken there, and it has departed
+  pub path-departed : (i : ℕ) (at : HopAt network request i) (k : ℕ) → NetworkFits network → RequestFits network.links request → OwnedFully network request owner → IsRun network run → HaveLevelsAt network request levels run → HaveTicks network request levels
+      → k < count_at network request 0 first run → get_or (hop_ticks network request 0 first run) k 0 + delay_before request levels (suc i) ≤ clock_of (part_of (link_number at.hop.link) run) + at.link.shape.prop
+      → (k < count_at network request i at run) × ((p : Arrival) → slice_get (packets_at network request i at run) k ≡ Some p → has_departed at.link.shape.rate (starts_below at.link.shape.rate (packets_on at.link (link_number at.hop.link) run) (clock_of (part_of (link_number at.hop.link) run))) (clock_of (part_of (link_number at.hop.link) run)) p ≡ true)
+  path-departed i at k fits sound full is have ticks taken due =
+      let names = owned-asked network request owner fits sound (owned-once network request owner full) in
+      let gone = path-departs i at k fits sound full is have ticks taken due in
+      let fewer = count_by-le-length (has_departed at.link.shape.rate (starts_below at.link.shape.rate (packets_on at.link (link_number at.hop.link) run) (clock_of (part_of (link_number at.hop.link) run))) (clock_of (part_of (link_number at.hop.link) run))) (packets_at network request i at run) in
+      let kept = length-filter (has_departed at.link.shape.rate (starts_below at.link.shape.rate (packets_on at.link (link_number at.hop.link) run) (clock_of (part_of (link_number at.hop.link) run))) (clock_of (part_of (link_number at.hop.link) run))) (packets_at network request i at run) in
+      let there : k < count_at network request i at run = omega (arith, gone, fewer, kept) in
+      (there, λ p found. hop-departed network request levels run first i at k fits sound names is have there due k p (omega arith) found)

@@ -1,31 +1,14 @@
 -- The delay of a packet over its whole route; and under delay-jitter control how far two delays are apart.
 use Rattle.std.proofs.Common.{◌≡◌, ℕ, zero, suc, ◌+◌, ◌<◌, ◌≤◌, true, List, [], ◌∷◌, length, get_or, take, refl, ap, arith}
-use Rattle.std.proofs.lemmas.Option.{slice_get_within}
-use Rattle.net_units.specs.LevelBounds.{bound_at}
-use Rattle.net_units.specs.Numbers.{link_number, channel_number}
-use Rattle.net_units.specs.declared.Kind.TheVariants.{Jitter}
-use Rattle.hop_reservation.specs.Offers.{delay_over}
-use Rattle.hop_reservation.specs.declared.route.Hop.{Hop}
-use Rattle.link_steps.specs.HopGuarantee.{LeavesInTime}
-use Rattle.link_steps.specs.Lists.{Each, Among}
-use Rattle.link_steps.specs.Scan.{clock_of, starts_of}
-use Rattle.link_steps.specs.Service.{Start, leaves_at}
+use Rattle.run_engine.proofs.Words.{slice_get_within, bound_at, link_number, channel_number, Jitter, delay_over, Hop, LeavesInTime, Each, Among, clock_of, starts_of, Start, leaves_at, RequestFits, Request, Done, is_of_channel, tick_of_packet, NetworkFits, Network, part_of, IsRun, length-map}
 use Rattle.link_steps.proofs.HopHolds.{guaranteed}
 use Rattle.link_steps.proofs.FoundElements.{Each-from_among}
 use Rattle.link_steps.proofs.SearchAndFilter.{Each-among}
 use Rattle.link_steps.proofs.ServiceStarts.{starts-fact}
-use Rattle.setup_protocol.specs.Hops.{RequestFits}
 use Rattle.setup_protocol.specs.Requests.{kind_of}
-use Rattle.setup_protocol.specs.declared.request.Request.{Request}
-use Rattle.run_record.specs.declared.done.Done.{Done}
-use Rattle.channel_laws.specs.Channels.{is_of_channel, tick_of_packet}
-use Rattle.call_script.specs.Fits.{NetworkFits}
 use Rattle.run_engine.specs.channels.Hops.{packets_on, ChannelAsked}
-use Rattle.call_script.specs.Tasks.{Network}
-use Rattle.run_record.specs.Runs.{part_of}
 use Rattle.channel_laws.proofs.DepartedCount.{channel-few}
 use Rattle.channel_laws.proofs.NumberedPackets.{HasNumber, packets-have_numbers}
-use Rattle.run_engine.specs.runs.Runs.{IsRun}
 use Rattle.interleave_core.proofs.Delays.HopLaw.{TwoHops, hop-law}
 use Rattle.channel_laws.proofs.Places.{place-of}
 use Rattle.link_steps.proofs.PacketRows.{Among-passes}
@@ -34,7 +17,6 @@ use Rattle.run_engine.proofs.Channels.HopsAt.{hop-at, HaveLevelsAt}
 use Rattle.interleave_core.proofs.Delays.PathLaw.{delay-more, path-law, same-hop}
 use Rattle.run_engine.proofs.Runs.RunLegal.{part-admissible}
 use Rattle.run_engine.specs.channels.Paths.{HopAt, hop_ticks, packets_at, delay_before, Passed}
-use Rattle.std.proofs.lemmas.List.{length-map}
 
 -- under delay-jitter control the packets are exactly the shift later
 pub path-exact : (network : Network) (request : Request) (levels : List ℕ) (run : List Done) → NetworkFits network → RequestFits network.links request → ((past : List Done) → IsRun network past → ChannelAsked request past) → IsRun network run → HaveLevelsAt network request levels run → kind_of request.control ≡ Jitter

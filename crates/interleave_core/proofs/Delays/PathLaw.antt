@@ -1,24 +1,11 @@
 -- Over a whole route: each packet of a channel is eligible at a hop no later than at the first hop plus the level bounds and
 -- propagations of the hops before; and under delay-jitter control exactly that much later.
 use Rattle.std.proofs.Common.{◌≡◌, ℕ, zero, suc, ◌+◌, ◌<◌, List, [], ◌∷◌, ◌++◌, length, get_or, take, Some, sym, ap, ◌∙◌, subst, arith}
-use Rattle.std.proofs.lemmas.List.{length-take-le}
-use Rattle.std.proofs.lemmas.Option.{same_Some, slice_get_within}
+use Rattle.run_engine.proofs.Words.{length-take-le, same_Some, slice_get_within, slice_get, bound_at, link_number, channel_number, delay_over, Hop, RequestFits, Request, Done, ticks_at, NetworkFits, Network, IsRun}
 use Rattle.std.proofs.Math.Seq.{take-suc}
-use Rattle.std.specs.List.{slice_get}
-use Rattle.net_units.specs.LevelBounds.{bound_at}
-use Rattle.net_units.specs.Numbers.{link_number, channel_number}
-use Rattle.hop_reservation.specs.Offers.{delay_over}
-use Rattle.hop_reservation.specs.declared.route.Hop.{Hop}
 use Rattle.hop_reservation.proofs.OneMoreOffer.{delay_over-push}
-use Rattle.setup_protocol.specs.Hops.{RequestFits}
-use Rattle.setup_protocol.specs.declared.request.Request.{Request}
-use Rattle.run_record.specs.declared.done.Done.{Done}
-use Rattle.channel_laws.specs.Channels.{ticks_at}
-use Rattle.call_script.specs.Fits.{NetworkFits}
 use Rattle.run_engine.specs.channels.Hops.{packets_on, ChannelAsked}
 use Rattle.run_engine.proofs.Channels.HopsAt.{hop-at, HaveLevelsAt}
-use Rattle.call_script.specs.Tasks.{Network}
-use Rattle.run_engine.specs.runs.Runs.{IsRun}
 use Rattle.interleave_core.proofs.Delays.HopLaw.{TwoHops, hop-law}
 use Rattle.run_engine.specs.channels.Paths.{HopAt, hop_ticks, IsBehind, delay_before}
 

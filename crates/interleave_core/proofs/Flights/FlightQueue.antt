@@ -1,11 +1,6 @@
 -- The flights of one channel to one link as a queue, over plain lists: their numbers follow one another, and their rounds rise.
 use Rattle.std.proofs.Common.{◌≡◌, ℕ, suc, ◌≤◌, ◌⊎◌, Bool, true, false, List, [], ◌∷◌, ◌++◌, Some, sym, ap, ◌∙◌, subst, inl, inr, arith}
-use Rattle.std.proofs.lemmas.Bool.{cases_Bool, eqb-true}
-use Rattle.std.proofs.lemmas.Option.{same_Some}
-use Rattle.std.specs.Prelude.{find}
-use Rattle.link_steps.specs.Lists.{Each, without_first}
-use Rattle.tick_plane.specs.declared.flight.Flight.{Flight}
-use Rattle.tick_plane.specs.Planes.{is_due}
+use Rattle.run_engine.proofs.Words.{cases_Bool, eqb-true, same_Some, find, Each, without_first, Flight, is_due}
 
 -- the flights that pass `own` have the numbers n + 1, .., dep, in this order, and rising rounds from low to hi
 abbrev pub IsQueue : (Flight → Bool) → ℕ → ℕ → ℕ → ℕ → List Flight → Type 0

@@ -1,40 +1,9 @@
 -- In a run: the flights of a channel from one hop to the next are a queue from those taken to those departed.
 use Rattle.std.proofs.Common.{◌≡◌, ◌≢◌, ℕ, suc, ◌+◌, ◌≤◌, Bool, true, false, List, [], ◌∷◌, ◌++◌, length, Option, Some, None, refl, sym, ap, ◌∙◌, subst, inl, inr, arith, append-nil}
-use Rattle.std.proofs.lemmas.Bool.{cases_Bool, eqb-true, eqb-false, eq-eqb, and_parts, and_from}
-use Rattle.std.proofs.lemmas.Option.{same_Some}
-use Rattle.std.specs.List.{slice_get}
-use Rattle.std.specs.Option.{option_map}
-use Rattle.std.specs.Prelude.{nat_eq, find}
-use Rattle.net_units.specs.Numbers.{link_number, channel_number}
-use Rattle.net_units.specs.declared.numbers.LinkNo.{LinkNo}
-use Rattle.hop_reservation.specs.Routes.{link_of}
-use Rattle.link_steps.specs.declared.asks.Ask.{Ask}
-use Rattle.link_steps.specs.declared.asks.Ask.TheVariants.{Arrive, Tick}
-use Rattle.link_steps.specs.declared.asks.Packet.{Packet}
-use Rattle.link_steps.specs.declared.replies.Entry.{Entry}
-use Rattle.link_steps.specs.declared.replies.Reply.{Reply}
+use Rattle.run_engine.proofs.Words.{cases_Bool, eqb-true, eqb-false, eq-eqb, and_parts, and_from, same_Some, slice_get, option_map, nat_eq, find, link_number, channel_number, LinkNo, link_of, Ask, Arrive, Tick, Packet, Entry, Reply, LinkShape, Link, IsAdmissible, without_first, Among, reply_to, tick_reply, Row, Scan, clock_with, clock_of, scan_of, is_row_of, arrived_packet, after, Arrival, RequestFits, hop_link, Request, Done, is_of_channel, channel_packets, SizeWithin, NetworkFits, Network, Flight, Plane, is_due, next_due, ask_due, flight_to, flight_in, tick_made, plane_with, plane_of, entry_of, part_of, replies_to, plane_at, IsNext, IsRun, ticked, gone_of}
 use Rattle.link_steps.specs.declared.replies.Reply.TheVariants as Is
-use Rattle.link_steps.specs.declared.shape.LinkShape.{LinkShape}
-use Rattle.link_steps.specs.Split.{Link}
-use Rattle.link_steps.specs.Admissible.{IsAdmissible}
-use Rattle.link_steps.specs.Lists.{without_first, Among}
-use Rattle.link_steps.specs.Replies.{reply_to, tick_reply}
-use Rattle.link_steps.specs.Rows.{Row}
-use Rattle.link_steps.specs.Scan.{Scan, clock_with, clock_of, scan_of, is_row_of, arrived_packet, after}
-use Rattle.link_steps.specs.Service.{Arrival}
 use Rattle.link_steps.proofs.SearchAndFilter.{Each-among}
-use Rattle.setup_protocol.specs.Hops.{RequestFits}
-use Rattle.setup_protocol.specs.Setup.{hop_link}
-use Rattle.setup_protocol.specs.declared.request.Request.{Request}
-use Rattle.run_record.specs.declared.done.Done.{Done}
-use Rattle.channel_laws.specs.Channels.{is_of_channel, channel_packets, SizeWithin}
-use Rattle.call_script.specs.Fits.{NetworkFits}
 use Rattle.run_engine.specs.channels.Hops.{packets_on, terms_at, ChannelAsked}
-use Rattle.call_script.specs.Tasks.{Network}
-use Rattle.tick_plane.specs.declared.flight.Flight.{Flight}
-use Rattle.tick_plane.specs.Planes.{Plane, is_due, next_due, ask_due, flight_to, flight_in, tick_made, plane_with, plane_of}
-use Rattle.run_record.specs.Runs.{entry_of, part_of, replies_to}
-use Rattle.run_engine.specs.runs.Runs.{plane_at, IsNext, IsRun}
 use Rattle.channel_laws.proofs.ChannelRows.{packets-off, row-of, find-passes}
 use Rattle.run_engine.proofs.Tasks.CallerAsksFit.{IsCallers}
 use Rattle.interleave_core.proofs.Flights.FlightQueue.{IsQueue, queue-head, queue-skips, queue-other}
@@ -49,7 +18,6 @@ use Rattle.run_engine.specs.channels.Flights.{IsPunctual}
 use Rattle.run_engine.proofs.Flights.Punctual.{run-punctual}
 use Rattle.interleave_core.proofs.Flights.QueueTicks.{leg, QueueOf, SendsTo, queue-ticks}
 use Rattle.run_engine.proofs.Runs.RunLegal.{part-on, part-off, run-stands, part-admissible, by-part, arrive-due, by-actor, caller-asks}
-use Rattle.channel_laws.specs.Departing.{ticked, gone_of}
 use Rattle.channel_laws.proofs.SentInTime.{sent-facts, tick-answer}
 use Rattle.link_steps.proofs.EntryEffects.{packets-by}
 
@@ -92,50 +60,51 @@ abbrev pub IsNoArriveOf : ℕ → Ask → Type 0
 IsNoArriveOf c (Arrive packet) = channel_number packet.chan ≢ c
 IsNoArriveOf c _ = Unit {0}
 
-far-after : (network : Network) (request : Request) (i : ℕ) (two : TwoHops network request i) (past : List Done) (ask : Ask) (reply : Reply) → NetworkFits network → IsRun network past → ChannelAsked request past → IsNoArriveOf (channel_number request.chan) ask
-    → channel_packets (channel_number request.chan) (after two.far.shape (clock_of (part_of (link_number two.after.link) past)) (scan_of two.far.shape (part_of (link_number two.after.link) past)) ask reply).packets ≡ channel_packets (channel_number request.chan) (packets_on two.far (link_number two.after.link) past)
-far-after network request i two past ask reply fits run asked other =
-    let c : ℕ = channel_number request.chan in
-    let scan : Scan = scan_of two.far.shape (part_of (link_number two.after.link) past) in
-    packets-by (λ a r clock packets. IsNoArriveOf c a → channel_packets c packets ≡ channel_packets c scan.packets) two.far.shape (clock_of (part_of (link_number two.after.link) past)) scan
-    (λ a r off. refl)
-    (λ packet row clock e found off. off-arrives c (clock_of (part_of (link_number two.after.link) past)) packet scan row found off)
-    (λ r off. far-ticks network request i two past fits run asked)
-    ask reply other
+module _ (network : Network) (request : Request) (i : ℕ) (two : TwoHops network request i) where
+  far-after : (past : List Done) (ask : Ask) (reply : Reply) → NetworkFits network → IsRun network past → ChannelAsked request past → IsNoArriveOf (channel_number request.chan) ask
+      → channel_packets (channel_number request.chan) (after two.far.shape (clock_of (part_of (link_number two.after.link) past)) (scan_of two.far.shape (part_of (link_number two.after.link) past)) ask reply).packets ≡ channel_packets (channel_number request.chan) (packets_on two.far (link_number two.after.link) past)
+  far-after past ask reply fits run asked other =
+      let c : ℕ = channel_number request.chan in
+      let scan : Scan = scan_of two.far.shape (part_of (link_number two.after.link) past) in
+      packets-by (λ a r clock packets. IsNoArriveOf c a → channel_packets c packets ≡ channel_packets c scan.packets) two.far.shape (clock_of (part_of (link_number two.after.link) past)) scan
+      (λ a r off. refl)
+      (λ packet row clock e found off. off-arrives c (clock_of (part_of (link_number two.after.link) past)) packet scan row found off)
+      (λ r off. far-ticks network request i two past fits run asked)
+      ask reply other
 
-pub far-kept : (network : Network) (request : Request) (i : ℕ) (two : TwoHops network request i) (past : List Done) (done : Done) → NetworkFits network → IsRun network past → ChannelAsked request past → (link_number done.link ≡ link_number two.after.link → IsNoArriveOf (channel_number request.chan) done.ask) → far_count network request i two (done ∷ past) ≡ far_count network request i two past
-unfolding scan_of
-far-kept network request i two past done fits run asked other =
-    by-part (λ h. length (channel_packets (channel_number request.chan) (scan_of two.far.shape h).packets) ≡ far_count network request i two past) (link_number two.after.link) done past
-    (λ at. ap length (far-after network request i two past done.ask done.reply fits run asked (other at))) (λ off. refl)
+  pub far-kept : (past : List Done) (done : Done) → NetworkFits network → IsRun network past → ChannelAsked request past → (link_number done.link ≡ link_number two.after.link → IsNoArriveOf (channel_number request.chan) done.ask) → far_count network request i two (done ∷ past) ≡ far_count network request i two past
+  unfolding scan_of
+  far-kept past done fits run asked other =
+      by-part (λ h. length (channel_packets (channel_number request.chan) (scan_of two.far.shape h).packets) ≡ far_count network request i two past) (link_number two.after.link) done past
+      (λ at. ap length (far-after past done.ask done.reply fits run asked (other at))) (λ off. refl)
 
--- the packets of the channel at the near hop go to the far one
-pub near-sends : (network : Network) (request : Request) (i : ℕ) (two : TwoHops network request i) (run : List Done) (p : Arrival) → NetworkFits network → RequestFits network.links request → IsRun network run → ChannelAsked request run → Among p (packets_on two.near (link_number two.hop.link) run) → is_of_channel (channel_number request.chan) p ≡ true
-    → SendsTo two.near.shape (channel_number request.chan) (link_number two.after.link) (part_of (link_number two.hop.link) run)
-near-sends network request i two run p fits sound is asked among chan =
-    let row = packet-offered network request run (link_number two.hop.link) two.near p fits is asked sound two.linked chan among in
-    let index : row.route.index ≡ i = index-apart request.route row.route.index i row.route.hop two.hop sound.route row.route.stands two.stands row.route.number in
-    record {
-      terms = terms_at request row.route.index;
-      row = row.row.row;
-      tells = row.row.tells;
-      link = two.after.link;
-      number = refl;
-      next = ap (λ k. option_map hop_link (slice_get request.route (suc k))) index ∙ ap (option_map hop_link) two.follows;
-    }
+  -- the packets of the channel at the near hop go to the far one
+  pub near-sends : (run : List Done) (p : Arrival) → NetworkFits network → RequestFits network.links request → IsRun network run → ChannelAsked request run → Among p (packets_on two.near (link_number two.hop.link) run) → is_of_channel (channel_number request.chan) p ≡ true
+      → SendsTo two.near.shape (channel_number request.chan) (link_number two.after.link) (part_of (link_number two.hop.link) run)
+  near-sends run p fits sound is asked among chan =
+      let row = packet-offered network request run (link_number two.hop.link) two.near p fits is asked sound two.linked chan among in
+      let index : row.route.index ≡ i = index-apart request.route row.route.index i row.route.hop two.hop sound.route row.route.stands two.stands row.route.number in
+      record {
+        terms = terms_at request row.route.index;
+        row = row.row.row;
+        tells = row.row.tells;
+        link = two.after.link;
+        number = refl;
+        next = ap (λ k. option_map hop_link (slice_get request.route (suc k))) index ∙ ap (option_map hop_link) two.follows;
+      }
 
--- a packet of the channel that goes to the far link is at the near hop's
-pub leg-near : (network : Network) (request : Request) (i : ℕ) (two : TwoHops network request i) (run : List Done) (n : ℕ) (link : Link) (p : Arrival) (to : LinkNo) → NetworkFits network → RequestFits network.links request → IsRun network run → ChannelAsked request run → slice_get network.links n ≡ Some link → Among p (packets_on link n run) → is_of_channel (channel_number request.chan) p ≡ true → p.next ≡ Some to → link_number to ≡ link_number two.after.link
-    → n ≡ link_number two.hop.link
-leg-near network request i two run n link p to fits sound is asked linked among chan next at =
-    let row = packet-offered network request run n link p fits is asked sound linked chan among in
-    let packets : Among p (channel_packets (channel_number request.chan) (packets_on link n run)) = Among-passes (is_of_channel (channel_number request.chan)) p (packets_on link n run) chan among in
-    let named : p.next ≡ option_map hop_link (slice_get request.route (suc row.route.index)) = Each-among (λ q. q.next ≡ (terms_at request row.route.index).next) p _ row.row.tells.nexts packets in
-    let rest = next-link (slice_get request.route (suc row.route.index)) to (sym named ∙ next) in
-    let index : suc row.route.index ≡ suc i = index-apart request.route (suc row.route.index) (suc i) rest.0 two.after sound.route rest.1 two.follows (ap link_number rest.2 ∙ at) in
-    let same : row.route.index ≡ i = omega (arith, index) in
-    let hop = same_Some row.route.hop two.hop (sym row.route.stands ∙ ap (slice_get request.route) same ∙ two.stands) in
-    sym row.route.number ∙ ap link_of hop
+  -- a packet of the channel that goes to the far link is at the near hop's
+  pub leg-near : (run : List Done) (n : ℕ) (link : Link) (p : Arrival) (to : LinkNo) → NetworkFits network → RequestFits network.links request → IsRun network run → ChannelAsked request run → slice_get network.links n ≡ Some link → Among p (packets_on link n run) → is_of_channel (channel_number request.chan) p ≡ true → p.next ≡ Some to → link_number to ≡ link_number two.after.link
+      → n ≡ link_number two.hop.link
+  leg-near run n link p to fits sound is asked linked among chan next at =
+      let row = packet-offered network request run n link p fits is asked sound linked chan among in
+      let packets : Among p (channel_packets (channel_number request.chan) (packets_on link n run)) = Among-passes (is_of_channel (channel_number request.chan)) p (packets_on link n run) chan among in
+      let named : p.next ≡ option_map hop_link (slice_get request.route (suc row.route.index)) = Each-among (λ q. q.next ≡ (terms_at request row.route.index).next) p _ row.row.tells.nexts packets in
+      let rest = next-link (slice_get request.route (suc row.route.index)) to (sym named ∙ next) in
+      let index : suc row.route.index ≡ suc i = index-apart request.route (suc row.route.index) (suc i) rest.0 two.after sound.route rest.1 two.follows (ap link_number rest.2 ∙ at) in
+      let same : row.route.index ≡ i = omega (arith, index) in
+      let hop = same_Some row.route.hop two.hop (sym row.route.stands ∙ ap (slice_get request.route) same ∙ two.stands) in
+      sym row.route.number ∙ ap link_of hop
 
 -- ---- one entry more
 
@@ -170,7 +139,6 @@ elsewhere-keeps network request i two run m link h n dep hi flights (Is.Ticked c
             absurd (other (leg-near network request i two run m link from.start.packet l fits sound is-run asked linked (subst (λ p. Among from.start.packet (scan_of link.shape p).packets) (sym part) there) (level-channel link.shape (channel_number request.chan) from.start.packet numbers from.level (sym (ap (λ s. channel_number s.packet.chan) from.is) ∙ chan)) (sym (ap (λ s. s.next) from.is) ∙ same) at)))
         | inr off ↦ queue-other (leg (channel_number request.chan) (link_number two.after.link)) n dep 0 hi flights (record { to = l; round = sent.arrives; packet = sent.packet }) off is
       ]
-elsewhere-keeps network request i two run m link h n dep hi flights (Is.Ticked clock full None best_sent best_lost) fits sound is-run asked linked part legal answered other is = subst (IsQueue (leg (channel_number request.chan) (link_number two.after.link)) n dep 0 hi) (sym (append-nil flights)) is
 elsewhere-keeps network request i two run m link h n dep hi flights _ fits sound is-run asked linked part legal answered other is = subst (IsQueue (leg (channel_number request.chan) (link_number two.after.link)) n dep 0 hi) (sym (append-nil flights)) is
 
 -- each arrive of the channel at the far hop is taken there
@@ -231,45 +199,46 @@ other-callers : (c : ℕ) (ask : Ask) → IsCallers ask → IsNoArriveOf c ask
 other-callers c (Arrive packet) callers = absurd callers
 other-callers c _ callers = tt
 
--- one entry more, where an arrive of the channel is taken
-pub leg-step : (network : Network) (request : Request) (i : ℕ) (two : TwoHops network request i) (done : Done) (past : List Done) → NetworkFits network → RequestFits network.links request → ((run : List Done) → IsRun network run → ChannelAsked request run) → IsRun network (done ∷ past) → ArriveCounts network request i two done past → LegStands network request i two past → LegStands network request i two (done ∷ past)
-unfolding IsRun
-leg-step network request i two done past fits sound asked run counts is =
-    let stands = run-stands network past fits run.0 in
-    by-actor (λ p. QueueOf two.near.shape (channel_number request.chan) (link_number two.after.link) (far_count network request i two (done ∷ past)) (part_of (link_number two.hop.link) (done ∷ past)) p.flights) network done past run.1
-    (λ asks. leg-with network request i two (plane_at network past) (next_due (plane_at network past)) done past fits sound run.0 run (asked past run.0) (asked (done ∷ past) run) run.1 counts (run-punctual network past fits run.0) refl asks.asks is)
-    (λ asks.
-    let callers = (caller-asks network past done stands asks).callers in
-    near-quiet network two.near.shape (channel_number request.chan) (link_number two.after.link) (far_count network request i two (done ∷ past)) (link_number two.hop.link) done past (plane_at network past).flights (part-admissible network (done ∷ past) (link_number two.hop.link) two.near fits run two.linked) (no-tick-callers done.ask callers)
-    (subst (λ n. QueueOf two.near.shape (channel_number request.chan) (link_number two.after.link) n (part_of (link_number two.hop.link) past) (plane_at network past).flights) (sym (far-kept network request i two past done fits run.0 (asked past run.0) (λ at. other-callers (channel_number request.chan) done.ask callers))) is))
+module _ (network : Network) (request : Request) (i : ℕ) (two : TwoHops network request i) where
+  -- one entry more, where an arrive of the channel is taken
+  pub leg-step : (done : Done) (past : List Done) → NetworkFits network → RequestFits network.links request → ((run : List Done) → IsRun network run → ChannelAsked request run) → IsRun network (done ∷ past) → ArriveCounts network request i two done past → LegStands network request i two past → LegStands network request i two (done ∷ past)
+  unfolding IsRun
+  leg-step done past fits sound asked run counts is =
+      let stands = run-stands network past fits run.0 in
+      by-actor (λ p. QueueOf two.near.shape (channel_number request.chan) (link_number two.after.link) (far_count network request i two (done ∷ past)) (part_of (link_number two.hop.link) (done ∷ past)) p.flights) network done past run.1
+      (λ asks. leg-with network request i two (plane_at network past) (next_due (plane_at network past)) done past fits sound run.0 run (asked past run.0) (asked (done ∷ past) run) run.1 counts (run-punctual network past fits run.0) refl asks.asks is)
+      (λ asks.
+      let callers = (caller-asks network past done stands asks).callers in
+      near-quiet network two.near.shape (channel_number request.chan) (link_number two.after.link) (far_count network request i two (done ∷ past)) (link_number two.hop.link) done past (plane_at network past).flights (part-admissible network (done ∷ past) (link_number two.hop.link) two.near fits run two.linked) (no-tick-callers done.ask callers)
+      (subst (λ n. QueueOf two.near.shape (channel_number request.chan) (link_number two.after.link) n (part_of (link_number two.hop.link) past) (plane_at network past).flights) (sym (far-kept network request i two past done fits run.0 (asked past run.0) (λ at. other-callers (channel_number request.chan) done.ask callers))) is))
 
--- ---- the first entry, and the number of an arrive
+  -- ---- the first entry, and the number of an arrive
 
-pub leg-start : (network : Network) (request : Request) (i : ℕ) (two : TwoHops network request i) → LegStands network request i two []
-unfolding part_of scan_of clock_of replies_to plane_of
-leg-start network request i two = (refl, omega arith)
+  pub leg-start : LegStands network request i two []
+  unfolding part_of scan_of clock_of replies_to plane_of
+  leg-start = (refl, omega arith)
 
-due-number : (network : Network) (request : Request) (i : ℕ) (two : TwoHops network request i) (plane : Plane) (found : Option Flight) (done : Done) (past : List Done) (packet : Packet) → IsPunctual plane → next_due plane ≡ found → ask_due plane.ticked found ≡ (done.link, done.ask) → done.ask ≡ Arrive packet → channel_number packet.chan ≡ channel_number request.chan → link_number done.link ≡ link_number two.after.link
-    → QueueOf two.near.shape (channel_number request.chan) (link_number two.after.link) (far_count network request i two past) (part_of (link_number two.hop.link) past) plane.flights → packet.number ≡ suc (far_count network request i two past)
-due-number network request i two plane None done past packet punctual due asks arrives chan at is = absurd (let clash : Tick ≡ Arrive packet = ap (λ pair. pair.1) asks ∙ arrives in cc)
-due-number network request i two plane (Some flight) done past packet punctual due asks arrives chan at is =
-    let same : flight.packet ≡ packet = same-packet flight.packet packet (ap (λ pair. pair.1) asks ∙ arrives) in
-    let to : flight.to ≡ done.link = ap (λ pair. pair.0) asks in
-    let mine : leg (channel_number request.chan) (link_number two.after.link) flight ≡ true = and_from (nat_eq (channel_number flight.packet.chan) (channel_number request.chan)) (nat_eq (link_number flight.to) (link_number two.after.link)) (eq-eqb (channel_number flight.packet.chan) (channel_number request.chan) (ap (λ p. channel_number p.chan) same ∙ chan)) (eq-eqb (link_number flight.to) (link_number two.after.link) (ap link_number to ∙ at)) in
-    ap (λ p. p.number) (sym same) ∙ (queue-head (leg (channel_number request.chan) (link_number two.after.link)) (far_count network request i two past) _ 0 _ plane.round plane.flights flight punctual due mine is).0
+  due-number : (plane : Plane) (found : Option Flight) (done : Done) (past : List Done) (packet : Packet) → IsPunctual plane → next_due plane ≡ found → ask_due plane.ticked found ≡ (done.link, done.ask) → done.ask ≡ Arrive packet → channel_number packet.chan ≡ channel_number request.chan → link_number done.link ≡ link_number two.after.link
+      → QueueOf two.near.shape (channel_number request.chan) (link_number two.after.link) (far_count network request i two past) (part_of (link_number two.hop.link) past) plane.flights → packet.number ≡ suc (far_count network request i two past)
+  due-number plane None done past packet punctual due asks arrives chan at is = absurd (let clash : Tick ≡ Arrive packet = ap (λ pair. pair.1) asks ∙ arrives in cc)
+  due-number plane (Some flight) done past packet punctual due asks arrives chan at is =
+      let same : flight.packet ≡ packet = same-packet flight.packet packet (ap (λ pair. pair.1) asks ∙ arrives) in
+      let to : flight.to ≡ done.link = ap (λ pair. pair.0) asks in
+      let mine : leg (channel_number request.chan) (link_number two.after.link) flight ≡ true = and_from (nat_eq (channel_number flight.packet.chan) (channel_number request.chan)) (nat_eq (link_number flight.to) (link_number two.after.link)) (eq-eqb (channel_number flight.packet.chan) (channel_number request.chan) (ap (λ p. channel_number p.chan) same ∙ chan)) (eq-eqb (link_number flight.to) (link_number two.after.link) (ap link_number to ∙ at)) in
+      ap (λ p. p.number) (sym same) ∙ (queue-head (leg (channel_number request.chan) (link_number two.after.link)) (far_count network request i two past) _ 0 _ plane.round plane.flights flight punctual due mine is).0
 
--- an arrive of the channel at the far hop has the number after those taken there
-pub arrive-in-turn : (network : Network) (request : Request) (i : ℕ) (two : TwoHops network request i) (done : Done) (past : List Done) (packet : Packet) → NetworkFits network → IsRun network past → (next : IsNext network past done) → done.ask ≡ Arrive packet → channel_number packet.chan ≡ channel_number request.chan → link_number done.link ≡ link_number two.after.link → LegStands network request i two past → packet.number ≡ suc (far_count network request i two past)
-arrive-in-turn network request i two done past packet fits run next arrives chan at is =
-    let asks = arrive-due network past done packet fits run next arrives in
-    due-number network request i two (plane_at network past) (next_due (plane_at network past)) done past packet (run-punctual network past fits run) refl asks.asks arrives chan at is
+  -- an arrive of the channel at the far hop has the number after those taken there
+  pub arrive-in-turn : (done : Done) (past : List Done) (packet : Packet) → NetworkFits network → IsRun network past → (next : IsNext network past done) → done.ask ≡ Arrive packet → channel_number packet.chan ≡ channel_number request.chan → link_number done.link ≡ link_number two.after.link → LegStands network request i two past → packet.number ≡ suc (far_count network request i two past)
+  arrive-in-turn done past packet fits run next arrives chan at is =
+      let asks = arrive-due network past done packet fits run next arrives in
+      due-number (plane_at network past) (next_due (plane_at network past)) done past packet (run-punctual network past fits run) refl asks.asks arrives chan at is
 
--- and a size within the contract
-pub arrive-small : (network : Network) (request : Request) (i : ℕ) (two : TwoHops network request i) (done : Done) (past : List Done) (packet : Packet) → NetworkFits network → RequestFits network.links request → IsRun network past → ChannelAsked request past → (next : IsNext network past done) → done.ask ≡ Arrive packet → channel_number packet.chan ≡ channel_number request.chan → link_number done.link ≡ link_number two.after.link → packet.size ≤ request.contract.smax
-arrive-small network request i two done past packet fits sound run asked next arrives chan at =
-    let near = from-near network request i two past done packet fits sound run asked (arrive-comes network past done packet fits run next arrives) chan at in
-    let sizes = (legal-within two.near.shape (terms_at request i) (channel_number request.chan) (part_of (link_number two.hop.link) past) (part-admissible network past (link_number two.hop.link) two.near fits run two.linked) (asked.names i two.hop two.stands)) in
-    let own = Among-passes (is_of_channel (channel_number request.chan)) near.taken (packets_on two.near (link_number two.hop.link) past) near.own near.among in
-    let small = Each-among (SizeWithin (terms_at request i)) near.taken _ sizes own in
-    let size = near.size in
-    omega (arith, small, size)
+  -- and a size within the contract
+  pub arrive-small : (done : Done) (past : List Done) (packet : Packet) → NetworkFits network → RequestFits network.links request → IsRun network past → ChannelAsked request past → (next : IsNext network past done) → done.ask ≡ Arrive packet → channel_number packet.chan ≡ channel_number request.chan → link_number done.link ≡ link_number two.after.link → packet.size ≤ request.contract.smax
+  arrive-small done past packet fits sound run asked next arrives chan at =
+      let near = from-near network request i two past done packet fits sound run asked (arrive-comes network past done packet fits run next arrives) chan at in
+      let sizes = (legal-within two.near.shape (terms_at request i) (channel_number request.chan) (part_of (link_number two.hop.link) past) (part-admissible network past (link_number two.hop.link) two.near fits run two.linked) (asked.names i two.hop two.stands)) in
+      let own = Among-passes (is_of_channel (channel_number request.chan)) near.taken (packets_on two.near (link_number two.hop.link) past) near.own near.among in
+      let small = Each-among (SizeWithin (terms_at request i)) near.taken _ sizes own in
+      let size = near.size in
+      omega (arith, small, size)

@@ -1,29 +1,12 @@
 -- What a tick of the near hop's link does to the queue of a channel's flights to the far hop.
 use Rattle.std.proofs.Common.{◌≡◌, ◌≢◌, ℕ, suc, ◌+◌, Bool, true, false, ◌&&◌, List, [], ◌∷◌, ◌++◌, Option, Some, None, refl, sym, ap, ◌∙◌, subst, arith, append-nil}
-use Rattle.std.proofs.lemmas.Bool.{eq-eqb, ne_eqb, and_from}
-use Rattle.std.specs.Prelude.{nat_eq}
-use Rattle.net_units.specs.Numbers.{link_number, channel_number}
-use Rattle.net_units.specs.declared.numbers.LinkNo.{LinkNo}
-use Rattle.link_steps.specs.declared.replies.Entry.{Entry}
-use Rattle.link_steps.specs.declared.replies.Reply.{Reply}
+use Rattle.run_engine.proofs.Words.{eq-eqb, ne_eqb, and_from, nat_eq, link_number, channel_number, LinkNo, Entry, Reply, Sent, LinkShape, IsAdmissible, tick_reply, Row, clock_of, scan_of, Arrival, leaves_at, Among, HopTerms, is_of_channel, channel_packets, RowTells, Flight, flight_to, flight_in, ticked, IsSent, gone_of, TickSends, SendsOwn, SendsOther}
 use Rattle.link_steps.specs.declared.replies.Reply.TheVariants as Is
-use Rattle.link_steps.specs.declared.replies.Sent.{Sent}
-use Rattle.link_steps.specs.declared.shape.LinkShape.{LinkShape}
-use Rattle.link_steps.specs.Admissible.{IsAdmissible}
-use Rattle.link_steps.specs.Replies.{tick_reply}
-use Rattle.link_steps.specs.Rows.{Row}
-use Rattle.link_steps.specs.Scan.{clock_of, scan_of}
-use Rattle.link_steps.specs.Service.{Arrival, leaves_at}
-use Rattle.link_steps.specs.Lists.{Among}
 use Rattle.link_steps.proofs.SearchAndFilter.{Each-among}
-use Rattle.channel_laws.specs.Channels.{HopTerms, is_of_channel, channel_packets, RowTells}
-use Rattle.tick_plane.specs.declared.flight.Flight.{Flight}
-use Rattle.tick_plane.specs.Planes.{flight_to, flight_in}
 use Rattle.interleave_core.proofs.Flights.FlightQueue.{IsQueue, queue-waits, queue-other, queue-more}
 use Rattle.link_steps.proofs.PacketRows.{Among-passes}
 use Rattle.channel_laws.proofs.DepartedCount.{tick-sends, start-among, more-legal, level-channel}
 use Rattle.channel_laws.proofs.NumberedPackets.{HasNumber, packets-have_numbers}
-use Rattle.channel_laws.specs.Departing.{ticked, IsSent, gone_of, TickSends, SendsOwn, SendsOther}
 
 -- the flights of a channel to the link of a number
 abbrev pub leg : ℕ → ℕ → Flight → Bool
@@ -47,12 +30,10 @@ other-leg c to f off = rw (ne_eqb (channel_number f.packet.chan) c off) refl
 
 -- of another channel
 others-keep : (c to n dep hi : ℕ) (flights : List Flight) (reply : Reply) → ((sent : Sent) (clock full : ℕ) (best_sent best_lost : Bool) → reply ≡ Is.Ticked clock full (Some sent) best_sent best_lost → channel_number sent.packet.chan ≢ c) → IsQueue (leg c to) n dep 0 hi flights → IsQueue (leg c to) n dep 0 hi (flights ++ flight_in reply)
-others-keep c to n dep hi flights (Is.Ticked clock full None best_sent best_lost) off is = subst (IsQueue (leg c to) n dep 0 hi) (sym (append-nil flights)) is
 others-keep c to n dep hi flights (Is.Ticked clock full (Some sent) best_sent best_lost) off is = by-next sent.next where
   by-next : (next : Option LinkNo) → IsQueue (leg c to) n dep 0 hi (flights ++ flight_to sent next)
   by-next None = subst (IsQueue (leg c to) n dep 0 hi) (sym (append-nil flights)) is
   by-next (Some l) = queue-other (leg c to) n dep 0 hi flights (record { to = l; round = sent.arrives; packet = sent.packet }) (other-leg c to (record { to = l; round = sent.arrives; packet = sent.packet }) (off sent clock full best_sent best_lost refl)) is
-others-keep c to n dep hi flights (Is.Offer level reach) off is = subst (IsQueue (leg c to) n dep 0 hi) (sym (append-nil flights)) is
 others-keep c to n dep hi flights _ off is = subst (IsQueue (leg c to) n dep 0 hi) (sym (append-nil flights)) is
 
 -- where a start of the tick is of the channel, its packet goes to the link

@@ -1,40 +1,11 @@
 -- Past the first hop an arrive is taken where its row is ready.
 use Rattle.std.proofs.Common.{◌≡◌, ℕ, suc, ◌<◌, ◌≤◌, false, not, List, [], ◌∷◌, length, Some, None, refl, sym, ap, ◌∙◌, inl, inr, arith}
-use Rattle.std.proofs.lemmas.Bool.{cases_Bool, eq-eqb, ne_eqb, le-leb, leb-true, lt-ltb}
-use Rattle.std.proofs.lemmas.List.{length-append}
-use Rattle.std.proofs.lemmas.Option.{same_Some}
-use Rattle.std.specs.List.{slice_get}
-use Rattle.std.specs.Prelude.{find, nat_le}
-use Rattle.net_units.specs.LevelBounds.{bound_at}
-use Rattle.net_units.specs.Numbers.{link_number, channel_number, level_number}
-use Rattle.link_steps.specs.declared.asks.Ask.TheVariants.{Arrive}
-use Rattle.link_steps.specs.declared.asks.Packet.{Packet}
-use Rattle.link_steps.specs.declared.replies.Phase.{Phase}
-use Rattle.link_steps.specs.declared.replies.Phase.TheVariants.{Tentative, Committed, Closing}
-use Rattle.link_steps.specs.declared.replies.Reply.{Reply}
+use Rattle.run_engine.proofs.Words.{cases_Bool, eq-eqb, ne_eqb, le-leb, leb-true, lt-ltb, length-append, same_Some, slice_get, find, nat_le, bound_at, link_number, channel_number, level_number, Arrive, Packet, Phase, Tentative, Committed, Closing, Reply, LinkShape, Link, slots_of, held_packets, Each, eligible_next, arrive_reply, arrive_to, reply_at, reply_to, Reservation, is_phase, Row, Scan, clock_of, scan_of, is_row_of, arrived_packet, with_arrival, after, here_at, RequestFits, Request, Done, channel_packets, channel_of, NetworkFits, Network, part_of, IsNext, IsRun}
 use Rattle.link_steps.specs.declared.replies.Reply.TheVariants as Is
-use Rattle.link_steps.specs.declared.shape.LinkShape.{LinkShape}
-use Rattle.link_steps.specs.Split.{Link}
-use Rattle.link_steps.specs.Buffer.{slots_of, held_packets}
-use Rattle.link_steps.specs.Lists.{Each}
 use Rattle.link_steps.specs.declared.replies.Refusal.TheVariants.{Full, Stray}
 use Rattle.link_steps.specs.declared.replies.Why.TheVariants.{FirstHop, Uncommitted, WrongNumber, Big}
 use Rattle.link_steps.specs.Refusals.{RefusalRule, refused_unless, first_refusal, first_hop, uncommitted, wrong_number, past_count, big, full}
-use Rattle.link_steps.specs.Regulator.{eligible_next}
-use Rattle.link_steps.specs.Replies.{arrive_reply, arrive_to, reply_at, reply_to}
-use Rattle.link_steps.specs.Reservation.{Reservation, is_phase}
-use Rattle.link_steps.specs.Rows.{Row}
-use Rattle.link_steps.specs.Scan.{Scan, clock_of, scan_of, is_row_of, arrived_packet, with_arrival, after}
-use Rattle.link_steps.specs.Service.{here_at}
-use Rattle.setup_protocol.specs.Hops.{RequestFits}
-use Rattle.setup_protocol.specs.declared.request.Request.{Request}
-use Rattle.run_record.specs.declared.done.Done.{Done}
-use Rattle.channel_laws.specs.Channels.{channel_packets, channel_of}
-use Rattle.call_script.specs.Fits.{NetworkFits}
 use Rattle.run_engine.specs.channels.Hops.{packets_on, ChannelAsked}
-use Rattle.call_script.specs.Tasks.{Network}
-use Rattle.run_record.specs.Runs.{part_of}
-use Rattle.run_engine.specs.runs.Runs.{IsNext, IsRun}
 use Rattle.interleave_core.proofs.Delays.BufferLaw.{slot-free}
 use Rattle.channel_laws.proofs.ChannelRows.{own-count, packets-on, row-of, find-passes}
 use Rattle.interleave_core.proofs.Delays.HopLaw.{TwoHops, far-row-at}

@@ -1,41 +1,14 @@
 -- In every run each arrive of a channel past its first hop finds its row ready, so it is taken, and the flights from hop to
 -- hop are a queue.
 use Rattle.std.proofs.Common.{◌≡◌, ℕ, zero, suc, ◌<◌, ◌≤◌, true, List, [], ◌∷◌, length, Some, refl, sym, ap, ◌∙◌, subst, inl, inr, arith}
-use Rattle.std.proofs.lemmas.Bool.{cases_Bool, cases_lt, eq-eqb, ne_eqb, and_from, lt-ltb}
-use Rattle.std.proofs.lemmas.List.{length-map}
-use Rattle.std.proofs.lemmas.Option.{same_Some, slice_get_within}
-use Rattle.std.specs.List.{slice_get}
-use Rattle.std.specs.Option.{option_map}
-use Rattle.std.specs.Prelude.{find, nat_eq, nat_lt}
-use Rattle.net_units.specs.LevelBounds.{bound_at}
-use Rattle.net_units.specs.Numbers.{link_number, channel_number, level_number}
-use Rattle.net_units.specs.declared.numbers.ChanNo.{ChanNo}
+use Rattle.run_engine.proofs.Words.{cases_Bool, cases_lt, eq-eqb, ne_eqb, and_from, lt-ltb, length-map, same_Some, slice_get_within, slice_get, option_map, find, nat_eq, nat_lt, bound_at, link_number, channel_number, level_number, ChanNo, link_of, Arrive, Packet, Each, Among, eligible_next, reply_to, Reservation, is_of, Row, clock_of, scan_of, is_row_of, Arrival, RequestFits, hop_link, Request, Done, is_of_channel, channel_packets, tick_of_packet, channel_of, offers_to, NetworkFits, Network, part_of, IsNext, IsRun, OwnedFully, held_by}
 use Rattle.net_units.proofs.BoundsInOrder.{bound-least}
-use Rattle.hop_reservation.specs.Routes.{link_of}
-use Rattle.link_steps.specs.declared.asks.Ask.TheVariants.{Arrive}
-use Rattle.link_steps.specs.declared.asks.Packet.{Packet}
 use Rattle.link_steps.specs.declared.replies.Phase.TheVariants as Ph
 use Rattle.link_steps.specs.declared.replies.Reply.TheVariants as Is
-use Rattle.link_steps.specs.Lists.{Each, Among}
-use Rattle.link_steps.specs.Regulator.{eligible_next}
-use Rattle.link_steps.specs.Replies.{reply_to}
-use Rattle.link_steps.specs.Reservation.{Reservation, is_of}
-use Rattle.link_steps.specs.Rows.{Row}
-use Rattle.link_steps.specs.Scan.{clock_of, scan_of, is_row_of}
-use Rattle.link_steps.specs.Service.{Arrival}
 use Rattle.link_steps.proofs.LegalOrder.{legal-order}
 use Rattle.link_steps.proofs.RowsInOrder.{IsInOrder}
 use Rattle.link_steps.proofs.SearchAndFilter.{Each-find}
-use Rattle.setup_protocol.specs.Hops.{RequestFits}
-use Rattle.setup_protocol.specs.Setup.{hop_link}
-use Rattle.setup_protocol.specs.declared.request.Request.{Request}
-use Rattle.run_record.specs.declared.done.Done.{Done}
-use Rattle.channel_laws.specs.Channels.{is_of_channel, channel_packets, tick_of_packet, channel_of, offers_to}
-use Rattle.call_script.specs.Fits.{NetworkFits}
 use Rattle.run_engine.specs.channels.Hops.{packets_on, terms_at, ChannelAsked}
-use Rattle.call_script.specs.Tasks.{Network}
-use Rattle.run_record.specs.Runs.{part_of}
-use Rattle.run_engine.specs.runs.Runs.{IsNext, IsRun}
 use Rattle.channel_laws.proofs.ChannelRows.{own-count, legal-free, row-of, find-passes}
 use Rattle.interleave_core.proofs.Delays.BufferLaw.{slot-free}
 use Rattle.interleave_core.proofs.Channels.ChainLaw.{run-chain, same-count}
@@ -50,11 +23,9 @@ use Rattle.interleave_core.proofs.Channels.LevelsHold.{Levelled, run-levelled}
 use Rattle.run_engine.proofs.Channels.HopsAt.{hop-at}
 use Rattle.interleave_core.proofs.Flights.ReadyLaw.{FarReady, ready-counts, taken-reply, replied}
 use Rattle.run_engine.proofs.Channels.RowsFollow.{held_at_hop}
-use Rattle.call_script.specs.Owners.{OwnedFully}
 use Rattle.run_engine.proofs.Replies.RunCloses.{owned-once}
 use Rattle.run_engine.proofs.Replies.RunGoes.{owned-asked}
 use Rattle.run_engine.proofs.Runs.RunLegal.{part-admissible}
-use Rattle.channel_laws.specs.Reservations.{held_by}
 use Rattle.run_engine.specs.channels.Paths.{HopAt, packets_at, count_at}
 
 abbrev pub two_of : (network : Network) (request : Request) (i : ℕ) → HopAt network request i → HopAt network request (suc i) → TwoHops network request i

@@ -1,37 +1,14 @@
 -- The planned packets of a channel at one link: as long as its reservation isn't closing, none was cancelled, and once it is, none is
 -- left.
 use Rattle.std.proofs.Common.{◌≡◌, ℕ, suc, ◌+◌, ◌≤◌, Bool, true, false, List, [], ◌∷◌, length, Option, Some, None, refl, ap, ◌∙◌, inl, inr, arith, option_map}
-use Rattle.std.proofs.lemmas.Bool.{cases_Bool, cond_both, and_parts, lt-leb, eqb-true, eq-eqb}
-use Rattle.std.specs.Prelude.{filter, find, nat_eq, if◌then◌else◌}
-use Rattle.net_units.specs.Numbers.{channel_number}
-use Rattle.net_units.specs.declared.numbers.ChanNo.{ChanNo}
-use Rattle.traffic_contract.specs.Admission.{total}
-use Rattle.link_steps.specs.declared.asks.Ask.{Ask}
-use Rattle.link_steps.specs.declared.asks.Ask.TheVariants.{Reserve, Relax, Deny, Submit, Release, Arrive, Tick}
-use Rattle.link_steps.specs.declared.asks.Packet.{Packet}
-use Rattle.link_steps.specs.declared.replies.Entry.{Entry}
-use Rattle.link_steps.specs.declared.replies.Phase.{Phase}
-use Rattle.link_steps.specs.declared.replies.Phase.TheVariants.{Tentative, Committed, Closing}
-use Rattle.link_steps.specs.declared.replies.Reply.{Reply}
+use Rattle.run_engine.proofs.Words.{cases_Bool, cond_both, and_parts, lt-leb, eqb-true, eq-eqb, filter, find, nat_eq, if◌then◌else◌, channel_number, ChanNo, total, Ask, Reserve, Relax, Deny, Submit, Release, Arrive, Tick, Packet, Entry, Phase, Tentative, Committed, Closing, Reply, LinkShape, MayAnswer, IsAdmissible, stays, expires, hold_ended, Each, change_first, release_to, reply_at, Reservation, is_of, is_phase, Row, SourcePacket, row_terms, left_at, Scan, clock_of, scan_of, is_row_of, is_row_at_hop, names_first_hop, relax_row, close_row, arrived_row, with_arrival, without_expired, with_sources, with_best, after_tick, after, Arrival, here_at, SourceStep, Rests, row_after, rows_after, step_of, taken_by, HopTerms, channel_of, offers_with, offers_to, IsElsewhere, held_by}
 use Rattle.link_steps.specs.declared.replies.Reply.TheVariants as Is
-use Rattle.link_steps.specs.declared.shape.LinkShape.{LinkShape}
-use Rattle.link_steps.specs.Admissible.{MayAnswer, IsAdmissible}
-use Rattle.link_steps.specs.Hold.{stays, expires, hold_ended}
-use Rattle.link_steps.specs.Lists.{Each, change_first}
-use Rattle.link_steps.specs.Replies.{release_to, reply_at}
-use Rattle.link_steps.specs.Reservation.{Reservation, is_of, is_phase}
-use Rattle.link_steps.specs.Rows.{Row, SourcePacket, row_terms, left_at}
-use Rattle.link_steps.specs.Scan.{Scan, clock_of, scan_of, is_row_of, is_row_at_hop, names_first_hop, relax_row, close_row, arrived_row, with_arrival, without_expired, with_sources, with_best, after_tick, after}
-use Rattle.link_steps.specs.Service.{Arrival, here_at}
-use Rattle.link_steps.specs.Sources.{SourceStep, Rests, row_after, rows_after, step_of, taken_by}
 use Rattle.link_steps.proofs.FoundElements.{Each-change_found}
 use Rattle.link_steps.proofs.LegalChannels.{DifferInChannel, legal-channels}
 use Rattle.link_steps.proofs.LegalOrder.{legal-order}
 use Rattle.link_steps.proofs.RowsInOrder.{IsInOrder, IsMade}
 use Rattle.link_steps.proofs.ReservationFound.{phase-is}
 use Rattle.link_steps.proofs.SearchAndFilter.{Each-append, Each-filter, Each-find, Each-if, Each-change_first, Each-without_first, find-map}
-use Rattle.channel_laws.specs.Channels.{HopTerms, channel_of, offers_with, offers_to, IsElsewhere}
-use Rattle.channel_laws.specs.Reservations.{held_by}
 use Rattle.channel_laws.proofs.ChannelRows.{find-passes, legal-free, others-elsewhere, row-at-hop}
 use Rattle.channel_laws.proofs.HoldFates.{released-count, relaxed-tent}
 use Rattle.channel_laws.proofs.SendReplies.{found-at-hop}

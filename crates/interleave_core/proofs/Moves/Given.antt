@@ -1,36 +1,12 @@
 -- What the steps of moves from a channel have had planned on others: nothing before a move from it, and as many packets as were shifted
 -- once one has left it.
 use Rattle.std.proofs.Common.{◌≡◌, ◌≢◌, ℕ, ◌+◌, ◌≤◌, Bool, true, false, List, [], ◌∷◌, ◌++◌, length, Option, Some, None, refl, sym, ap, ◌∙◌, subst, inl, inr, arith}
-use Rattle.std.proofs.lemmas.Bool.{cases_Bool, eqb-true, eqb-false, eq-eqb, ne_eqb}
-use Rattle.std.proofs.lemmas.Option.{same_Some}
-use Rattle.std.specs.List.{slice_get}
-use Rattle.std.specs.Prelude.{nat_eq, if◌then◌else◌}
-use Rattle.net_units.specs.Numbers.{link_number, actor_number, channel_number}
-use Rattle.net_units.specs.declared.numbers.LinkNo.{LinkNo}
-use Rattle.channel_move.specs.Moving.{shifted_in, told_by, first_told}
-use Rattle.channel_move.specs.declared.shifted.Shifted.{Shifted}
-use Rattle.channel_move.specs.Stages.{stage_after}
-use Rattle.channel_move.specs.declared.mover.Stage.TheVariants.{Joining, Releasing}
+use Rattle.run_engine.proofs.Words.{cases_Bool, eqb-true, eqb-false, eq-eqb, ne_eqb, same_Some, slice_get, nat_eq, if◌then◌else◌, link_number, actor_number, channel_number, LinkNo, shifted_in, told_by, first_told, Shifted, stage_after, Joining, Releasing, Ask, Submit, Reply, Each, RequestFits, Request, NetworkFits, TaskOff, OwnedFully, AllOwned, Learnt, Standing, begun, or_before, newest, outcome_by, task_ask, move_between, continued, resumed, from_step, standing, standing_of, moved_by, moved_off, Network, Task, Moves, replies_to, part_of, Done, IsRun}
 use Rattle.channel_move.proofs.AskByStage.{MoveAsks, AsksFirst, AsksSubmit, AsksRest, move-asks}
-use Rattle.link_steps.specs.declared.asks.Ask.{Ask}
-use Rattle.link_steps.specs.declared.asks.Ask.TheVariants.{Submit}
-use Rattle.link_steps.specs.declared.replies.Reply.{Reply}
 use Rattle.link_steps.specs.declared.replies.Reply.TheVariants as Is
-use Rattle.link_steps.specs.Lists.{Each}
-use Rattle.setup_protocol.specs.Hops.{RequestFits}
-use Rattle.setup_protocol.specs.declared.request.Request.{Request}
-use Rattle.call_script.specs.Fits.{NetworkFits}
-use Rattle.call_script.specs.Owners.{TaskOff, OwnedFully, AllOwned}
-use Rattle.call_script.specs.Scripts.{Learnt, Standing, begun, or_before, newest, outcome_by, task_ask, move_between, continued, resumed, from_step, standing, standing_of, moved_by, moved_off}
-use Rattle.call_script.specs.Tasks.{Network}
-use Rattle.call_script.specs.declared.tasks.Task.{Task}
-use Rattle.call_script.specs.declared.tasks.Task.TheVariants.{Moves}
-use Rattle.run_record.specs.Runs.{replies_to, part_of}
-use Rattle.run_record.specs.declared.done.Done.{Done}
 use Rattle.run_engine.specs.channels.Paths.{HopAt}
 use Rattle.run_engine.specs.channels.Moves.{planned_in, cancelled_in, offered_in, left_in}
 use Rattle.interleave_core.specs.channels.Shifting.{given_with, given_in, IsNotLeaving, cancelled_alone, EveryMoveGivesTheShifted, EveryPlannedPacketIsCounted}
-use Rattle.run_engine.specs.runs.Runs.{IsRun}
 use Rattle.interleave_core.proofs.Moves.LastPackets.{some-left}
 use Rattle.interleave_core.proofs.Moves.MoveLaw.{MoveTold, Was, Now, move-told, move-own, no-moves, run-moved}
 use Rattle.interleave_core.proofs.Moves.MoveSteps.{move-fits}

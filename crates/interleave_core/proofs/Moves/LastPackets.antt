@@ -1,41 +1,13 @@
 -- The packets of a move have the gap and the size of the last submit on the channel that it leaves, of those that the run has
 -- answered as planned, and 1 and 1 where there is none.
-use Rattle.std.proofs.Common.{◌≡◌, ◌≢◌, ℕ, ◌≤◌, Bool, true, false, List, [], ◌∷◌, ◌++◌, length, Option, Some, None, refl, sym, ap, ◌∙◌, subst, inl, inr, arith}
-use Rattle.std.proofs.lemmas.Bool.{cases_Bool, eqb-true, eqb-false, ne_eqb}
-use Rattle.std.proofs.lemmas.Option.{same_Some}
-use Rattle.std.specs.List.{slice_get}
-use Rattle.std.specs.Prelude.{nat_eq, not, ◌&&◌, if◌then◌else◌}
-use Rattle.net_units.specs.Numbers.{link_number, channel_number}
-use Rattle.net_units.specs.declared.numbers.ChanNo.{ChanNo}
-use Rattle.net_units.specs.declared.numbers.LinkNo.{LinkNo}
-use Rattle.hop_reservation.specs.Routes.{link_of}
-use Rattle.hop_reservation.specs.declared.route.Hop.{Hop}
-use Rattle.channel_move.specs.Moving.{asked_at, shifted_in, told_by}
-use Rattle.channel_move.specs.declared.shifted.Shifted.{Shifted}
-use Rattle.channel_move.specs.Stages.{stage_after}
-use Rattle.channel_move.specs.declared.mover.Stage.TheVariants.{Joining, Releasing}
+use Rattle.std.proofs.Common.{◌≡◌, ◌≢◌, ℕ, ◌≤◌, true, false, List, [], ◌∷◌, ◌++◌, length, Option, Some, None, refl, sym, ap, ◌∙◌, subst, inl, inr, arith}
+use Rattle.run_engine.proofs.Words.{cases_Bool, eqb-true, eqb-false, ne_eqb, same_Some, slice_get, nat_eq, not, ◌&&◌, link_number, channel_number, ChanNo, LinkNo, link_of, Hop, asked_at, shifted_in, told_by, Shifted, stage_after, Joining, Releasing, Ask, Submit, Release, Reply, Each, RequestFits, Outcome, verdict_of, Request, IsUnsent, NetworkFits, TaskFits, IsSendOn, OwnedFully, AllOwned, Learnt, Packets, Standing, packets_ask, is_that, newest, or_before, packets_by, packets_in, last_packets, move_between, task_ask, ready, from_step, begun, settled_as, outcome_by, standing, Network, Task, Opens, Sends, Closes, Moves, replies_to, part_of, Done, IsRun}
+use Rattle.std.proofs.Math.Bool.{and-false}
 use Rattle.channel_move.proofs.AskByStage.{HopAsked, MoveAsks, AsksFirst, AsksSubmit, AsksRest, move-asks}
-use Rattle.link_steps.specs.declared.asks.Ask.{Ask}
-use Rattle.link_steps.specs.declared.asks.Ask.TheVariants.{Submit, Release}
-use Rattle.link_steps.specs.declared.replies.Reply.{Reply}
 use Rattle.link_steps.specs.declared.replies.Reply.TheVariants as Is
-use Rattle.link_steps.specs.Lists.{Each}
-use Rattle.setup_protocol.specs.Hops.{RequestFits}
-use Rattle.setup_protocol.specs.Setup.{Outcome, verdict_of}
-use Rattle.setup_protocol.specs.declared.request.Request.{Request}
 use Rattle.setup_protocol.proofs.HopAsks.{of-hop}
-use Rattle.channel_laws.specs.Unsent.{IsUnsent}
-use Rattle.call_script.specs.Fits.{NetworkFits, TaskFits}
-use Rattle.call_script.specs.Owners.{IsSendOn, OwnedFully, AllOwned}
-use Rattle.call_script.specs.Scripts.{Learnt, Packets, Standing, packets_ask, is_that, newest, or_before, packets_by, packets_in, last_packets, move_between, task_ask, ready, from_step, begun, settled_as, outcome_by, standing}
-use Rattle.call_script.specs.Tasks.{Network}
-use Rattle.call_script.specs.declared.tasks.Task.{Task}
-use Rattle.call_script.specs.declared.tasks.Task.TheVariants.{Opens, Sends, Closes, Moves}
-use Rattle.run_record.specs.Runs.{replies_to, part_of}
-use Rattle.run_record.specs.declared.done.Done.{Done}
 use Rattle.run_engine.specs.channels.Moves.{last_with, last_planned, EveryMoveTakesTheLast}
 use Rattle.run_engine.specs.channels.Paths.{HopAt}
-use Rattle.run_engine.specs.runs.Runs.{IsRun}
 use Rattle.run_engine.proofs.Tasks.SingleAskTask.{once-asked}
 use Rattle.run_engine.proofs.Replies.Replying.{moves-plan}
 use Rattle.run_engine.proofs.Replies.ClosingStands.{off-unsent, setup-unsent}
@@ -125,18 +97,11 @@ tells-learnt links request (Opens own) tasks replies outcomes fits over = by (ve
   by : (verdict : Option Outcome) → newest (packets_by request.chan) (settled_as own verdict ++ outcomes) ≡ newest (packets_by request.chan) outcomes
   by None = refl
   by (Some outcome) = refl
-tells-learnt links request (Sends link None count gap size) tasks replies outcomes fits over = refl
 tells-learnt links request (Sends link (Some chan) count gap size) tasks (Is.Planned clock ∷ replies) outcomes fits over = refl
-tells-learnt links request (Sends link (Some chan) count gap size) tasks _ outcomes fits over = refl
-tells-learnt links request (Closes own) tasks replies outcomes fits over = refl
-tells-learnt links request (Moves old new gap size) tasks [] outcomes fits over = refl
 tells-learnt links request (Moves old new gap size) tasks (first ∷ []) outcomes fits over =
     let none = some-left old new gap size first fits.of_new.route.least over in
-    rw none (silent (is_that request.chan new.chan)) where
-      silent : (b : Bool) → or_before (packets_if (b && false) gap size) (newest (packets_by request.chan) outcomes) ≡ newest (packets_by request.chan) outcomes
-      silent true = refl
-      silent false = refl
-tells-learnt links request (Moves old new gap size) tasks (first ∷ second ∷ replies) outcomes fits over = refl
+    rw none (ap (λ b. or_before (packets_if b gap size) (newest (packets_by request.chan) outcomes)) (and-false (is_that request.chan new.chan)))
+tells-learnt links request _ tasks _ outcomes fits over = refl
 
 -- ---- one reply more
 
@@ -145,12 +110,9 @@ rest-learnt : (chan : ChanNo) (old new : Request) (gap size : ℕ) (tasks : List
 rest-learnt chan old new gap size tasks [] reply told made stage = cc
 rest-learnt chan old new gap size tasks (first ∷ []) reply told made stage =
     elim (cases_Bool (nat_eq (shifted_in first) 0)) [
-      | inl none ↦ rw none (silent (is_that chan new.chan))
+      | inl none ↦ rw none (ap (λ b. packets_if b gap size) (and-false (is_that chan new.chan)))
       | inr some ↦ absurd (let clash : Joining (told_by first) ≡ Releasing told made = rw some at stage in cc)
-    ] where
-      silent : (b : Bool) → packets_if (b && false) gap size ≡ None
-      silent true = refl
-      silent false = refl
+    ]
 rest-learnt chan old new gap size tasks (first ∷ second ∷ replies) reply told made stage = refl
 
 -- the link that a send asks

@@ -1,31 +1,9 @@
 -- Once a move has left a channel, the channel's first hop has taken as many packets as were kept, and takes no more.
 use Rattle.std.proofs.Common.{◌≡◌, ℕ, true, false, List, [], ◌∷◌, ◌++◌, Option, Some, None, refl, sym, ap, ◌∙◌, subst, inl, inr}
-use Rattle.std.proofs.lemmas.Bool.{cases_Bool, eqb-true, and_parts}
-use Rattle.std.proofs.lemmas.Option.{same_Some}
-use Rattle.std.specs.List.{slice_get}
-use Rattle.std.specs.Prelude.{nat_eq, if◌then◌else◌}
-use Rattle.net_units.specs.Numbers.{channel_number}
-use Rattle.net_units.specs.declared.numbers.ChanNo.{ChanNo}
-use Rattle.channel_move.specs.Moving.{told_by, first_told}
-use Rattle.channel_move.specs.declared.shifted.Shifted.{Shifted}
-use Rattle.link_steps.specs.declared.replies.Reply.{Reply}
+use Rattle.run_engine.proofs.Words.{cases_Bool, eqb-true, and_parts, same_Some, slice_get, nat_eq, if◌then◌else◌, channel_number, ChanNo, told_by, first_told, Shifted, Reply, RequestFits, Outcome, first_count, Request, NetworkFits, OwnedFully, Learnt, Settles, PlannedOn, MovedTo, Standing, is_that, newest, is_established, outcome_in, takes_step, ready, from_step, begun, outcome_by, standing, first_ask, moved_by, moved_off, Network, Task, Opens, Moves, replies_to, Done, IsMild, IsRun}
 use Rattle.link_steps.specs.declared.replies.Reply.TheVariants as Is
-use Rattle.setup_protocol.specs.Hops.{RequestFits}
-use Rattle.setup_protocol.specs.Setup.{Outcome}
-use Rattle.setup_protocol.specs.Teardown.{first_count}
-use Rattle.setup_protocol.specs.declared.request.Request.{Request}
-use Rattle.call_script.specs.Fits.{NetworkFits}
-use Rattle.call_script.specs.Owners.{OwnedFully}
-use Rattle.call_script.specs.Scripts.{Learnt, Settles, PlannedOn, MovedTo, Standing, is_that, newest, is_established, outcome_in, takes_step, ready, from_step, begun, outcome_by, standing, first_ask, moved_by, moved_off}
-use Rattle.call_script.specs.Tasks.{Network}
-use Rattle.call_script.specs.declared.tasks.Task.{Task}
-use Rattle.call_script.specs.declared.tasks.Task.TheVariants.{Opens, Moves}
-use Rattle.run_record.specs.Runs.{replies_to}
-use Rattle.run_record.specs.declared.done.Done.{Done}
-use Rattle.channel_laws.specs.Asks.{IsMild}
 use Rattle.run_engine.specs.channels.Moves.{EveryMoveKeeps}
 use Rattle.run_engine.specs.channels.Paths.{HopAt}
-use Rattle.run_engine.specs.runs.Runs.{IsRun}
 use Rattle.interleave_core.proofs.Channels.ChainLaw.{leaves-frozen}
 use Rattle.run_engine.proofs.Channels.ChannelsAt.{packets-numbered}
 use Rattle.interleave_core.proofs.Channels.FarHolds.{Frozen, frozen-later}

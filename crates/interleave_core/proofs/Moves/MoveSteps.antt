@@ -1,33 +1,10 @@
 -- Each step of a move releases a hop of the channel that is left, or plans on the other channel what the first release has cancelled.
 use Rattle.std.proofs.Common.{◌≡◌, ℕ, zero, suc, ◌+◌, ◌≤◌, false, List, [], ◌∷◌, ◌++◌, Some, None, refl, sym, ap, ◌∙◌, subst, inr, arith}
-use Rattle.std.proofs.lemmas.Bool.{eqb-false}
-use Rattle.std.proofs.lemmas.Option.{same_Some, slice_get_within}
-use Rattle.std.specs.List.{slice_get}
-use Rattle.std.specs.Prelude.{nat_eq}
-use Rattle.net_units.specs.Numbers.{link_number, channel_number}
-use Rattle.hop_reservation.specs.Routes.{link_of}
-use Rattle.channel_move.specs.Moving.{shifted_in}
-use Rattle.channel_move.specs.Stages.{stage_after}
-use Rattle.channel_move.specs.declared.mover.Stage.TheVariants.{Releasing}
+use Rattle.run_engine.proofs.Words.{eqb-false, same_Some, slice_get_within, slice_get, nat_eq, link_number, channel_number, link_of, shifted_in, stage_after, Releasing, Release, Reply, Each, RequestFits, first_count, Request, NetworkFits, TaskFits, MoveFits, OwnedFully, AllOwned, Learnt, Standing, move_between, standing, ask_at, Network, Task, Moves, replies_to, Done, IsRun}
 use Rattle.channel_move.proofs.AskByStage.{HopAsked, MoveAsks, AsksFirst, AsksSubmit, AsksRest, move-asks, rest-length}
-use Rattle.link_steps.specs.declared.asks.Ask.TheVariants.{Release}
-use Rattle.link_steps.specs.declared.replies.Reply.{Reply}
-use Rattle.link_steps.specs.Lists.{Each}
-use Rattle.setup_protocol.specs.Hops.{RequestFits}
-use Rattle.setup_protocol.specs.Teardown.{first_count}
-use Rattle.setup_protocol.specs.declared.request.Request.{Request}
-use Rattle.call_script.specs.Fits.{NetworkFits, TaskFits, MoveFits}
-use Rattle.call_script.specs.Owners.{OwnedFully, AllOwned}
-use Rattle.call_script.specs.Scripts.{Learnt, Standing, move_between, standing, ask_at}
-use Rattle.call_script.specs.Tasks.{Network}
-use Rattle.call_script.specs.declared.tasks.Task.{Task}
-use Rattle.call_script.specs.declared.tasks.Task.TheVariants.{Moves}
-use Rattle.run_record.specs.Runs.{replies_to}
-use Rattle.run_record.specs.declared.done.Done.{Done}
 use Rattle.run_engine.specs.channels.Moves.{cancelled_with}
 use Rattle.run_engine.specs.channels.Paths.{HopAt}
 use Rattle.interleave_core.specs.channels.Shifting.{MoveStep, Leaves, Joins, Frees, EveryMovePlansTheShifted}
-use Rattle.run_engine.specs.runs.Runs.{IsRun}
 use Rattle.interleave_core.proofs.Channels.ChainLaw.{leaves-frozen}
 use Rattle.run_engine.proofs.Channels.HopsAt.{hop-at}
 use Rattle.interleave_core.proofs.Moves.LastPackets.{moves-take-last}

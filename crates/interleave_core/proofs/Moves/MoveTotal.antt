@@ -1,43 +1,12 @@
 -- Once packets of a channel have moved off, those that its source has offered and those that were shifted are all that its submits
 -- planned: the first hop's release has cancelled as many as were shifted, and none is left.
 use Rattle.std.proofs.Common.{◌≡◌, ℕ, ◌+◌, Bool, true, false, List, [], ◌∷◌, ◌++◌, length, Option, Some, None, refl, sym, ap, ◌∙◌, subst, inl, inr, arith}
-use Rattle.std.proofs.lemmas.Bool.{eq-eqb, ne_eqb}
-use Rattle.std.proofs.lemmas.Option.{same_Some}
-use Rattle.std.specs.List.{slice_get}
-use Rattle.std.specs.Prelude.{find, nat_eq, if◌then◌else◌}
-use Rattle.net_units.specs.Numbers.{link_number, channel_number}
-use Rattle.net_units.specs.declared.numbers.ChanNo.{ChanNo}
-use Rattle.hop_reservation.specs.Routes.{link_of}
-use Rattle.channel_move.specs.Moving.{shifted_in, told_by, first_told}
-use Rattle.channel_move.specs.declared.shifted.Shifted.{Shifted}
-use Rattle.link_steps.specs.declared.asks.Ask.{Ask}
-use Rattle.link_steps.specs.declared.asks.Ask.TheVariants.{Release}
-use Rattle.link_steps.specs.declared.replies.Entry.{Entry}
+use Rattle.run_engine.proofs.Words.{eq-eqb, ne_eqb, same_Some, slice_get, find, nat_eq, if◌then◌else◌, link_number, channel_number, ChanNo, link_of, shifted_in, told_by, first_told, Shifted, Ask, Release, Entry, Reply, LinkShape, MayAnswer, release_to, reply_at, Reservation, is_phase, Row, left_at, clock_of, scan_of, is_row_at_hop, RequestFits, first_count, Request, MayReplyTo, IsOff, held_by, NetworkFits, OwnedFully, Learnt, Standing, standing, moved_off, Network, Task, replies_to, part_of, Done, IsNext, IsRun}
 use Rattle.link_steps.specs.declared.replies.Phase.TheVariants as Ph
-use Rattle.link_steps.specs.declared.replies.Reply.{Reply}
 use Rattle.link_steps.specs.declared.replies.Reply.TheVariants as Is
-use Rattle.link_steps.specs.declared.shape.LinkShape.{LinkShape}
-use Rattle.link_steps.specs.Admissible.{MayAnswer}
-use Rattle.link_steps.specs.Replies.{release_to, reply_at}
-use Rattle.link_steps.specs.Reservation.{Reservation, is_phase}
-use Rattle.link_steps.specs.Rows.{Row, left_at}
-use Rattle.link_steps.specs.Scan.{clock_of, scan_of, is_row_at_hop}
-use Rattle.setup_protocol.specs.Hops.{RequestFits}
-use Rattle.setup_protocol.specs.Teardown.{first_count}
-use Rattle.setup_protocol.specs.declared.request.Request.{Request}
-use Rattle.channel_laws.specs.Asks.{MayReplyTo, IsOff}
-use Rattle.channel_laws.specs.Reservations.{held_by}
-use Rattle.call_script.specs.Fits.{NetworkFits}
-use Rattle.call_script.specs.Owners.{OwnedFully}
-use Rattle.call_script.specs.Scripts.{Learnt, Standing, standing, moved_off}
-use Rattle.call_script.specs.Tasks.{Network}
-use Rattle.call_script.specs.declared.tasks.Task.{Task}
-use Rattle.run_record.specs.Runs.{replies_to, part_of}
-use Rattle.run_record.specs.declared.done.Done.{Done}
 use Rattle.run_engine.specs.channels.Hops.{terms_at, ChannelAsked}
 use Rattle.run_engine.specs.channels.Moves.{cancelled_with, cancelled_in, AMoveLeavesNoPacketBehind}
 use Rattle.run_engine.specs.channels.Paths.{HopAt}
-use Rattle.run_engine.specs.runs.Runs.{IsNext, IsRun}
 use Rattle.interleave_core.proofs.Moves.Emptied.{uncancelled, none-left-closing}
 use Rattle.interleave_core.proofs.Channels.FarHolds.{Frozen}
 use Rattle.interleave_core.proofs.Moves.MoveLaw.{MoveTold, Was, Now, move-own, no-moves, run-moved, move-told}
@@ -106,70 +75,72 @@ pub record ShiftedAt (request : Request) (n : ℕ) (at : Standing) : Type 0 wher
   pub told : (told : Shifted) → moved_off request.chan at.outcomes ≡ Some told → n ≡ told.shifted
   pub way : (task : Task) (rest : List Task) (reply : Reply) (replies : List Reply) → at.tasks ≡ task ∷ rest → IsLeaving request task → at.replies ≡ reply ∷ replies → n ≡ shifted_in reply
 
--- the first release of a task that leaves the channel
-pub first-cancels : (network : Network) (request : Request) (first : HopAt network request 0) (done : Done) (past : List Done) (task : Task) (replies : List Reply) → NetworkFits network → ChannelAsked request past → IsRun network past → IsNext network past done → IsLeaving request task → replies ≡ [] → OwnKind network request done past task replies
-    → cancelled_at network request first (done ∷ past) ≡ shifted_in done.reply
-first-cancels network request first done past task replies fits asked run next leaving none (OwnOff own off) = absurd (own leaving)
-first-cancels network request first done past task replies fits asked run next leaving none (OwnAside reply one off) = absurd (let clash : [] ≡ reply ∷ [] = sym none ∙ one in cc)
-first-cancels network request first done past task replies fits asked run next (inl closes) none (OwnSetup later made own rows setup) = absurd (let clash = sym closes ∙ own in cc)
-first-cancels network request first done past task replies fits asked run next (inr move) none (OwnSetup later made own rows setup) = absurd (let clash = sym move.is ∙ own in cc)
-first-cancels network request first done past task replies fits asked run next leaving none (OwnSend count gap size own is) = absurd (own leaving)
-first-cancels network request first done past task replies fits asked run next leaving none (OwnClose levels own k here on is zeroth comm) =
-    let place = same-place network request k first here (zeroth none) in
-    let before : cancelled_in (channel_number request.chan) (part_of (link_number here.hop.link) past) ≡ 0 =
-    uncancelled here.link.shape (terms_at request 0) request.chan (part_of (link_number here.hop.link) past) comm.terms (part-admissible network past (link_number here.hop.link) here.link fits run here.linked) (asked.once (link_number here.hop.link)) comm.is (ap (λ p. is_phase p Ph.Closing) comm.phase) in
-    let moved : cancelled_at network request first past ≡ 0 = ap (λ n. cancelled_in (channel_number request.chan) (part_of n past)) place ∙ before in
-    let now : cancelled_at network request first (done ∷ past) ≡ cancelled_at network request first past + shifted_in done.reply =
-    entry-cancels network request first done past (on ∙ sym place) ∙ ap (λ a. cancelled_with (channel_number request.chan) (cancelled_at network request first past) a done.reply) is ∙ own-release request.chan (cancelled_at network request first past) (first_count replies) done.reply in
-    omega (arith, moved, now)
+module _ (network : Network) (request : Request) (first : HopAt network request 0) (done : Done) (past : List Done) (task : Task) where
+  -- the first release of a task that leaves the channel
+  pub first-cancels : (replies : List Reply) → NetworkFits network → ChannelAsked request past → IsRun network past → IsNext network past done → IsLeaving request task → replies ≡ [] → OwnKind network request done past task replies
+      → cancelled_at network request first (done ∷ past) ≡ shifted_in done.reply
+  first-cancels replies fits asked run next leaving none (OwnOff own off) = absurd (own leaving)
+  first-cancels replies fits asked run next leaving none (OwnAside reply one off) = absurd (let clash : [] ≡ reply ∷ [] = sym none ∙ one in cc)
+  first-cancels replies fits asked run next (inl closes) none (OwnSetup later made own rows setup) = absurd (let clash = sym closes ∙ own in cc)
+  first-cancels replies fits asked run next (inr move) none (OwnSetup later made own rows setup) = absurd (let clash = sym move.is ∙ own in cc)
+  first-cancels replies fits asked run next leaving none (OwnSend count gap size own is) = absurd (own leaving)
+  first-cancels replies fits asked run next leaving none (OwnClose levels own k here on is zeroth comm) =
+      let place = same-place network request k first here (zeroth none) in
+      let before : cancelled_in (channel_number request.chan) (part_of (link_number here.hop.link) past) ≡ 0 =
+      uncancelled here.link.shape (terms_at request 0) request.chan (part_of (link_number here.hop.link) past) comm.terms (part-admissible network past (link_number here.hop.link) here.link fits run here.linked) (asked.once (link_number here.hop.link)) comm.is (ap (λ p. is_phase p Ph.Closing) comm.phase) in
+      let moved : cancelled_at network request first past ≡ 0 = ap (λ n. cancelled_in (channel_number request.chan) (part_of n past)) place ∙ before in
+      let now : cancelled_at network request first (done ∷ past) ≡ cancelled_at network request first past + shifted_in done.reply =
+      entry-cancels network request first done past (on ∙ sym place) ∙ ap (λ a. cancelled_with (channel_number request.chan) (cancelled_at network request first past) a done.reply) is ∙ own-release request.chan (cancelled_at network request first past) (first_count replies) done.reply in
+      omega (arith, moved, now)
 
--- any other entry of the owner cancels none
-later-cancels : (network : Network) (request : Request) (first : HopAt network request 0) (done : Done) (past : List Done) (task : Task) (replies : List Reply) → NetworkFits network → IsRun network past → (next : IsNext network past done) → (IsLeaving request task → replies ≡ [] → ⊥) → OwnKind network request done past task replies
-    → cancelled_at network request first (done ∷ past) ≡ cancelled_at network request first past
-later-cancels network request first done past task replies fits run next later (OwnOff own off) = entry-same network request first done past (λ m on. off-cancelled (channel_number request.chan) m done.ask done.reply off)
-later-cancels network request first done past task replies fits run next later (OwnAside reply one off) = entry-same network request first done past (λ m on. off-cancelled (channel_number request.chan) m done.ask done.reply off)
-later-cancels network request first done past task replies fits run next later (OwnSetup more made own rows setup) = entry-same network request first done past (λ m on. no-release (channel_number request.chan) m done.ask done.reply setup)
-later-cancels network request first done past task replies fits run next later (OwnSend count gap size own is) = entry-same network request first done past (λ m on. no-release (channel_number request.chan) m done.ask done.reply (subst NoRelease (sym is) tt))
-later-cancels network request first done past task [] fits run next later (OwnClose levels own k here on is zeroth comm) = absurd (later own refl)
-later-cancels network request first done past task (reply ∷ replies) fits run next later (OwnClose levels own k here on is zeroth comm) =
-    let may = subst (λ a. MayReplyTo here.link.shape (part_of (link_number here.hop.link) past) a done.reply) is (hop-may network request k here done past fits run next on) in
-    entry-same network request first done past (λ m at. ap (λ a. cancelled_with (channel_number request.chan) m a done.reply) is ∙ told (first_count (reply ∷ replies)) m refl may) where
-      told : (count : Option ℕ) (m : ℕ) → count ≡ first_count (reply ∷ replies) → MayReplyTo here.link.shape (part_of (link_number here.hop.link) past) (Release request.chan count) done.reply → cancelled_with (channel_number request.chan) m (Release request.chan count) done.reply ≡ m
-      told None m some may = cc
-      told (Some kept) m some may = later-cancelled here.link.shape (part_of (link_number here.hop.link) past) request.chan kept done.reply (channel_number request.chan) m may
+  -- any other entry of the owner cancels none
+  later-cancels : (replies : List Reply) → NetworkFits network → IsRun network past → (next : IsNext network past done) → (IsLeaving request task → replies ≡ [] → ⊥) → OwnKind network request done past task replies
+      → cancelled_at network request first (done ∷ past) ≡ cancelled_at network request first past
+  later-cancels replies fits run next later (OwnOff own off) = entry-same network request first done past (λ m on. off-cancelled (channel_number request.chan) m done.ask done.reply off)
+  later-cancels replies fits run next later (OwnAside reply one off) = entry-same network request first done past (λ m on. off-cancelled (channel_number request.chan) m done.ask done.reply off)
+  later-cancels replies fits run next later (OwnSetup more made own rows setup) = entry-same network request first done past (λ m on. no-release (channel_number request.chan) m done.ask done.reply setup)
+  later-cancels replies fits run next later (OwnSend count gap size own is) = entry-same network request first done past (λ m on. no-release (channel_number request.chan) m done.ask done.reply (subst NoRelease (sym is) tt))
+  later-cancels [] fits run next later (OwnClose levels own k here on is zeroth comm) = absurd (later own refl)
+  later-cancels (reply ∷ replies) fits run next later (OwnClose levels own k here on is zeroth comm) =
+      let may = subst (λ a. MayReplyTo here.link.shape (part_of (link_number here.hop.link) past) a done.reply) is (hop-may network request k here done past fits run next on) in
+      entry-same network request first done past (λ m at. ap (λ a. cancelled_with (channel_number request.chan) m a done.reply) is ∙ told (first_count (reply ∷ replies)) m refl may) where
+        told : (count : Option ℕ) (m : ℕ) → count ≡ first_count (reply ∷ replies) → MayReplyTo here.link.shape (part_of (link_number here.hop.link) past) (Release request.chan count) done.reply → cancelled_with (channel_number request.chan) m (Release request.chan count) done.reply ≡ m
+        told None m some may = cc
+        told (Some kept) m some may = later-cancelled here.link.shape (part_of (link_number here.hop.link) past) request.chan kept done.reply (channel_number request.chan) m may
 
--- what the first reply of a task that leaves tells, with one reply more
-way-now : (network : Network) (request : Request) (first : HopAt network request 0) (done : Done) (past : List Done) (task : Task) (rest : List Task) (replies : List Reply) (outcomes : List Learnt) → NetworkFits network → ChannelAsked request past → IsRun network past → (next : IsNext network past done) → OwnKind network request done past task replies
-    → ShiftedAt request (cancelled_at network request first past) (record { tasks = task ∷ rest; replies = replies; outcomes = outcomes }) → IsLeaving request task → (reply : Reply) (more : List Reply) → replies ++ done.reply ∷ [] ≡ reply ∷ more → cancelled_at network request first (done ∷ past) ≡ shifted_in reply
-way-now network request first done past task rest [] outcomes fits asked run next kind was leaving reply more same =
-    first-cancels network request first done past task [] fits asked run next leaving refl kind ∙ ap shifted_in (head-same done.reply [] reply more same)
-way-now network request first done past task rest (one ∷ replies) outcomes fits asked run next kind was leaving reply more same =
-    later-cancels network request first done past task (one ∷ replies) fits run next (λ own none. (let clash : one ∷ replies ≡ [] = none in cc)) kind
-    ∙ was.way task rest one replies refl leaving refl ∙ ap shifted_in (head-same one (replies ++ done.reply ∷ []) reply more same)
+  -- what the first reply of a task that leaves tells, with one reply more
+  way-now : (rest : List Task) (replies : List Reply) (outcomes : List Learnt) → NetworkFits network → ChannelAsked request past → IsRun network past → (next : IsNext network past done) → OwnKind network request done past task replies
+      → ShiftedAt request (cancelled_at network request first past) (record { tasks = task ∷ rest; replies = replies; outcomes = outcomes }) → IsLeaving request task → (reply : Reply) (more : List Reply) → replies ++ done.reply ∷ [] ≡ reply ∷ more → cancelled_at network request first (done ∷ past) ≡ shifted_in reply
+  way-now rest [] outcomes fits asked run next kind was leaving reply more same =
+      first-cancels [] fits asked run next leaving refl kind ∙ ap shifted_in (head-same done.reply [] reply more same)
+  way-now rest (one ∷ replies) outcomes fits asked run next kind was leaving reply more same =
+      later-cancels (one ∷ replies) fits run next (λ own none. (let clash : one ∷ replies ≡ [] = none in cc)) kind
+      ∙ was.way task rest one replies refl leaving refl ∙ ap shifted_in (head-same one (replies ++ done.reply ∷ []) reply more same)
 
 -- what is held of the channel on a link
 abbrev held_on : ChanNo → LinkShape → ℕ → List Done → Option Reservation
 held_on chan shape n run = held_by chan (scan_of shape (part_of n run)).rows
 
--- a task that leaves the channel doesn't begin once another has left it
-pub begins-not : (network : Network) (request : Request) (first : HopAt network request 0) (done : Done) (past : List Done) (task : Task) (replies : List Reply) (kept : ℕ) → Frozen network request first past kept → IsLeaving request task → replies ≡ [] → OwnKind network request done past task replies → ⊥
-begins-not network request first done past task replies kept frozen leaving none (OwnOff own off) = own leaving
-begins-not network request first done past task replies kept frozen leaving none (OwnAside reply one off) = (let clash : [] ≡ reply ∷ [] = sym none ∙ one in cc)
-begins-not network request first done past task replies kept frozen (inl closes) none (OwnSetup later made own rows setup) = (let clash = sym closes ∙ own in cc)
-begins-not network request first done past task replies kept frozen (inr move) none (OwnSetup later made own rows setup) = (let clash = sym move.is ∙ own in cc)
-begins-not network request first done past task replies kept frozen leaving none (OwnSend count gap size own is) = own leaving
-begins-not network request first done past task replies kept frozen leaving none (OwnClose levels own k here on is zeroth comm) =
-    let place = same-place network request k first here (zeroth none) in
-    let link : first.link ≡ here.link = same_Some first.link here.link (sym first.linked ∙ ap (slice_get network.links) place ∙ here.linked) in
-    let held : held_at_hop network request 0 first past ≡ Some comm.terms = ap (λ l. held_on request.chan l.shape (link_number first.hop.link) past) link ∙ ap (λ n. held_on request.chan here.link.shape n past) place ∙ comm.is in
-    let clash : Ph.Closing ≡ Ph.Committed = sym (frozen.closes comm.terms held) ∙ comm.phase in
-    cc
+module _ (network : Network) (request : Request) (first : HopAt network request 0) (done : Done) (past : List Done) (task : Task) (replies : List Reply) (kept : ℕ) where
+  -- a task that leaves the channel doesn't begin once another has left it
+  pub begins-not : Frozen network request first past kept → IsLeaving request task → replies ≡ [] → OwnKind network request done past task replies → ⊥
+  begins-not frozen leaving none (OwnOff own off) = own leaving
+  begins-not frozen leaving none (OwnAside reply one off) = (let clash : [] ≡ reply ∷ [] = sym none ∙ one in cc)
+  begins-not frozen (inl closes) none (OwnSetup later made own rows setup) = (let clash = sym closes ∙ own in cc)
+  begins-not frozen (inr move) none (OwnSetup later made own rows setup) = (let clash = sym move.is ∙ own in cc)
+  begins-not frozen leaving none (OwnSend count gap size own is) = own leaving
+  begins-not frozen leaving none (OwnClose levels own k here on is zeroth comm) =
+      let place = same-place network request k first here (zeroth none) in
+      let link : first.link ≡ here.link = same_Some first.link here.link (sym first.linked ∙ ap (slice_get network.links) place ∙ here.linked) in
+      let held : held_at_hop network request 0 first past ≡ Some comm.terms = ap (λ l. held_on request.chan l.shape (link_number first.hop.link) past) link ∙ ap (λ n. held_on request.chan here.link.shape n past) place ∙ comm.is in
+      let clash : Ph.Closing ≡ Ph.Committed = sym (frozen.closes comm.terms held) ∙ comm.phase in
+      cc
 
--- so nothing more is cancelled
-told-same : (network : Network) (request : Request) (first : HopAt network request 0) (done : Done) (past : List Done) (task : Task) (replies : List Reply) (kept : ℕ) → NetworkFits network → IsRun network past → (next : IsNext network past done) → Frozen network request first past kept → OwnKind network request done past task replies
-    → cancelled_at network request first (done ∷ past) ≡ cancelled_at network request first past
-told-same network request first done past task replies kept fits run next frozen kind =
-    later-cancels network request first done past task replies fits run next (λ leaving none. begins-not network request first done past task replies kept frozen leaving none kind) kind
+  -- so nothing more is cancelled
+  told-same : NetworkFits network → IsRun network past → (next : IsNext network past done) → Frozen network request first past kept → OwnKind network request done past task replies
+      → cancelled_at network request first (done ∷ past) ≡ cancelled_at network request first past
+  told-same fits run next frozen kind =
+      later-cancels network request first done past task replies fits run next (λ leaving none. begins-not frozen leaving none kind) kind
 
 -- the first reply of a move tells what it has come to
 pub first-told-by : (replies : List Reply) (told : Shifted) → first_told replies ≡ Some told → (reply : Reply) × (more : List Reply) × (replies ≡ reply ∷ more) × (told_by reply ≡ told)

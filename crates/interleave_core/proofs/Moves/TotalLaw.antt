@@ -1,43 +1,19 @@
 -- Every packet that was planned on a channel at a link is offered, is left or was cancelled.
 use Rattle.std.proofs.Common.{◌≡◌, ℕ, suc, ◌+◌, Bool, true, false, List, [], ◌∷◌, ◌++◌, length, map, Option, Some, None, refl, sym, ap, ◌∙◌, subst, inl, inr, arith, option_map}
-use Rattle.std.proofs.lemmas.Bool.{cases_Bool, cases_lt, lt-ltb, le-ltb, lt-leb, le-leb, eqb-true, and_parts}
-use Rattle.std.proofs.lemmas.List.{length-map, length-append}
-use Rattle.std.specs.Prelude.{filter, find, nat_eq, if◌then◌else◌}
-use Rattle.net_units.specs.Numbers.{channel_number}
-use Rattle.net_units.specs.declared.numbers.ChanNo.{ChanNo}
-use Rattle.traffic_contract.specs.Admission.{total}
+use Rattle.run_engine.proofs.Words.{cases_Bool, cases_lt, lt-ltb, le-ltb, lt-leb, le-leb, eqb-true, and_parts, length-map, length-append, filter, find, nat_eq, if◌then◌else◌, channel_number, ChanNo, total, Ask, Reserve, Relax, Deny, Submit, Release, Arrive, Tick, Packet, Entry, Committed, Phase, Reply, LinkShape, MayAnswer, IsAdmissible, stays, expires, Each, change_first, without_first, deny_reply, submit_to, release_reply, release_to, reply_at, cancelled_at_release, Reservation, is_of, is_phase, is_same, tentative, Row, SourcePacket, new_row, row_terms, left_at, made_by, offered_by, tick_of, planned_from, Scan, plan_row, close_row, clock_of, scan_of, is_row_of, is_row_at_hop, names_first_hop, arrived_row, with_arrival, without_expired, with_sources, with_best, after_tick, after, Arrival, here_at, SourceStep, Rests, row_after, rows_after, step_of, taken_by, channel_of, same_Some}
 use Rattle.traffic_contract.proofs.AdmissionTest.{total-append, total-push}
-use Rattle.link_steps.specs.declared.asks.Ask.{Ask}
-use Rattle.link_steps.specs.declared.asks.Ask.TheVariants.{Reserve, Relax, Deny, Submit, Release, Arrive, Tick}
-use Rattle.link_steps.specs.declared.asks.Packet.{Packet}
-use Rattle.link_steps.specs.declared.replies.Entry.{Entry}
-use Rattle.link_steps.specs.declared.replies.Phase.TheVariants.{Committed}
-use Rattle.link_steps.specs.declared.replies.Phase.{Phase}
 use Rattle.link_steps.specs.declared.replies.Refusal.TheVariants.{NoSuch, NotInPhase}
-use Rattle.link_steps.specs.declared.replies.Reply.{Reply}
 use Rattle.link_steps.specs.declared.replies.Reply.TheVariants as Is
-use Rattle.link_steps.specs.declared.shape.LinkShape.{LinkShape}
-use Rattle.link_steps.specs.Admissible.{MayAnswer, IsAdmissible}
-use Rattle.link_steps.specs.Hold.{stays, expires}
-use Rattle.link_steps.specs.Lists.{Each, change_first, without_first}
-use Rattle.link_steps.specs.Replies.{deny_reply, submit_to, release_reply, release_to, reply_at, cancelled_at_release}
-use Rattle.link_steps.specs.Reservation.{Reservation, is_of, is_phase, is_same, tentative}
-use Rattle.link_steps.specs.Rows.{Row, SourcePacket, new_row, row_terms, left_at, made_by, offered_by, tick_of, planned_from}
-use Rattle.link_steps.specs.Scan.{Scan, plan_row, close_row, clock_of, scan_of, is_row_of, is_row_at_hop, names_first_hop, arrived_row, with_arrival, without_expired, with_sources, with_best, after_tick, after}
-use Rattle.link_steps.specs.Service.{Arrival, here_at}
-use Rattle.link_steps.specs.Sources.{SourceStep, Rests, row_after, rows_after, step_of, taken_by}
 use Rattle.link_steps.proofs.FoundElements.{total-filter-both}
 use Rattle.link_steps.proofs.LegalOrder.{legal-order}
 use Rattle.link_steps.proofs.RowsInOrder.{IsInOrder}
 use Rattle.link_steps.proofs.SearchAndFilter.{Each-find, find-map}
 use Rattle.link_steps.proofs.ReservationFound.{deny-tells}
-use Rattle.channel_laws.specs.Channels.{channel_of}
 use Rattle.channel_laws.proofs.ChannelRows.{find-passes}
 use Rattle.run_engine.specs.channels.Moves.{planned_with, planned_in, cancelled_with, cancelled_in, offered_of, left_of, PlannedPacketsAreOfferedLeftOrCancelled}
 use Rattle.channel_laws.proofs.PlanLaw.{On}
 use Rattle.channel_laws.proofs.UnsentPlans.{LaterEmpty, later-empty}
 use Rattle.channel_laws.proofs.FewLeft.{planned-count}
-use Rattle.std.proofs.lemmas.Option.{same_Some}
 
 -- the whole plan of a row, if it is of the channel
 plan_of : ℕ → Row → ℕ

@@ -1,6 +1,6 @@
 -- The record has the run that was seen.
 use Rattle.std.proofs.Common.{sym, subst, reverse, ap}
-use Rattle.call_script.specs.Tasks.{network_of}
+use Rattle.run_engine.proofs.Words.{network_of}
 use Rattle.run_engine.specs.schedules.Schedules.{IsPlayed}
 use Rattle.interleave_core.specs.channels.Laws.{IsGuaranteedRun}
 use Rattle.run_record.specs.Entries.{Entries}

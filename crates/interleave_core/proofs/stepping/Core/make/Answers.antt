@@ -1,7 +1,6 @@
 -- The engine makes the step for the run that is recorded, and it is recorded.
 use Rattle.std.proofs.Common.{◌-◌, ap, refl, sym, ◌∙◌}
-use Rattle.call_script.specs.Tasks.{network_of}
-use Rattle.run_engine.specs.runs.Runs.{step}
+use Rattle.run_engine.proofs.Words.{network_of, step}
 use Rattle.run_engine.specs.schedules.Standing.{IsAboutTo}
 use Rattle.interleave_core.specs.Cores.{run_in}
 use Rattle.run_engine.proofs.Runs.RunOf.{step-is}
