@@ -47,11 +47,8 @@ share-most caller (suc n) =
 -- a request is one caller's
 shares-more : (n r : ℕ) → n % 4 ≡ r → r < 4 → share 0 n + share 1 n + share 2 n + share 3 n ≡ n → share 0 (suc n) + share 1 (suc n) + share 2 (suc n) + share 3 (suc n) ≡ suc n
 unfolding share
-shares-more n zero is few rest = rw is (omega (arith, rest))
-shares-more n (suc zero) is few rest = rw is (omega (arith, rest))
-shares-more n (suc (suc zero)) is few rest = rw is (omega (arith, rest))
-shares-more n (suc (suc (suc zero))) is few rest = rw is (omega (arith, rest))
 shares-more n (suc (suc (suc (suc r)))) is few rest = absurd (omega (arith, few))
+shares-more n _ is few rest = rw is (omega (arith, rest))
 
 pub all-shares : (n : ℕ) → share 0 n + share 1 n + share 2 n + share 3 n ≡ n
 unfolding share
@@ -61,8 +58,5 @@ all-shares (suc n) = shares-more n (n % 4) refl (mod-lt n (omega arith)) (all-sh
 -- so the channels of a caller are below their number
 pub first-below : (size caller : ℕ) → caller < 4 → first_channel size caller + share caller size ≤ size
 unfolding first_channel
-first-below size zero few = (let all = all-shares size in omega (arith, all))
-first-below size (suc zero) few = (let all = all-shares size in omega (arith, all))
-first-below size (suc (suc zero)) few = (let all = all-shares size in omega (arith, all))
-first-below size (suc (suc (suc zero))) few = (let all = all-shares size in omega (arith, all))
 first-below size (suc (suc (suc (suc caller)))) few = absurd (omega (arith, few))
+first-below size _ few = (let all = all-shares size in omega (arith, all))

@@ -232,18 +232,12 @@ caller-more number size caller few caller_few new keep =
 -- ---- the plan
 
 numbered : (n : ℕ) (entry : LinkEntry) → slice_get made_links n ≡ Some entry → link_number entry.shape.link ≡ n
-numbered zero entry found = ap (λ (e : LinkEntry). link_number e.shape.link) (sym (same_Some _ _ found))
-numbered (suc zero) entry found = ap (λ (e : LinkEntry). link_number e.shape.link) (sym (same_Some _ _ found))
-numbered (suc (suc zero)) entry found = ap (λ (e : LinkEntry). link_number e.shape.link) (sym (same_Some _ _ found))
-numbered (suc (suc (suc zero))) entry found = ap (λ (e : LinkEntry). link_number e.shape.link) (sym (same_Some _ _ found))
 numbered (suc (suc (suc (suc n)))) entry found = cc
+numbered _ entry found = ap (λ (e : LinkEntry). link_number e.shape.link) (sym (same_Some _ _ found))
 
 unused-all : (n : ℕ) (entry : LinkEntry) → slice_get made_links n ≡ Some entry → All (LeavesUnused entry.shape.bounds) entry.quotas
-unused-all zero entry found = none-unused entry (ap (λ (e : LinkEntry). e.quotas) (sym (same_Some _ _ found)))
-unused-all (suc zero) entry found = none-unused entry (ap (λ (e : LinkEntry). e.quotas) (sym (same_Some _ _ found)))
-unused-all (suc (suc zero)) entry found = none-unused entry (ap (λ (e : LinkEntry). e.quotas) (sym (same_Some _ _ found)))
-unused-all (suc (suc (suc zero))) entry found = none-unused entry (ap (λ (e : LinkEntry). e.quotas) (sym (same_Some _ _ found)))
 unused-all (suc (suc (suc (suc n)))) entry found = cc
+unused-all _ entry found = none-unused entry (ap (λ (e : LinkEntry). e.quotas) (sym (same_Some _ _ found)))
 
 -- there are no groups
 groups-none : KeepGroups One [] made_links []
