@@ -99,3 +99,7 @@ pub use Rattle.link_quota.specs.Any.{AnyStands, any-clock-is, any_account, any_c
 pub use Rattle.link_quota.specs.declared.any_link.AnyLink.{AnyLink}
 pub use Rattle.run_engine.specs.runs.Runs.{IsNext, done_at, plane_at, plane_no, step, stepped}
 unfoldable pub use Rattle.run_engine.specs.runs.Runs.{IsRun, next_for, run_from}
+pub use Rattle.run_engine.specs.channels.Hops.{ChannelAsked, ComesFrom, OnRoute, packets_on, terms_at}
+pub use Rattle.run_engine.specs.channels.Paths.{HopAt, IsBehind, Passed, PathKept, arrival_ticks, arrived_at, bound_of, count_at, delay_before, eligible_at, hop_ticks, packets_at, reaches_at}
+pub use Rattle.run_engine.specs.channels.Moves.{AMoveLeavesNoPacketBehind, EveryMoveKeeps, EveryMoveTakesTheLast, PlannedPacketsAreOfferedLeftOrCancelled, cancelled_with, last_with, left_in, left_of, moved_in, offered_in, offered_of, plan_at, plan_in, planned_with}
+unfoldable pub use Rattle.run_engine.specs.channels.Moves.{cancelled_in, last_planned, planned_in}

@@ -1,10 +1,8 @@
 -- In a run the packets of a channel at a link of its route are those of one row there.
 use Rattle.std.proofs.Common.{◌≡◌, ℕ, ◌≤◌, true, List, Some, refl, sym, subst, inl, inr, arith}
-use Rattle.run_engine.proofs.Words.{cases_lt, slice_get, link_number, channel_number, Hop, Scan, scan_of, Arrival, Link, Among, RequestFits, Request, NetworkFits, Network, is_of_channel, offers_to, AllOfferTerms, AreNumberedAfter, HasOneRow, ChannelStands, IsRun, part_of, Done}
+use Rattle.run_engine.proofs.Words.{cases_lt, slice_get, link_number, channel_number, Hop, Scan, scan_of, Arrival, Link, Among, RequestFits, Request, NetworkFits, Network, is_of_channel, offers_to, AllOfferTerms, AreNumberedAfter, HasOneRow, ChannelStands, IsRun, part_of, Done, packets_on, terms_at, OnRoute, ChannelAsked, HopAt, packets_at}
 use Rattle.link_steps.proofs.PacketRows.{Among-passes}
 use Rattle.channel_laws.proofs.ChannelRows.{legal-stands, legal-free}
-use Rattle.run_engine.specs.channels.Hops.{packets_on, terms_at, OnRoute, ChannelAsked}
-use Rattle.run_engine.specs.channels.Paths.{HopAt, packets_at}
 use Rattle.run_engine.proofs.Runs.RunLegal.{part-admissible}
 
 -- ---- a channel at a link

@@ -1,8 +1,7 @@
 -- The hops of a request's route over the links of the network, and the channel's packets there.
 use Rattle.std.proofs.Common.{◌≡◌, ℕ, ◌<◌, ◌≤◌, List, length, get_or}
-use Rattle.run_engine.proofs.Words.{Each, Request, IsHopOf, RequestFits, Network, Done}
+use Rattle.run_engine.proofs.Words.{Each, Request, IsHopOf, RequestFits, Network, Done, HopAt, packets_at}
 use Rattle.link_steps.proofs.ListParts.{Each-at, stands-at}
-use Rattle.run_engine.specs.channels.Paths.{HopAt, packets_at}
 
 pub hop-at : (network : Network) (request : Request) (i : ℕ) → RequestFits network.links request → i < length request.route → HopAt network request i
 hop-at network request i sound within =

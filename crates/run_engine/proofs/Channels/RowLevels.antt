@@ -1,17 +1,15 @@
 -- The packets of a channel at a hop have the level of the reservation that is held there; and where none is held any more,
 -- no packet comes.
 use Rattle.std.proofs.Common.{◌≡◌, ℕ, suc, List, [], ◌∷◌, ◌++◌, length, Option, Some, None, refl, sym, ap, ◌∙◌, subst, inl, inr, arith, append-nil}
-use Rattle.run_engine.proofs.Words.{cases_Bool, cases_lt, eqb-false, same_Some, option_map, filter, find, link_number, channel_number, level_number, ChanNo, Ask, Reply, LinkShape, stays, Each, Reservation, is_of, Row, row_terms, Scan, scan_of, is_row_of, arrived_packet, without_expired, with_sources, with_best, after_tick, after, here_at, Request, Done, channel_packets, channel_of, offers_to, IsElsewhere, IsOnly, NetworkFits, Network, part_of, IsRun, held_by}
+use Rattle.run_engine.proofs.Words.{cases_Bool, cases_lt, eqb-false, same_Some, option_map, filter, find, link_number, channel_number, level_number, ChanNo, Ask, Reply, LinkShape, stays, Each, Reservation, is_of, Row, row_terms, Scan, scan_of, is_row_of, arrived_packet, without_expired, with_sources, with_best, after_tick, after, here_at, Request, Done, channel_packets, channel_of, offers_to, IsElsewhere, IsOnly, NetworkFits, Network, part_of, IsRun, held_by, terms_at, ChannelAsked, HopAt, packets_at}
 use Rattle.link_steps.proofs.AdmissionHolds.{find-terms, rows_after-terms}
 use Rattle.link_steps.proofs.EntryEffects.{packets-by}
 use Rattle.link_steps.proofs.SearchAndFilter.{Each-find}
-use Rattle.run_engine.specs.channels.Hops.{terms_at, ChannelAsked}
 use Rattle.channel_laws.proofs.ChannelRows.{tick-packets, row-of, find-passes, packets-off, sources-elsewhere, legal-free}
 use Rattle.run_engine.proofs.Channels.ChannelsAt.{stands-at}
 use Rattle.run_engine.proofs.Channels.RowsFollow.{held_at_hop}
 use Rattle.run_engine.proofs.Runs.RunLegal.{part-admissible}
 use Rattle.channel_laws.proofs.TermsAfter.{arrival-held}
-use Rattle.run_engine.specs.channels.Paths.{HopAt, packets_at}
 
 -- the row of the reservation that is held
 held-row : (chan : ChanNo) (rows : List Row) (found : Option Row) (terms : Reservation) → find (is_row_of chan) rows ≡ found → held_by chan rows ≡ Some terms → (row : Row) × (find (is_row_of chan) rows ≡ Some row) × (row.terms ≡ terms)

@@ -1,7 +1,7 @@
 -- While a setup is under way, each link of its route holds the reservation that the replies so far have made. So each
 -- reply to the setup is one of its ask's.
 use Rattle.std.proofs.Common.{◌≡◌, ◌≢◌, ℕ, zero, suc, ◌-◌, ◌<◌, ◌≤◌, Bool, true, false, List, [], ◌∷◌, length, get_or, Option, Some, None, refl, sym, ap, ◌∙◌, subst, arith}
-use Rattle.run_engine.proofs.Words.{same_Some, slice_get_within, slice_get, option_map, link_number, level_number, AreLevels, delay_over, IsRoute, link_of, Hop, Ask, Deny, Tentative, Committed, Reply, Link, MayAnswer, MayReplyTo, deny_reply, relax_reply, reply_at, reply_to, Reservation, committed, Scan, clock_of, scan_of, after, allotment, RequestFits, Outcome, Accepts, Denies, Reserving, Settled, offers_in, after_offers, reach_after, undoing, relaxing, asked, asked_of, reserve_of, bound_given, next_ask, progress_of, settled_in, verdict_of, Request, Done, NetworkFits, Network, part_of, IsNext, IsRun, held_by}
+use Rattle.run_engine.proofs.Words.{same_Some, slice_get_within, slice_get, option_map, link_number, level_number, AreLevels, delay_over, IsRoute, link_of, Hop, Ask, Deny, Tentative, Committed, Reply, Link, MayAnswer, MayReplyTo, deny_reply, relax_reply, reply_at, reply_to, Reservation, committed, Scan, clock_of, scan_of, after, allotment, RequestFits, Outcome, Accepts, Denies, Reserving, Settled, offers_in, after_offers, reach_after, undoing, relaxing, asked, asked_of, reserve_of, bound_given, next_ask, progress_of, settled_in, verdict_of, Request, Done, NetworkFits, Network, part_of, IsNext, IsRun, held_by, HopAt}
 use Rattle.hop_reservation.proofs.DistinctLinks.{index-apart}
 use Rattle.link_steps.specs.declared.replies.Reply.TheVariants as Is
 use Rattle.link_steps.specs.Levels.{level_of}
@@ -16,7 +16,6 @@ use Rattle.setup_protocol.proofs.StepHolds.{SetupAsks, Reserves, GivesBack, Rela
 use Rattle.run_engine.proofs.Channels.HopsAt.{hop-at}
 use Rattle.run_engine.proofs.Runs.RunLegal.{part-on, part-off, part-admissible, answered-may}
 use Rattle.channel_laws.proofs.TermsAfter.{held-offered, held-relaxed, held-denied}
-use Rattle.run_engine.specs.channels.Paths.{HopAt}
 use Rattle.link_steps.proofs.ListParts.{stands-at}
 
 -- ---- what a hop holds

@@ -1,8 +1,7 @@
 -- One hop further on: a packet is eligible there at the latest when it is due.
 use Rattle.std.proofs.Common.{◌≡◌, ℕ, ◌+◌, ◌<◌, ◌≤◌, List, [], ◌∷◌, ◌++◌, length, get_or, ap, inl, inr, arith}
-use Rattle.run_engine.proofs.Words.{cases_lt, get_or_append_left, get_or_push, length_push, length-append, Jitter, Traffic, burst_of, IsEligible, Keeps, Spaced}
+use Rattle.run_engine.proofs.Words.{cases_lt, get_or_append_left, get_or_push, length_push, length-append, Jitter, Traffic, burst_of, IsEligible, Keeps, Spaced, IsBehind}
 use Rattle.net_units.specs.declared.Kind.{Kind}
-use Rattle.run_engine.specs.channels.Paths.{IsBehind}
 
 spaced-more : (gap least shift : ℕ) (before ticks : List ℕ) → 1 ≤ gap → Spaced gap least before → Spaced gap least ticks → length ticks < length before → IsBehind shift before ticks
     → Spaced gap least (ticks ++ (get_or before (length ticks) 0 + shift) ∷ [])

@@ -1,14 +1,13 @@
 -- No flight is late: each is due in the plane's round or in a later one.
-use Rattle.std.proofs.Common.{◌≡◌, ℕ, suc, ◌+◌, ◌<◌, ◌≤◌, false, List, [], ◌∷◌, length, Option, Some, None, refl, sym, ap, ◌∙◌, inl, inr, arith}
-use Rattle.run_engine.proofs.Words.{cases_Bool, eqb-false, slice_get_within, nat_eq, find, link_number, actor_number, LinkNo, Arrive, Tick, Entry, Reply, Sent, LinkShape, IsAdmissible, Each, tick_reply, reply_to, clock_of, scan_of, leaves_at, Done, NetworkFits, Network, Flight, Plane, is_due, next_due, ask_due, flight_to, flight_in, tick_made, plane_with, plane_of, IsDueLater, part_of, replies_to, plane_no, plane_at, IsNext, IsRun, IsSent}
-use Rattle.link_steps.specs.declared.replies.Reply.TheVariants as Is
+use Rattle.std.proofs.Common.{◌≡◌, ℕ, suc, ◌<◌, ◌≤◌, false, List, [], ◌∷◌, length, Option, Some, None, refl, sym, ap, ◌∙◌, inl, inr, arith}
+use Rattle.run_engine.proofs.Words.{cases_Bool, eqb-false, slice_get_within, nat_eq, find, link_number, actor_number, Arrive, Tick, Each, reply_to, clock_of, Done, NetworkFits, Network, Flight, Plane, is_due, next_due, ask_due, flight_in, tick_made, plane_with, plane_of, IsDueLater, part_of, replies_to, plane_no, plane_at, IsNext, IsRun}
 use Rattle.link_steps.proofs.SearchAndFilter.{Each-append, Each-if, Each-both, Each-without_first}
 use Rattle.run_engine.specs.channels.Flights.{IsPunctual}
-use Rattle.run_engine.proofs.Flights.FlightOrigins.{run-flights}
+use Rattle.run_engine.proofs.Flights.FlightOrigins.{new-later, run-flights}
 use Rattle.run_engine.specs.runs.Laws.{NoFlightIsLate}
 use Rattle.run_engine.proofs.Runs.RunLegal.{part-may, RunStands, clock_at, plane-next, run-stands, by-actor}
 use Rattle.channel_laws.proofs.ArriveReplies.{arrive-told, of-arrive}
-use Rattle.channel_laws.proofs.SentInTime.{sent-facts, tick-answer}
+use Rattle.channel_laws.proofs.SentInTime.{tick-answer}
 
 -- none found means that none passes
 not-due : (t : ℕ) (flights : List Flight) → find (is_due t) flights ≡ None → Each (λ flight. is_due t flight ≡ false) flights
@@ -18,17 +17,6 @@ not-due t (f ∷ flights) none =
       | inl due ↦ absurd (let clash : Some f ≡ None = rw due at none in cc)
       | inr later ↦ (later, not-due t flights (rw later at none))
     ]
-
-sent-later : (shape : LinkShape) (h : List Entry) (sent : Sent) (next : Option LinkNo) (t : ℕ) → t ≤ clock_of h → IsSent shape h sent → Each (λ flight. suc t ≤ flight.round) (flight_to sent next)
-sent-later shape h sent None t early is = tt
-sent-later shape h sent (Some to) t early is =
-    let arrives : sent.arrives ≡ leaves_at shape.rate is.start + shape.prop = ap (λ s. s.arrives) is.is in
-    let leaves = is.leaves in
-    (omega (arith, arrives, leaves, early), tt)
-
-new-later : (shape : LinkShape) (h : List Entry) (reply : Reply) (t : ℕ) → t ≤ clock_of h → IsAdmissible shape h → reply ≡ tick_reply shape (clock_of h) (scan_of shape h) → Each (λ flight. suc t ≤ flight.round) (flight_in reply)
-new-later shape h (Is.Ticked clock full (Some sent) best_sent best_lost) t early legal same = sent-later shape h sent sent.next t early (sent-facts shape h clock full sent best_sent best_lost legal same)
-new-later shape h _ t early legal same = tt
 
 tick-punctual : (links : ℕ) (plane : Plane) (new : List Flight) → next_due plane ≡ None → IsPunctual plane → Each (λ flight. suc plane.round ≤ flight.round) new → IsPunctual (tick_made links plane new)
 tick-punctual links plane new none punctual later =

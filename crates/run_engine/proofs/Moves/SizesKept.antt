@@ -1,14 +1,13 @@
 -- In every run whose channels each have one owner, the packets that a move shifts are no larger than the contracts of both its
 -- channels allow.
 use Rattle.std.proofs.Common.{◌≡◌, ◌⊎◌, ℕ, ◌≤◌, Bool, true, false, List, [], ◌∷◌, ◌++◌, length, Option, Some, None, refl, sym, ap, ◌∙◌, subst, inl, inr, arith}
-use Rattle.run_engine.proofs.Words.{eqb-true, and_parts, same_Some, slice_get_within, slice_get, find, nat_eq, not, ◌&&◌, if◌then◌else◌, link_number, channel_number, link_of, Submit, Reply, Each, Among, reply_at, submit_to, Row, left_at, clock_of, scan_of, is_row_at_hop, RequestFits, Request, NetworkFits, TaskFits, IsSendOn, TaskOff, OwnedFully, AllOwned, Learnt, Settles, PlannedOn, MovedTo, Packets, Standing, is_that, newest, or_before, packets_by, packets_in, last_packets, task_ask, ready, from_step, begun, outcome_by, standing, once_next, Network, Task, Sends, Moves, part_of, replies_to, Done, IsNext, IsRun, ChanNo, LinkNo}
+use Rattle.run_engine.proofs.Words.{eqb-true, and_parts, same_Some, slice_get_within, slice_get, find, nat_eq, not, ◌&&◌, if◌then◌else◌, link_number, channel_number, link_of, Submit, Reply, Each, Among, reply_at, submit_to, Row, left_at, clock_of, scan_of, is_row_at_hop, RequestFits, Request, NetworkFits, TaskFits, IsSendOn, TaskOff, OwnedFully, AllOwned, Learnt, Settles, PlannedOn, MovedTo, Packets, Standing, is_that, newest, or_before, packets_by, packets_in, last_packets, task_ask, ready, from_step, begun, outcome_by, standing, once_next, Network, Task, Sends, Moves, part_of, replies_to, Done, IsNext, IsRun, ChanNo, LinkNo, terms_at, ChannelAsked}
 use Rattle.link_steps.specs.declared.replies.Reply.TheVariants as Is
 use Rattle.link_steps.proofs.SearchAndFilter.{Each-among, Each-find}
 use Rattle.link_steps.proofs.FoundElements.{Each-from_among}
 use Rattle.link_steps.proofs.ListParts.{Each-at}
 use Rattle.link_steps.proofs.ReservationFound.{submit-tells}
 use Rattle.channel_laws.proofs.SizeLaw.{NamesContract, legal-sizes}
-use Rattle.run_engine.specs.channels.Hops.{terms_at, ChannelAsked}
 use Rattle.run_engine.proofs.Channels.HopsAt.{hop-at}
 use Rattle.run_engine.proofs.Tasks.SingleAskTask.{once-asked}
 use Rattle.channel_laws.proofs.UnsentPlans.{row-at-hop}

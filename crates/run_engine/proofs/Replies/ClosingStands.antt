@@ -5,13 +5,12 @@ use Rattle.channel_move.specs.declared.mover.Stage.{Stage}
 use Rattle.link_steps.specs.declared.replies.Reply.TheVariants as Is
 use Rattle.call_script.specs.Scripts.{Settles as Settled_as}
 use Rattle.std.proofs.Common.{◌≡◌, ◌≢◌, ◌⊎◌, ℕ, ◌≤◌, Bool, true, false, List, [], ◌∷◌, ◌++◌, length, Option, Some, refl, sym, ap, ◌∙◌, subst, inl, inr}
-use Rattle.run_engine.proofs.Words.{ChanNo, LinkNo, first_told, stage_after, Leaving, Joining, Releasing, Shifted, UsedOnce, ClosesOnce, IsSendOn, IsMoveFrom, IsMoveOnto, TaskOff, SendsOnce, FullScript, newest, ready, planned_as, moved_as, Learnt, is_established, takes_step, from_step, settled_as, outcome_by, IsUnsent, NoneSent, eq-eqb, ne_eqb, channel_number, link_number, Ask, Submit, Reply, Each, Outcome, Denies, next_ask, progress_of, Request, Done, NetworkFits, Task, Opens, Closes, Network, part_of, IsRun, IsOff, clock_of, scan_of, after, held_by}
+use Rattle.run_engine.proofs.Words.{ChanNo, LinkNo, first_told, stage_after, Leaving, Joining, Releasing, Shifted, UsedOnce, ClosesOnce, IsSendOn, IsMoveFrom, IsMoveOnto, TaskOff, SendsOnce, FullScript, newest, ready, planned_as, moved_as, Learnt, is_established, takes_step, from_step, settled_as, outcome_by, IsUnsent, NoneSent, eq-eqb, ne_eqb, channel_number, link_number, Ask, Submit, Reply, Each, Outcome, Denies, next_ask, progress_of, Request, Done, NetworkFits, Task, Opens, Closes, Network, part_of, IsRun, IsOff, clock_of, scan_of, after, held_by, HopAt}
 use Rattle.setup_protocol.specs.Laws.{is_accepted}
 use Rattle.setup_protocol.proofs.HopAsks.{of-setup}
 use Rattle.setup_protocol.proofs.HopHolds.{IsComm}
 use Rattle.run_engine.proofs.Channels.RowsFollow.{held_at_hop, Settles}
 use Rattle.run_engine.proofs.Replies.RunGoes.{held-later, open-comm}
-use Rattle.run_engine.specs.channels.Paths.{HopAt}
 use Rattle.run_engine.proofs.Tasks.TaskAsks.{ready-off}
 use Rattle.run_engine.proofs.Runs.RunLegal.{by-part}
 use Rattle.channel_laws.proofs.TermsAfter.{held-submitted}

@@ -3,12 +3,11 @@ use Rattle.channel_move.proofs.AskByStage.{HopAsked, MoveAsks, AsksFirst, AsksSu
 use Rattle.link_steps.proofs.SearchAndFilter.{Each-find}
 use Rattle.channel_laws.proofs.SizeLaw.{NamesContract, legal-sizes}
 use Rattle.channel_laws.proofs.SendReplies.{found-at-hop, submit-committed, release-committed}
-use Rattle.run_engine.specs.channels.Hops.{terms_at}
 use Rattle.channel_laws.proofs.UnsentPlans.{unsent-left, row-at-hop}
 use Rattle.channel_laws.proofs.UnsentSubmits.{unplanned-submit}
 use Rattle.run_engine.proofs.Runs.RunLegal.{part-admissible}
 use Rattle.std.proofs.Common.{◌≡◌, ◌≢◌, suc, ℕ, ◌+◌, ◌≤◌, Bool, true, false, List, [], ◌∷◌, ◌++◌, length, Option, Some, None, refl, sym, ap, ◌∙◌, subst, inl, inr, arith}
-use Rattle.run_engine.proofs.Words.{nat_eq, shifted_in, told_by, first_told, stage_after, joining_after, Releasing, Shifted, is_row_at_hop, names_first_hop, clock_of, scan_of, UsedOnce, ClosesOnce, PacketsOff, TaskOff, SendsOnce, IsMoveFrom, IsMoveOnto, move_between, Learnt, is_established, IsPlanned, cases_Bool, ne_eqb, length_push, same_Some, slice_get_within, slice_get, link_number, channel_number, link_of, Hop, Ask, Submit, Release, Reply, Each, reply_at, RequestFits, first_count, Request, Done, NetworkFits, Task, Opens, Sends, Closes, Moves, Network, part_of, IsNext, IsSendReply, IsReleased, IsOff, progress_of}
+use Rattle.run_engine.proofs.Words.{terms_at, nat_eq, shifted_in, told_by, first_told, stage_after, joining_after, Releasing, Shifted, is_row_at_hop, names_first_hop, clock_of, scan_of, UsedOnce, ClosesOnce, PacketsOff, TaskOff, SendsOnce, IsMoveFrom, IsMoveOnto, move_between, Learnt, is_established, IsPlanned, cases_Bool, ne_eqb, length_push, same_Some, slice_get_within, slice_get, link_number, channel_number, link_of, Hop, Ask, Submit, Release, Reply, Each, reply_at, RequestFits, first_count, Request, Done, NetworkFits, Task, Opens, Sends, Closes, Moves, Network, part_of, IsNext, IsSendReply, IsReleased, IsOff, progress_of, HopAt}
 use Rattle.run_engine.proofs.Channels.HopsAt.{hop-at}
 use Rattle.setup_protocol.proofs.HopHolds.{IsComm}
 use Rattle.run_engine.proofs.Channels.RowsFollow.{held-elsewhere, hop-reply, other-hop, held_at_hop}
@@ -17,7 +16,6 @@ use Rattle.run_engine.proofs.Tasks.SingleAskTask.{once-asked}
 use Rattle.run_engine.proofs.Replies.ClosingStands.{AllComm, Unsent, left_in, left_by, IsUnjoined, Closing, MovingFrom, MovingOnto, comm-later, unsent-later, send-later, Aside, Opening, Sending, UnderWay, between-later, setup-unsent, unsent-more, BetweenTasks}
 use Rattle.run_engine.proofs.Tasks.TaskAsks.{task-off}
 use Rattle.run_engine.proofs.Replies.OwnerKinds.{OwnKind, off-leaving, stage-told, onto-stays, send-stays, stage-some, OwnSend, OwnSetup, OwnAside, OwnOff, OwnClose, setup-keeps}
-use Rattle.run_engine.specs.channels.Paths.{HopAt}
 use Rattle.run_engine.proofs.Runs.EachRun.{OwnStep}
 use Rattle.run_engine.proofs.Replies.RunGoes.{OwnedOnce, owned-asked, step-setup}
 

@@ -1,10 +1,9 @@
 -- What kinds of entry the owner of a channel makes: one of another channel, one of its setup, a submit on it, or a release of it.
 use Rattle.std.proofs.Common.{◌≡◌, ◌≢◌, ◌⊎◌, ℕ, suc, List, [], ◌∷◌, ◌++◌, length, Some, refl, ap, ◌∙◌, subst, inl, inr, sym}
-use Rattle.run_engine.proofs.Words.{cases_Bool, nat_eq, link_number, channel_number, ChanNo, LinkNo, Ask, Submit, Release, Reply, IsOff, kept_in, shifted_in, told_by, stage_after, joining_after, Leaving, Releasing, Shifted, Progress, asked, first_count, told_count, Request, TaskOff, IsMoveFrom, Network, Task, Opens, Sends, Closes, Moves, Done}
+use Rattle.run_engine.proofs.Words.{cases_Bool, nat_eq, link_number, channel_number, ChanNo, LinkNo, Ask, Submit, Release, Reply, IsOff, kept_in, shifted_in, told_by, stage_after, joining_after, Leaving, Releasing, Shifted, Progress, asked, first_count, told_count, Request, TaskOff, IsMoveFrom, Network, Task, Opens, Sends, Closes, Moves, Done, HopAt}
 use Rattle.link_steps.specs.declared.replies.Reply.TheVariants as Is
 use Rattle.setup_protocol.proofs.HopAsks.{of-setup}
 use Rattle.setup_protocol.proofs.HopHolds.{IsComm}
-use Rattle.run_engine.specs.channels.Paths.{HopAt}
 use Rattle.run_engine.proofs.Channels.RowsFollow.{held_at_hop, SetupRows}
 
 pub not-own : (request : Request) (task own : Task) → TaskOff (channel_number request.chan) task → task ≡ own → (TaskOff (channel_number request.chan) own → ⊥) → ⊥

@@ -1,12 +1,11 @@
 -- The caller that opens a request is one of the actors, and what the request has come to, as this caller knows it, is the verdict
 -- over the replies of the run.
 use Rattle.std.proofs.Common.{◌≡◌, ℕ, ◌<◌, Option, Some, List, length, sym, ap, ◌∙◌, arith}
-use Rattle.run_engine.proofs.Words.{same_Some, slice_get, actor_number, channel_number, Outcome, verdict_of, PlanParts, IsPlan, moved_off, outcome_in, standing_of, network_of, Shifted, IsRun, replies_to, Done}
+use Rattle.run_engine.proofs.Words.{same_Some, slice_get, actor_number, channel_number, Outcome, verdict_of, PlanParts, IsPlan, moved_off, outcome_in, standing_of, network_of, Shifted, IsRun, replies_to, Done, moved_in}
 use Rattle.call_script.proofs.PlansFit.{request-fits}
 use Rattle.call_script.proofs.OneOwner.{owned-by}
 use Rattle.call_script.specs.Standing.{standing_in}
 use Rattle.call_script.specs.declared.entries.RequestEntry.{RequestEntry}
-use Rattle.run_engine.specs.channels.Moves.{moved_in}
 use Rattle.run_engine.specs.replies.Verdicts.{setup_replies}
 use Rattle.run_engine.proofs.Keeping.KeptActors.{plane-number}
 use Rattle.run_engine.proofs.Keeping.Lookups.{held}

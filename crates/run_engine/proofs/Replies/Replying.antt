@@ -1,11 +1,10 @@
 -- In every run of a network whose channels each have one owner, each reply is one that its actor expects.
 use Rattle.std.proofs.Common.{◌++◌, Bool, arith, ◌≡◌, ℕ, true, List, [], ◌∷◌, length, Option, Some, None, refl, sym, ap, ◌∙◌, subst, inl, inr}
-use Rattle.run_engine.proofs.Words.{slice_get_within, same_Some, find, nat_le, ◌≤◌, nat_eq, link_of, held_by, IsSendReply, IsReleased, IsArriveReply, Committed, LinkShape, change_first, Each, submit_reply, submit_to, tick_reply, reply_at, reply_to, Reservation, is_phase, Row, left_at, planned_from, Scan, plan_row, after, is_row_at_hop, clock_of, scan_of, RequestFits, IsPlanned, ChanNo, answers, answers_next, next_of_move, OwnedFully, TaskOff, AllOwned, move_between, Standing, packets_ask, once_next, standing, answers_submit, first_expects, Learnt, is_established, cases_Bool, eqb-true, eqb-false, slice_get, link_number, actor_number, channel_number, LinkNo, next_levels, Ask, Submit, Release, Arrive, Tick, Entry, Reply, Link, Progress, Reserving, Undoing, Relaxing, Settled, answers_reserve, answers_deny, answers_relax, is_expected, asked, next_ask, progress_of, is_closing, next_release, Request, NetworkFits, Network, Task, Opens, Sends, Closes, Moves, plane_no, plane_at, IsNext, IsRun, replies_to, part_of, Done, next_due, ask_due, answers_arrive, answers_tick, plane_expects, Flight}
+use Rattle.run_engine.proofs.Words.{slice_get_within, same_Some, find, nat_le, ◌≤◌, nat_eq, link_of, held_by, IsSendReply, IsReleased, IsArriveReply, Committed, LinkShape, change_first, Each, submit_reply, submit_to, tick_reply, reply_at, reply_to, Reservation, is_phase, Row, left_at, planned_from, Scan, plan_row, after, is_row_at_hop, clock_of, scan_of, RequestFits, IsPlanned, ChanNo, answers, answers_next, next_of_move, OwnedFully, TaskOff, AllOwned, move_between, Standing, packets_ask, once_next, standing, answers_submit, first_expects, Learnt, is_established, cases_Bool, eqb-true, eqb-false, slice_get, link_number, actor_number, channel_number, LinkNo, next_levels, Ask, Submit, Release, Arrive, Tick, Entry, Reply, Link, Progress, Reserving, Undoing, Relaxing, Settled, answers_reserve, answers_deny, answers_relax, is_expected, asked, next_ask, progress_of, is_closing, next_release, Request, NetworkFits, Network, Task, Opens, Sends, Closes, Moves, plane_no, plane_at, IsNext, IsRun, replies_to, part_of, Done, next_due, ask_due, answers_arrive, answers_tick, plane_expects, Flight, plan_in, plan_at}
 use Rattle.channel_move.proofs.AskByStage.{HopAsked, MoveAsks, AsksFirst, AsksSubmit, AsksRest, move-asks, move-ask-is}
 use Rattle.channel_laws.proofs.ChannelRows.{find-passes}
 use Rattle.channel_laws.proofs.SendReplies.{found-at-hop, best-answered, of-released}
 use Rattle.setup_protocol.proofs.HopHolds.{IsComm}
-use Rattle.run_engine.specs.channels.Moves.{plan_in, plan_at}
 use Rattle.run_engine.proofs.Channels.HopsAt.{hop-at}
 use Rattle.channel_laws.proofs.UnsentPlans.{unsent-left}
 use Rattle.run_engine.proofs.Replies.ClosingStands.{AllComm, Unsent, IsUnjoined, Closing, MovingFrom, MovingOnto, UnderWay, Aside, Opening, Sending}

@@ -1,13 +1,11 @@
 -- In every run each reply to a setup is one of its ask's.
 use Rattle.std.proofs.Common.{◌≡◌, ◌≢◌, ℕ, ◌<◌, ◌≤◌, Bool, true, false, List, [], ◌∷◌, length, get_or, Option, Some, None, refl, sym, ap, ◌∙◌, subst, inl, inr, arith}
-use Rattle.run_engine.proofs.Words.{cases_lt, same_Some, slice_get, link_number, actor_number, channel_number, AreLevels, Tentative, Closing, Reply, Each, Reservation, is_phase, clock_of, scan_of, RequestFits, Outcome, Accepts, Denies, Progress, Relaxing, Settled, offers_in, reach_after, next_ask, progress_of, verdict_of, Request, IsOff, IsMild, channel_packets, held_by, IsOpen, ComesOf, Stays, Closed, NetworkFits, TaskOff, Learnt, outcome_in, standing, Standing, Network, Task, Opens, part_of, replies_to, Done, IsNext, IsRun}
+use Rattle.run_engine.proofs.Words.{cases_lt, same_Some, slice_get, link_number, actor_number, channel_number, AreLevels, Tentative, Closing, Reply, Each, Reservation, is_phase, clock_of, scan_of, RequestFits, Outcome, Accepts, Denies, Progress, Relaxing, Settled, offers_in, reach_after, next_ask, progress_of, verdict_of, Request, IsOff, IsMild, channel_packets, held_by, IsOpen, ComesOf, Stays, Closed, NetworkFits, TaskOff, Learnt, outcome_in, standing, Standing, Network, Task, Opens, part_of, replies_to, Done, IsNext, IsRun, ChannelAsked, HopAt, packets_at}
 use Rattle.link_steps.proofs.LegalChannels.{legal-channels}
 use Rattle.link_steps.proofs.SearchAndFilter.{Each-if}
 use Rattle.setup_protocol.proofs.HopHolds.{IsTent, IsComm, HopStands, reserved_of, IsTail}
 use Rattle.setup_protocol.proofs.SetupAdvances.{progress-none}
 use Rattle.channel_laws.proofs.TermsAfter.{held-off, comes-mild}
-use Rattle.run_engine.specs.channels.Hops.{ChannelAsked}
-use Rattle.run_engine.specs.channels.Paths.{HopAt, packets_at}
 use Rattle.run_engine.proofs.Channels.HopsAt.{HaveLevelsAt}
 use Rattle.run_engine.proofs.Channels.RowLevels.{levels-held, none-comes}
 use Rattle.run_engine.proofs.Channels.RowsFollow.{held_at_hop, SetupRows, SetupGoes, setup-goes, KeptTerms, AfterRows, Settles, setup-settles, held-here}

@@ -2,7 +2,7 @@
 use Rattle.channel_laws.proofs.FewLeft.{few-cancelled}
 use Rattle.run_engine.proofs.Tasks.CallerAsksFit.{IfRelease, FewShifted, few-told, IsCallers, StandingFits, standing-asks, begun-fits, replied-fits, AsksLink}
 use Rattle.std.proofs.Common.{◌≡◌, ◌≢◌, ℕ, suc, ◌+◌, ◌<◌, ◌≤◌, cond, List, [], ◌∷◌, length, Option, Some, None, refl, sym, ap, ◌∙◌, subst, inl, inr, arith, lit<}
-use Rattle.run_engine.proofs.Words.{cases_Bool, cond_both, eqb-true, eqb-false, eq-eqb, ne_eqb, le-ltb, same_Some, slice_get_within, slice_get, nat_eq, nat_lt, link_number, actor_number, link_at, LinkNo, Ask, Packet, Release, Arrive, Tick, Entry, Reply, LinkShape, IsAdmissible, Link, SplitFits, AskFits, PacketFits, IsLegal, Each, tick_reply, reply_to, clock_with, clock_of, scan_of, MayReplyTo, Done, TaskFits, NetworkFits, Task, Network, standing, ask_at, script_ask, Flight, Plane, is_due, next_due, ask_due, plane_ask, flight_in, plane_with, plane_after, plane_of, entry_of, replies_to, part_of, plane_no, plane_at, next_for, IsNext, IsRun}
+use Rattle.run_engine.proofs.Words.{cases_Bool, cond_both, eqb-true, eqb-false, eq-eqb, ne_eqb, le-ltb, same_Some, slice_get_within, slice_get, nat_eq, nat_lt, link_number, actor_number, link_at, LinkNo, Ask, Packet, Release, Arrive, Tick, Entry, Reply, LinkShape, IsAdmissible, Link, SplitFits, AskFits, PacketFits, IsLegal, Each, tick_reply, reply_to, clock_with, clock_of, scan_of, MayReplyTo, Done, TaskFits, NetworkFits, Task, Network, standing, ask_at, script_ask, Flight, Plane, is_due, next_due, ask_due, plane_ask, flight_in, plane_with, plane_after, plane_of, entry_of, replies_to, part_of, plane_no, plane_at, next_for, IsNext, IsRun, Sent, IsSent}
 use Rattle.std.proofs.Math.Nat.{lt_of_le_of_lt}
 use Rattle.link_steps.proofs.LegalAdmissible.{may-answer, legal-has, legal-admissible}
 use Rattle.link_steps.proofs.SearchAndFilter.{Each-find}
@@ -194,10 +194,14 @@ clocks-next network past done fits stands next n inside =
 
 -- ---- the flights
 
--- a link's tick tells a packet that may arrive
+-- what is so of each packet that a link's tick shows as sent, where it goes to another link, is so of the flights of the tick's reply
+pub flight-sent : (P : Flight → Type 0) (shape : LinkShape) (h : List Entry) (reply : Reply) → IsAdmissible shape h → reply ≡ tick_reply shape (clock_of h) (scan_of shape h)
+    → ((sent : Sent) (to : LinkNo) → IsSent shape h sent → sent.next ≡ Some to → P (record { to = to; round = sent.arrives; packet = sent.packet })) → Each P (flight_in reply)
+flight-sent P shape h reply legal same each = flight-in P reply (λ clock full sent best_sent best_lost to told next. each sent to (sent-facts shape h clock full sent best_sent best_lost legal (told ∙ same)) next)
+
+-- it is a packet that may arrive
 new-flights : (shape : LinkShape) (h : List Entry) (reply : Reply) → clock_of h ≤ 1048576 → IsAdmissible shape h → reply ≡ tick_reply shape (clock_of h) (scan_of shape h) → Each FlightFits (flight_in reply)
-new-flights shape h reply early legal same =
-    flight-in FlightFits reply (λ clock full sent best_sent best_lost to told next. sent-fits shape h sent (lt_of_le_of_lt early (lit< tt)) (sent-facts shape h clock full sent best_sent best_lost legal (told ∙ same)))
+new-flights shape h reply early legal same = flight-sent FlightFits shape h reply legal same (λ sent to is next. sent-fits shape h sent (lt_of_le_of_lt early (lit< tt)) is)
 
 flights-next : (network : Network) (plane : Plane) (done : Done) (past : List Done) → NetworkFits network → RunStands network past → (next : IsNext network past done) → plane ≡ plane_at network past → AsksDue network.rounds plane done.link done.ask → Each FlightFits plane.flights
     → Each FlightFits (plane_with (length network.links) plane (next_due plane) done.reply).flights

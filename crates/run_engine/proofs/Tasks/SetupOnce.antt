@@ -1,9 +1,8 @@
 -- A request that is opened once is offered at most once at each link of its route, and nowhere else.
 use Rattle.std.proofs.Common.{◌≡◌, ◌≢◌, ℕ, suc, ◌+◌, ◌<◌, ◌≤◌, true, false, List, [], ◌∷◌, ◌++◌, length, Option, Some, refl, sym, ap, ◌∙◌, subst, inl, inr, arith}
-use Rattle.run_engine.proofs.Words.{cases_Bool, cases_lt, cond_both, eqb-true, eqb-false, ne_eqb, length_push, slice_get, nat_eq, link_number, channel_number, LinkNo, IsRoute, Hop, Ask, Reserve, Entry, Reply, LinkShape, MayReplyTo, IsReserve, IsMild, Outcome, is_offer, level_in, offers_in, after_offers, reach_after, on_the_way, asked, reserve_of, next_ask, Request, Done, HopTerms, offers_with, offers_to, OffersTerms, AllOfferTerms, NetworkFits, Standing, standing, Task, Network, part_of, replies_to, IsRun}
+use Rattle.run_engine.proofs.Words.{cases_Bool, cases_lt, cond_both, eqb-true, eqb-false, ne_eqb, length_push, slice_get, nat_eq, link_number, channel_number, LinkNo, IsRoute, Hop, Ask, Reserve, Entry, Reply, LinkShape, MayReplyTo, IsReserve, IsMild, Outcome, is_offer, level_in, offers_in, after_offers, reach_after, on_the_way, asked, reserve_of, next_ask, Request, Done, HopTerms, offers_with, offers_to, OffersTerms, AllOfferTerms, NetworkFits, Standing, standing, Task, Network, part_of, replies_to, IsRun, terms_at, ChannelAsked}
 use Rattle.link_steps.specs.declared.replies.Reply.TheVariants as Is
 use Rattle.setup_protocol.proofs.SetupAdvances.{after-other, offers-more, progress-on_the_way, progress-tested}
-use Rattle.run_engine.specs.channels.Hops.{terms_at, ChannelAsked}
 use Rattle.channel_laws.proofs.OfferAnswers.{offer-answers}
 use Rattle.run_engine.proofs.Keeping.Lookups.{held}
 use Rattle.run_engine.proofs.Tasks.CallerAsksFit.{undone-asks, tested-asks}
