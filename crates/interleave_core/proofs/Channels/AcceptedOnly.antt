@@ -1,10 +1,9 @@
 -- In every run a channel of which a packet was taken is accepted.
 use Rattle.std.proofs.Common.{◌≡◌, ℕ, zero, suc, ◌≤◌, Bool, true, false, List, [], ◌∷◌, ◌++◌, Option, Some, None, refl, sym, ap, ◌∙◌, subst, inl, inr, arith}
-use Rattle.run_engine.proofs.Words.{cases_lt, same_Some, channel_number, LinkNo, Ask, Reply, Each, Reservation, scan_of, RequestFits, Progress, Reserving, Undoing, Relaxing, Settled, Accepts, Denies, Outcome, asked, progress_of, undoing, relaxing, Request, NetworkFits, OwnedFully, Learnt, Standing, task_ask, continued, resumed, standing, outcome_in, Network, Task, part_of, replies_to, Done, IsNext, IsRun}
+use Rattle.run_engine.proofs.Words.{cases_lt, same_Some, channel_number, LinkNo, Ask, Reply, Each, Reservation, scan_of, RequestFits, Progress, Reserving, Undoing, Relaxing, Settled, Accepts, Denies, Outcome, asked, progress_of, undoing, relaxing, Request, NetworkFits, OwnedFully, Learnt, Standing, task_ask, continued, resumed, standing, outcome_in, Network, Task, part_of, replies_to, Done, IsNext, IsRun, HopAt, count_at}
 use Rattle.link_steps.specs.declared.replies.Phase.TheVariants as Ph
 use Rattle.setup_protocol.proofs.HopHolds.{IsTail, HopStands, reserved_of, View, OnWay, Back, Forth, view}
 use Rattle.interleave_core.specs.channels.Guarantee.{IsAccepted, AcceptedIn}
-use Rattle.run_engine.specs.channels.Paths.{HopAt, count_at}
 use Rattle.interleave_core.proofs.Channels.ChainLaw.{open-or-not}
 use Rattle.interleave_core.proofs.Channels.FarHolds.{first-same}
 use Rattle.run_engine.proofs.Channels.RowsFollow.{held_at_hop}

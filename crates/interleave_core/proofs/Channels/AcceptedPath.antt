@@ -1,11 +1,10 @@
 -- The delays of every accepted channel, over every run.
 use Rattle.std.proofs.Common.{◌≡◌, ℕ, List, Some, arith}
-use Rattle.run_engine.proofs.Words.{length-map, slice_get, RequestFits, Accepts, Request, Done, tick_of_packet, NetworkFits, Task, Network, replies_to, IsRun, standing, outcome_in, OwnedFully}
+use Rattle.run_engine.proofs.Words.{length-map, slice_get, RequestFits, Accepts, Request, Done, tick_of_packet, NetworkFits, Task, Network, replies_to, IsRun, standing, outcome_in, OwnedFully, packets_at, PathKept}
 use Rattle.interleave_core.proofs.Delays.PathLaw.{path-law}
 use Rattle.interleave_core.proofs.Delays.PathDelays.{path-exact, passed}
 use Rattle.run_engine.proofs.Replies.RunCloses.{owned-once}
 use Rattle.run_engine.proofs.Replies.RunGoes.{owned-asked, accepted-levels}
-use Rattle.run_engine.specs.channels.Paths.{packets_at, PathKept}
 
 pub accepted-path : (network : Network) (request : Request) (owner : ℕ) (run : List Done) (tasks : List Task) (levels : List ℕ) (delay : ℕ) → NetworkFits network → RequestFits network.links request → OwnedFully network request owner → IsRun network run → slice_get network.scripts owner ≡ Some tasks
     → outcome_in request.chan (standing tasks (replies_to owner run)).outcomes ≡ Some (Accepts levels delay) → PathKept network request levels run

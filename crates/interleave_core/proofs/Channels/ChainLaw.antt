@@ -1,9 +1,8 @@
 -- The fates of a channel's reservations in every run, by one induction with what its teardown was told.
 use Rattle.std.proofs.Common.{◌≡◌, ◌≢◌, ℕ, zero, suc, ◌≤◌, ◌⊎◌, true, List, [], ◌∷◌, ◌++◌, length, Option, Some, None, refl, sym, ap, ◌∙◌, subst, inl, inr, arith}
-use Rattle.run_engine.proofs.Words.{cases_lt, same_Some, slice_get, find, link_number, channel_number, link_of, Ask, Release, Tick, Phase, Reply, count_at_release, reply_at, release_to, Reservation, closing, clock_of, scan_of, is_row_at_hop, after, RequestFits, Progress, Relaxing, Settled, Accepts, first_count, told_count, Request, Done, channel_packets, channel_of, NetworkFits, Task, Network, part_of, replies_to, IsNext, IsRun, Learnt, Standing, standing, OwnedFully, IsReleased, held_by, IsOff, IsMild}
+use Rattle.run_engine.proofs.Words.{cases_lt, same_Some, slice_get, find, link_number, channel_number, link_of, Ask, Release, Tick, Phase, Reply, count_at_release, reply_at, release_to, Reservation, closing, clock_of, scan_of, is_row_at_hop, after, RequestFits, Progress, Relaxing, Settled, Accepts, first_count, told_count, Request, Done, channel_packets, channel_of, NetworkFits, Task, Network, part_of, replies_to, IsNext, IsRun, Learnt, Standing, standing, OwnedFully, IsReleased, held_by, IsOff, IsMild, packets_on, ChannelAsked, HopAt, count_at}
 use Rattle.link_steps.specs.declared.replies.Phase.TheVariants as Ph
 use Rattle.link_steps.specs.declared.replies.Reply.TheVariants as Is
-use Rattle.run_engine.specs.channels.Hops.{packets_on, ChannelAsked}
 use Rattle.channel_laws.proofs.ChannelRows.{own-count, find-passes}
 use Rattle.channel_laws.proofs.HoldFates.{Fate, FateOpen, TellsAll, NotCommitted, held-released, released-count}
 use Rattle.hop_reservation.proofs.DistinctLinks.{index-apart}
@@ -16,7 +15,6 @@ use Rattle.run_engine.proofs.Runs.EachRun.{OwnStep, KeptByOthers, KeptBySteps, e
 use Rattle.run_engine.proofs.Keeping.Lookups.{held, head-same}
 use Rattle.channel_laws.proofs.SendReplies.{release-committed}
 use Rattle.interleave_core.proofs.Channels.FarHolds.{hop-tells, hop-fate, first-same, committed-comes, Frozen, frozen-later}
-use Rattle.run_engine.specs.channels.Paths.{HopAt, count_at}
 use Rattle.run_engine.proofs.Tasks.TaskAsks.{off-mild}
 use Rattle.run_engine.proofs.Replies.OwnerKinds.{NoRelease, IsLeaving, OwnKind, OwnOff, OwnAside, OwnSetup, OwnSend, OwnClose, opens-stay}
 

@@ -1,14 +1,13 @@
 -- In every run: once a packet of a channel was taken at its first hop, each hop holds it committed, or closing with a
 -- count of at least so many, or has taken so many and let it go.
 use Rattle.std.proofs.Common.{◌≡◌, ℕ, suc, ◌≤◌, Bool, List, ◌∷◌, ◌++◌, length, Option, Some, None, refl, sym, ap, ◌∙◌, subst, inl, inr, arith}
-use Rattle.run_engine.proofs.Words.{cases_lt, eq-eqb, length-append, find, link_number, channel_number, Ask, Reserve, Tick, Entry, Reply, LinkShape, IsAdmissible, Reservation, Row, clock_of, scan_of, RequestFits, asked, Request, Done, is_of_channel, channel_packets, channel_of, offers_with, offers_to, RowTells, IsOnly, IsElsewhere, NetworkFits, Network, part_of, IsNext, IsRun, IsMild, held_by, ComesOf, Stays, Closed}
+use Rattle.run_engine.proofs.Words.{cases_lt, eq-eqb, length-append, find, link_number, channel_number, Ask, Reserve, Tick, Entry, Reply, LinkShape, IsAdmissible, Reservation, Row, clock_of, scan_of, RequestFits, asked, Request, Done, is_of_channel, channel_packets, channel_of, offers_with, offers_to, RowTells, IsOnly, IsElsewhere, NetworkFits, Network, part_of, IsNext, IsRun, IsMild, held_by, ComesOf, Stays, Closed, packets_on, terms_at, ChannelAsked, HopAt, packets_at, count_at}
 use Rattle.std.proofs.lemmas.List.Elements.{filter-append}
 use Rattle.link_steps.specs.declared.replies.Phase.TheVariants as Ph
 use Rattle.link_steps.specs.declared.replies.Reply.TheVariants as Is
 use Rattle.link_steps.proofs.LegalChannels.{legal-channels}
 use Rattle.link_steps.proofs.LegalOrder.{legal-order}
 use Rattle.link_steps.proofs.SearchAndFilter.{Each-find}
-use Rattle.run_engine.specs.channels.Hops.{packets_on, terms_at, ChannelAsked}
 use Rattle.channel_laws.proofs.ChannelRows.{own-count, legal-free}
 use Rattle.run_engine.proofs.Flights.FlightOrigins.{part-grows}
 use Rattle.channel_laws.proofs.HoldFates.{Fate, FateOpen, FateClosing, FateGone, NoSecond, TellsAll, NotCommitted, fate-after, first-quiet}
@@ -16,7 +15,6 @@ use Rattle.run_engine.proofs.Channels.ChannelsAt.{stands-at}
 use Rattle.run_engine.proofs.Channels.RowsFollow.{held_at_hop, hop-may}
 use Rattle.run_engine.proofs.Replies.RunGoes.{hop-comes}
 use Rattle.run_engine.proofs.Runs.RunLegal.{part-admissible, by-part}
-use Rattle.run_engine.specs.channels.Paths.{HopAt, packets_at, count_at}
 use Rattle.run_engine.proofs.Runs.RunFronts.{run-more}
 
 -- ---- one hop

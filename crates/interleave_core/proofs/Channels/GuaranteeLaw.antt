@@ -1,6 +1,6 @@
 -- Every run of a network whose parts fit, and whose channels each have one owner, is guaranteed after each of its entries.
 use Rattle.std.proofs.Common.{◌≡◌, ℕ, suc, ◌+◌, ◌-◌, ◌<◌, ◌≤◌, true, List, [], ◌∷◌, length, map, get_or, Some, None, refl, sym, ap, ◌∙◌, subst, inl, inr, arith}
-use Rattle.run_engine.proofs.Words.{eq-eqb, ne_eqb, and_from, lt-ltb, take_all, same_Some, slice_get_within, slice_get, nat_eq, nat_lt, link_number, actor_number, channel_number, Jitter, Ask, Reserve, Arrive, Packet, Entry, Reply, LinkShape, IsAdmissible, LeavesInTime, HasLeftInTime, deadline_of, clock_of, scan_of, starts_of, Link, Each, Among, Arrival, Start, leaves_at, RequestFits, Accepts, Request, Done, HopTerms, is_of_channel, tick_of_packet, offers_with, offers_to, NetworkFits, Task, Network, network_of, part_of, replies_to, IsNext, IsRun, standing, outcome_in, OwnedFully, IsOwned, IsUnnamed, AllOwned, IsOff, delay_over}
+use Rattle.run_engine.proofs.Words.{eq-eqb, ne_eqb, and_from, lt-ltb, take_all, same_Some, slice_get_within, slice_get, nat_eq, nat_lt, link_number, actor_number, channel_number, Jitter, Ask, Reserve, Arrive, Packet, Entry, Reply, LinkShape, IsAdmissible, LeavesInTime, HasLeftInTime, deadline_of, clock_of, scan_of, starts_of, Link, Each, Among, Arrival, Start, leaves_at, RequestFits, Accepts, Request, Done, HopTerms, is_of_channel, tick_of_packet, offers_with, offers_to, NetworkFits, Task, Network, network_of, part_of, replies_to, IsNext, IsRun, standing, outcome_in, OwnedFully, IsOwned, IsUnnamed, AllOwned, IsOff, delay_over, packets_on, terms_at, ChannelAsked, HopAt, reaches_at, bound_of, packets_at, hop_ticks, arrival_ticks, eligible_at, arrived_at, delay_before, Passed}
 use Rattle.net_units.proofs.BoundsInOrder.{bound-least}
 use Rattle.link_steps.specs.declared.replies.Reply.TheVariants as Is
 use Rattle.link_steps.specs.SourceGuarantee.{arrival_of}
@@ -11,7 +11,6 @@ use Rattle.link_steps.proofs.SourceHistory.{source-guarantee}
 use Rattle.setup_protocol.specs.Laws.{KeepsRequest}
 use Rattle.call_script.proofs.OneOwner.{all-owned}
 use Rattle.call_script.proofs.PlansFit.{plan-fits}
-use Rattle.run_engine.specs.channels.Hops.{packets_on, terms_at, ChannelAsked}
 use Rattle.interleave_core.proofs.Channels.AcceptedPath.{accepted-path}
 use Rattle.channel_laws.proofs.ChannelRows.{legal-free}
 use Rattle.channel_laws.proofs.DepartedCount.{channel-few}
@@ -27,7 +26,6 @@ use Rattle.run_engine.proofs.Replies.RunCloses.{owned-once}
 use Rattle.run_engine.proofs.Replies.RunGoes.{owned-asked, accepted-levels}
 use Rattle.run_engine.proofs.Runs.RunLegal.{part-admissible, by-part}
 use Rattle.interleave_core.proofs.Channels.KeptRequest.{accepted-kept}
-use Rattle.run_engine.specs.channels.Paths.{HopAt, reaches_at, bound_of, packets_at, hop_ticks, arrival_ticks, eligible_at, arrived_at, delay_before, Passed}
 use Rattle.interleave_core.specs.channels.Guarantee.{LeavesWithinBound, TakesArrive, IsOfAccepted, LinkGuaranteed, SourceKept, HasLeft, ChannelGuaranteed, Guaranteed}
 use Rattle.interleave_core.specs.channels.Kept.{VerdictSums}
 use Rattle.interleave_core.specs.channels.Laws.{EveryRunIsGuaranteed, EveryRunOfAPlanIsGuaranteed}

@@ -1,9 +1,8 @@
 -- In every run: once a packet of a channel was taken at its first hop, the packets and the reservations of all hops have
 -- the levels of one list.
 use Rattle.std.proofs.Common.{◌≡◌, ℕ, ◌≤◌, List, [], ◌∷◌, Option, Some, None, sym, ap, ◌∙◌, subst, inl, inr, arith}
-use Rattle.run_engine.proofs.Words.{cases_lt, same_Some, channel_number, Ask, Tick, Reservation, scan_of, RequestFits, Progress, Relaxing, Settled, Accepts, Request, Done, NetworkFits, Network, part_of, IsNext, IsRun, OwnedFully, IsOff, IsMild}
+use Rattle.run_engine.proofs.Words.{cases_lt, same_Some, channel_number, Ask, Tick, Reservation, scan_of, RequestFits, Progress, Relaxing, Settled, Accepts, Request, Done, NetworkFits, Network, part_of, IsNext, IsRun, OwnedFully, IsOff, IsMild, ChannelAsked, HopAt, count_at}
 use Rattle.link_steps.specs.declared.replies.Phase.TheVariants as Ph
-use Rattle.run_engine.specs.channels.Hops.{ChannelAsked}
 use Rattle.interleave_core.proofs.Channels.ChainLaw.{is-tick, open-or-not, run-chain}
 use Rattle.interleave_core.proofs.Channels.FarHolds.{first-same}
 use Rattle.channel_laws.proofs.HoldFates.{Fate, FateOpen, FateClosing, FateGone}
@@ -12,7 +11,6 @@ use Rattle.run_engine.proofs.Channels.RowsFollow.{held_at_hop, AfterRows, comm-k
 use Rattle.run_engine.proofs.Replies.ClosingStands.{AllComm, comm-later}
 use Rattle.run_engine.proofs.Replies.RunCloses.{owned-once}
 use Rattle.run_engine.proofs.Replies.RunGoes.{HopLevels, levels-settled, levels-later, after-later, owned-asked}
-use Rattle.run_engine.specs.channels.Paths.{HopAt, count_at}
 use Rattle.interleave_core.proofs.Channels.OwnerEntries.{EntryIs, MildOne, SetupOne, entry-is}
 use Rattle.run_engine.proofs.Runs.RunFronts.{run-more}
 

@@ -1,14 +1,13 @@
 -- Past the first hop a packet finds a slot: the packets of its channel that are here, and it, were eligible at the hop
 -- before within as many ticks as the bounds of both hops' levels together.
 use Rattle.std.proofs.Common.{◌≡◌, ℕ, suc, ◌+◌, ◌-◌, ◌<◌, ◌≤◌, Bool, true, false, List, [], ◌∷◌, length, get_or, Some, refl, sym, ap, ◌∙◌, subst, inl, inr, arith}
-use Rattle.run_engine.proofs.Words.{cases_lt, and_from, le-leb, lt-ltb, length-reverse, length-map, slice_get, filter, find, nat_le, nat_lt, bound_at, link_number, channel_number, level_number, most_in, Keeps, Arrive, Packet, Phase, Tentative, Committed, Closing, LinkShape, stay_of, slots_of, held_packets, HasLeftInTime, deadline_of, Each, Among, Row, clock_of, scan_of, is_row_of, starts_of, Arrival, Start, here_at, is_here, starts_below, RequestFits, Request, Done, is_of_channel, channel_packets, tick_of_packet, channel_of, NetworkFits, Network, part_of, IsNext, IsRun}
+use Rattle.run_engine.proofs.Words.{cases_lt, and_from, le-leb, lt-ltb, length-reverse, length-map, slice_get, filter, find, nat_le, nat_lt, bound_at, link_number, channel_number, level_number, most_in, Keeps, Arrive, Packet, Phase, Tentative, Committed, Closing, LinkShape, stay_of, slots_of, held_packets, HasLeftInTime, deadline_of, Each, Among, Row, clock_of, scan_of, is_row_of, starts_of, Arrival, Start, here_at, is_here, starts_below, RequestFits, Request, Done, is_of_channel, channel_packets, tick_of_packet, channel_of, NetworkFits, Network, part_of, IsNext, IsRun, packets_on, ChannelAsked}
 use Rattle.traffic_contract.specs.Window.{is_in_window, count_in}
 use Rattle.traffic_contract.proofs.LongerWindows.{most_in-mono}
 use Rattle.traffic_contract.proofs.WindowsAreBounded.{count_in-le}
 use Rattle.link_steps.proofs.FoundElements.{Each-passes}
 use Rattle.link_steps.proofs.HopHolds.{guaranteed}
 use Rattle.link_steps.proofs.SearchAndFilter.{Each-among, Each-filter}
-use Rattle.run_engine.specs.channels.Hops.{packets_on, ChannelAsked}
 use Rattle.link_steps.proofs.ListParts.{Each-at}
 use Rattle.channel_laws.proofs.ChannelRows.{row-of, find-passes}
 use Rattle.channel_laws.proofs.DepartedCount.{channel-few}

@@ -1,11 +1,10 @@
 -- In every run: once the clock of a hop has reached a packet's bound there, counted from the first hop on, the packet has
 -- departed from it.
 use Rattle.std.proofs.Common.{◌≡◌, ◌≢◌, ℕ, zero, suc, ◌+◌, ◌<◌, ◌≤◌, Bool, true, false, cond, List, [], ◌∷◌, length, map, get_or, Some, None, refl, sym, ap, ◌∙◌, subst, inl, inr, arith}
-use Rattle.run_engine.proofs.Words.{cases_Bool, cases_lt, eqb-true, eqb-false, eq-eqb, and_parts, and_from, lt-ltb, length-map, same_Some, slice_get_within, slice_get, find, filter, nat_eq, nat_lt, reverse, bound_at, link_number, channel_number, Keeps, Spaced, HasLeftInTime, clock_of, starts_of, Arrival, has_departed, starts_below, Among, RequestFits, Request, Done, is_of_channel, tick_of_packet, offers_to, NetworkFits, Network, Flight, is_due, part_of, plane_at, IsRun, OwnedFully, gone_of}
+use Rattle.run_engine.proofs.Words.{cases_Bool, cases_lt, eqb-true, eqb-false, eq-eqb, and_parts, and_from, lt-ltb, length-map, same_Some, slice_get_within, slice_get, find, filter, nat_eq, nat_lt, reverse, bound_at, link_number, channel_number, Keeps, Spaced, HasLeftInTime, clock_of, starts_of, Arrival, has_departed, starts_below, Among, RequestFits, Request, Done, is_of_channel, tick_of_packet, offers_to, NetworkFits, Network, Flight, is_due, part_of, plane_at, IsRun, OwnedFully, gone_of, packets_on, terms_at, ChannelAsked, ComesFrom, HopAt, packets_at, hop_ticks, delay_before, count_at}
 use Rattle.traffic_contract.proofs.NewestFirst.{Decides-keeps_newest_first}
 use Rattle.link_steps.proofs.HopHolds.{guaranteed}
 use Rattle.link_steps.proofs.SearchAndFilter.{Each-among}
-use Rattle.run_engine.specs.channels.Hops.{packets_on, terms_at, ChannelAsked, ComesFrom}
 use Rattle.channel_laws.proofs.ChannelRows.{legal-free}
 use Rattle.run_engine.proofs.Flights.FlightOrigins.{run-flights}
 use Rattle.interleave_core.proofs.Flights.FlightQueue.{IsQueue}
@@ -21,7 +20,6 @@ use Rattle.interleave_core.proofs.Flights.ReadyRun.{two_of, run-legs}
 use Rattle.run_engine.proofs.Replies.RunCloses.{owned-once}
 use Rattle.run_engine.proofs.Replies.RunGoes.{owned-asked}
 use Rattle.run_engine.proofs.Runs.RunLegal.{run-stands, part-admissible}
-use Rattle.run_engine.specs.channels.Paths.{HopAt, packets_at, hop_ticks, delay_before, count_at}
 use Rattle.channel_laws.proofs.DepartedCount.{channel-few}
 use Rattle.channel_laws.proofs.NumberedPackets.{HasNumber, packets-have_numbers}
 use Rattle.interleave_core.proofs.Channels.ChainLaw.{same-count}

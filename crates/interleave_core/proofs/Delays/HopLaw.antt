@@ -1,7 +1,7 @@
 -- From one hop to the next: in every run each packet of a channel is eligible at a hop at the latest when it is due there,
 -- by its eligible tick, its level's bound and the propagation at the hop before.
 use Rattle.std.proofs.Common.{◌≡◌, ◌≢◌, ℕ, zero, suc, ◌+◌, ◌<◌, ◌≤◌, Bool, true, false, cond, List, [], ◌∷◌, ◌++◌, length, map, get_or, Option, Some, None, refl, sym, ap, ◌∙◌, subst, inl, inr, arith}
-use Rattle.run_engine.proofs.Words.{cases_Bool, cases_lt, eqb-true, eqb-false, eq-eqb, ne_eqb, le-ltb, lt-ltb, and_from, length-reverse, map-append, length-map, same_Some, slice_get_within, slice_get, option_map, nat_eq, nat_lt, find, reverse, bound_at, link_number, channel_number, Jitter, LinkNo, Traffic, IsContract, IsEligible, eligible, Keeps, keeps_newest_first, link_of, Hop, Ask, Arrive, Tick, Packet, Reply, Link, Each, Among, waits_until, eligible_next, arrive_to, reply_at, reply_to, Row, Scan, clock_of, scan_of, is_row_of, arrived_packet, with_arrival, after_tick, after, Arrival, RequestFits, hop_link, Request, Done, is_of_channel, channel_packets, tick_of_packet, ticks_at, channel_of, offers_to, RowTells, IsElsewhere, IsOnly, HasOneRow, NetworkFits, Network, Flight, is_due, next_due, ask_due, part_of, plane_at, IsNext, IsRun, Rate}
+use Rattle.run_engine.proofs.Words.{cases_Bool, cases_lt, eqb-true, eqb-false, eq-eqb, ne_eqb, le-ltb, lt-ltb, and_from, length-reverse, map-append, length-map, same_Some, slice_get_within, slice_get, option_map, nat_eq, nat_lt, find, reverse, bound_at, link_number, channel_number, Jitter, LinkNo, Traffic, IsContract, IsEligible, eligible, Keeps, keeps_newest_first, link_of, Hop, Ask, Arrive, Tick, Packet, Reply, Link, Each, Among, waits_until, eligible_next, arrive_to, reply_at, reply_to, Row, Scan, clock_of, scan_of, is_row_of, arrived_packet, with_arrival, after_tick, after, Arrival, RequestFits, hop_link, Request, Done, is_of_channel, channel_packets, tick_of_packet, ticks_at, channel_of, offers_to, RowTells, IsElsewhere, IsOnly, HasOneRow, NetworkFits, Network, Flight, is_due, next_due, ask_due, part_of, plane_at, IsNext, IsRun, Rate, packets_on, terms_at, ChannelAsked, ComesFrom}
 use Rattle.std.proofs.lemmas.List.Elements.{filter-append}
 use Rattle.net_units.specs.declared.Kind.{Kind}
 use Rattle.traffic_contract.proofs.BurstIsPositive.{burst-least}
@@ -11,7 +11,6 @@ use Rattle.link_steps.specs.declared.replies.Reply.TheVariants as Is
 use Rattle.link_steps.proofs.LegalChannels.{legal-channels}
 use Rattle.link_steps.proofs.SearchAndFilter.{Each-among, Each-find}
 use Rattle.setup_protocol.specs.Requests.{kind_of}
-use Rattle.run_engine.specs.channels.Hops.{packets_on, terms_at, ChannelAsked, ComesFrom}
 use Rattle.channel_laws.proofs.ChannelRows.{packets-on, packets-off, row-of, find-passes, arrive-number, tick-none, tick-free, legal-free}
 use Rattle.run_engine.proofs.Channels.ChannelsAt.{stands-at, packet-offered}
 use Rattle.hop_reservation.proofs.DistinctLinks.{index-apart}

@@ -1,12 +1,11 @@
 -- The delay of a packet over its whole route; and under delay-jitter control how far two delays are apart.
 use Rattle.std.proofs.Common.{◌≡◌, ℕ, zero, suc, ◌+◌, ◌<◌, ◌≤◌, true, List, [], ◌∷◌, length, get_or, take, refl, ap, arith}
-use Rattle.run_engine.proofs.Words.{slice_get_within, bound_at, link_number, channel_number, Jitter, delay_over, Hop, LeavesInTime, Each, Among, clock_of, starts_of, Start, leaves_at, RequestFits, Request, Done, is_of_channel, tick_of_packet, NetworkFits, Network, part_of, IsRun, length-map}
+use Rattle.run_engine.proofs.Words.{slice_get_within, bound_at, link_number, channel_number, Jitter, delay_over, Hop, LeavesInTime, Each, Among, clock_of, starts_of, Start, leaves_at, RequestFits, Request, Done, is_of_channel, tick_of_packet, NetworkFits, Network, part_of, IsRun, length-map, packets_on, ChannelAsked, HopAt, hop_ticks, packets_at, delay_before, Passed}
 use Rattle.link_steps.proofs.HopHolds.{guaranteed}
 use Rattle.link_steps.proofs.FoundElements.{Each-from_among}
 use Rattle.link_steps.proofs.SearchAndFilter.{Each-among}
 use Rattle.link_steps.proofs.ServiceStarts.{starts-fact}
 use Rattle.setup_protocol.specs.Requests.{kind_of}
-use Rattle.run_engine.specs.channels.Hops.{packets_on, ChannelAsked}
 use Rattle.channel_laws.proofs.DepartedCount.{channel-few}
 use Rattle.channel_laws.proofs.NumberedPackets.{HasNumber, packets-have_numbers}
 use Rattle.interleave_core.proofs.Delays.HopLaw.{TwoHops, hop-law}
@@ -16,7 +15,6 @@ use Rattle.run_engine.proofs.Channels.ChannelsAt.{packet-offered}
 use Rattle.run_engine.proofs.Channels.HopsAt.{hop-at, HaveLevelsAt}
 use Rattle.interleave_core.proofs.Delays.PathLaw.{delay-more, path-law, same-hop}
 use Rattle.run_engine.proofs.Runs.RunLegal.{part-admissible}
-use Rattle.run_engine.specs.channels.Paths.{HopAt, hop_ticks, packets_at, delay_before, Passed}
 
 -- under delay-jitter control the packets are exactly the shift later
 pub path-exact : (network : Network) (request : Request) (levels : List ℕ) (run : List Done) → NetworkFits network → RequestFits network.links request → ((past : List Done) → IsRun network past → ChannelAsked request past) → IsRun network run → HaveLevelsAt network request levels run → kind_of request.control ≡ Jitter

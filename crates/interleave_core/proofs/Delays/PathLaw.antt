@@ -1,13 +1,11 @@
 -- Over a whole route: each packet of a channel is eligible at a hop no later than at the first hop plus the level bounds and
 -- propagations of the hops before; and under delay-jitter control exactly that much later.
 use Rattle.std.proofs.Common.{◌≡◌, ℕ, zero, suc, ◌+◌, ◌<◌, List, [], ◌∷◌, ◌++◌, length, get_or, take, Some, sym, ap, ◌∙◌, subst, arith}
-use Rattle.run_engine.proofs.Words.{length-take-le, same_Some, slice_get_within, slice_get, bound_at, link_number, channel_number, delay_over, Hop, RequestFits, Request, Done, ticks_at, NetworkFits, Network, IsRun}
+use Rattle.run_engine.proofs.Words.{length-take-le, same_Some, slice_get_within, slice_get, bound_at, link_number, channel_number, delay_over, Hop, RequestFits, Request, Done, ticks_at, NetworkFits, Network, IsRun, packets_on, ChannelAsked, HopAt, hop_ticks, IsBehind, delay_before}
 use Rattle.std.proofs.Math.Seq.{take-suc}
 use Rattle.hop_reservation.proofs.OneMoreOffer.{delay_over-push}
-use Rattle.run_engine.specs.channels.Hops.{packets_on, ChannelAsked}
 use Rattle.run_engine.proofs.Channels.HopsAt.{hop-at, HaveLevelsAt}
 use Rattle.interleave_core.proofs.Delays.HopLaw.{TwoHops, hop-law}
-use Rattle.run_engine.specs.channels.Paths.{HopAt, hop_ticks, IsBehind, delay_before}
 
 after-none : (ticks : List ℕ) → IsBehind 0 ticks ticks
 after-none ticks = record { fewer = omega arith; after = λ k within. omega arith }

@@ -1,6 +1,6 @@
 -- The flights of one channel to one link as a queue, over plain lists: their numbers follow one another, and their rounds rise.
 use Rattle.std.proofs.Common.{◌≡◌, ℕ, suc, ◌≤◌, ◌⊎◌, Bool, true, false, List, [], ◌∷◌, ◌++◌, Some, sym, ap, ◌∙◌, subst, inl, inr, arith}
-use Rattle.run_engine.proofs.Words.{cases_Bool, eqb-true, same_Some, find, Each, without_first, Flight, is_due}
+use Rattle.run_engine.proofs.Words.{cases_Bool, eqb-true, same_Some, find, Each, without_first, Flight, is_due, append_assoc, append-nil}
 
 -- the flights that pass `own` have the numbers n + 1, .., dep, in this order, and rising rounds from low to hi
 abbrev pub IsQueue : (Flight → Bool) → ℕ → ℕ → ℕ → ℕ → List Flight → Type 0
@@ -44,6 +44,11 @@ queue-other own n dep low hi (g ∷ fs) f off is =
       | inl mine ↦ inl (mine.0, mine.1, mine.2, queue-other own (suc n) dep (suc g.round) hi fs f off mine.3)
       | inr other ↦ inr (other.0, queue-other own n dep low hi fs f off other.1)
     ]
+
+-- nor do several
+pub queue-others : (own : Flight → Bool) (n dep low hi : ℕ) (fs new : List Flight) → Each (λ f. own f ≡ false) new → IsQueue own n dep low hi fs → IsQueue own n dep low hi (fs ++ new)
+queue-others own n dep low hi fs [] off is = subst (IsQueue own n dep low hi) (sym (append-nil fs)) is
+queue-others own n dep low hi fs (f ∷ new) off is = subst (IsQueue own n dep low hi) (append_assoc fs (f ∷ []) new) (queue-others own n dep low hi (fs ++ f ∷ []) new off.1 (queue-other own n dep low hi fs f off.0 is))
 
 -- its own, with the next number, in a later round than each before
 pub queue-more : (own : Flight → Bool) (n dep low hi : ℕ) (fs : List Flight) (f : Flight) → own f ≡ true → f.packet.number ≡ suc dep → suc hi ≤ f.round → IsQueue own n dep low hi fs → IsQueue own n (suc dep) low f.round (fs ++ f ∷ [])

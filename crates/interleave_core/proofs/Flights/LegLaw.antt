@@ -1,12 +1,10 @@
 -- In a run: the flights of a channel from one hop to the next are a queue from those taken to those departed.
-use Rattle.std.proofs.Common.{◌≡◌, ◌≢◌, ℕ, suc, ◌+◌, ◌≤◌, Bool, true, false, List, [], ◌∷◌, ◌++◌, length, Option, Some, None, refl, sym, ap, ◌∙◌, subst, inl, inr, arith, append-nil}
-use Rattle.run_engine.proofs.Words.{cases_Bool, eqb-true, eqb-false, eq-eqb, and_parts, and_from, same_Some, slice_get, option_map, nat_eq, find, link_number, channel_number, LinkNo, link_of, Ask, Arrive, Tick, Packet, Entry, Reply, LinkShape, Link, IsAdmissible, without_first, Among, reply_to, tick_reply, Row, Scan, clock_with, clock_of, scan_of, is_row_of, arrived_packet, after, Arrival, RequestFits, hop_link, Request, Done, is_of_channel, channel_packets, SizeWithin, NetworkFits, Network, Flight, Plane, is_due, next_due, ask_due, flight_to, flight_in, tick_made, plane_with, plane_of, entry_of, part_of, replies_to, plane_at, IsNext, IsRun, ticked, gone_of}
-use Rattle.link_steps.specs.declared.replies.Reply.TheVariants as Is
+use Rattle.std.proofs.Common.{◌≡◌, ◌≢◌, ℕ, suc, ◌+◌, ◌≤◌, Bool, true, false, List, [], ◌∷◌, ◌++◌, length, Option, Some, None, refl, sym, ap, ◌∙◌, subst, inl, inr, arith}
+use Rattle.run_engine.proofs.Words.{cases_Bool, eqb-true, eqb-false, eq-eqb, and_parts, and_from, same_Some, slice_get, option_map, nat_eq, find, link_number, channel_number, LinkNo, link_of, Ask, Arrive, Tick, Packet, Entry, Reply, LinkShape, Link, IsAdmissible, without_first, Among, reply_to, tick_reply, Row, Scan, clock_with, clock_of, scan_of, is_row_of, arrived_packet, after, Arrival, RequestFits, hop_link, Request, Done, is_of_channel, channel_packets, SizeWithin, NetworkFits, Network, Flight, Plane, is_due, next_due, ask_due, flight_in, tick_made, plane_with, plane_of, entry_of, part_of, replies_to, plane_at, IsNext, IsRun, ticked, gone_of, Sent, IsSent, packets_on, terms_at, ChannelAsked}
 use Rattle.link_steps.proofs.SearchAndFilter.{Each-among}
-use Rattle.run_engine.specs.channels.Hops.{packets_on, terms_at, ChannelAsked}
 use Rattle.channel_laws.proofs.ChannelRows.{packets-off, row-of, find-passes}
 use Rattle.run_engine.proofs.Tasks.CallerAsksFit.{IsCallers}
-use Rattle.interleave_core.proofs.Flights.FlightQueue.{IsQueue, queue-head, queue-skips, queue-other}
+use Rattle.interleave_core.proofs.Flights.FlightQueue.{IsQueue, queue-head, queue-skips, queue-others}
 use Rattle.channel_laws.proofs.SizeLaw.{legal-within}
 use Rattle.interleave_core.proofs.Delays.HopLaw.{TwoHops, arrive-comes, from-near, next-link, far-ticks, same-packet}
 use Rattle.run_engine.proofs.Channels.ChannelsAt.{packet-offered}
@@ -15,10 +13,11 @@ use Rattle.hop_reservation.proofs.DistinctLinks.{index-apart}
 use Rattle.channel_laws.proofs.DepartedCount.{gone-quiet, start-among, more-legal, level-channel}
 use Rattle.channel_laws.proofs.NumberedPackets.{HasNumber, packets-have_numbers}
 use Rattle.run_engine.specs.channels.Flights.{IsPunctual}
+pub use Rattle.run_engine.proofs.Flights.FlightOrigins.{entry-tick}
 use Rattle.run_engine.proofs.Flights.Punctual.{run-punctual}
 use Rattle.interleave_core.proofs.Flights.QueueTicks.{leg, QueueOf, SendsTo, queue-ticks}
-use Rattle.run_engine.proofs.Runs.RunLegal.{part-on, part-off, run-stands, part-admissible, by-part, arrive-due, by-actor, caller-asks}
-use Rattle.channel_laws.proofs.SentInTime.{sent-facts, tick-answer}
+use Rattle.run_engine.proofs.Runs.RunLegal.{flight-sent, part-on, part-off, run-stands, part-admissible, by-part, arrive-due, by-actor, caller-asks}
+use Rattle.channel_laws.proofs.SentInTime.{tick-answer}
 use Rattle.link_steps.proofs.EntryEffects.{packets-by}
 
 -- how many packets of the channel the far hop has taken
@@ -115,31 +114,24 @@ made-same links plane new =
       | inr more ↦ rw more refl
     ]
 
-pub entry-tick : (done : Done) (given : Reply) → Tick ≡ done.ask → done.reply ≡ given → ◌≡◌ {A = Entry} (entry_of done) (record { ask = Tick; reply = given })
-entry-tick done given tick answered = same done.ask done.reply (sym tick) answered where
-  same : (ask : Ask) (reply : Reply) → ask ≡ Tick → reply ≡ given → ◌≡◌ {A = Entry} (record { ask = ask; reply = reply }) (record { ask = Tick; reply = given })
-  same ask reply a r = ap (λ x. record { ask = x; reply = reply }) a ∙ ap (λ y. record { ask = Tick; reply = y }) r
-
 -- what another link sends is none of the leg
 elsewhere-keeps : (network : Network) (request : Request) (i : ℕ) (two : TwoHops network request i) (run : List Done) (m : ℕ) (link : Link) (h : List Entry) (n dep hi : ℕ) (flights : List Flight) (reply : Reply) → NetworkFits network → RequestFits network.links request → IsRun network run → ChannelAsked request run → slice_get network.links m ≡ Some link → part_of m run ≡ ticked link.shape h → IsAdmissible link.shape h → reply ≡ tick_reply link.shape (clock_of h) (scan_of link.shape h) → m ≢ link_number two.hop.link
     → IsQueue (leg (channel_number request.chan) (link_number two.after.link)) n dep 0 hi flights → IsQueue (leg (channel_number request.chan) (link_number two.after.link)) n dep 0 hi (flights ++ flight_in reply)
 unfolding clock_of
-elsewhere-keeps network request i two run m link h n dep hi flights (Is.Ticked clock full (Some sent) best_sent best_lost) fits sound is-run asked linked part legal answered other is = by-next sent.next refl where
-  by-next : (next : Option LinkNo) → sent.next ≡ next → IsQueue (leg (channel_number request.chan) (link_number two.after.link)) n dep 0 hi (flights ++ flight_to sent next)
-  by-next None same = subst (IsQueue (leg (channel_number request.chan) (link_number two.after.link)) n dep 0 hi) (sym (append-nil flights)) is
-  by-next (Some l) same =
-      elim (cases_Bool (leg (channel_number request.chan) (link_number two.after.link) (record { to = l; round = sent.arrives; packet = sent.packet }))) [
-        | inl mine ↦
-            (let parts = and_parts (nat_eq (channel_number sent.packet.chan) (channel_number request.chan)) (nat_eq (link_number l) (link_number two.after.link)) mine in
-            let chan = eqb-true (channel_number sent.packet.chan) (channel_number request.chan) parts.0 in
-            let at = eqb-true (link_number l) (link_number two.after.link) parts.1 in
-            let from = sent-facts link.shape h clock full sent best_sent best_lost legal answered in
-            let there : Among from.start.packet (scan_of link.shape (ticked link.shape h)).packets = start-among link.shape.rate (scan_of link.shape (ticked link.shape h)).packets (suc (clock_of h)) from.start from.among in
-            let numbers = Each-among (HasNumber link.shape.bounds) from.start.packet _ (packets-have_numbers link.shape (ticked link.shape h) (more-legal link.shape h legal)) there in
-            absurd (other (leg-near network request i two run m link from.start.packet l fits sound is-run asked linked (subst (λ p. Among from.start.packet (scan_of link.shape p).packets) (sym part) there) (level-channel link.shape (channel_number request.chan) from.start.packet numbers from.level (sym (ap (λ s. channel_number s.packet.chan) from.is) ∙ chan)) (sym (ap (λ s. s.next) from.is) ∙ same) at)))
-        | inr off ↦ queue-other (leg (channel_number request.chan) (link_number two.after.link)) n dep 0 hi flights (record { to = l; round = sent.arrives; packet = sent.packet }) off is
-      ]
-elsewhere-keeps network request i two run m link h n dep hi flights _ fits sound is-run asked linked part legal answered other is = subst (IsQueue (leg (channel_number request.chan) (link_number two.after.link)) n dep 0 hi) (sym (append-nil flights)) is
+elsewhere-keeps network request i two run m link h n dep hi flights reply fits sound is-run asked linked part legal answered other is =
+    queue-others (leg (channel_number request.chan) (link_number two.after.link)) n dep 0 hi flights (flight_in reply) (flight-sent (λ f. leg (channel_number request.chan) (link_number two.after.link) f ≡ false) link.shape h reply legal answered off) is where
+      off : (sent : Sent) (l : LinkNo) → IsSent link.shape h sent → sent.next ≡ Some l → leg (channel_number request.chan) (link_number two.after.link) (record { to = l; round = sent.arrives; packet = sent.packet }) ≡ false
+      off sent l from same =
+          elim (cases_Bool (leg (channel_number request.chan) (link_number two.after.link) (record { to = l; round = sent.arrives; packet = sent.packet }))) [
+            | inl mine ↦
+                (let parts = and_parts (nat_eq (channel_number sent.packet.chan) (channel_number request.chan)) (nat_eq (link_number l) (link_number two.after.link)) mine in
+                let chan = eqb-true (channel_number sent.packet.chan) (channel_number request.chan) parts.0 in
+                let at = eqb-true (link_number l) (link_number two.after.link) parts.1 in
+                let there : Among from.start.packet (scan_of link.shape (ticked link.shape h)).packets = start-among link.shape.rate (scan_of link.shape (ticked link.shape h)).packets (suc (clock_of h)) from.start from.among in
+                let numbers = Each-among (HasNumber link.shape.bounds) from.start.packet _ (packets-have_numbers link.shape (ticked link.shape h) (more-legal link.shape h legal)) there in
+                absurd (other (leg-near network request i two run m link from.start.packet l fits sound is-run asked linked (subst (λ p. Among from.start.packet (scan_of link.shape p).packets) (sym part) there) (level-channel link.shape (channel_number request.chan) from.start.packet numbers from.level (sym (ap (λ s. channel_number s.packet.chan) from.is) ∙ chan)) (sym (ap (λ s. s.next) from.is) ∙ same) at)))
+            | inr away ↦ away
+          ]
 
 -- each arrive of the channel at the far hop is taken there
 abbrev pub ArriveCounts : (network : Network) (request : Request) (i : ℕ) → TwoHops network request i → Done → List Done → Type 0

@@ -1,9 +1,9 @@
 -- What a tick of the near hop's link does to the queue of a channel's flights to the far hop.
-use Rattle.std.proofs.Common.{◌≡◌, ◌≢◌, ℕ, suc, ◌+◌, Bool, true, false, ◌&&◌, List, [], ◌∷◌, ◌++◌, Option, Some, None, refl, sym, ap, ◌∙◌, subst, arith, append-nil}
+use Rattle.std.proofs.Common.{◌≡◌, ◌≢◌, ℕ, suc, ◌+◌, Bool, true, false, ◌&&◌, List, [], ◌∷◌, ◌++◌, Some, refl, sym, ap, ◌∙◌, subst, arith}
 use Rattle.run_engine.proofs.Words.{eq-eqb, ne_eqb, and_from, nat_eq, link_number, channel_number, LinkNo, Entry, Reply, Sent, LinkShape, IsAdmissible, tick_reply, Row, clock_of, scan_of, Arrival, leaves_at, Among, HopTerms, is_of_channel, channel_packets, RowTells, Flight, flight_to, flight_in, ticked, IsSent, gone_of, TickSends, SendsOwn, SendsOther}
-use Rattle.link_steps.specs.declared.replies.Reply.TheVariants as Is
 use Rattle.link_steps.proofs.SearchAndFilter.{Each-among}
-use Rattle.interleave_core.proofs.Flights.FlightQueue.{IsQueue, queue-waits, queue-other, queue-more}
+use Rattle.tick_plane.proofs.PlaneFlights.{flight-in}
+use Rattle.interleave_core.proofs.Flights.FlightQueue.{IsQueue, queue-waits, queue-others, queue-more}
 use Rattle.link_steps.proofs.PacketRows.{Among-passes}
 use Rattle.channel_laws.proofs.DepartedCount.{tick-sends, start-among, more-legal, level-channel}
 use Rattle.channel_laws.proofs.NumberedPackets.{HasNumber, packets-have_numbers}
@@ -28,14 +28,6 @@ pub record SendsTo (shape : LinkShape) (c to : ℕ) (h : List Entry) : Type 0 wh
 other-leg : (c to : ℕ) (f : Flight) → channel_number f.packet.chan ≢ c → leg c to f ≡ false
 other-leg c to f off = rw (ne_eqb (channel_number f.packet.chan) c off) refl
 
--- of another channel
-others-keep : (c to n dep hi : ℕ) (flights : List Flight) (reply : Reply) → ((sent : Sent) (clock full : ℕ) (best_sent best_lost : Bool) → reply ≡ Is.Ticked clock full (Some sent) best_sent best_lost → channel_number sent.packet.chan ≢ c) → IsQueue (leg c to) n dep 0 hi flights → IsQueue (leg c to) n dep 0 hi (flights ++ flight_in reply)
-others-keep c to n dep hi flights (Is.Ticked clock full (Some sent) best_sent best_lost) off is = by-next sent.next where
-  by-next : (next : Option LinkNo) → IsQueue (leg c to) n dep 0 hi (flights ++ flight_to sent next)
-  by-next None = subst (IsQueue (leg c to) n dep 0 hi) (sym (append-nil flights)) is
-  by-next (Some l) = queue-other (leg c to) n dep 0 hi flights (record { to = l; round = sent.arrives; packet = sent.packet }) (other-leg c to (record { to = l; round = sent.arrives; packet = sent.packet }) (off sent clock full best_sent best_lost refl)) is
-others-keep c to n dep hi flights _ off is = subst (IsQueue (leg c to) n dep 0 hi) (sym (append-nil flights)) is
-
 -- where a start of the tick is of the channel, its packet goes to the link
 sent-next : (shape : LinkShape) (c to : ℕ) (h : List Entry) (sent : Sent) → IsAdmissible shape h → (is : IsSent shape h sent) → channel_number sent.packet.chan ≡ c → (sends : SendsTo shape c to (ticked shape h)) → sent.next ≡ Some sends.link
 unfolding clock_of
@@ -55,7 +47,9 @@ queue-ticks shape c to n h reply flights legal same known is = by-sends (tick-se
   by-sends : TickSends shape c h reply → QueueOf shape c to n (ticked shape h) (flights ++ flight_in reply)
   by-sends (SendsOther off kept) =
       subst (λ dep. IsQueue (leg c to) n dep 0 (suc (clock_of h) + shape.prop) (flights ++ flight_in reply)) (sym kept)
-      (others-keep c to n (gone_of shape c h) (suc (clock_of h) + shape.prop) flights reply off (queue-waits (leg c to) n (gone_of shape c h) 0 (clock_of h + shape.prop) (suc (clock_of h) + shape.prop) flights (omega arith) is))
+      (queue-others (leg c to) n (gone_of shape c h) 0 (suc (clock_of h) + shape.prop) flights (flight_in reply)
+      (flight-in (λ f. leg c to f ≡ false) reply (λ clock full sent best_sent best_lost l told next. other-leg c to (record { to = l; round = sent.arrives; packet = sent.packet }) (off sent clock full best_sent best_lost (sym told))))
+      (queue-waits (leg c to) n (gone_of shape c h) 0 (clock_of h + shape.prop) (suc (clock_of h) + shape.prop) flights (omega arith) is))
   by-sends (SendsOwn sent clock full best_sent best_lost told chan from number more) =
       let there : Among from.start.packet (scan_of shape (ticked shape h)).packets = start-among shape.rate (scan_of shape (ticked shape h)).packets (suc (clock_of h)) from.start from.among in
       let numbers = Each-among (HasNumber shape.bounds) from.start.packet _ (packets-have_numbers shape (ticked shape h) (more-legal shape h legal)) there in

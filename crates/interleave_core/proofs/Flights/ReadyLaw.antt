@@ -1,11 +1,10 @@
 -- Past the first hop an arrive is taken where its row is ready.
 use Rattle.std.proofs.Common.{◌≡◌, ℕ, suc, ◌<◌, ◌≤◌, false, not, List, [], ◌∷◌, length, Some, None, refl, sym, ap, ◌∙◌, inl, inr, arith}
-use Rattle.run_engine.proofs.Words.{cases_Bool, eq-eqb, ne_eqb, le-leb, leb-true, lt-ltb, length-append, same_Some, slice_get, find, nat_le, bound_at, link_number, channel_number, level_number, Arrive, Packet, Phase, Tentative, Committed, Closing, Reply, LinkShape, Link, slots_of, held_packets, Each, eligible_next, arrive_reply, arrive_to, reply_at, reply_to, Reservation, is_phase, Row, Scan, clock_of, scan_of, is_row_of, arrived_packet, with_arrival, after, here_at, RequestFits, Request, Done, channel_packets, channel_of, NetworkFits, Network, part_of, IsNext, IsRun}
+use Rattle.run_engine.proofs.Words.{cases_Bool, eq-eqb, ne_eqb, le-leb, leb-true, lt-ltb, length-append, same_Some, slice_get, find, nat_le, bound_at, link_number, channel_number, level_number, Arrive, Packet, Phase, Tentative, Committed, Closing, Reply, LinkShape, Link, slots_of, held_packets, Each, eligible_next, arrive_reply, arrive_to, reply_at, reply_to, Reservation, is_phase, Row, Scan, clock_of, scan_of, is_row_of, arrived_packet, with_arrival, after, here_at, RequestFits, Request, Done, channel_packets, channel_of, NetworkFits, Network, part_of, IsNext, IsRun, packets_on, ChannelAsked}
 use Rattle.link_steps.specs.declared.replies.Reply.TheVariants as Is
 use Rattle.link_steps.specs.declared.replies.Refusal.TheVariants.{Full, Stray}
 use Rattle.link_steps.specs.declared.replies.Why.TheVariants.{FirstHop, Uncommitted, WrongNumber, Big}
 use Rattle.link_steps.specs.Refusals.{RefusalRule, refused_unless, first_refusal, first_hop, uncommitted, wrong_number, past_count, big, full}
-use Rattle.run_engine.specs.channels.Hops.{packets_on, ChannelAsked}
 use Rattle.interleave_core.proofs.Delays.BufferLaw.{slot-free}
 use Rattle.channel_laws.proofs.ChannelRows.{own-count, packets-on, row-of, find-passes}
 use Rattle.interleave_core.proofs.Delays.HopLaw.{TwoHops, far-row-at}

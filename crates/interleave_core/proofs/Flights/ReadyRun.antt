@@ -1,14 +1,13 @@
 -- In every run each arrive of a channel past its first hop finds its row ready, so it is taken, and the flights from hop to
 -- hop are a queue.
 use Rattle.std.proofs.Common.{◌≡◌, ℕ, zero, suc, ◌<◌, ◌≤◌, true, List, [], ◌∷◌, length, Some, refl, sym, ap, ◌∙◌, subst, inl, inr, arith}
-use Rattle.run_engine.proofs.Words.{cases_Bool, cases_lt, eq-eqb, ne_eqb, and_from, lt-ltb, length-map, same_Some, slice_get_within, slice_get, option_map, find, nat_eq, nat_lt, bound_at, link_number, channel_number, level_number, ChanNo, link_of, Arrive, Packet, Each, Among, eligible_next, reply_to, Reservation, is_of, Row, clock_of, scan_of, is_row_of, Arrival, RequestFits, hop_link, Request, Done, is_of_channel, channel_packets, tick_of_packet, channel_of, offers_to, NetworkFits, Network, part_of, IsNext, IsRun, OwnedFully, held_by}
+use Rattle.run_engine.proofs.Words.{cases_Bool, cases_lt, eq-eqb, ne_eqb, and_from, lt-ltb, length-map, same_Some, slice_get_within, slice_get, option_map, find, nat_eq, nat_lt, bound_at, link_number, channel_number, level_number, ChanNo, link_of, Arrive, Packet, Each, Among, eligible_next, reply_to, Reservation, is_of, Row, clock_of, scan_of, is_row_of, Arrival, RequestFits, hop_link, Request, Done, is_of_channel, channel_packets, tick_of_packet, channel_of, offers_to, NetworkFits, Network, part_of, IsNext, IsRun, OwnedFully, held_by, packets_on, terms_at, ChannelAsked, HopAt, packets_at, count_at}
 use Rattle.net_units.proofs.BoundsInOrder.{bound-least}
 use Rattle.link_steps.specs.declared.replies.Phase.TheVariants as Ph
 use Rattle.link_steps.specs.declared.replies.Reply.TheVariants as Is
 use Rattle.link_steps.proofs.LegalOrder.{legal-order}
 use Rattle.link_steps.proofs.RowsInOrder.{IsInOrder}
 use Rattle.link_steps.proofs.SearchAndFilter.{Each-find}
-use Rattle.run_engine.specs.channels.Hops.{packets_on, terms_at, ChannelAsked}
 use Rattle.channel_laws.proofs.ChannelRows.{own-count, legal-free, row-of, find-passes}
 use Rattle.interleave_core.proofs.Delays.BufferLaw.{slot-free}
 use Rattle.interleave_core.proofs.Channels.ChainLaw.{run-chain, same-count}
@@ -26,7 +25,6 @@ use Rattle.run_engine.proofs.Channels.RowsFollow.{held_at_hop}
 use Rattle.run_engine.proofs.Replies.RunCloses.{owned-once}
 use Rattle.run_engine.proofs.Replies.RunGoes.{owned-asked}
 use Rattle.run_engine.proofs.Runs.RunLegal.{part-admissible}
-use Rattle.run_engine.specs.channels.Paths.{HopAt, packets_at, count_at}
 
 abbrev pub two_of : (network : Network) (request : Request) (i : ℕ) → HopAt network request i → HopAt network request (suc i) → TwoHops network request i
 two_of network request i near far = record { hop = near.hop; after = far.hop; stands = near.stands; follows = far.stands; near = near.link; far = far.link; linked = near.linked; far_linked = far.linked }

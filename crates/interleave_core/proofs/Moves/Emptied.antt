@@ -1,7 +1,7 @@
 -- The planned packets of a channel at one link: as long as its reservation isn't closing, none was cancelled, and once it is, none is
 -- left.
 use Rattle.std.proofs.Common.{◌≡◌, ℕ, suc, ◌+◌, ◌≤◌, Bool, true, false, List, [], ◌∷◌, length, Option, Some, None, refl, ap, ◌∙◌, inl, inr, arith, option_map}
-use Rattle.run_engine.proofs.Words.{cases_Bool, cond_both, and_parts, lt-leb, eqb-true, eq-eqb, filter, find, nat_eq, if◌then◌else◌, channel_number, ChanNo, total, Ask, Reserve, Relax, Deny, Submit, Release, Arrive, Tick, Packet, Entry, Phase, Tentative, Committed, Closing, Reply, LinkShape, MayAnswer, IsAdmissible, stays, expires, hold_ended, Each, change_first, release_to, reply_at, Reservation, is_of, is_phase, Row, SourcePacket, row_terms, left_at, Scan, clock_of, scan_of, is_row_of, is_row_at_hop, names_first_hop, relax_row, close_row, arrived_row, with_arrival, without_expired, with_sources, with_best, after_tick, after, Arrival, here_at, SourceStep, Rests, row_after, rows_after, step_of, taken_by, HopTerms, channel_of, offers_with, offers_to, IsElsewhere, held_by}
+use Rattle.run_engine.proofs.Words.{cases_Bool, cond_both, and_parts, lt-leb, eqb-true, eq-eqb, filter, find, nat_eq, if◌then◌else◌, channel_number, ChanNo, total, Ask, Reserve, Relax, Deny, Submit, Release, Arrive, Tick, Packet, Entry, Phase, Tentative, Committed, Closing, Reply, LinkShape, MayAnswer, IsAdmissible, stays, expires, hold_ended, Each, change_first, release_to, reply_at, Reservation, is_of, is_phase, Row, SourcePacket, row_terms, left_at, Scan, clock_of, scan_of, is_row_of, is_row_at_hop, names_first_hop, relax_row, close_row, arrived_row, with_arrival, without_expired, with_sources, with_best, after_tick, after, Arrival, here_at, SourceStep, Rests, row_after, rows_after, step_of, taken_by, HopTerms, channel_of, offers_with, offers_to, IsElsewhere, held_by, cancelled_with, cancelled_in, left_of, left_in}
 use Rattle.link_steps.specs.declared.replies.Reply.TheVariants as Is
 use Rattle.link_steps.proofs.FoundElements.{Each-change_found}
 use Rattle.link_steps.proofs.LegalChannels.{DifferInChannel, legal-channels}
@@ -12,7 +12,6 @@ use Rattle.link_steps.proofs.SearchAndFilter.{Each-append, Each-filter, Each-fin
 use Rattle.channel_laws.proofs.ChannelRows.{find-passes, legal-free, others-elsewhere, row-at-hop}
 use Rattle.channel_laws.proofs.HoldFates.{released-count, relaxed-tent}
 use Rattle.channel_laws.proofs.SendReplies.{found-at-hop}
-use Rattle.run_engine.specs.channels.Moves.{cancelled_with, cancelled_in, left_of, left_in}
 use Rattle.link_steps.specs.Effects.{Effect, Ticks, with_effect}
 use Rattle.link_steps.proofs.EntryEffects.{each-history}
 

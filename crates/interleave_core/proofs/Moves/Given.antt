@@ -1,17 +1,15 @@
 -- What the steps of moves from a channel have had planned on others: nothing before a move from it, and as many packets as were shifted
 -- once one has left it.
-use Rattle.std.proofs.Common.{◌≡◌, ◌≢◌, ℕ, ◌+◌, ◌≤◌, Bool, true, false, List, [], ◌∷◌, ◌++◌, length, Option, Some, None, refl, sym, ap, ◌∙◌, subst, inl, inr, arith}
-use Rattle.run_engine.proofs.Words.{cases_Bool, eqb-true, eqb-false, eq-eqb, ne_eqb, same_Some, slice_get, nat_eq, if◌then◌else◌, link_number, actor_number, channel_number, LinkNo, shifted_in, told_by, first_told, Shifted, stage_after, Joining, Releasing, Ask, Submit, Reply, Each, RequestFits, Request, NetworkFits, TaskOff, OwnedFully, AllOwned, Learnt, Standing, begun, or_before, newest, outcome_by, task_ask, move_between, continued, resumed, from_step, standing, standing_of, moved_by, moved_off, Network, Task, Moves, replies_to, part_of, Done, IsRun}
+use Rattle.std.proofs.Common.{◌≡◌, ◌≢◌, ℕ, ◌+◌, ◌≤◌, List, [], ◌∷◌, ◌++◌, length, Option, Some, None, refl, sym, ap, ◌∙◌, subst, inl, inr, arith}
+use Rattle.run_engine.proofs.Words.{cases_Bool, eqb-true, eqb-false, eq-eqb, ne_eqb, same_Some, slice_get, nat_eq, if◌then◌else◌, link_number, actor_number, channel_number, LinkNo, shifted_in, told_by, first_told, Shifted, stage_after, Joining, Releasing, Ask, Submit, Reply, Each, RequestFits, Request, NetworkFits, TaskOff, OwnedFully, AllOwned, Learnt, Standing, begun, or_before, newest, outcome_by, task_ask, move_between, continued, resumed, from_step, standing, standing_of, moved_by, moved_off, Network, Task, Moves, replies_to, part_of, Done, IsRun, HopAt, planned_in, cancelled_in, offered_in, left_in}
 use Rattle.channel_move.proofs.AskByStage.{MoveAsks, AsksFirst, AsksSubmit, AsksRest, move-asks}
 use Rattle.link_steps.specs.declared.replies.Reply.TheVariants as Is
-use Rattle.run_engine.specs.channels.Paths.{HopAt}
-use Rattle.run_engine.specs.channels.Moves.{planned_in, cancelled_in, offered_in, left_in}
 use Rattle.interleave_core.specs.channels.Shifting.{given_with, given_in, IsNotLeaving, cancelled_alone, EveryMoveGivesTheShifted, EveryPlannedPacketIsCounted}
 use Rattle.interleave_core.proofs.Moves.LastPackets.{some-left}
 use Rattle.interleave_core.proofs.Moves.MoveLaw.{MoveTold, Was, Now, move-told, move-own, no-moves, run-moved}
 use Rattle.interleave_core.proofs.Moves.MoveSteps.{move-fits}
 use Rattle.interleave_core.proofs.Moves.MoveTotal.{begins-not, run-shifted}
-use Rattle.interleave_core.proofs.Moves.TotalLaw.{none-lost}
+use Rattle.interleave_core.proofs.Moves.TotalLaw.{both-zero, none-lost}
 use Rattle.run_engine.proofs.Replies.Replying.{moves-plan}
 use Rattle.run_engine.proofs.Runs.RunLegal.{part-admissible}
 use Rattle.run_engine.proofs.Runs.EachRun.{each-run-resumed, OwnStep}
@@ -32,10 +30,7 @@ way_given c (Moves old new gap size ∷ tasks) replies = if nat_eq (channel_numb
 way_given c tasks replies = 0
 
 none-way : (c : ℕ) (tasks : List Task) → way_given c tasks [] ≡ 0
-none-way c (Moves old new gap size ∷ tasks) = by (nat_eq (channel_number old.chan) c) where
-  by : (b : Bool) → ◌≡◌ {A = ℕ} (if b then 0 else 0) 0
-  by true = refl
-  by false = refl
+none-way c (Moves old new gap size ∷ tasks) = both-zero (nat_eq (channel_number old.chan) c)
 none-way c _ = refl
 
 -- where a caller stands, and how many packets moves from the request's channel have given

@@ -1,13 +1,11 @@
 -- The packets of a move have the gap and the size of the last submit on the channel that it leaves, of those that the run has
 -- answered as planned, and 1 and 1 where there is none.
 use Rattle.std.proofs.Common.{◌≡◌, ◌≢◌, ℕ, ◌≤◌, true, false, List, [], ◌∷◌, ◌++◌, length, Option, Some, None, refl, sym, ap, ◌∙◌, subst, inl, inr, arith}
-use Rattle.run_engine.proofs.Words.{cases_Bool, eqb-true, eqb-false, ne_eqb, same_Some, slice_get, nat_eq, not, ◌&&◌, link_number, channel_number, ChanNo, LinkNo, link_of, Hop, asked_at, shifted_in, told_by, Shifted, stage_after, Joining, Releasing, Ask, Submit, Release, Reply, Each, RequestFits, Outcome, verdict_of, Request, IsUnsent, NetworkFits, TaskFits, IsSendOn, OwnedFully, AllOwned, Learnt, Packets, Standing, packets_ask, is_that, newest, or_before, packets_by, packets_in, last_packets, move_between, task_ask, ready, from_step, begun, settled_as, outcome_by, standing, Network, Task, Opens, Sends, Closes, Moves, replies_to, part_of, Done, IsRun}
+use Rattle.run_engine.proofs.Words.{cases_Bool, eqb-true, eqb-false, ne_eqb, same_Some, slice_get, nat_eq, not, ◌&&◌, link_number, channel_number, ChanNo, LinkNo, link_of, Hop, asked_at, shifted_in, told_by, Shifted, stage_after, Joining, Releasing, Ask, Submit, Release, Reply, Each, RequestFits, Outcome, verdict_of, Request, IsUnsent, NetworkFits, TaskFits, IsSendOn, OwnedFully, AllOwned, Learnt, Packets, Standing, packets_ask, is_that, newest, or_before, packets_by, packets_in, last_packets, move_between, task_ask, ready, from_step, begun, settled_as, outcome_by, standing, Network, Task, Opens, Sends, Closes, Moves, replies_to, part_of, Done, IsRun, last_with, last_planned, EveryMoveTakesTheLast, HopAt}
 use Rattle.std.proofs.Math.Bool.{and-false}
 use Rattle.channel_move.proofs.AskByStage.{HopAsked, MoveAsks, AsksFirst, AsksSubmit, AsksRest, move-asks}
 use Rattle.link_steps.specs.declared.replies.Reply.TheVariants as Is
 use Rattle.setup_protocol.proofs.HopAsks.{of-hop}
-use Rattle.run_engine.specs.channels.Moves.{last_with, last_planned, EveryMoveTakesTheLast}
-use Rattle.run_engine.specs.channels.Paths.{HopAt}
 use Rattle.run_engine.proofs.Tasks.SingleAskTask.{once-asked}
 use Rattle.run_engine.proofs.Replies.Replying.{moves-plan}
 use Rattle.run_engine.proofs.Replies.ClosingStands.{off-unsent, setup-unsent}

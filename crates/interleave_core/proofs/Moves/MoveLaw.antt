@@ -1,9 +1,6 @@
 -- Once a move has left a channel, the channel's first hop has taken as many packets as were kept, and takes no more.
 use Rattle.std.proofs.Common.{◌≡◌, ℕ, true, false, List, [], ◌∷◌, ◌++◌, Option, Some, None, refl, sym, ap, ◌∙◌, subst, inl, inr}
-use Rattle.run_engine.proofs.Words.{cases_Bool, eqb-true, and_parts, same_Some, slice_get, nat_eq, if◌then◌else◌, channel_number, ChanNo, told_by, first_told, Shifted, Reply, RequestFits, Outcome, first_count, Request, NetworkFits, OwnedFully, Learnt, Settles, PlannedOn, MovedTo, Standing, is_that, newest, is_established, outcome_in, takes_step, ready, from_step, begun, outcome_by, standing, first_ask, moved_by, moved_off, Network, Task, Opens, Moves, replies_to, Done, IsMild, IsRun}
-use Rattle.link_steps.specs.declared.replies.Reply.TheVariants as Is
-use Rattle.run_engine.specs.channels.Moves.{EveryMoveKeeps}
-use Rattle.run_engine.specs.channels.Paths.{HopAt}
+use Rattle.run_engine.proofs.Words.{cases_Bool, eqb-true, and_parts, same_Some, slice_get, nat_eq, if◌then◌else◌, channel_number, ChanNo, told_by, first_told, Shifted, Reply, RequestFits, Outcome, first_count, Request, NetworkFits, OwnedFully, Learnt, Settles, PlannedOn, MovedTo, Standing, is_that, newest, is_established, outcome_in, takes_step, ready, from_step, begun, outcome_by, standing, first_ask, moved_by, moved_off, Network, Task, Opens, Moves, replies_to, Done, IsMild, IsRun, EveryMoveKeeps, HopAt, ChannelAsked}
 use Rattle.interleave_core.proofs.Channels.ChainLaw.{leaves-frozen}
 use Rattle.run_engine.proofs.Channels.ChannelsAt.{packets-numbered}
 use Rattle.interleave_core.proofs.Channels.FarHolds.{Frozen, frozen-later}
@@ -12,7 +9,6 @@ use Rattle.run_engine.proofs.Replies.RunGoes.{GoesAt, owned-asked, step-goes}
 use Rattle.run_engine.proofs.Runs.EachRun.{KeptBySteps, each-run, OwnStep, from-step-by}
 use Rattle.run_engine.proofs.Tasks.EachSetup.{Before, Under, After}
 use Rattle.run_engine.proofs.Tasks.TaskAsks.{off-mild, mild-tasks}
-use Rattle.run_engine.specs.channels.Hops.{ChannelAsked}
 use Rattle.run_engine.proofs.Tasks.OwnTasks.{OwnTask, own-task}
 use Rattle.run_engine.proofs.Replies.OwnerKinds.{IsLeaving, told-kept}
 use Rattle.run_engine.proofs.Keeping.Lookups.{head-same}

@@ -1,9 +1,7 @@
 -- Each step of a move releases a hop of the channel that is left, or plans on the other channel what the first release has cancelled.
 use Rattle.std.proofs.Common.{◌≡◌, ℕ, zero, suc, ◌+◌, ◌≤◌, false, List, [], ◌∷◌, ◌++◌, Some, None, refl, sym, ap, ◌∙◌, subst, inr, arith}
-use Rattle.run_engine.proofs.Words.{eqb-false, same_Some, slice_get_within, slice_get, nat_eq, link_number, channel_number, link_of, shifted_in, stage_after, Releasing, Release, Reply, Each, RequestFits, first_count, Request, NetworkFits, TaskFits, MoveFits, OwnedFully, AllOwned, Learnt, Standing, move_between, standing, ask_at, Network, Task, Moves, replies_to, Done, IsRun}
+use Rattle.run_engine.proofs.Words.{eqb-false, same_Some, slice_get_within, slice_get, nat_eq, link_number, channel_number, link_of, shifted_in, stage_after, Releasing, Release, Reply, Each, RequestFits, first_count, Request, NetworkFits, TaskFits, MoveFits, OwnedFully, AllOwned, Learnt, Standing, move_between, standing, ask_at, Network, Task, Moves, replies_to, Done, IsRun, cancelled_with, HopAt}
 use Rattle.channel_move.proofs.AskByStage.{HopAsked, MoveAsks, AsksFirst, AsksSubmit, AsksRest, move-asks, rest-length}
-use Rattle.run_engine.specs.channels.Moves.{cancelled_with}
-use Rattle.run_engine.specs.channels.Paths.{HopAt}
 use Rattle.interleave_core.specs.channels.Shifting.{MoveStep, Leaves, Joins, Frees, EveryMovePlansTheShifted}
 use Rattle.interleave_core.proofs.Channels.ChainLaw.{leaves-frozen}
 use Rattle.run_engine.proofs.Channels.HopsAt.{hop-at}

@@ -1,12 +1,9 @@
 -- Once packets of a channel have moved off, those that its source has offered and those that were shifted are all that its submits
 -- planned: the first hop's release has cancelled as many as were shifted, and none is left.
 use Rattle.std.proofs.Common.{◌≡◌, ℕ, ◌+◌, Bool, true, false, List, [], ◌∷◌, ◌++◌, length, Option, Some, None, refl, sym, ap, ◌∙◌, subst, inl, inr, arith}
-use Rattle.run_engine.proofs.Words.{eq-eqb, ne_eqb, same_Some, slice_get, find, nat_eq, if◌then◌else◌, link_number, channel_number, ChanNo, link_of, shifted_in, told_by, first_told, Shifted, Ask, Release, Entry, Reply, LinkShape, MayAnswer, release_to, reply_at, Reservation, is_phase, Row, left_at, clock_of, scan_of, is_row_at_hop, RequestFits, first_count, Request, MayReplyTo, IsOff, held_by, NetworkFits, OwnedFully, Learnt, Standing, standing, moved_off, Network, Task, replies_to, part_of, Done, IsNext, IsRun}
+use Rattle.run_engine.proofs.Words.{eq-eqb, ne_eqb, same_Some, slice_get, find, nat_eq, if◌then◌else◌, link_number, channel_number, ChanNo, link_of, shifted_in, told_by, first_told, Shifted, Ask, Release, Entry, Reply, LinkShape, MayAnswer, release_to, reply_at, Reservation, is_phase, Row, left_at, clock_of, scan_of, is_row_at_hop, RequestFits, first_count, Request, MayReplyTo, IsOff, held_by, NetworkFits, OwnedFully, Learnt, Standing, standing, moved_off, Network, Task, replies_to, part_of, Done, IsNext, IsRun, terms_at, ChannelAsked, cancelled_with, cancelled_in, AMoveLeavesNoPacketBehind, HopAt}
 use Rattle.link_steps.specs.declared.replies.Phase.TheVariants as Ph
 use Rattle.link_steps.specs.declared.replies.Reply.TheVariants as Is
-use Rattle.run_engine.specs.channels.Hops.{terms_at, ChannelAsked}
-use Rattle.run_engine.specs.channels.Moves.{cancelled_with, cancelled_in, AMoveLeavesNoPacketBehind}
-use Rattle.run_engine.specs.channels.Paths.{HopAt}
 use Rattle.interleave_core.proofs.Moves.Emptied.{uncancelled, none-left-closing}
 use Rattle.interleave_core.proofs.Channels.FarHolds.{Frozen}
 use Rattle.interleave_core.proofs.Moves.MoveLaw.{MoveTold, Was, Now, move-own, no-moves, run-moved, move-told}

@@ -1,6 +1,6 @@
 -- Every packet that was planned on a channel at a link is offered, is left or was cancelled.
 use Rattle.std.proofs.Common.{◌≡◌, ℕ, suc, ◌+◌, Bool, true, false, List, [], ◌∷◌, ◌++◌, length, map, Option, Some, None, refl, sym, ap, ◌∙◌, subst, inl, inr, arith, option_map}
-use Rattle.run_engine.proofs.Words.{cases_Bool, cases_lt, lt-ltb, le-ltb, lt-leb, le-leb, eqb-true, and_parts, length-map, length-append, filter, find, nat_eq, if◌then◌else◌, channel_number, ChanNo, total, Ask, Reserve, Relax, Deny, Submit, Release, Arrive, Tick, Packet, Entry, Committed, Phase, Reply, LinkShape, MayAnswer, IsAdmissible, stays, expires, Each, change_first, without_first, deny_reply, submit_to, release_reply, release_to, reply_at, cancelled_at_release, Reservation, is_of, is_phase, is_same, tentative, Row, SourcePacket, new_row, row_terms, left_at, made_by, offered_by, tick_of, planned_from, Scan, plan_row, close_row, clock_of, scan_of, is_row_of, is_row_at_hop, names_first_hop, arrived_row, with_arrival, without_expired, with_sources, with_best, after_tick, after, Arrival, here_at, SourceStep, Rests, row_after, rows_after, step_of, taken_by, channel_of, same_Some}
+use Rattle.run_engine.proofs.Words.{cases_Bool, cases_lt, lt-ltb, le-ltb, lt-leb, le-leb, eqb-true, and_parts, length-map, length-append, filter, find, nat_eq, if◌then◌else◌, channel_number, ChanNo, total, Ask, Reserve, Relax, Deny, Submit, Release, Arrive, Tick, Packet, Entry, Committed, Phase, Reply, LinkShape, MayAnswer, IsAdmissible, stays, expires, Each, change_first, without_first, deny_reply, submit_to, release_reply, release_to, reply_at, cancelled_at_release, Reservation, is_of, is_phase, is_same, tentative, Row, SourcePacket, new_row, row_terms, left_at, made_by, offered_by, tick_of, planned_from, Scan, plan_row, close_row, clock_of, scan_of, is_row_of, is_row_at_hop, names_first_hop, arrived_row, with_arrival, without_expired, with_sources, with_best, after_tick, after, Arrival, here_at, SourceStep, Rests, row_after, rows_after, step_of, taken_by, channel_of, same_Some, planned_with, planned_in, cancelled_with, cancelled_in, offered_of, left_of, PlannedPacketsAreOfferedLeftOrCancelled}
 use Rattle.traffic_contract.proofs.AdmissionTest.{total-append, total-push}
 use Rattle.link_steps.specs.declared.replies.Refusal.TheVariants.{NoSuch, NotInPhase}
 use Rattle.link_steps.specs.declared.replies.Reply.TheVariants as Is
@@ -10,7 +10,6 @@ use Rattle.link_steps.proofs.RowsInOrder.{IsInOrder}
 use Rattle.link_steps.proofs.SearchAndFilter.{Each-find, find-map}
 use Rattle.link_steps.proofs.ReservationFound.{deny-tells}
 use Rattle.channel_laws.proofs.ChannelRows.{find-passes}
-use Rattle.run_engine.specs.channels.Moves.{planned_with, planned_in, cancelled_with, cancelled_in, offered_of, left_of, PlannedPacketsAreOfferedLeftOrCancelled}
 use Rattle.channel_laws.proofs.PlanLaw.{On}
 use Rattle.channel_laws.proofs.UnsentPlans.{LaterEmpty, later-empty}
 use Rattle.channel_laws.proofs.FewLeft.{planned-count}
@@ -157,7 +156,7 @@ release-plans c t count cancelled upstream chan rows later told = by (find (is_r
       let shrunk : plan_of c (close_row t count row) + (if nat_eq (channel_number chan) c then cancelled else 0) ≡ plan_of c row = subst (λ n. (if nat_eq n c then length (made_by t row.plan) else 0) + (if nat_eq (channel_number chan) c then cancelled else 0) ≡ (if nat_eq n c then length row.plan else 0)) (sym own) (smaller (nat_eq (channel_number chan) c) t row cancelled less) in
       omega (arith, moved, shrunk)
 
-both-zero : (b : Bool) → ◌≡◌ {A = ℕ} (if b then 0 else 0) 0
+pub both-zero : (b : Bool) → ◌≡◌ {A = ℕ} (if b then 0 else 0) 0
 both-zero true = refl
 both-zero false = refl
 
@@ -198,18 +197,16 @@ after-plans shape c t scan Tick reply may order later = ap (λ n. n + 0) (tick-p
 after-plans shape c t scan _ (Is.Planned clock) may order later = refl
 after-plans shape c t scan _ _ may order later = refl
 
+if-more : (b : Bool) (n more : ℕ) → (if b then n + more else n) ≡ n + (if b then 0 + more else 0)
+if-more true n more = omega arith
+if-more false n more = omega arith
+
 planned-more : (c n : ℕ) (ask : Ask) (reply : Reply) → planned_with c n ask reply ≡ n + planned_with c 0 ask reply
-planned-more c n (Submit chan count gap size) (Is.Planned clock) = by (nat_eq (channel_number chan) c) where
-  by : (b : Bool) → (if b then n + count else n) ≡ n + (if b then 0 + count else 0)
-  by true = omega arith
-  by false = omega arith
+planned-more c n (Submit chan count gap size) (Is.Planned clock) = if-more (nat_eq (channel_number chan) c) n count
 planned-more c n _ _ = omega arith
 
 cancelled-more : (c n : ℕ) (ask : Ask) (reply : Reply) → cancelled_with c n ask reply ≡ n + cancelled_with c 0 ask reply
-cancelled-more c n (Release chan upstream) (Is.Closing count cancelled) = by (nat_eq (channel_number chan) c) where
-  by : (b : Bool) → (if b then n + cancelled else n) ≡ n + (if b then 0 + cancelled else 0)
-  by true = omega arith
-  by false = omega arith
+cancelled-more c n (Release chan upstream) (Is.Closing count cancelled) = if-more (nat_eq (channel_number chan) c) n cancelled
 cancelled-more c n _ _ = omega arith
 
 all-plans : (shape : LinkShape) (c : ℕ) (h : List Entry) → IsAdmissible shape h → planned_in c h ≡ plans_of c (scan_of shape h) + cancelled_in c h
