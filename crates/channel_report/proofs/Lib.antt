@@ -9,7 +9,10 @@ pub mod EstablishedLine
 pub mod LinkTallies
 pub mod EarlyTicks
 pub mod SumsOverRequests
-pub mod EndRowsSuffice
+pub mod ToldDelays
+pub mod PairedRows
+pub mod PairedDelays
+pub mod FlowsKept
 pub mod RowsStayKept
 pub mod StepTallies
 pub mod RestTallies

@@ -20,21 +20,24 @@ use Rattle.run_engine.proofs.Runs.RunLength.{run-short}
 use Rattle.run_engine.proofs.Keeping.NextStep.{callers-few}
 use Rattle.run_engine.proofs.Watched.WatchedStrides.{links-are}
 use Rattle.run_record.specs.Hops.{AreHops, AreOffered, hops_at}
-use Rattle.run_record.specs.Rows.{links_of}
+use Rattle.run_record.specs.Rows.{departures_in, links_of}
 use Rattle.run_record.specs.Runs.{part_of, replies_to}
 use Rattle.run_record.specs.declared.done.Done.{Done}
 use Rattle.run_record.specs.declared.hops.Hops.{Hops}
 use Rattle.run_record.specs.declared.rows.HopRow.{HopRow}
 use Rattle.run_record.proofs.OfferPlaces.{links-push}
 use Rattle.channel_report.specs.ChannelTallies.{AreChannelTallies}
-use Rattle.channel_report.specs.Ends.{AreKept, is_kept}
+use Rattle.channel_report.specs.Flows.{AreFlows}
+use Rattle.channel_report.specs.KeptRows.{AreKeptIf}
 use Rattle.channel_report.specs.StepCounts.{AreStepCounts}
 use Rattle.channel_report.specs.Tallied.{IsTallied}
 use Rattle.channel_report.specs.Tallies.{AreLinkTallies, HaveRested, IsTally, ticks_later}
 use Rattle.channel_report.specs.declared.channel_tally.ChannelTally.{ChannelTally}
+use Rattle.channel_report.specs.declared.flow.Flow.{Flow}
 use Rattle.channel_report.specs.declared.link_tally.LinkTally.{LinkTally}
 use Rattle.channel_report.specs.declared.tally.Tally.{Tally}
 use Rattle.channel_report.proofs.ChannelTallies.{sources-same}
+use Rattle.channel_report.proofs.FlowsKept.{flows-stay}
 use Rattle.channel_report.proofs.RowsStayKept.{row-none}
 use Rattle.channel_report.proofs.CountsPerLink.{are-small, tally-more}
 use Rattle.channel_report.proofs.LinkTallies.{part-short}
@@ -66,10 +69,14 @@ links-rest c plane t n past = ap (links_of c) (reverse-append (quiet_step plane 
 hops-rest : (table : List Hops) (plane : ActorNo) (t n : ℕ) (past : List Done) → AreHops (reverse past) table → AreHops (reverse (quiet_step plane t n ∷ past)) table
 hops-rest table plane t n past are c = subst (λ links. AreOffered links (hops_at table c)) (sym (links-rest c plane t n past)) (are c)
 
+-- the flows
+flows-rest : (requests : List RequestEntry) (flows : List Flow) (plane : ActorNo) (t n : ℕ) (past : List Done) → ((whole : List Done) → AreFlows requests (reverse (departures_in whole (reverse past))) flows) → (whole : List Done) → AreFlows requests (reverse (departures_in whole (reverse (quiet_step plane t n ∷ past)))) flows
+flows-rest requests flows plane t n past are = flows-stay requests past (quiet_step plane t n) flows (λ run. refl) are
+
 -- the rows
-rows-rest : (keep : HopRow → Bool) (rows : List HopRow) (plane : ActorNo) (t n : ℕ) (past : List Done) → AreKept keep (reverse past) rows → AreKept keep (reverse (quiet_step plane t n ∷ past)) rows
-rows-rest keep rows plane t n past kept =
-    subst (λ entries. AreKept keep entries rows) (sym (reverse-append (quiet_step plane t n ∷ []) past)) (row-none keep (reverse past) (quiet_step plane t n) rows (λ run. refl) kept)
+rows-rest : (packets : Bool) (rows : List HopRow) (plane : ActorNo) (t n : ℕ) (past : List Done) → AreKeptIf packets (reverse past) rows → AreKeptIf packets (reverse (quiet_step plane t n ∷ past)) rows
+rows-rest packets rows plane t n past kept =
+    subst (λ entries. AreKeptIf packets entries rows) (sym (reverse-append (quiet_step plane t n ∷ []) past)) (row-none packets (reverse past) (quiet_step plane t n) rows (λ run. refl) kept)
 
 -- ---- how many steps there are
 
@@ -189,20 +196,21 @@ module _ (parts : PlanParts) (tally : Tally) (past : List Done) (first n : ℕ) 
   pub counts-small : (place d : ℕ) → place < 65 → get_or tally.made.items place d + n * length parts.links < 2 ^ 60
   counts-small place d inside = (let told = next.seen.made.tells place d inside in let few = replies-few place past in let short = rested-short in omega (arith, told, few, short))
 
-  pub tally-rested : (new : Tally) → HaveRested n tally.links.items new.links.items → new.channels.items ≡ tally.channels.items → new.hops.channels.items ≡ tally.hops.channels.items → new.rows.items ≡ tally.rows.items → new.packets ≡ tally.packets
+  pub tally-rested : (new : Tally) → HaveRested n tally.links.items new.links.items → new.channels.items ≡ tally.channels.items → new.flows.items ≡ tally.flows.items → new.hops.channels.items ≡ tally.hops.channels.items → new.rows.items ≡ tally.rows.items → new.packets ≡ tally.packets
       → AreStepCounts (rested network n past) new.made.items → new.steps ≡ tally.steps + n * length parts.links → IsTallied parts (rested network n past) new
-  tally-rested new links channels hops rows packets made steps =
+  tally-rested new links channels flows hops rows packets made steps =
       let seen = next.seen in
       let plane = the_plane network in
       let count = length network.links in
       let at = (plane_at network past).round in
-      let keep = is_kept parts.requests tally.packets in
       record {
         links = subst (λ c. AreLinkTallies c (rested network n past) new.links.items) (links-are parts) (links-rested network n past tally.links.items new.links.items goes (subst (λ c. AreLinkTallies c past tally.links.items) (sym (links-are parts)) seen.links) links);
         channels = subst (AreChannelTallies parts.requests (rested network n past)) (sym channels) (through-rounds (λ run. AreChannelTallies parts.requests run tally.channels.items) plane (sources-rest parts.requests tally.channels.items plane) count at n past seen.channels);
         hops = subst (AreHops (reverse (rested network n past))) (sym hops) (through-rounds (λ run. AreHops (reverse run) tally.hops.channels.items) plane (hops-rest tally.hops.channels.items plane) count at n past seen.hops);
-        rows = subst (λ p. AreKept (is_kept parts.requests p) (reverse (rested network n past)) new.rows.items) (sym packets)
-            (subst (AreKept keep (reverse (rested network n past))) (sym rows) (through-rounds (λ run. AreKept keep (reverse run) tally.rows.items) plane (rows-rest keep tally.rows.items plane) count at n past seen.rows));
+        flows = subst (λ fs. (whole : List Done) → AreFlows parts.requests (reverse (departures_in whole (reverse (rested network n past)))) fs) (sym flows)
+            (through-rounds (λ run. (whole : List Done) → AreFlows parts.requests (reverse (departures_in whole (reverse run))) tally.flows.items) plane (flows-rest parts.requests tally.flows.items plane) count at n past seen.flows);
+        rows = subst (λ p. AreKeptIf p (reverse (rested network n past)) new.rows.items) (sym packets)
+            (subst (AreKeptIf tally.packets (reverse (rested network n past))) (sym rows) (through-rounds (λ run. AreKeptIf tally.packets (reverse run) tally.rows.items) plane (rows-rest tally.packets tally.rows.items plane) count at n past seen.rows));
         made = made;
         steps = (let was = seen.steps in let long : length (rested network n past) ≡ n * length parts.links + length past = rested-length network n past ∙ ap (λ links. n * links + length past) (links-are parts) in omega (arith, steps, was, long));
       }

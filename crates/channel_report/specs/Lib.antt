@@ -14,7 +14,9 @@ pub mod Delays
 pub mod DelayTallies
 pub mod Channels
 pub mod Summary
-pub mod Ends
+pub mod KeptRows
+pub mod Pairing
+pub mod Flows
 pub mod StepCounts
 pub mod Tallied
 pub mod TellsNothing

@@ -1,5 +1,5 @@
 -- What a tally keeps of a run, which is listed newest first: the counts of the links, what the sources of the channels have planned,
--- the hops of the channels, the rows of their first and last hops, or all rows where there is to be a table, how many steps there
+-- how the channels' packets were delivered, the hops of the channels, all rows where there is to be a table, how many steps there
 -- were, and how many each actor has made.
 use Rattle.std.specs.Prelude.{◌≡◌, List, length, reverse}
 use Rattle.call_script.specs.Parts.{PlanParts}
@@ -8,9 +8,11 @@ use Rattle.run_engine.specs.runs.Runs.{IsRun}
 use Rattle.run_engine.specs.schedules.Standing.{CallersStand}
 use Rattle.run_engine.specs.declared.callers.Callers.{Callers}
 use Rattle.run_record.specs.Hops.{AreHops}
+use Rattle.run_record.specs.Rows.{departures_in}
 use Rattle.run_record.specs.declared.done.Done.{Done}
 use Rattle.channel_report.specs.ChannelTallies.{AreChannelTallies}
-use Rattle.channel_report.specs.Ends.{AreKept, is_kept}
+use Rattle.channel_report.specs.Flows.{AreFlows}
+use Rattle.channel_report.specs.KeptRows.{AreKeptIf}
 use Rattle.channel_report.specs.StepCounts.{AreStepCounts}
 use Rattle.channel_report.specs.Tallies.{AreLinkTallies}
 use Rattle.channel_report.specs.declared.tally.Tally.{Tally}
@@ -19,8 +21,10 @@ use Rattle.channel_report.specs.declared.tally.Tally.{Tally}
 pub record IsTallied (parts : PlanParts) (run : List Done) (tally : Tally) : Type 0 where
   pub links : AreLinkTallies (length parts.links) run tally.links.items
   pub channels : AreChannelTallies parts.requests run tally.channels.items
+  -- by the rows of the run, whatever offers tell their hops
+  pub flows : (whole : List Done) → AreFlows parts.requests (reverse (departures_in whole (reverse run))) tally.flows.items
   pub hops : AreHops (reverse run) tally.hops.channels.items
-  pub rows : AreKept (is_kept parts.requests tally.packets) (reverse run) tally.rows.items
+  pub rows : AreKeptIf tally.packets (reverse run) tally.rows.items
   pub made : AreStepCounts run tally.made.items
   pub steps : tally.steps ≡ length run
 

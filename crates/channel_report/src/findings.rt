@@ -5,7 +5,8 @@ ghost use Rattle.channel_report.specs.Findings.{AreFound};
 ghost use Rattle.channel_report.specs.Tallied.{IsTalliedRun};
 
 use crate::channel_tally::ChannelTally;
-use crate::delay_tally::{DelayTally, tally_delays};
+use crate::delay_tally::DelayTally;
+use crate::flow::delays_of;
 use crate::link_tally::LinkTally;
 use crate::tally::Tally;
 use call_script::Plan;
@@ -25,9 +26,9 @@ pub(crate) struct Findings {
     pub(crate) channels: Vec<ChannelTally>,
     // The delays of the requests' channels, by their numbers.
     pub(crate) delays: Vec<DelayTally>,
-    // Whether the rows are all of the run's.
+    // Whether its rows are wanted.
     pub(crate) packets: bool,
-    // Its rows, in their order, or some of them.
+    // Its rows, in their order, if these are wanted.
     pub(crate) rows: HopRows,
     // How many steps it has.
     pub(crate) steps: usize,
@@ -50,13 +51,14 @@ impl Findings {
             packets,
             links,
             channels,
+            flows,
             hops,
             rows,
             steps,
             ..
         } = tally;
         let rows = hops.in_order(rows)?;
-        let delays = tally_delays(alloc, plan, rows.as_slice())?;
+        let delays = delays_of(alloc, flows.as_slice())?;
         Ok(Findings {
             callers,
             links,

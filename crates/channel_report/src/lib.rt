@@ -11,6 +11,7 @@ mod counts;
 mod delay_tally;
 mod end_line;
 mod findings;
+mod flow;
 mod link_lines;
 mod link_tally;
 mod move_lines;

@@ -8,7 +8,7 @@ ghost use Rattle.link_steps.specs.declared.replies.Reply.{Reply as Replied};
 ghost use Rattle.run_record.specs.Rows.{IsEarly, offer_by, rows_by};
 ghost use Rattle.run_record.specs.Runs.{part_of};
 ghost use Rattle.run_record.specs.declared.done.Done.{Done as Step};
-ghost use Rattle.channel_report.specs.Ends.{AreKept, is_end, is_kept};
+ghost use Rattle.channel_report.specs.KeptRows.{AreKeptIf};
 ghost use Rattle.channel_report.specs.Links.{best_lost_by, best_sent_by, dropped_by, sent_by};
 ghost use Rattle.channel_report.specs.Sources.{act_of};
 ghost use Rattle.channel_report.specs.StepCounts.{AreStepCounts};
@@ -20,6 +20,7 @@ ghost use Rattle.channel_report.specs.declared.link_tally.LinkTally.{LinkTally a
 
 use crate::channel_tally::ChannelTally;
 use crate::counts::{keep_source, new_tallies};
+use crate::flow::{Flow, new_flows, pair};
 use crate::link_tally::LinkTally;
 use call_script::Plan;
 use link_steps::{Ask, Reply};
@@ -31,17 +32,19 @@ use std::alloc::Global;
 // Every actor's number is below this.
 const ACTORS: usize = 65;
 
-/// What a report tells of a run, without its record: the counts of the links, what the sources have planned, and of the packets the
-/// departures from first and last hops alone, or all of them where there is to be a table of packets.
+/// What a report tells of a run, without its record: the counts of the links, what the sources have planned, the delays of the packets,
+/// and the departures where there is to be a table of packets.
 #[derive(Drop)]
 pub struct Tally {
     pub(crate) alloc: Global,
-    // Whether the rows of all hops are kept.
+    // Whether the rows are kept.
     pub(crate) packets: bool,
     // The counts of the links, by their numbers.
     pub(crate) links: Vec<LinkTally>,
     // What is kept of the sources of the requests' channels, by their numbers.
     pub(crate) channels: Vec<ChannelTally>,
+    // How the packets of the requests' channels were delivered, by their numbers.
+    pub(crate) flows: Vec<Flow>,
     // The hops of the channels.
     pub(crate) hops: HopTable,
     // The rows that are kept, in the order of time, with any hops.
@@ -64,6 +67,7 @@ impl Tally {
             packets,
             links: vec![in alloc; LinkTally::NOTHING; plan.links().len()]?,
             channels: new_tallies(alloc, plan.requests().len())?,
+            flows: new_flows(alloc, plan)?,
             hops: HopTable::new(alloc),
             rows: Vec::new(alloc),
             made: vec![in alloc; 0; ACTORS]?,
@@ -82,10 +86,10 @@ impl Watch for Tally {
         let clock = count_link(&mut self.links, done);
         keep_source(self.alloc, plan, &mut self.channels, clock, done)?;
         self.hops.note(done)?;
+        pair(&mut self.flows, done.link, &done.reply)?;
         keep_row(
             &mut self.rows,
             &self.hops,
-            plan,
             self.packets,
             done.link,
             &done.reply,
@@ -112,7 +116,8 @@ impl Watch for Tally {
         // The plane's asks are all such, and they cost no entry.
         if is_for_no_source(ask) {
             self.links[usize::from(link.get())].add(ask, reply);
-            keep_row(&mut self.rows, &self.hops, plan, self.packets, link, reply)?;
+            pair(&mut self.flows, link, reply)?;
+            keep_row(&mut self.rows, &self.hops, self.packets, link, reply)?;
             count_step(&mut self.made, actor);
             self.steps += 1;
             return Ok(());
@@ -127,6 +132,7 @@ impl Watch for Tally {
         Ok(())
     }
 
+    #[inline(always)]
     fn passed(&mut self, plan: &Plan, link: LinkNo, _clock: u64) -> Result<(), OutOfMemory> {
         let actor = plane_of(plan);
         self.links[usize::from(link.get())].pass();
@@ -200,49 +206,26 @@ fn count_link(links: &mut Vec<LinkTally>, done: &Done) -> u64
     clock
 }
 
-// Keeps the row that an entry with this link and reply tells, if it tells one that is to be kept. Its offer is noted.
+// Keeps the row that an entry with this link and reply tells, if it tells one and rows are kept. Its offer is noted.
 fn keep_row(
     rows: &mut Vec<HopRow>,
     hops: &HopTable,
-    plan: &Plan,
     packets: bool,
     link: LinkNo,
     reply: &Reply,
 ) -> Result<(), OutOfMemory>
     requires { IsEarly reply.now }
-    ensures { OnOk result ((past : List Step) (done : Step) → done.link ≡ link → done.reply ≡ reply.now → AreHops (past ++ done ∷ []) hops.now.channels.items → AreKept (is_kept plan.now.requests packets) past rows.old.items → AreKept (is_kept plan.now.requests packets) (past ++ done ∷ []) rows.new.items) }
+    ensures { OnOk result ((past : List Step) (done : Step) → done.link ≡ link → done.reply ≡ reply.now → AreHops (past ++ done ∷ []) hops.now.channels.items → AreKeptIf packets past rows.old.items → AreKeptIf packets (past ++ done ∷ []) rows.new.items) }
 {
+    if !packets {
+        return Ok(());
+    }
     match hops.row_at(link, reply) {
         Some(row) => {
-            if is_wanted(plan, packets, &row) {
-                rows.push(row)?;
-                Ok(())
-            } else {
-                Ok(())
-            }
+            rows.push(row)?;
+            Ok(())
         }
         None => Ok(()),
-    }
-}
-
-// Whether a row may be one to be kept: one without a hop may still get one.
-fn is_wanted(plan: &Plan, packets: bool, row: &HopRow) -> bool
-    ensures left { result ≡ false → is_kept plan.now.requests packets row.now ≡ false }
-    ensures has_hop { result ≡ false → row.now.hop ≡ 0 → ⊥ }
-{
-    packets || row.hop == 0 || is_end(plan, row)
-}
-
-// Whether a row is of a first hop, or of the last one of its channel's route.
-fn is_end(plan: &Plan, row: &HopRow) -> bool
-    ensures { result ≡ is_end plan.now.requests row.now }
-{
-    if row.hop == 1 {
-        return true;
-    }
-    match plan.requests().get(row.chan.get() as usize) {
-        Some(entry) => row.hop == entry.request.route.len(),
-        None => false,
     }
 }
 

@@ -28,15 +28,15 @@ use Rattle.run_engine.proofs.Replies.RunCloses.{owned-once}
 use Rattle.run_engine.proofs.Replies.RunGoes.{owned-asked}
 use Rattle.run_engine.specs.channels.Hops.{packets_on, ChannelAsked}
 use Rattle.run_engine.specs.channels.Paths.{HopAt, clock_at, packets_at, arrived_at}
-use Rattle.report_laws.proofs.PacketOf.{fits-network}
-use Rattle.report_laws.proofs.RunSound.{departures_of}
+use Rattle.audit_laws.proofs.PacketOf.{fits-network}
+use Rattle.audit_laws.proofs.RunSound.{departures_of}
 use Rattle.trace_audit.proofs.SortedRows.{order-among}
 use Rattle.channel_report.specs.Delays.{last_prop, prop_of}
 use Rattle.report_laws.proofs.HopPacket.{AreOneHop, one-hop, left-there, packets-there, arrived-at}
 use Rattle.report_laws.specs.Rows.{TellsDeparture}
 use Rattle.report_laws.specs.Delivered.{IsDelay}
 use Rattle.report_laws.proofs.RowPacket.{AllOffered, row-is-of}
-use Rattle.report_laws.proofs.ToldDelays.{DelayOf}
+use Rattle.channel_report.proofs.ToldDelays.{DelayOf}
 
 -- the delay of the packet of this number, which has left the last hop, and the packet at the first hop
 pub record ToldDelay (network : Network) (request : Request) (first : HopAt network request 0) (m : ℕ) (last : HopAt network request m) (run : List Done) (number delay : ℕ) : Type 0 where

@@ -26,16 +26,16 @@ use Rattle.trace_audit.specs.Above.{is_at, rows_at}
 use Rattle.trace_audit.specs.Checks.{AllPass}
 use Rattle.trace_audit.proofs.TableInOrder.{at-parts}
 use Rattle.trace_audit.proofs.WholeRoute.{filter-reverse}
-use Rattle.report_laws.proofs.RunIsSound.{run-is_sound}
+use Rattle.audit_laws.proofs.RunIsSound.{run-is_sound}
 use Rattle.channel_report.specs.Delays.{is_last, least_with, least_of, worst_with, worst_of}
 use Rattle.report_laws.specs.Bounds.{delays_told}
 use Rattle.report_laws.specs.Delivered.{IsDelay, IsLeast, IsWorst, ReportsShowEveryDelay}
 use Rattle.report_laws.proofs.DelayRows.{delay-is}
-use Rattle.report_laws.proofs.GivenLevels.{levels_in, levels-are}
-use Rattle.report_laws.proofs.PairedRows.{delays-count, tells-delay}
+use Rattle.audit_laws.proofs.GivenLevels.{levels_in, levels-are}
+use Rattle.channel_report.proofs.PairedRows.{delays-count, tells-delay}
 use Rattle.report_laws.proofs.RowCount.{RowsLeft, row-with, one-numbered, rows-left, taken-there, left-early}
 use Rattle.report_laws.proofs.RowPacket.{AllOffered, all-offered}
-use Rattle.report_laws.proofs.ToldDelays.{DelayOf, delays-are}
+use Rattle.channel_report.proofs.ToldDelays.{DelayOf, delays-are}
 
 -- ---- the least and the greatest
 

@@ -18,7 +18,7 @@ use Rattle.run_record.specs.declared.done.Done.{Done}
 use Rattle.run_engine.specs.channels.Hops.{packets_on}
 use Rattle.run_engine.specs.channels.Paths.{HopAt, clock_at, starts_at, departs_at}
 use Rattle.interleave_core.specs.channels.Guarantee.{HasLeft}
-use Rattle.report_laws.proofs.RunDeparts.{numbers-above}
+use Rattle.audit_laws.proofs.RunDeparts.{numbers-above}
 
 -- ---- one hop
 

@@ -29,13 +29,13 @@ use Rattle.run_engine.proofs.Replies.RunCloses.{owned-once}
 use Rattle.run_engine.proofs.Replies.RunGoes.{owned-asked}
 use Rattle.run_engine.proofs.Runs.RunLegal.{part-admissible}
 use Rattle.run_engine.proofs.Replies.VerdictHolds.{verdicts-follow}
-use Rattle.report_laws.proofs.PacketOf.{fits-network}
+use Rattle.audit_laws.proofs.PacketOf.{fits-network}
 use Rattle.channel_report.specs.Sources.{first_link, offered_in}
 use Rattle.report_laws.specs.Bounds.{delays_told, ReportsKeepTheirBounds}
 use Rattle.report_laws.proofs.DelayRows.{ToldDelay, delay-is}
 use Rattle.report_laws.proofs.KeptSource.{source-kept}
 use Rattle.report_laws.proofs.RowPacket.{all-offered}
-use Rattle.report_laws.proofs.ToldDelays.{DelayOf, delays-are, least-among, worst-among}
+use Rattle.channel_report.proofs.ToldDelays.{DelayOf, delays-are, least-among, worst-among}
 
 -- the first link of the route
 first-of : (hops : List Hop) (hop : Hop) → slice_get hops 0 ≡ Some hop → first_link hops ≡ link_number hop.link

@@ -39,15 +39,15 @@ use Rattle.run_engine.proofs.Replies.RunGoes.{owned-asked}
 use Rattle.trace_audit.specs.Above.{is_at, is_of, rows_at}
 use Rattle.trace_audit.specs.Departures.{AreCounted}
 use Rattle.trace_audit.proofs.TableInOrder.{at-parts}
-use Rattle.report_laws.proofs.PacketOf.{fits-network}
-use Rattle.report_laws.proofs.RunDeparts.{counted, numbers-above}
-use Rattle.report_laws.proofs.RunRows.{is_over, Leaving, run-leaves}
-use Rattle.report_laws.proofs.RunSound.{departures_of}
+use Rattle.audit_laws.proofs.PacketOf.{fits-network}
+use Rattle.audit_laws.proofs.RunDeparts.{counted, numbers-above}
+use Rattle.audit_laws.proofs.RunRows.{is_over, Leaving, run-leaves}
+use Rattle.audit_laws.proofs.RunSound.{departures_of}
 use Rattle.trace_audit.proofs.SortedRows.{order-among, counted-rise, rows-stay}
 use Rattle.report_laws.specs.Delivered.{EveryDepartureHasOneRow}
 use Rattle.report_laws.specs.Rows.{TellsDeparture}
 use Rattle.report_laws.proofs.HopPacket.{one-hop, left-there}
-use Rattle.report_laws.proofs.GivenLevels.{levels_in, levels-are}
+use Rattle.audit_laws.proofs.GivenLevels.{levels_in, levels-are}
 use Rattle.report_laws.proofs.RowPacket.{AllOffered, all-offered, row-is-of}
 
 -- ---- rows that are counted

@@ -37,9 +37,9 @@ use Rattle.run_engine.proofs.Channels.HopsAt.{hop-at}
 use Rattle.run_engine.proofs.Replies.RunCloses.{owned-once}
 use Rattle.run_engine.proofs.Replies.RunGoes.{owned-asked}
 use Rattle.trace_audit.proofs.HopOrder.{offers-in-order, hop-number}
-use Rattle.report_laws.proofs.PacketOf.{fits-network}
-use Rattle.report_laws.proofs.RunRows.{departure-told, sent-at, run-split}
-use Rattle.report_laws.proofs.RunSound.{departures_of}
+use Rattle.audit_laws.proofs.PacketOf.{fits-network}
+use Rattle.audit_laws.proofs.RunRows.{departure-told, sent-at, run-split}
+use Rattle.audit_laws.proofs.RunSound.{departures_of}
 use Rattle.trace_audit.proofs.SortedRows.{order-among}
 use Rattle.report_laws.specs.Rows.{TellsDeparture, RowsShowDepartures}
 use Rattle.interleave_core.proofs.Channels.GuaranteeLaw.{own-channel}

@@ -3,4 +3,3 @@ pub mod Rows
 pub mod Bounds
 pub mod Delivered
 pub mod Counts
-pub mod RunLevels

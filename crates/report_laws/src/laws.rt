@@ -3,7 +3,6 @@ ghost use Rattle.report_laws.specs.Offered.{ReportsShowWhatSourcesOffer};
 ghost use Rattle.report_laws.specs.Rows.{RowsShowDepartures};
 ghost use Rattle.report_laws.specs.Bounds.{ReportsKeepTheirBounds};
 ghost use Rattle.report_laws.specs.Delivered.{EveryDepartureHasOneRow, ReportsShowEveryDelay};
-ghost use Rattle.report_laws.specs.RunLevels.{AuditsOfRunsFindNothing, EveryTickIsEarly, LevelsOfRunsAreAccepted, RowsOfRunsAreSmall, TablesOfRunsAreSound};
 ghost use Rattle.report_laws.specs.Counts.{ReportsShowWhatLinksDid, ReportsShowRefusedSends, ReportsShowTheSteps};
 
 /// Where a link offers to a channel at most once, the ticks that the report takes for those at which the channel's source has offered
@@ -53,29 +52,4 @@ pub fn reports_show_the_steps()
 /// hop. Both are within what the request asks for.
 pub fn reports_keep_their_bounds()
     ensures { ReportsKeepTheirBounds }
-{}
-
-/// The table of a run of a plan is sound, audited with the levels with which the plan's requests were accepted in the run.
-pub fn tables_of_runs_are_sound()
-    ensures { TablesOfRunsAreSound }
-{}
-
-/// So an audit of the table of a run finds nothing.
-pub fn audits_of_runs_find_nothing()
-    ensures { AuditsOfRunsFindNothing }
-{}
-
-/// The rows of a run are small enough to be audited.
-pub fn rows_of_runs_are_small()
-    ensures { RowsOfRunsAreSmall }
-{}
-
-/// Each tick of a run of a plan is told early enough that the rows of the run can be made of its entries.
-pub fn every_tick_is_early()
-    ensures { EveryTickIsEarly }
-{}
-
-/// The levels with which a plan's requests were accepted in a run keep what the requests ask for.
-pub fn levels_of_runs_are_accepted()
-    ensures { LevelsOfRunsAreAccepted }
 {}

@@ -1,11 +1,11 @@
--- The row that the entry tells is kept, or it can't become one to be kept, or there is none.
+-- The row that the entry tells is kept, or there is none, or none is wanted.
 use Rattle.std.proofs.Common.{◌≡◌, List, [], ◌∷◌, ◌++◌, ap, sym, ◌∙◌, subst}
 use Rattle.net_units.specs.declared.numbers.LinkNo.{LinkNo}
 use Rattle.link_steps.specs.declared.replies.Reply.{Reply}
 use Rattle.run_record.specs.Rows.{rows_by}
 use Rattle.run_record.specs.declared.done.Done.{Done}
-use Rattle.channel_report.specs.Ends.{AreKept, is_kept}
-use Rattle.channel_report.proofs.RowsStayKept.{row-kept, row-left, row-none}
+use Rattle.channel_report.specs.KeptRows.{AreKeptIf}
+use Rattle.channel_report.proofs.RowsStayKept.{row-kept, row-none}
 use Rattle.channel_report.proofs.tally.keep_row.Goals as goal
 
 -- the rows are those of the entry
@@ -14,18 +14,10 @@ of-entry run done link reply to gets = ap (λ l. rows_by run l done.reply) to �
 
 pub returns-in_ok-push-in-Some : goal.returns-in_ok-push-in-Some
 returns-in_ok-push-in-Some c = λ past done to gets noted kept.
-    let keep = is_kept c.args.plan.now.requests c.args.packets in
     let run : List Done = past ++ done ∷ [] in
     let told = of-entry run done c.args.link c.args.reply.now to gets ∙ c.in-Some.ensures.some run noted in
-    subst (AreKept keep run) (sym c.in_ok-push-in-Some.ensures.items) (row-kept keep past done c.args.rows.now.items c.in-Some.row told kept)
-
-pub returns-else-is_wanted : goal.returns-else-is_wanted
-returns-else-is_wanted c = λ past done to gets noted kept.
-    let keep = is_kept c.args.plan.now.requests c.args.packets in
-    let run : List Done = past ++ done ∷ [] in
-    let told = of-entry run done c.args.link c.args.reply.now to gets ∙ c.in-Some.ensures.some run noted in
-    row-left keep past done c.args.rows.now.items c.in-Some.row told (c.is_wanted.ensures.left c.if-is_wanted.false) (c.is_wanted.ensures.has_hop c.if-is_wanted.false) kept
+    subst (AreKeptIf c.args.packets run) (sym c.in_ok-push-in-Some.ensures.items) (row-kept c.args.packets past done c.args.rows.now.items c.in-Some.row told kept)
 
 pub returns-in-None : goal.returns-in-None
 returns-in-None c = λ past done to gets noted kept.
-    row-none (is_kept c.args.plan.now.requests c.args.packets) past done c.args.rows.now.items (λ run. of-entry run done c.args.link c.args.reply.now to gets ∙ c.in-None.ensures.none run) kept
+    row-none c.args.packets past done c.args.rows.now.items (λ run. of-entry run done c.args.link c.args.reply.now to gets ∙ c.in-None.ensures.none run) kept

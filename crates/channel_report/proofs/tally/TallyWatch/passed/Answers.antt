@@ -11,10 +11,11 @@ use Rattle.run_record.proofs.OfferPlaces.{hops-kept}
 use Rattle.run_record.specs.Hops.{AreHops}
 use Rattle.run_record.specs.Runs.{part_of}
 use Rattle.run_record.specs.declared.done.Done.{Done}
-use Rattle.channel_report.specs.Ends.{AreKept, is_kept}
+use Rattle.channel_report.specs.KeptRows.{AreKeptIf}
 use Rattle.channel_report.specs.Tallies.{IsTally}
 use Rattle.channel_report.proofs.ChannelTallies.{sources-same}
 use Rattle.channel_report.proofs.RowsStayKept.{row-none}
+use Rattle.channel_report.proofs.FlowsKept.{flows-stay}
 use Rattle.channel_report.proofs.LinkTallies.{link-within, part-short, tallies-more}
 use Rattle.channel_report.proofs.tally.TallyWatch.passed.Goals as goal
 use Rattle.std.proofs.lemmas.Option.{none-some}
@@ -54,8 +55,9 @@ returns-clause-seen c = λ past next.
     record {
       links = tallies-more (length parts.links) past done old.links.items place c.pass.new.self seen.links (sym number) inside passed;
       channels = sources-same parts.requests past done old.channels.items seen.channels (λ n entry chan found on of own. none-some _ of);
+      flows = flows-stay parts.requests past done old.flows.items (λ run. refl) seen.flows;
       hops = subst (λ entries. AreHops entries old.hops.channels.items) turned (hops-kept (reverse past) done old.hops.channels.items refl seen.hops);
-      rows = subst (λ entries. AreKept (is_kept parts.requests old.packets) entries old.rows.items) turned (row-none (is_kept parts.requests old.packets) (reverse past) done old.rows.items (λ run. refl) seen.rows);
+      rows = subst (λ entries. AreKeptIf old.packets entries old.rows.items) turned (row-none old.packets (reverse past) done old.rows.items (λ run. refl) seen.rows);
       made = c.count_step.ensures past done seen.made (ap actor_number (sym c.plane_of-actor.ensures));
       steps = omega (arith, seen.steps);
     }

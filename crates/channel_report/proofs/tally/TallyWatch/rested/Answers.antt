@@ -62,5 +62,5 @@ returns-clause-seen c = λ past next.
     let more : (d : ℕ) → now + rounds * length c.links.result.now ≡ get_or tally.made.items place d + rounds * length parts.links = λ d.
     (let was : now ≡ get_or tally.made.items place d = c.index_mut.ensures.value ∙ get_or_default tally.made.items place now d within in
     omega (arith, was, times)) in
-    tally-rested parts tally past c.args._first rounds next _ (subst (HaveRested rounds tally.links.items) (sym (with_items_is tally.links c.rest_links.new.links long)) have) refl refl refl refl
+    tally-rested parts tally past c.args._first rounds next _ (subst (HaveRested rounds tally.links.items) (sym (with_items_is tally.links c.rest_links.new.links long)) have) refl refl refl refl refl
     (steps-rested parts tally past c.args._first rounds next _ place (now + rounds * length c.links.result.now) there more refl) (ap (λ steps. tally.steps + steps) times)

@@ -3,9 +3,11 @@ use Rattle.std.proofs.Common.{◌≡◌, [], ◌∷◌, ◌++◌, refl, reverse,
 use Rattle.std.proofs.lemmas.List.{reverse-append}
 use Rattle.run_engine.proofs.Runs.RunLength.{run-short}
 use Rattle.run_record.specs.Hops.{AreHops}
-use Rattle.channel_report.specs.Ends.{AreKept, is_kept}
+use Rattle.run_record.specs.Rows.{departures_in}
+use Rattle.channel_report.specs.KeptRows.{AreKeptIf}
 use Rattle.channel_report.specs.Tallies.{AreLinkTallies}
 use Rattle.channel_report.proofs.EarlyTicks.{next-early}
+use Rattle.channel_report.proofs.FlowsKept.{flows-go_on, rows-few}
 use Rattle.channel_report.proofs.LinkTallies.{link-within}
 use Rattle.channel_report.proofs.tally.TallyWatch.see.Goals as goal
 
@@ -22,6 +24,14 @@ count_link-clock-requires-clause-short c =
 
 pub keep_source-requires : goal.keep_source-requires
 keep_source-requires c = (c.requires.0, (c.requires.1.seen.channels, run-short c.args.plan.now c.requires.0 c.requires.1.plan c.requires.1.run))
+
+pub pair-requires : goal.pair-requires
+pair-requires c =
+    let past = c.requires.0 in
+    let next = c.requires.1 in
+    let short = run-short c.args.plan.now past next.plan next.run in
+    let few = rows-few [] past in
+    (c.args.plan.now.requests, reverse (departures_in [] (reverse past)), (next.seen.flows [], omega (arith, few, short)))
 
 pub keep_row-requires : goal.keep_row-requires
 keep_row-requires c =
@@ -45,8 +55,9 @@ returns-clause-seen c = λ past next.
     record {
       links = subst (λ n. AreLinkTallies n (done ∷ past) c.count_link-clock.new.links.items) seen.links.all (c.count_link-clock.ensures.counted past links);
       channels = c.in_ok-keep_source.ensures past seen.channels (c.count_link-clock.ensures.clock past links);
+      flows = flows-go_on parts.requests past done c.args.self.now.flows.items c.pair.new.flows.items (λ rows whole are. c.in_ok-pair.ensures parts.requests rows whole are) seen.flows;
       hops = subst (λ entries. AreHops entries c.note.new.self.channels.items) turned noted;
-      rows = subst (λ entries. AreKept (is_kept parts.requests c.args.self.now.packets) entries c.keep_row.new.rows.items) turned (c.in_ok-keep_row.ensures (reverse past) done refl refl noted seen.rows);
+      rows = subst (λ entries. AreKeptIf c.args.self.now.packets entries c.keep_row.new.rows.items) turned (c.in_ok-keep_row.ensures (reverse past) done refl refl noted seen.rows);
       made = c.count_step.ensures past done seen.made refl;
       steps = omega (arith, seen.steps);
     }

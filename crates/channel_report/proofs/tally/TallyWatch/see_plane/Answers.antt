@@ -11,9 +11,10 @@ use Rattle.run_engine.specs.schedules.Watching.{IsNextSeen}
 use Rattle.run_engine.proofs.Runs.RunLength.{run-short}
 use Rattle.run_record.proofs.OfferPlaces.{hops-kept}
 use Rattle.run_record.specs.Hops.{AreHops}
+use Rattle.run_record.specs.Rows.{departures_in}
 use Rattle.run_record.specs.Runs.{part_of}
 use Rattle.run_record.specs.declared.done.Done.{Done}
-use Rattle.channel_report.specs.Ends.{AreKept, is_kept}
+use Rattle.channel_report.specs.KeptRows.{AreKeptIf}
 use Rattle.channel_report.specs.Sources.{chan_of}
 use Rattle.channel_report.specs.declared.source_act.Act.{Act}
 use Rattle.channel_report.specs.declared.source_act.Act.TheVariants.{Nothing}
@@ -23,6 +24,7 @@ use Rattle.channel_report.specs.declared.tally.Tally.{Tally}
 use Rattle.channel_report.proofs.ChannelTallies.{sources-same}
 use Rattle.channel_report.proofs.CountsPerLink.{tally-same}
 use Rattle.channel_report.proofs.EarlyTicks.{next-early}
+use Rattle.channel_report.proofs.FlowsKept.{flows-go_on, flows-stay, rows-few}
 use Rattle.channel_report.proofs.LinkTallies.{link-within, part-short, tallies-more, tallies-same}
 use Rattle.channel_report.proofs.RowsStayKept.{row-none}
 use Rattle.channel_report.proofs.tally.TallyWatch.see_plane.Goals as goal
@@ -31,6 +33,14 @@ pub index_mut-requires : goal.index_mut-requires
 index_mut-requires c =
     let next = c.requires.1 in
     omega (arith, c.from.ensures, c.get.ensures.value, link-within c.args.plan.now c.requires.0 (plane_step (network_of c.args.plan.now) c.args.link c.args.ask.now c.args.reply.now) next.next, next.seen.links.all, c.args.self.now.links.ok.0)
+
+pub pair-requires : goal.pair-requires
+pair-requires c =
+    let past = c.requires.0 in
+    let next = c.requires.1 in
+    let short = run-short c.args.plan.now past next.plan next.run in
+    let few = rows-few [] past in
+    (c.args.plan.now.requests, reverse (departures_in [] (reverse past)), (next.seen.flows [], omega (arith, few, short)))
 
 pub keep_row-requires : goal.keep_row-requires
 keep_row-requires c =
@@ -75,8 +85,9 @@ returns-then-tells_nothing-clause-seen c = λ past next.
     record {
       links = tallies-same (length parts.links) past done old.links.items seen.links (λ h tally is. tally-same h c.args.ask.now c.args.reply.now tally nothing is);
       channels = sources-same parts.requests past done old.channels.items seen.channels (λ n entry chan found on of own. for-none _ chan nothing.source of);
+      flows = flows-stay parts.requests past done old.flows.items (λ run. nothing.rows run c.args.link) seen.flows;
       hops = subst (λ entries. AreHops entries old.hops.channels.items) turned (hops-kept (reverse past) done old.hops.channels.items nothing.offer seen.hops);
-      rows = subst (λ entries. AreKept (is_kept parts.requests old.packets) entries old.rows.items) turned (row-none (is_kept parts.requests old.packets) (reverse past) done old.rows.items (λ run. nothing.rows run c.args.link) seen.rows);
+      rows = subst (λ entries. AreKeptIf old.packets entries old.rows.items) turned (row-none old.packets (reverse past) done old.rows.items (λ run. nothing.rows run c.args.link) seen.rows);
       made = c.count_step.ensures past done seen.made (ap actor_number (sym c.plane_of-actor.ensures));
       steps = omega (arith, seen.steps);
     }
@@ -100,8 +111,9 @@ returns-then-is_for_no_source-clause-seen c = λ past next.
     record {
       links = tallies-more (length parts.links) past done old.links.items place c.add.new.self seen.links (sym number) inside added;
       channels = sources-same parts.requests past done old.channels.items seen.channels (λ n entry chan found on of own. for-none _ chan (c.is_for_no_source.ensures.sources alone c.args.reply.now) of);
+      flows = flows-go_on parts.requests past done old.flows.items c.pair.new.flows.items (λ rows whole are. c.in_ok-pair.ensures parts.requests rows whole are) seen.flows;
       hops = subst (λ entries. AreHops entries old.hops.channels.items) turned noted;
-      rows = subst (λ entries. AreKept (is_kept parts.requests old.packets) entries c.keep_row.new.rows.items) turned (c.in_ok-keep_row.ensures (reverse past) done refl refl noted seen.rows);
+      rows = subst (λ entries. AreKeptIf old.packets entries c.keep_row.new.rows.items) turned (c.in_ok-keep_row.ensures (reverse past) done refl refl noted seen.rows);
       made = c.count_step-then-is_for_no_source.ensures past done seen.made (ap actor_number (sym c.plane_of-actor.ensures));
       steps = omega (arith, seen.steps);
     }

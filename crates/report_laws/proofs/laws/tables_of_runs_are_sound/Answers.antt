@@ -1,5 +1,0 @@
-use Rattle.report_laws.proofs.RunIsSound.{run-is_sound}
-use Rattle.report_laws.proofs.laws.tables_of_runs_are_sound.Goals as goal
-
-pub returns : goal.returns
-returns c = run-is_sound
