@@ -1,6 +1,6 @@
 //! Bars of requests and links. Their places are shares of the width, so they fill whatever room they are given.
 use crate::facts::{LevelFacts, NetworkFacts, Outcome, PacketFacts, RequestFacts};
-use crate::words::per_mille;
+use crate::words::{Fullness, fullness_of, per_mille};
 use answer_grids::time_text;
 use field_units::Time;
 use std::alloc::{AllocError, Global};
@@ -160,22 +160,13 @@ fn bar(
 
 /// Draws the load of a level, of which its bound is the whole.
 pub fn draw_load(markup: &mut Markup, level: &LevelFacts) -> Result<(), AllocError> {
-    let part = per_mille(level).min(1000);
     bar(markup, "rest", 0, 1000, "4", "8")?;
-    bar(
-        markup,
-        if part >= 900 {
-            "work full"
-        } else if part >= 600 {
-            "work busy"
-        } else {
-            "work"
-        },
-        0,
-        part,
-        "4",
-        "8",
-    )
+    let class = match fullness_of(level) {
+        Fullness::Full => "work full",
+        Fullness::Busy => "work busy",
+        Fullness::Free => "work",
+    };
+    bar(markup, class, 0, per_mille(level).min(1000), "4", "8")
 }
 
 // Into how many parts the axis is divided for the delays of packets.

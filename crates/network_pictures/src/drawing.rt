@@ -1,12 +1,13 @@
 //! The network as a drawing: its nodes in layers, and its links as arrows that are as wide as they are full.
 use crate::facts::{LinkFacts, NetworkFacts};
+use crate::labels::label_middles;
 use crate::layers::layer_at;
-use crate::layout::{Direction, Layout, layout_of};
+use crate::layout::{Direction, Layout, layout_of, width_of};
 use crate::words::{fullest, load_word};
 use std::alloc::{AllocError, Global};
 use svg_charts::{
-    Anchor, Extent, Markup, Point, Shift, arrow, between, edge_point, frame, label, on_curve,
-    scaled, shift_between, shifted,
+    Anchor, Extent, Markup, Point, Shift, arrow, between, edge_point, frame, label, scaled,
+    shift_between, shifted,
 };
 
 /// Draws the network. The picture has a size of its own in pixels; it is answered, width first.
@@ -18,13 +19,14 @@ pub fn draw_network(
     let layout = layout_of(alloc, facts, direction)?;
     let mut markup = Markup::new(alloc);
     for place in 0..facts.links.len() {
-        draw_link(&mut markup, facts.links.as_slice(), place, &layout)?;
+        draw_link(alloc, &mut markup, facts.links.as_slice(), place, &layout)?;
     }
     for node in 0..facts.nodes.len() {
         draw_node(&mut markup, facts.nodes[node].as_str(), node, &layout)?;
     }
-    for place in 0..facts.links.len() {
-        name_link(alloc, &mut markup, facts.links.as_slice(), place, &layout)?;
+    let middles = label_middles(alloc, facts.links.as_slice(), &layout)?;
+    for (link, middle) in facts.links.iter().zip(&middles) {
+        name_link(alloc, &mut markup, link, *middle, &layout)?;
     }
     Ok((markup, layout.size))
 }
@@ -50,14 +52,16 @@ fn draw_node(
     label(markup, "name", base, Anchor::Middle, name)
 }
 
-fn middle_at(layout: &Layout, node: usize) -> Point {
+/// The middle of a node's box.
+pub(crate) fn middle_at(layout: &Layout, node: usize) -> Point {
     match layout.middles.get(node) {
         Some(middle) => *middle,
         None => Point { x: 0, y: 0 },
     }
 }
 
-fn box_at(layout: &Layout, node: usize) -> Extent {
+/// How large it is.
+pub(crate) fn box_at(layout: &Layout, node: usize) -> Extent {
     match layout.boxes.get(node) {
         Some(extent) => *extent,
         None => Extent {
@@ -67,8 +71,9 @@ fn box_at(layout: &Layout, node: usize) -> Extent {
     }
 }
 
-// Draws a link.
+// Draws a link. Its numbers are shown where a mouse rests on it.
 fn draw_link(
+    alloc: Global,
     markup: &mut Markup,
     links: &[LinkFacts],
     place: usize,
@@ -80,19 +85,35 @@ fn draw_link(
     let bend = bend_of(links, place, layout);
     let from = end_of(layout, link.from, bend);
     let to = end_of(layout, link.to, bend);
-    let width = fullest(link).1.min(1000) / 16;
-    arrow(
-        markup,
-        class_of(link),
-        from,
-        bend,
-        to,
-        width.saturating_add(16),
-    )
+    let text = numbers_text(alloc, link, fullest(&link.fill).0)?;
+    markup.put("<g><title>")?;
+    markup.text(text.as_str())?;
+    markup.put("</title>")?;
+    arrow(markup, class_of(link), from, bend, to, width_of_line(link))?;
+    markup.put("</g>")
 }
 
-// Where a link that comes from this point touches the box of a node: at the box's side where nodes stand close above one another.
-fn end_of(layout: &Layout, node: usize, bend: Point) -> Point {
+/// How wide a link's line is, in tenths of a pixel.
+pub(crate) fn width_of_line(link: &LinkFacts) -> u64 {
+    (fullest(&link.fill).1.min(1000) / 16).saturating_add(16)
+}
+
+// The numbers of a link: its name, and the load of the level at a place.
+fn numbers_text(alloc: Global, link: &LinkFacts, place: usize) -> Result<String, AllocError> {
+    let name = link.name.as_str();
+    match link.fill.levels.get(place) {
+        Some(level) => {
+            let (work, bound) = (level.work, level.bound);
+            let number = place.saturating_add(1);
+            format!(in alloc; "{name}: {work} of {bound} ticks at level {number}")
+        }
+        None => String::from_str(alloc, name),
+    }
+}
+
+/// Where a link that comes from this point touches the box of a node: at the box's side where nodes stand close above one another, spread over it
+/// by where the links come from.
+pub(crate) fn end_of(layout: &Layout, node: usize, bend: Point) -> Point {
     let middle = middle_at(layout, node);
     let extent = box_at(layout, node);
     if !layout.is_crowded || layout.direction == Direction::Down {
@@ -105,7 +126,23 @@ fn end_of(layout: &Layout, node: usize, bend: Point) -> Point {
         } else {
             middle.x.saturating_sub(half)
         },
-        y: middle.y,
+        y: spread(middle.y, extent.height, bend.y, layout.size.height),
+    }
+}
+
+// How far up or down on the side of a box of this height a link ends that comes from there, in a picture of this height.
+fn spread(middle: u32, height: u32, from: u32, whole: u32) -> u32 {
+    let room = u64::from((height / 2).saturating_sub(100));
+    let far = u64::from(from.abs_diff(middle)).saturating_mul(4);
+    let part = far
+        .saturating_mul(room)
+        .checked_div(u64::from(whole))
+        .unwrap_or(0);
+    let part = u32::try_from(part.min(room)).unwrap_or(0);
+    if from >= middle {
+        middle.saturating_add(part)
+    } else {
+        middle.saturating_sub(part)
     }
 }
 
@@ -119,8 +156,8 @@ fn class_of(link: &LinkFacts) -> &'static str {
     }
 }
 
-// Toward which point a link is bent.
-fn bend_of(links: &[LinkFacts], place: usize, layout: &Layout) -> Point {
+/// Toward which point a link is bent.
+pub(crate) fn bend_of(links: &[LinkFacts], place: usize, layout: &Layout) -> Point {
     let Some(link) = links.get(place) else {
         return Point { x: 0, y: 0 };
     };
@@ -184,38 +221,45 @@ fn beside(links: &[LinkFacts], place: usize) -> (usize, usize) {
     (before, others)
 }
 
-// Writes the name of a link beside it, and how full it is.
+// Writes the name of a link beside it, and how full it is, with the middle of both at a point.
 fn name_link(
     alloc: Global,
     markup: &mut Markup,
-    links: &[LinkFacts],
-    place: usize,
+    link: &LinkFacts,
+    middle: Point,
     layout: &Layout,
 ) -> Result<(), AllocError> {
-    let Some(link) = links.get(place) else {
-        return Ok(());
-    };
-    let middle = label_middle(links, place, layout);
     let load = load_text(alloc, link)?;
     if layout.is_crowded && layout.direction == Direction::Right {
         let name = link.name.as_str();
         let load = load.as_str();
         let text = format!(in alloc; "{name} {load}")?;
+        put_under(markup, middle, width_of(text.as_str(), 64))?;
         let base = lowered(middle, 40);
         return label(markup, "load", base, Anchor::Middle, text.as_str());
     }
     let top = Point {
         x: middle.x,
-        y: middle.y.saturating_sub(50),
+        y: middle.y.saturating_sub(45),
     };
     label(markup, "linkname", top, Anchor::Middle, link.name.as_str())?;
     label(
         markup,
         "load",
-        lowered(middle, 145),
+        lowered(middle, 105),
         Anchor::Middle,
         load.as_str(),
     )
+}
+
+// Covers a link under a label of one line, which is so wide.
+fn put_under(markup: &mut Markup, middle: Point, width: u32) -> Result<(), AllocError> {
+    let corner = Point {
+        x: middle.x.saturating_sub(width / 2),
+        y: middle.y.saturating_sub(75),
+    };
+    let extent = Extent { width, height: 150 };
+    frame(markup, "under", corner, extent, 30)
 }
 
 // A point so far below another.
@@ -226,53 +270,9 @@ fn lowered(point: Point, by: u32) -> Point {
     }
 }
 
-// The middle of a link's label: on the link, nearer to the end where fewer links come together, and outside of a bend.
-fn label_middle(links: &[LinkFacts], place: usize, layout: &Layout) -> Point {
-    let Some(link) = links.get(place) else {
-        return Point { x: 0, y: 0 };
-    };
-    let (from, to) = (middle_at(layout, link.from), middle_at(layout, link.to));
-    let bend = bend_of(links, place, layout);
-    let eighths = label_place(links, link, layout);
-    let outward = shift_between(between(from, to), bend);
-    let far: i64 = match layout.direction {
-        Direction::Right if !layout.is_crowded => 230,
-        _ => 0,
-    };
-    shifted(on_curve(from, bend, to, eighths), scaled(outward, far))
-}
-
-// At which eighth of a link its label stands.
-fn label_place(links: &[LinkFacts], link: &LinkFacts, layout: &Layout) -> u32 {
-    let layers = layout.layers.as_slice();
-    let at_from = ends_at(links, layers, link.from, layer_at(layers, link.to));
-    let at_to = ends_at(links, layers, link.to, layer_at(layers, link.from));
-    let step: u32 = if layout.is_crowded { 2 } else { 1 };
-    if at_to >= at_from.saturating_add(2) {
-        4 - step
-    } else if at_from >= at_to.saturating_add(2) {
-        4 + step
-    } else {
-        4
-    }
-}
-
-// How many links there are between a node and those of a layer.
-fn ends_at(links: &[LinkFacts], layers: &[usize], node: usize, layer: usize) -> usize {
-    let mut count: usize = 0;
-    for link in links {
-        let is_from = link.from == node && layer_at(layers, link.to) == layer;
-        let is_to = link.to == node && layer_at(layers, link.from) == layer;
-        if is_from || is_to {
-            count = count.saturating_add(1);
-        }
-    }
-    count
-}
-
 // How full a link is, as a number and a word.
 fn load_text(alloc: Global, link: &LinkFacts) -> Result<String, AllocError> {
-    let percent = fullest(link).1.div_ceil(10);
+    let percent = fullest(&link.fill).1.div_ceil(10);
     let word = load_word(link);
     if word == "free" {
         format!(in alloc; "{percent}%")

@@ -42,28 +42,50 @@ pub struct LinkFacts {
     pub cap: u64,
     /// Its propagation, in ticks.
     pub prop: u64,
-    /// Its buffer, in units.
-    pub buffer: u64,
-    /// What the accepted requests leave of it, in units.
-    pub free: u64,
-    /// The part of it that the accepted requests take in the long run, in millionths.
-    pub long_run: u64,
-    pub levels: Vec<LevelFacts>,
-    /// The places of the requests that cross it, whatever they came to.
-    pub users: Vec<usize>,
+    /// How full it is.
+    pub fill: FillFacts,
+    /// The shares of it that groups have, where it is split.
+    pub shares: Vec<ShareFacts>,
     /// How many requests it refuses.
     pub refuses: u64,
     /// What the file says of it, in the file's own units, where it has such.
     pub written: Option<String>,
 }
 
-/// A level of a link.
+/// The share that a group has of a link.
+#[derive(Drop)]
+pub struct ShareFacts {
+    /// The name of the group.
+    pub group: String,
+    /// How full it is, with the group's requests alone.
+    pub fill: FillFacts,
+}
+
+/// How full a link is, or a group's share of it.
+#[derive(Drop)]
+pub struct FillFacts {
+    /// Its buffer, in units.
+    pub buffer: u64,
+    /// What the accepted requests leave of it, in units.
+    pub free: u64,
+    /// The part of the link that the accepted requests take in the long run, in millionths.
+    pub long_run: u64,
+    pub levels: Vec<LevelFacts>,
+    /// The places of the requests that cross it, whatever they came to.
+    pub users: Vec<usize>,
+    /// How many of them are accepted.
+    pub accepted: u64,
+}
+
+/// A level of a link, or of a group's share.
 #[derive(Clone, Copy, Debug, PartialEq, Eq)]
 pub struct LevelFacts {
-    /// The work of the accepted requests at the levels up to this one, and the largest packet, in ticks.
+    /// The work of the accepted requests at the levels up to this one, in ticks; on a link with the largest packet.
     pub work: u64,
-    /// Its bound, in ticks.
+    /// What it may be, in ticks: the bound of the level, or the quota of the group.
     pub bound: u64,
+    /// For how many more like the smallest request that crosses it there is room, as far as the schedule goes: None where none does.
+    pub room: Option<u64>,
 }
 
 /// A request.

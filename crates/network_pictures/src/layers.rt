@@ -3,7 +3,7 @@ use crate::facts::LinkFacts;
 use std::alloc::{AllocError, Global};
 
 /// The layer of each node, from 0 on: along the links where they make no circle, or else by the fewest links from one end of the network.
-pub(crate) fn layers_of(
+pub fn layers_of(
     alloc: Global,
     nodes: usize,
     links: &[LinkFacts],

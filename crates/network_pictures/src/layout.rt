@@ -24,6 +24,8 @@ pub(crate) struct Layout {
     pub(crate) layers: Vec<usize>,
     /// Whether a layer has so many nodes that labels have to be short.
     pub(crate) is_crowded: bool,
+    /// Whether each layer has one node.
+    pub(crate) is_column: bool,
     pub(crate) size: Extent,
 }
 
@@ -39,6 +41,9 @@ const BOX_HEIGHT: u32 = 300;
 
 const MARGIN: u32 = 240;
 
+// How high a box is for each end of a link, where they are spread.
+const END_HEIGHT: u32 = 70;
+
 // How many nodes a layer may have before they move together.
 const MANY: usize = 6;
 
@@ -50,8 +55,9 @@ pub(crate) fn layout_of(
 ) -> Result<Layout, AllocError> {
     let layers = layers_of(alloc, facts.nodes.len(), facts.links.as_slice())?;
     let rows = rows_of(alloc, layers.as_slice(), facts.links.as_slice())?;
-    let boxes = boxes_of(alloc, facts.nodes.as_slice())?;
     let widest = widest_of(rows.as_slice());
+    let is_spread = widest > MANY && direction == Direction::Right;
+    let boxes = boxes_of(alloc, facts, is_spread)?;
     let pitch = pitch_of(facts, boxes.as_slice(), direction, widest);
     let mut middles = vec![in alloc; Point { x: 0, y: 0 }; facts.nodes.len()]?;
     for layer in 0..rows.len() {
@@ -77,6 +83,7 @@ pub(crate) fn layout_of(
         boxes,
         layers,
         is_crowded: widest > MANY,
+        is_column: widest == 1,
         size: Extent {
             width: size.x,
             height: size.y,
@@ -99,22 +106,57 @@ fn span_of(count: usize, pitch: u32) -> u32 {
     steps.saturating_mul(pitch).saturating_add(MARGIN)
 }
 
-// The boxes of the nodes, as wide as their names.
-fn boxes_of(alloc: Global, nodes: &[String]) -> Result<Vec<Extent>, AllocError> {
+// The boxes of the nodes, as wide as their names, and higher where the ends of many links are spread over their sides.
+fn boxes_of(
+    alloc: Global,
+    facts: &NetworkFacts,
+    is_spread: bool,
+) -> Result<Vec<Extent>, AllocError> {
     let mut boxes = Vec::new(alloc);
-    for name in nodes {
+    for node in 0..facts.nodes.len() {
+        let height = if is_spread {
+            ends_at(facts.links.as_slice(), node).saturating_mul(END_HEIGHT)
+        } else {
+            BOX_HEIGHT
+        };
         boxes.push(Extent {
-            width: width_of(name.as_str(), 82).saturating_add(220),
-            height: BOX_HEIGHT,
+            width: width_of(facts.nodes[node].as_str(), 82).saturating_add(220),
+            height: height.max(BOX_HEIGHT),
         })?;
     }
     Ok(boxes)
 }
 
-/// About how wide a text is, in tenths of a pixel, with so many to a character.
+// How many links begin or end at a node.
+fn ends_at(links: &[LinkFacts], node: usize) -> u32 {
+    let mut count: u32 = 0;
+    for link in links {
+        if link.from == node || link.to == node {
+            count = count.saturating_add(1);
+        }
+    }
+    count
+}
+
+/// About how wide a text is, in tenths of a pixel, with so many to a character: to a capital a fifth more, and to the widest letters three fifths.
 pub(crate) fn width_of(text: &str, character: u32) -> u32 {
-    let count = u32::try_from(text.len()).unwrap_or(u32::MAX);
-    count.saturating_mul(character)
+    let mut tenths: u32 = 0;
+    for byte in text.as_bytes() {
+        let part = if is_wide(*byte) {
+            16
+        } else if byte.is_ascii_uppercase() {
+            12
+        } else {
+            10
+        };
+        tenths = tenths.saturating_add(part);
+    }
+    tenths.saturating_mul(character) / 10
+}
+
+// Whether it is one of the widest letters.
+fn is_wide(byte: u8) -> bool {
+    byte == b'W' || byte == b'M' || byte == b'w' || byte == b'm'
 }
 
 // The pitch by the widest node and the widest label of a link, where the largest layer has so many nodes.
@@ -131,10 +173,19 @@ fn pitch_of(facts: &NetworkFacts, boxes: &[Extent], direction: Direction, widest
         Direction::Right => right_pitch(node, label, has_pairs(facts), widest),
         Direction::Down => Pitch {
             along: 1080,
-            across: node
-                .max(label)
-                .saturating_add(if has_pairs(facts) { 1100 } else { 420 }),
+            across: down_pitch(node, label, has_pairs(facts), widest),
         },
+    }
+}
+
+// How far nodes of a layer are apart in a picture that goes down. A single column has room for labels on both sides.
+fn down_pitch(node: u32, label: u32, has_pairs: bool, widest: usize) -> u32 {
+    let between = if has_pairs { 1100 } else { 420 };
+    let beside = node.max(label).saturating_add(between);
+    if widest == 1 {
+        beside.max(label.saturating_mul(2).saturating_add(between))
+    } else {
+        beside
     }
 }
 
@@ -154,8 +205,8 @@ fn right_pitch(node: u32, label: u32, has_pairs: bool, widest: usize) -> Pitch {
     }
 }
 
-// About how wide the label of a link is: its name, and how full it is in a number and a word.
-fn label_width(link: &LinkFacts) -> u32 {
+/// About how wide the label of a link is: its name, and how full it is in a number and a word.
+pub(crate) fn label_width(link: &LinkFacts) -> u32 {
     let word = load_word(link);
     let load = match word {
         "free" => 4 * 68,

@@ -4,6 +4,7 @@
 mod bars;
 mod drawing;
 mod facts;
+mod labels;
 mod layers;
 mod layout;
 mod order;
@@ -15,12 +16,11 @@ pub use bars::{
 };
 pub use drawing::draw_network;
 pub use facts::{
-    Denial, Help, HopFacts, LevelFacts, LinkFacts, NetworkFacts, Outcome, PacketFacts,
-    RequestFacts, Terms,
+    Denial, FillFacts, Help, HopFacts, LevelFacts, LinkFacts, NetworkFacts, Outcome, PacketFacts,
+    RequestFacts, ShareFacts, Terms,
 };
+pub use layers::layers_of;
 pub use layout::Direction;
+pub use order::rows_of;
 pub use whole::{delays_picture, links_picture, network_picture};
-pub use words::{fullest, load_word, per_mille};
-
-#[cfg(test)]
-mod tests;
+pub use words::{Fullness, fill_word, fullest, fullness_of, load_word, per_mille};

@@ -7,7 +7,7 @@ use std::alloc::{AllocError, Global};
 const SWEEPS: u8 = 4;
 
 /// The nodes of each layer in an order in which few links cross: each node near the middle of its neighbours.
-pub(crate) fn rows_of(
+pub fn rows_of(
     alloc: Global,
     layers: &[usize],
     links: &[LinkFacts],

@@ -31,7 +31,7 @@ fn begun(alloc: Global, size: Extent) -> Result<Markup, AllocError> {
     markup.place("height", u64::from(size.height))?;
     markup.put(" font-family=\"system-ui, sans-serif\" font-size=\"13\"><style>")?;
     markup.put(
-        "rect.paper{fill:#fff}text{fill:#1b1f24}.quiet{fill:#5b6470}.node{fill:#eef1f5;stroke:#5b6470}.name{font-weight:600}",
+        "rect.paper,.under{fill:#fff}text{fill:#1b1f24}.quiet{fill:#5b6470}.node{fill:#eef1f5;stroke:#5b6470}.name{font-weight:600}",
     )?;
     markup.put(
         ".link{stroke:#8a94a3}.link.head{fill:#8a94a3;stroke:none}.busy{stroke:#b7791f}.busy.head{fill:#b7791f}.full,.refuses{stroke:#c0392b}.full.head,.refuses.head{fill:#c0392b}",
@@ -99,7 +99,7 @@ fn row_top(place: usize) -> u32 {
     rows.saturating_mul(ROW).saturating_add(TOP)
 }
 
-// Draws the lines of an axis with their texts, and what the bars are.
+// Draws the lines of an axis with their texts, and what the numbers behind the bars are.
 fn draw_steps(
     alloc: Global,
     markup: &mut Markup,
@@ -120,7 +120,17 @@ fn draw_steps(
         };
         rule(markup, "grid", Point { x, y: 520 }, foot)?;
     }
-    Ok(())
+    let behind = Point {
+        x: field.left.saturating_add(BARS).saturating_add(160),
+        y: 480,
+    };
+    label(
+        markup,
+        "quiet",
+        behind,
+        Anchor::Start,
+        "promised, of the wanted (mark)",
+    )
 }
 
 // Where a share of the bars' width stands, in tenths of a percent.
@@ -202,7 +212,10 @@ fn outcome_text(alloc: Global, request: &RequestFacts) -> Result<String, AllocEr
     let wanted = request.terms.delay;
     match request.outcome {
         Outcome::Accepted(promised) => format!(in alloc; "{promised} of {wanted} ticks"),
-        Outcome::Denied { .. } => format!(in alloc; "denied, wants {wanted} ticks"),
+        Outcome::Denied { .. } => match request.offered {
+            Some(sum) => format!(in alloc; "denied, offered {sum} of {wanted} ticks"),
+            None => format!(in alloc; "denied, wants {wanted} ticks"),
+        },
         Outcome::Pending => format!(in alloc; "pending, wants {wanted} ticks"),
     }
 }
@@ -250,7 +263,7 @@ fn draw_fullest(
         y: base,
     };
     label(markup, "name", name, Anchor::End, link.name.as_str())?;
-    let (place, part) = fullest(link);
+    let (place, part) = fullest(&link.fill);
     let end = field.left.saturating_add(BARS);
     strip(markup, "rest", field.left, end, top.saturating_add(60), 140)?;
     let full = at_share(field, part);
@@ -273,7 +286,7 @@ fn draw_fullest(
 // The load of the fullest level, in a few words.
 fn load_text(alloc: Global, link: &LinkFacts, place: usize) -> Result<String, AllocError> {
     let word = load_word(link);
-    match link.levels.get(place) {
+    match link.fill.levels.get(place) {
         Some(level) => {
             let (work, bound) = (level.work, level.bound);
             let number = place.saturating_add(1);

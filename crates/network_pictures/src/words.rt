@@ -1,17 +1,58 @@
 //! How full a link is, in a word.
-use crate::facts::{LevelFacts, LinkFacts};
+use crate::facts::{FillFacts, LevelFacts, LinkFacts};
 
-/// The fullest level of a link by its place, and its work in thousandths of its bound.
-pub fn fullest(link: &LinkFacts) -> (usize, u64) {
+/// How full a level is.
+#[derive(Clone, Copy, Debug, PartialEq, Eq)]
+pub enum Fullness {
+    /// Less than 60 percent.
+    Free,
+    /// From 60 percent on.
+    Busy,
+    /// From 90 percent on, or with work beside which there is no room for one more.
+    Full,
+}
+
+impl Fullness {
+    /// The word for it.
+    pub fn word(self) -> &'static str {
+        match self {
+            Fullness::Free => "free",
+            Fullness::Busy => "busy",
+            Fullness::Full => "full",
+        }
+    }
+}
+
+/// How full a level is.
+pub fn fullness_of(level: &LevelFacts) -> Fullness {
+    let part = per_mille(level);
+    if part >= 900 || (level.work > 0 && level.room == Some(0)) {
+        Fullness::Full
+    } else if part >= 600 {
+        Fullness::Busy
+    } else {
+        Fullness::Free
+    }
+}
+
+/// The fullest level by its place, and its work in thousandths of its bound. One without room is fuller than one that has some.
+pub fn fullest(fill: &FillFacts) -> (usize, u64) {
     let mut best = (0, 0);
-    let levels = link.levels.as_slice();
+    let mut most = (false, 0);
+    let levels = fill.levels.as_slice();
     for place in 0..levels.len() {
-        let part = per_mille(&levels[place]);
-        if part > best.1 {
-            best = (place, part);
+        let rank = rank_of(&levels[place]);
+        if rank > most {
+            most = rank;
+            best = (place, rank.1);
         }
     }
     best
+}
+
+// By what levels are compared: whether they are full, and the work in thousandths of the bound.
+fn rank_of(level: &LevelFacts) -> (bool, u64) {
+    (fullness_of(level) == Fullness::Full, per_mille(level))
 }
 
 /// The work of a level in thousandths of its bound, rounded up.
@@ -20,16 +61,19 @@ pub fn per_mille(level: &LevelFacts) -> u64 {
     work.div_ceil(level.bound.max(1))
 }
 
-/// How full a link is, in a word.
+/// How full a link is, or a group's share of it, in a word: that of its fullest level.
+pub fn fill_word(fill: &FillFacts) -> &'static str {
+    match fill.levels.get(fullest(fill).0) {
+        Some(level) => fullness_of(level).word(),
+        None => Fullness::Free.word(),
+    }
+}
+
+/// The same of a link, which may refuse requests.
 pub fn load_word(link: &LinkFacts) -> &'static str {
-    let part = fullest(link).1;
     if link.refuses > 0 {
         "refuses"
-    } else if part >= 900 {
-        "full"
-    } else if part >= 600 {
-        "busy"
     } else {
-        "free"
+        fill_word(&link.fill)
     }
 }

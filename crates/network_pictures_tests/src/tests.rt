@@ -1,19 +1,20 @@
 //! Layers, orders and loads, worked out by hand.
-use crate::facts::{LevelFacts, LinkFacts};
-use crate::layers::layers_of;
-use crate::order::rows_of;
-use crate::words::{fullest, load_word, per_mille};
+use network_pictures::{
+    FillFacts, LevelFacts, LinkFacts, fullest, layers_of, load_word, per_mille, rows_of,
+};
 use std::alloc::{AllocError, Global};
 use std::test::Fail;
+
+// A level with this work, bound and room.
+fn level(work: u64, bound: u64, room: Option<u64>) -> LevelFacts {
+    LevelFacts { work, bound, room }
+}
 
 // A link between two nodes, with this work at a level of 50 ticks, and 10 at one of 200.
 fn link(alloc: Global, from: usize, to: usize, work: u64) -> Result<LinkFacts, AllocError> {
     let mut levels = Vec::new(alloc);
-    levels.push(LevelFacts { work, bound: 50 })?;
-    levels.push(LevelFacts {
-        work: 10,
-        bound: 200,
-    })?;
+    levels.push(level(work, 50, None))?;
+    levels.push(level(10, 200, None))?;
     Ok(LinkFacts {
         name: String::from_str(alloc, "L")?,
         from,
@@ -21,11 +22,15 @@ fn link(alloc: Global, from: usize, to: usize, work: u64) -> Result<LinkFacts, A
         rate: 1,
         cap: 1,
         prop: 0,
-        buffer: 10,
-        free: 10,
-        long_run: 0,
-        levels,
-        users: Vec::new(alloc),
+        fill: FillFacts {
+            buffer: 10,
+            free: 10,
+            long_run: 0,
+            levels,
+            users: Vec::new(alloc),
+            accepted: 0,
+        },
+        shares: Vec::new(alloc),
         refuses: 0,
         written: None,
     })
@@ -65,12 +70,23 @@ fn a_line_of_pairs_has_its_ends_apart(rt: HostRuntime) -> Result<(), Fail> {
 fn the_fullest_level_is_told(rt: HostRuntime) -> Result<(), Fail> {
     let alloc = rt.alloc();
     let calm = link(alloc, 0, 1, 24)?;
-    assert_eq!(rt; fullest(&calm), (0, 480));
+    assert_eq!(rt; fullest(&calm.fill), (0, 480));
     assert!(rt; load_word(&calm) == "free");
     let busy = link(alloc, 0, 1, 30)?;
     assert!(rt; load_word(&busy) == "busy");
     let full = link(alloc, 0, 1, 45)?;
     assert!(rt; load_word(&full) == "full");
-    assert_eq!(rt; per_mille(&LevelFacts { work: 1, bound: 3 }), 334);
+    assert_eq!(rt; per_mille(&level(1, 3, None)), 334);
+    Ok(())
+}
+
+// The second level has less work beside its bound than the first, but no room for one more.
+#[test]
+fn a_level_without_room_is_full(rt: HostRuntime) -> Result<(), Fail> {
+    let alloc = rt.alloc();
+    let mut tight = link(alloc, 0, 1, 24)?;
+    tight.fill.levels.push(level(40, 200, Some(0)))?;
+    assert_eq!(rt; fullest(&tight.fill), (2, 200));
+    assert!(rt; load_word(&tight) == "full");
     Ok(())
 }
