@@ -7,27 +7,57 @@ use network_pictures::{LinkFacts, NetworkFacts, fullest, load_word};
 use std::alloc::AllocError;
 use svg_charts::Markup;
 
-/// Adds the sentence at the head of a page, and the tiles below it.
+/// Adds the tiles at the head of a page.
 pub(crate) fn put_summary(markup: &mut Markup, facts: &NetworkFacts) -> Result<(), AllocError> {
+    markup.put("<div class=\"tiles\">")?;
+    put_accepted(markup, facts)?;
+    put_tightest(markup, facts)?;
+    put_fullest(markup, facts)?;
+    put_size(markup, facts)?;
+    markup.put("\n</div>")
+}
+
+// Begins a tile: what it is about, and its class.
+fn begin_tile(
+    markup: &mut Markup,
+    tile: &'static str,
+    class: &'static str,
+    title: &'static str,
+) -> Result<(), AllocError> {
+    markup.put("\n<div data-tile=\"")?;
+    markup.put(tile)?;
+    markup.put("\" class=\"tile ")?;
+    markup.put(class)?;
+    markup.put("\"><p>")?;
+    markup.put(title)?;
+    markup.put("</p><p class=\"large\">")
+}
+
+// Adds a number with the name of its column.
+fn put_number(markup: &mut Markup, column: &'static str, number: u64) -> Result<(), AllocError> {
+    markup.put("<span data-column=\"")?;
+    markup.put(column)?;
+    markup.put("\">")?;
+    markup.number(number)?;
+    markup.put("</span>")
+}
+
+// Adds the tile of how many requests are accepted.
+fn put_accepted(markup: &mut Markup, facts: &NetworkFacts) -> Result<(), AllocError> {
     let accepted = accepted_in(facts);
     let all = facts.requests.len() as u64;
-    markup.put("<dl class=\"tiles\"><div class=\"")?;
-    markup.put(if accepted == all { "good" } else { "bad" })?;
-    markup.put("\"><dt>accepted</dt><dd>")?;
-    markup.number(accepted)?;
+    let class = if accepted == all { "good" } else { "bad" };
+    begin_tile(markup, "requests", class, "accepted")?;
+    put_number(markup, "accepted", accepted)?;
     markup.put(" of ")?;
-    markup.number(all)?;
-    markup.put("</dd><dd>")?;
+    put_number(markup, "asked", all)?;
+    markup.put("</p><p>")?;
     markup.put(if accepted == all {
         "every request is accepted"
     } else {
         "the others are denied"
     })?;
-    markup.put("</dd></div>")?;
-    put_tightest(markup, facts)?;
-    put_fullest(markup, facts)?;
-    put_tick(markup, facts)?;
-    markup.put("</dl>")
+    markup.put("</p></div>")
 }
 
 // Adds the tile of the request with the least to spare.
@@ -39,11 +69,12 @@ fn put_tightest(markup: &mut Markup, facts: &NetworkFacts) -> Result<(), AllocEr
         let Some(spare) = spare_of(request) else {
             continue;
         };
-        markup.put("<div><dt>least to spare</dt><dd>")?;
+        begin_tile(markup, "tightest", "", "least to spare")?;
+        markup.put("<span data-column=\"request\">")?;
         markup.text(request.name.as_str())?;
-        markup.put("</dd><dd>")?;
+        markup.put("</span></p><p data-column=\"to_spare\">")?;
         put_ticks(markup, spare, facts.tick)?;
-        return markup.put("</dd></div>");
+        return markup.put("</p></div>");
     }
     Ok(())
 }
@@ -54,15 +85,17 @@ fn put_fullest(markup: &mut Markup, facts: &NetworkFacts) -> Result<(), AllocErr
     let Some(link) = facts.links.get(place) else {
         return Ok(());
     };
-    markup.put("<div><dt>fullest link</dt><dd>")?;
+    let (level, part) = fullest(&link.fill);
+    begin_tile(markup, "fullest", "", "fullest link")?;
+    markup.put("<span data-column=\"link\">")?;
     markup.text(link_name(facts, place))?;
-    markup.put("</dd><dd>")?;
-    markup.number(fullest(link).1.div_ceil(10))?;
+    markup.put("</span></p><p>")?;
+    put_number(markup, "percent", part.div_ceil(10))?;
     markup.put("% of level ")?;
-    markup.number((fullest(link).0 as u64).saturating_add(1))?;
+    put_number(markup, "level", (level as u64).saturating_add(1))?;
     markup.put(", ")?;
     markup.put(load_word(link))?;
-    markup.put("</dd></div>")
+    markup.put("</p></div>")
 }
 
 // The first of the fullest links.
@@ -70,7 +103,7 @@ fn fullest_link(links: &[LinkFacts]) -> usize {
     let mut best = 0;
     let mut most = 0;
     for place in 0..links.len() {
-        let part = fullest(&links[place]).1;
+        let part = fullest(&links[place].fill).1;
         if part > most {
             most = part;
             best = place;
@@ -79,27 +112,21 @@ fn fullest_link(links: &[LinkFacts]) -> usize {
     best
 }
 
-// Adds the tile of the tick.
-fn put_tick(markup: &mut Markup, facts: &NetworkFacts) -> Result<(), AllocError> {
-    markup.put("<div><dt>network</dt><dd>")?;
-    put_count(markup, facts.links.len() as u64, " link", " links")?;
-    markup.put("</dd><dd>")?;
-    put_count(markup, facts.nodes.len() as u64, " node", " nodes")?;
+// Adds the tile of the network's size, and of the tick.
+fn put_size(markup: &mut Markup, facts: &NetworkFacts) -> Result<(), AllocError> {
+    let links = facts.links.len() as u64;
+    let nodes = facts.nodes.len() as u64;
+    begin_tile(markup, "network", "", "network")?;
+    put_number(markup, "links", links)?;
+    markup.put(if links == 1 { " link" } else { " links" })?;
+    markup.put("</p><p>")?;
+    put_number(markup, "nodes", nodes)?;
+    markup.put(if nodes == 1 { " node" } else { " nodes" })?;
     if let Some(tick) = facts.tick {
         let text = time_text(markup.alloc(), 1, tick)?;
-        markup.put("; a tick is ")?;
+        markup.put("; a tick is <span data-column=\"tick\">")?;
         markup.text(text.as_str())?;
+        markup.put("</span>")?;
     }
-    markup.put("</dd></div>")
-}
-
-// Adds a number with its noun.
-fn put_count(
-    markup: &mut Markup,
-    count: u64,
-    one: &'static str,
-    several: &'static str,
-) -> Result<(), AllocError> {
-    markup.number(count)?;
-    markup.put(if count == 1 { one } else { several })
+    markup.put("</p></div>")
 }

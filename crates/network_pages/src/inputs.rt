@@ -32,7 +32,7 @@ fn put_terms(markup: &mut Markup, facts: &NetworkFacts) -> Result<(), AllocError
     for request in &facts.requests {
         let terms = request.terms;
         begin_row(markup, "data-input-request", request.name.as_str())?;
-        markup.put("<th scope=\"row\">")?;
+        markup.put("<th scope=\"row\" data-column=\"request\">")?;
         markup.text(request.name.as_str())?;
         markup.put("</th>")?;
         ticks_cell(markup, "xmin", Some(terms.xmin), facts.tick)?;

@@ -14,3 +14,4 @@ mod style;
 mod tightness;
 
 pub use page::page_of;
+pub use tightness::tight_first;

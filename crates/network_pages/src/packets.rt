@@ -81,5 +81,38 @@ fn put_numbers(
     ticks_cell(markup, "left", left, tick)?;
     markup.put("<td class=\"bar\"><svg width=\"100%\" height=\"30\" aria-hidden=\"true\">")?;
     draw_delays(markup.alloc(), markup, packets, axis, tick)?;
-    markup.put("</svg></td>")
+    markup.put("</svg>")?;
+    put_delays(markup, packets)?;
+    markup.put("</td>")
+}
+
+// Adds how many packets had each delay.
+fn put_delays(markup: &mut Markup, packets: &PacketFacts) -> Result<(), AllocError> {
+    let mut delays = Vec::from_slice(markup.alloc(), packets.delays.as_slice())?;
+    delays.sort()?;
+    markup.put("<details><summary>each delay</summary><span data-column=\"delays\">")?;
+    let mut first: usize = 0;
+    for place in 0..delays.len() {
+        if delays.get(place.saturating_add(1)) != delays.get(place) {
+            let count = place.saturating_sub(first).saturating_add(1);
+            put_delay(markup, first > 0, delays[place], count as u64)?;
+            first = place.saturating_add(1);
+        }
+    }
+    markup.put("</span></details>")
+}
+
+// Adds that so many packets had this delay.
+fn put_delay(
+    markup: &mut Markup,
+    has_more: bool,
+    delay: u64,
+    count: u64,
+) -> Result<(), AllocError> {
+    if has_more {
+        markup.put(", ")?;
+    }
+    markup.number(delay)?;
+    markup.put(" ×")?;
+    markup.number(count)
 }

@@ -5,7 +5,7 @@ use crate::packets::have_packets;
 use crate::sentences::{link_name, put_denial, put_help};
 use crate::tightness::{spare_of, tight_first};
 use network_pictures::{
-    NetworkFacts, Outcome, RequestFacts, delay_axis, draw_axis, draw_request, put_lines,
+    Help, NetworkFacts, Outcome, RequestFacts, delay_axis, draw_axis, draw_request, put_lines,
 };
 use std::alloc::AllocError;
 use svg_charts::{Axis, Markup};
@@ -18,7 +18,14 @@ pub(crate) fn put_requests(markup: &mut Markup, facts: &NetworkFacts) -> Result<
         "<section id=\"requests\"><h2>Requests</h2><p class=\"note\">Denied requests come first, then those with the least to spare. All bars share one scale.",
     )?;
     put_scale(markup, axis)?;
-    markup.put(" Open a route for its hops.</p>")?;
+    markup.put(" Open a route for its hops.")?;
+    if has_packets {
+        markup.put(
+            " All are asked for at once; the worst packet is of the run that the file describes, in which calls may come and go.",
+        )?;
+    }
+    put_unasked(markup, facts)?;
+    markup.put("</p>")?;
     put_key(markup, facts, has_packets)?;
     markup.put("<table class=\"wide flow\" style=\"--lines:")?;
     put_lines(markup.alloc(), markup, axis)?;
@@ -30,6 +37,34 @@ pub(crate) fn put_requests(markup: &mut Markup, facts: &NetworkFacts) -> Result<
         }
     }
     markup.put("\n</tbody></table></section>")
+}
+
+// Adds of how many denied requests it isn't told what would do, where there are such.
+fn put_unasked(markup: &mut Markup, facts: &NetworkFacts) -> Result<(), AllocError> {
+    let count = unasked_in(facts);
+    if count == 0 {
+        return Ok(());
+    }
+    markup.put(" Of ")?;
+    markup.number(count)?;
+    markup.put(
+        " denied requests it isn't told with what delay they would be accepted, since that takes a few runs of the whole network for each.",
+    )
+}
+
+// How many denied requests weren't asked about.
+fn unasked_in(facts: &NetworkFacts) -> u64 {
+    let mut count: u64 = 0;
+    for request in &facts.requests {
+        if let Outcome::Denied {
+            help: Help::Unasked,
+            ..
+        } = request.outcome
+        {
+            count = count.saturating_add(1);
+        }
+    }
+    count
 }
 
 /// Adds that the scale is logarithmic, where it is.
@@ -158,7 +193,7 @@ fn put_route(
     facts: &NetworkFacts,
     request: &RequestFacts,
 ) -> Result<(), AllocError> {
-    markup.put("<details><summary>")?;
+    markup.put("<details><summary data-column=\"route\">")?;
     let mut is_first = true;
     for hop in &request.hops {
         if !is_first {

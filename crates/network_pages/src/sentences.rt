@@ -1,6 +1,6 @@
 //! Why a request is denied, and what would help.
 use crate::cells::put_ticks;
-use network_pictures::{Denial, Help, NetworkFacts, RequestFacts};
+use network_pictures::{Denial, Help, LinkFacts, NetworkFacts, RequestFacts};
 use std::alloc::AllocError;
 use svg_charts::Markup;
 
@@ -32,11 +32,19 @@ pub(crate) fn put_denial(
         ),
         Denial::Schedule { hop, sum, bound } => {
             put_hop(markup, facts, request, hop)?;
-            let parts = [
-                " has no level for it: at the last one there would be ",
-                " of work, and its bound is ",
-                ".",
-            ];
+            let parts = if is_split(facts, request, hop) {
+                [
+                    " has no level for it: at the last one its group would have ",
+                    " of work, and the group's quota is ",
+                    ".",
+                ]
+            } else {
+                [
+                    " has no level for it: at the last one there would be ",
+                    " of work, and its bound is ",
+                    ".",
+                ]
+            };
             put_two(markup, facts, parts, sum, bound)
         }
         Denial::Buffer { hop, need, free } => {
@@ -81,10 +89,31 @@ fn put_two(
     other: u64,
 ) -> Result<(), AllocError> {
     markup.put(words[0])?;
-    put_ticks(markup, one, facts.tick)?;
+    told_ticks(markup, "why", one, facts)?;
     markup.put(words[1])?;
-    put_ticks(markup, other, facts.tick)?;
+    told_ticks(markup, "why", other, facts)?;
     markup.put(words[2])
+}
+
+// Adds ticks in a sentence, with the name of their column.
+fn told_ticks(
+    markup: &mut Markup,
+    column: &'static str,
+    ticks: u64,
+    facts: &NetworkFacts,
+) -> Result<(), AllocError> {
+    markup.put("<b data-column=\"")?;
+    markup.put(column)?;
+    markup.put("\">")?;
+    put_ticks(markup, ticks, facts.tick)?;
+    markup.put("</b>")
+}
+
+// Adds a number in the sentence that says why.
+fn told_number(markup: &mut Markup, number: u64) -> Result<(), AllocError> {
+    markup.put("<b data-column=\"why\">")?;
+    markup.number(number)?;
+    markup.put("</b>")
 }
 
 // Adds two numbers with the words around them.
@@ -95,9 +124,9 @@ fn put_numbers(
     other: u64,
 ) -> Result<(), AllocError> {
     markup.put(words[0])?;
-    markup.number(one)?;
+    told_number(markup, one)?;
     markup.put(words[1])?;
-    markup.number(other)?;
+    told_number(markup, other)?;
     markup.put(words[2])
 }
 
@@ -109,14 +138,28 @@ fn put_hop(
     hop: u64,
 ) -> Result<(), AllocError> {
     markup.put("Hop ")?;
-    markup.number(hop)?;
+    told_number(markup, hop)?;
     markup.put(", ")?;
-    let place = usize::try_from(hop.saturating_sub(1)).unwrap_or(usize::MAX);
-    match request.hops.get(place) {
-        Some(hop) => markup.text(link_name(facts, hop.link))?,
+    match link_at(facts, request, hop) {
+        Some(link) => markup.text(link.name.as_str())?,
         None => {}
     }
     markup.put(",")
+}
+
+// The link at a place of a request's route, from 1.
+fn link_at<'a>(facts: &'a NetworkFacts, request: &RequestFacts, hop: u64) -> Option<&'a LinkFacts> {
+    let place = usize::try_from(hop.saturating_sub(1)).ok()?;
+    let hop = request.hops.get(place)?;
+    facts.links.get(hop.link)
+}
+
+// Whether the link at a place of a request's route is split between groups.
+fn is_split(facts: &NetworkFacts, request: &RequestFacts, hop: u64) -> bool {
+    match link_at(facts, request, hop) {
+        Some(link) => !link.shares.is_empty(),
+        None => false,
+    }
 }
 
 /// Adds what would help a denied request: the least delay with which it would be accepted, or else the link that is tight.
@@ -128,15 +171,19 @@ pub(crate) fn put_help(
     help: Help,
 ) -> Result<(), AllocError> {
     match (help, why) {
-        (Help::Unasked, _) => Ok(()),
+        (Help::Unasked, _) => {
+            markup.put(" What would do is told by ask least ")?;
+            markup.text(request.name.as_str())?;
+            markup.put(".")
+        }
         (Help::Delay(least), Denial::Jitter { .. }) => {
             markup.put(" With a longer jitter, it would be accepted with a delay of ")?;
-            put_ticks(markup, least, facts.tick)?;
+            told_ticks(markup, "least_delay", least, facts)?;
             markup.put(".")
         }
         (Help::Delay(least), _) => {
             markup.put(" It would be accepted with a delay of ")?;
-            put_ticks(markup, least, facts.tick)?;
+            told_ticks(markup, "least_delay", least, facts)?;
             markup.put(".")
         }
         (Help::NoDelay, Denial::Wide { .. }) => markup.put(" No delay would do."),

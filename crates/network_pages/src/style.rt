@@ -32,16 +32,17 @@ pub(crate) fn put_style(markup: &mut Markup) -> Result<(), AllocError> {
     put_tables(markup)?;
     put_bars(markup)?;
     put_drawing(markup)?;
-    put_narrow(markup)
+    put_narrow(markup)?;
+    put_paper(markup)
 }
 
 // The tiles at the head.
 fn put_tiles(markup: &mut Markup) -> Result<(), AllocError> {
     markup.put(
-        ".tiles{display:grid;grid-template-columns:repeat(auto-fit,minmax(150px,1fr));gap:.7rem;margin:0}.tiles div{background:var(--card);border:1px solid var(--line);border-radius:10px;padding:.6rem .9rem}",
+        ".tiles{display:grid;grid-template-columns:repeat(auto-fit,minmax(150px,1fr));gap:.7rem;margin:0}.tile{background:var(--card);border:1px solid var(--line);border-radius:10px;padding:.6rem .9rem}",
     )?;
     markup.put(
-        ".tiles dt{color:var(--quiet);font-size:.8rem}.tiles dd{margin:0;color:var(--quiet);font-size:.86rem}.tiles dt+dd{font-size:1.35rem;font-weight:650;color:var(--ink);overflow-wrap:anywhere}.tiles .bad dt+dd{color:var(--bad)}.tiles .good dt+dd{color:var(--good)}",
+        ".tile p{margin:0;color:var(--quiet);font-size:.83rem}.tile .large{font-size:1.35rem;font-weight:650;color:var(--ink);overflow-wrap:anywhere}.tile.bad .large{color:var(--bad)}.tile.good .large{color:var(--good)}",
     )
 }
 
@@ -51,7 +52,7 @@ fn put_tables(markup: &mut Markup) -> Result<(), AllocError> {
         ".scroll{overflow-x:auto;margin:0}table{border-collapse:collapse}table.wide{width:100%}th,td{text-align:left;padding:.3rem .6rem;vertical-align:top}thead th{font-weight:500;color:var(--quiet);font-size:.82rem;border-bottom:1px solid var(--line);white-space:nowrap;vertical-align:bottom}",
     )?;
     markup.put(
-        ".wide>tbody>tr{border-bottom:1px solid var(--line)}.n{text-align:right;white-space:nowrap}small{display:block;color:var(--quiet);font-size:.78rem}tbody th{font-weight:600;overflow-wrap:anywhere}td[data-column=to_spare],td[data-column=left]{font-weight:650}small{font-weight:400}.yes{color:var(--good);white-space:nowrap}.no{color:var(--bad);font-weight:600;white-space:nowrap}",
+        ".wide>tbody>tr{border-bottom:1px solid var(--line)}.n{text-align:right;white-space:nowrap}small{display:block;color:var(--quiet);font-size:.78rem}tbody th{font-weight:600;white-space:nowrap}td[data-column=to_spare],td[data-column=left]{font-weight:650}small{font-weight:400}.yes{color:var(--good);white-space:nowrap}.no{color:var(--bad);font-weight:600;white-space:nowrap}",
     )?;
     markup.put(
         ".why{margin:.2rem 0 .3rem;max-width:80ch;font-size:.9rem}summary{cursor:pointer;color:var(--quiet);font-size:.82rem;width:fit-content}summary:hover{color:var(--ink)}#inputs summary{font-size:.95rem}.hops{margin:.3rem 0;font-size:.86rem;background:var(--card)}.hops td,.hops th{padding:.12rem .7rem .12rem 0}.hops tbody tr{border-bottom:1px solid var(--grid)}",
@@ -74,35 +75,45 @@ fn put_bars(markup: &mut Markup) -> Result<(), AllocError> {
         ".k{display:inline-block;width:22px;height:12px}.k.spare{height:6px}.k.wanted{width:3px;height:16px}.k.worst{height:4px}.k.offered{border:1.5px dashed var(--bad)}.packet{fill:var(--blue)}.limit{fill:var(--bad)}.rest{fill:var(--grid)}.work{fill:var(--blue)}.work.busy{fill:var(--warn)}.work.full{fill:var(--bad)}",
     )?;
     markup.put(
-        ".levels div{display:grid;grid-template-columns:8.5rem 1fr;align-items:center;gap:.6rem}.levels span{text-align:right;white-space:nowrap;font-size:.86rem}.load{white-space:nowrap}.load.busy{color:var(--warn)}.load.full,.load.refuses{color:var(--bad);font-weight:600}",
+        ".levels div{display:grid;grid-template-columns:8.5rem 1fr 4.8rem;align-items:center;gap:.6rem}.levels span{text-align:right;white-space:nowrap;font-size:.86rem}.levels b,.users b,.why b{font-weight:400}.levels .room{text-align:left;color:var(--quiet)}.share>th{padding-left:1.6rem;font-weight:400}.share>th::before{content:\"└ \";color:var(--quiet)}.share>td[data-column=ends]{color:var(--quiet)}.load{white-space:nowrap}.load.busy{color:var(--warn)}.load.full,.load.refuses{color:var(--bad);font-weight:600}",
     )
 }
 
 // The drawing of the network.
 fn put_drawing(markup: &mut Markup) -> Result<(), AllocError> {
     markup.put(
-        ".net{display:block;width:100%;height:auto;margin:0 auto}.net text{fill:var(--ink);font-size:13px}.node{fill:var(--paper);stroke:var(--quiet);stroke-width:1.2}.net .name{font-weight:600}.link{stroke:var(--quiet)}.link.head{fill:var(--quiet);stroke:none}.link.busy{stroke:var(--warn)}.link.busy.head{fill:var(--warn);stroke:none}",
+        ".net{display:block;width:100%;height:auto;margin:0 auto}.net text{fill:var(--ink);font-size:13px}.node{fill:var(--paper);stroke:var(--quiet);stroke-width:1.2}.net .name{font-weight:600}.under{fill:var(--card)}.link{stroke:var(--quiet)}.link.head{fill:var(--quiet);stroke:none}.link.busy{stroke:var(--warn)}.link.busy.head{fill:var(--warn);stroke:none}",
     )?;
     markup.put(
         ".link.full,.link.refuses{stroke:var(--bad)}.link.full.head,.link.refuses.head{fill:var(--bad);stroke:none}.net .linkname,.net .load{font-size:12px;paint-order:stroke;stroke:var(--card);stroke-width:5px;stroke-linejoin:round}.net .linkname{font-weight:600}.for-narrow{display:none}",
     )
 }
 
-// A narrow page, where a row of a table becomes a block of its own, and paper.
+// A narrow page, where a row of a table becomes a block of its own.
 fn put_narrow(markup: &mut Markup) -> Result<(), AllocError> {
     markup.put(
-        "@media(max-width:760px){.for-wide{display:none}.for-narrow{display:block}.flow,.flow>tbody,.flow>thead,.flow>thead>tr{display:block}.flow>thead th:not(.bar){display:none}#links .flow>thead{display:none}.flow>thead th.bar{display:block;width:auto}",
+        "@media screen and (max-width:760px){.for-wide{display:none}.for-narrow{display:block}.flow,.flow>tbody,.flow>thead,.flow>thead>tr{display:block}.flow>thead th:not(.bar){display:none}#links .flow>thead{display:none}.flow>thead th.bar{display:block;width:auto}",
     )?;
     markup.put(
-        ".flow>tbody>tr{display:grid;grid-template-columns:repeat(4,minmax(0,1fr));padding:.45rem 0}.flow>tbody>tr>*{padding:.1rem .2rem}.flow>tbody>tr>th{grid-column:span 2}.flow>tbody>tr>.bar{grid-column:1/-1;order:1}.flow>tbody>tr>td{order:2}.flow td.n{text-align:left}.flow>tbody>tr>td[data-column=verdict],.flow>tbody>tr>td[data-column=load]{text-align:right;grid-column:span 2;order:0}.flow>tbody>tr>td[data-column=tight],#links td[data-column=ends]{grid-column:1/-1}td[data-column=tight]:empty{display:none}#packets td[data-column=arrived]{grid-column:span 2;order:0!important;text-align:right}",
+        ".flow>tbody>tr{display:grid;grid-template-columns:repeat(4,minmax(0,1fr));padding:.45rem 0}.flow>tbody>tr>*{padding:.1rem .2rem}.flow>tbody>tr>th{grid-column:span 2;white-space:normal;overflow-wrap:anywhere}.flow>tbody>tr>.bar{grid-column:1/-1;order:1}.flow>tbody>tr>td{order:2}.flow td.n{text-align:left}.flow>tbody>tr>td[data-column=verdict],.flow>tbody>tr>td.loaded{text-align:right;grid-column:span 2;order:0}.flow>tbody>tr>td[data-column=tight],#links td[data-column=ends]{grid-column:1/-1}td[data-column=tight]:empty{display:none}#packets td[data-column=arrived]{grid-column:span 2;order:0!important;text-align:right}",
     )?;
     markup.put(
-        ".flow>tbody>tr>td.n::before,#links td[data-column=requests]::before{display:block;color:var(--quiet);font-size:.74rem;font-weight:400}td[data-column=wanted]::before{content:\"wanted\"}td[data-column=promised]::before{content:\"promised\"}td[data-column=to_spare]::before{content:\"to spare\"}td[data-column=worst]::before{content:\"worst\"}",
+        ".flow>tbody>tr>td.n::before,#links td.users::before{display:block;color:var(--quiet);font-size:.74rem;font-weight:400}td[data-column=wanted]::before{content:\"wanted\"}td[data-column=promised]::before{content:\"promised\"}td[data-column=to_spare]::before{content:\"to spare\"}td[data-column=worst]::before{content:\"worst\"}",
     )?;
     markup.put(
-        "td[data-column=tight]::before{content:\"tight link \";color:var(--quiet);font-size:.82rem}td[data-column=arrived]::before{content:\"packets arrived\"}td[data-column=least]::before{content:\"shortest\"}td[data-column=left]::before{content:\"left\"}#links td[data-column=long_run]::before{content:\"long run\"}#links td[data-column=buffer_free]::before{content:\"buffer free\"}#links td[data-column=buffer]::before{content:\"of\"}#links td[data-column=requests]::before{content:\"requests\"}.levels div{grid-template-columns:7rem 1fr}}",
+        "td[data-column=tight]::before{content:\"tight link \";color:var(--quiet);font-size:.82rem}td[data-column=arrived]::before{content:\"packets arrived\"}td[data-column=least]::before{content:\"shortest\"}td[data-column=left]::before{content:\"left\"}#links td[data-column=long_run]::before{content:\"long run\"}#links td[data-column=buffer_free]::before{content:\"buffer free\"}#links td[data-column=buffer]::before{content:\"of\"}#links td.users::before{content:\"accepted\"}.levels div{grid-template-columns:7rem 1fr 4.4rem}.share>th{padding-left:.2rem}.share>td[data-column=ends]{display:none}}",
+    )
+}
+
+// Paper: light colours, the heads of tables on each sheet, and all that is closed on a screen.
+fn put_paper(markup: &mut Markup) -> Result<(), AllocError> {
+    markup.put(
+        "@media print{@page{margin:12mm}:root{color-scheme:light;--paper:#fff;--card:#fff;--ink:#111;--quiet:#4d5763;--line:#c9d0d8;--grid:#dfe4ea;--blue:#2b6cd4;--pale:#bcd3f6;--deep:#0a2d6b;--good:#1d7a46;--warn:#9a6200;--bad:#bb2d23}",
     )?;
     markup.put(
-        "@media print{body{max-width:none;padding:0;font-size:11px}section{border:0;padding:.4rem 0}tr,figure{break-inside:avoid}*{print-color-adjust:exact;-webkit-print-color-adjust:exact}}",
+        "html{font-size:12px}body{max-width:none;padding:0;font-size:11px}section{border:0;border-radius:0;padding:.4rem 0;margin:.5rem 0}h2,h3,.note,.key,#inputs summary{break-after:avoid}thead{display:table-header-group}tr,figure,.tile{break-inside:avoid}.flow>tbody>tr>*,thead th{padding:.22rem .4rem}.scroll{overflow:visible}.net{min-width:0!important}",
+    )?;
+    markup.put(
+        "details::details-content{content-visibility:visible;block-size:auto}summary{list-style:none;width:auto}.hops small{display:inline;padding-left:.3rem}summary::-webkit-details-marker{display:none}th.bar{width:34%}.levels div{grid-template-columns:6.4rem 1fr 4.2rem}*{print-color-adjust:exact;-webkit-print-color-adjust:exact}}",
     )
 }

@@ -1,8 +1,9 @@
 //! The page of a network of one link, by hand.
 use field_units::Time;
-use network_pages::page_of;
+use network_pages::{page_of, tight_first};
 use network_pictures::{
-    HopFacts, LevelFacts, LinkFacts, NetworkFacts, Outcome, RequestFacts, Terms,
+    Denial, FillFacts, Help, HopFacts, LevelFacts, LinkFacts, NetworkFacts, Outcome, RequestFacts,
+    Terms,
 };
 use std::alloc::{AllocError, Global};
 use std::str;
@@ -14,6 +15,7 @@ fn link(alloc: Global) -> Result<LinkFacts, AllocError> {
     levels.push(LevelFacts {
         work: 13,
         bound: 50,
+        room: Some(18),
     })?;
     let mut users = Vec::new(alloc);
     users.push(0)?;
@@ -24,11 +26,15 @@ fn link(alloc: Global) -> Result<LinkFacts, AllocError> {
         rate: 125,
         cap: 1538,
         prop: 1,
-        buffer: 65_536,
-        free: 64_536,
-        long_run: 80_000,
-        levels,
-        users,
+        fill: FillFacts {
+            buffer: 65_536,
+            free: 64_536,
+            long_run: 80_000,
+            levels,
+            users,
+            accepted: 1,
+        },
+        shares: Vec::new(alloc),
         refuses: 0,
         written: None,
     })
@@ -112,5 +118,24 @@ fn a_title_can_not_begin_a_tag(rt: HostRuntime) -> Result<(), Fail> {
     let page = str::from_utf8(bytes.as_slice()).ok().ok_or("UTF-8")?;
     assert!(rt; page.contains("<title>&lt;/title&gt;&lt;script&gt;</title>"));
     assert!(rt; !page.contains("<script>"));
+    Ok(())
+}
+
+// The requests want 200 ticks. The first has 149 to spare and the last one 1; the second is denied.
+#[test]
+fn denied_requests_come_first_and_then_tight_ones(rt: HostRuntime) -> Result<(), Fail> {
+    let alloc = rt.alloc();
+    let mut facts = network(alloc, "three")?;
+    let mut denied = request(alloc)?;
+    denied.outcome = Outcome::Denied {
+        why: Denial::Delay { sum: 201 },
+        help: Help::Delay(201),
+    };
+    facts.requests.push(denied)?;
+    let mut tight = request(alloc)?;
+    tight.outcome = Outcome::Accepted(199);
+    facts.requests.push(tight)?;
+    let places = tight_first(alloc, &facts)?;
+    assert!(rt; places.as_slice() == [1, 2, 0].as_slice());
     Ok(())
 }
