@@ -1,6 +1,7 @@
 //! What a page shows of a network that a file describes, from runs that are played, and the page and its pictures themselves.
 #![tactic(auto)]
 
+mod fills;
 mod links;
 mod network;
 mod page;

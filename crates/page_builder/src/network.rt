@@ -28,8 +28,13 @@ pub fn facts_of(alloc: Global, network: &Network, title: &str) -> Result<Network
     })
 }
 
-// Of how many denied requests the delay is asked for that would do: each takes a few runs of the whole network.
-const MOST_HELPED: usize = 64;
+// Of how many denied requests, times those that there are, the delay is asked for that would do: each takes a few runs of the whole network.
+const MOST_HELPED: usize = 65_536;
+
+// Of how many denied requests the delay is asked for that would do, where there are so many requests: of all where these are at most 256.
+fn most_helped(requests: usize) -> usize {
+    MOST_HELPED / requests.max(1)
+}
 
 // The facts of all requests.
 fn all_requests(alloc: Global, plan: &Plan, trial: &Trial) -> Result<Vec<RequestFacts>, Trouble>
@@ -37,11 +42,12 @@ fn all_requests(alloc: Global, plan: &Plan, trial: &Trial) -> Result<Vec<Request
 {
     let mut requests = Vec::new(alloc);
     let mut helped: usize = 0;
+    let most = most_helped(plan.requests().len());
     for number in 0..plan.requests().len() {
         if number >= trial.plan.requests().len() {
             break;
         }
-        let request = request_facts(alloc, plan, trial, number, helped < MOST_HELPED)?;
+        let request = request_facts(alloc, plan, trial, number, helped < most)?;
         if matches!(request.outcome, Outcome::Denied { .. }) {
             helped = helped.saturating_add(1);
         }

@@ -3,16 +3,16 @@ ghost use Rattle.std.specs.Prelude.{◌<◌, length};
 ghost use Rattle.plan_answers.specs.Trials.{IsTrial};
 
 use crate::trouble::Trouble;
-use answer_tables::{HopRow, LeastJitter, Offer, RequestRow, hop_rows, least_delay_near};
+use answer_tables::{
+    HopRow, LeastJitter, Offer, RequestRow, hop_rows, least_delay_near, with_any_jitter,
+};
 use call_script::{Plan, RequestEntry};
 use link_steps::Refusal;
 use net_units::LinkNo;
-use net_units::limits::MOST_DELAY;
 use network_pictures::{Denial, Help, HopFacts, Outcome, RequestFacts, Terms};
 use plan_answers::{Least, Trial};
-use question_plans::{Change, requests_alone};
 use relaxation::EndDenial;
-use setup_protocol::{Control, Deny, Verdict};
+use setup_protocol::{Deny, Verdict};
 use std::alloc::{AllocError, Global};
 
 /// The facts of the request of a number, in a trial of the plan's requests alone. Where it is denied, the delay with which it would be accepted
@@ -113,7 +113,7 @@ fn help_for(
 ) -> Result<Help, Trouble>
     requires inside { number < length plan.now.requests }
 {
-    let loose = requests_alone(alloc, plan, &loosened(plan, number))?;
+    let loose = with_any_jitter(alloc, plan, number)?;
     if number >= loose.requests().len() {
         return Ok(Help::Unasked);
     }
@@ -121,20 +121,6 @@ fn help_for(
     match least_delay_near(alloc, &loose, number, near)? {
         Least::Delay(delay) => Ok(Help::Delay(delay)),
         Least::Refused(_) => Ok(Help::NoDelay),
-    }
-}
-
-// The change by which a request whose jitter is controlled wants none that is short.
-fn loosened(plan: &Plan, number: usize) -> Change {
-    match plan.requests().get(number) {
-        Some(entry) => match entry.request.control {
-            Control::Jitter(_) => Change::Jitter {
-                number,
-                jitter: MOST_DELAY,
-            },
-            Control::Rate => Change::Nothing,
-        },
-        None => Change::Nothing,
     }
 }
 

@@ -49,10 +49,16 @@ fn links_are_told_with_their_loads(rt: HostRuntime) -> Result<(), Fail> {
     let facts = facts(rt.alloc(), NETWORK)?;
     assert_eq!(rt; facts.links.len(), 2);
     let link = &facts.links[1];
-    assert_eq!(rt; link.free, 96);
-    assert_eq!(rt; link.long_run, 200_000);
-    let first = LevelFacts { work: 8, bound: 10 };
-    assert!(rt; link.levels.get(0) == Some(&first));
-    assert_eq!(rt; link.users.len(), 2);
+    assert_eq!(rt; link.fill.free, 96);
+    assert_eq!(rt; link.fill.long_run, 200_000);
+    let first = LevelFacts {
+        work: 8,
+        bound: 10,
+        room: Some(0),
+    };
+    assert!(rt; link.fill.levels.get(0) == Some(&first));
+    assert_eq!(rt; link.fill.users.len(), 2);
+    assert_eq!(rt; link.fill.accepted, 1);
+    assert!(rt; link.shares.is_empty());
     Ok(())
 }
