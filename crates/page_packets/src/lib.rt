@@ -2,5 +2,6 @@
 #![tactic(auto)]
 
 mod packets;
+mod playing;
 
 pub use packets::add_packets;

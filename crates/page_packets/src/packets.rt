@@ -1,10 +1,12 @@
 //! What became of the packets when the file was played.
+ghost use Rattle.packet_answers.specs.Plays.{StandsAfter};
+
+use crate::playing::played_of;
 use call_script::Plan;
-use design_file::CallerTimes;
 use net_units::OutOfMemory;
 use network_files::Network;
 use network_pictures::{HopFacts, NetworkFacts, PacketFacts, RequestFacts};
-use packet_answers::{Trouble, play};
+use packet_answers::{Played, Trouble};
 use run_record::HopRow;
 use setup_protocol::Verdict;
 use std::alloc::{AllocError, Global};
@@ -19,23 +21,30 @@ struct Arrival {
     delay: u64,
 }
 
-/// Adds to each request what became of its packets, where some arrived. Nothing is added where the schedule can't be played, or where calls come
-/// and go at ticks of their own, for which there is no schedule.
+/// Adds to each request what became of its packets, where some arrived: of a scenario by its schedule, and of a design whose calls come and go
+/// at ticks by the schedule in which they do (`call_times`). Nothing is added where neither can be played.
 pub fn add_packets(
     alloc: Global,
     network: &Network,
     facts: &mut NetworkFacts,
 ) -> Result<(), OutOfMemory> {
-    let requests = &mut facts.requests;
-    let plan = &network.plan;
-    if have_own_ticks(network.times.as_slice()) {
-        return Ok(());
+    match played_of(alloc, network) {
+        Ok(played) => add_played(alloc, &network.plan, &played, facts),
+        Err(Trouble::Memory) => Err(OutOfMemory),
+        Err(Trouble::Step { .. }) => Ok(()),
     }
-    let played = match play(alloc, plan, &network.schedule) {
-        Ok(played) => played,
-        Err(Trouble::Memory) => return Err(OutOfMemory),
-        Err(Trouble::Step { .. }) => return Ok(()),
-    };
+}
+
+// Adds what became of the packets of a run.
+fn add_played(
+    alloc: Global,
+    plan: &Plan,
+    played: &Played,
+    facts: &mut NetworkFacts,
+) -> Result<(), OutOfMemory>
+    requires { StandsAfter plan.now played.now }
+{
+    let requests = &mut facts.requests;
     let rows = played.rows(alloc)?;
     let arrivals = arrivals_of(alloc, plan, rows.as_slice())?;
     for number in 0..plan.requests().len() {
@@ -48,18 +57,6 @@ pub fn add_packets(
         add_hop(plan, requests, row);
     }
     Ok(())
-}
-
-// Whether a call comes or goes at a tick after the first.
-fn have_own_ticks(times: &[CallerTimes]) -> bool {
-    for caller in times {
-        for operation in &caller.operations {
-            if operation.tick > 0 {
-                return true;
-            }
-        }
-    }
-    false
 }
 
 // The delay that a verdict promises.
