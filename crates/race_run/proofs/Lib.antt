@@ -1,9 +1,10 @@
 pub mod Lists
 pub mod WeaveIsRun
-mod WeaveByStamps
+mod StampTable
+mod EntriesInOrder
+mod ToldInOrder
 pub mod OneMoreTurn
 mod RunByActors
-mod Sources
 mod ChannelsInScript
 mod PacketsLearnt
 mod TaskEntries

@@ -22,7 +22,7 @@ use Rattle.race_run.proofs.EarlierRounds.{Cut, In, Past, cut-at, each-middle}
 
 -- ---- the largest stamp
 
-each-taken : {X : Type 0} (P : X → Type 0) (xs : List X) (i : ℕ) (x : X) → i < length xs → x ≡ get_or xs i x → Each P (take i xs) → P x → Each P (take (i + 1) xs)
+pub each-taken : {X : Type 0} (P : X → Type 0) (xs : List X) (i : ℕ) (x : X) → i < length xs → x ≡ get_or xs i x → Each P (take i xs) → P x → Each P (take (i + 1) xs)
 each-taken P xs i x inside is so_far here =
     subst (Each P) (ap (λ y. take i xs ++ y ∷ []) is ∙ sym (take-suc xs i x inside) ∙ ap (λ n. take n xs) (sym (add-one i))) (Each-append P (take i xs) (x ∷ []) so_far (here, tt))
 

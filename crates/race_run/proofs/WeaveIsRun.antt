@@ -119,6 +119,9 @@ own-falls network passes journals actor None whole is = tt
 own-falls network passes journals actor (Some pass) whole is =
     (falls-turned (own_stamped pass.actor) (own_mark pass.actor) (λ e. refl) 0 pass.own (Each-at (λ (p : Token). StampsRise (map (own_mark p.actor) p.own)) passes actor pass whole.closed.in_order is)).0
 
+pub passes-long : (network : Network) (passes : List Token) (journals : List Journal) → IsWhole network passes journals → length passes ≡ suc (plane_no network)
+passes-long network passes journals whole = numbered-length token_actor passes (suc (plane_no network)) whole.actors
+
 pass-number : (network : Network) (passes : List Token) (journals : List Journal) (actor : ℕ) (pass : Token) → IsWhole network passes journals → slice_get passes actor ≡ Some pass → actor_number pass.actor ≡ actor
 pass-number network passes journals actor pass whole found =
     let all : length passes ≡ suc (plane_no network) = numbered-length token_actor passes (suc (plane_no network)) whole.actors in

@@ -1,6 +1,7 @@
 pub mod Whole
 pub mod Turns
-pub mod Merging
+pub mod Telling
+pub mod Order
 pub mod Callers
 pub mod Rounds
 pub mod Pieces

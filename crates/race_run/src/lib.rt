@@ -6,15 +6,16 @@
 #![tactic(auto)]
 
 pub mod callers;
-pub mod merging;
 pub mod opening;
+pub mod order;
 pub mod pieces;
 pub mod racing;
 pub mod rounds;
 pub mod scripts;
 pub mod tail;
+pub mod telling;
 pub mod turns;
 pub mod weaving;
 
 pub use racing::race;
-pub use weaving::{Raced, woven};
+pub use weaving::{Raced, Told, woven, woven_watched};

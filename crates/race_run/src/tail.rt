@@ -66,7 +66,7 @@ fn see_up_to<L: LinkStep + Send, H: Home, W: Wait>(
 }
 
 // The largest stamp of all own entries of these passes, 0 where there is none.
-fn latest_of_all(passes: &[Pass]) -> u64
+pub(crate) fn latest_of_all(passes: &[Pass]) -> u64
     ensures { Each (AreUpTo result) (map own_in passes.now) }
 {
     let mut stamp = 0;

@@ -5,22 +5,9 @@ ghost use Rattle.race_run.specs.Turns.{AreMaximalRuns, actors_of, ends_with};
 
 use call_script::Do;
 use net_units::{ActorNo, OutOfMemory};
-use run_record::Done;
-use std::alloc::Global;
-
-/// The actors of these entries, in maximal runs.
-pub(crate) fn turns_in(alloc: Global, entries: &[Done]) -> Result<Vec<Do>, OutOfMemory>
-    ensures { IfOk result (λ items. AreMaximalRuns (actors_of entries.now) items.items) }
-{
-    let mut items = Vec::new(alloc);
-    for done in entries {
-        add_turn(&mut items, done.actor)?;
-    }
-    Ok(items)
-}
 
 // One more turn: in the last item, where that is of the actor, or else in an item of its own.
-fn add_turn(items: &mut Vec<Do>, actor: ActorNo) -> Result<(), OutOfMemory>
+pub(crate) fn add_turn(items: &mut Vec<Do>, actor: ActorNo) -> Result<(), OutOfMemory>
     requires few { length (turns_of items.old.items) < 2 ^ 64 - 1 }
     ensures { OnOk result ((actors : _) → AreMaximalRuns actors items.old.items → AreMaximalRuns (actors ++ actor ∷ []) items.new.items) }
 {

@@ -1,16 +1,21 @@
 //! The run that journals and passes tell.
-ghost use Rattle.std.specs.Prelude.{◌≡◌, ℕ, IfOk, None, true, length, reverse};
+ghost use Rattle.std.specs.Prelude.{◌≡◌, ◌<◌, ◌++◌, [], List, ℕ, IfOk, OnOk, None, true, length, reverse};
 ghost use Rattle.call_script.specs.Tasks.{network_of};
 ghost use Rattle.run_engine.specs.runs.Runs.{next_for, IsRun};
 ghost use Rattle.run_engine.specs.schedules.Schedules.{IsActorOf, IsPlayed};
+ghost use Rattle.run_engine.specs.schedules.Standing.{CallersStand};
+ghost use Rattle.run_engine.specs.schedules.Watching.{IsSeen};
 ghost use Rattle.link_steps.specs.Lists.{Each};
+ghost use Rattle.race_run.specs.Order.{IsOrder};
 ghost use Rattle.race_run.specs.Turns.{AreMaximalRuns, IsWritable, actors_of};
 ghost use Rattle.race_run.specs.Whole.{IsWhole, weave_of};
 
-use crate::merging::{merged, recorded};
-use crate::turns::turns_in;
+use crate::order::order_of;
+use crate::tail::latest_of_all;
+use crate::telling::tell;
 use call_script::{Dos, Plan, Schedule};
 use net_units::OutOfMemory;
+use run_engine::{Callers, Watch, replay};
 use run_record::Record;
 use shared_network::Closed;
 use std::alloc::Global;
@@ -44,12 +49,86 @@ pub fn woven(alloc: Global, plan: &Plan, closed: &Closed) -> Result<Raced, OutOf
     // Read for what it says of every plan.
     let _valid = plan.links();
     let journals = closed.journals.as_slice();
-    let places = merged(alloc, journals)?;
-    let run = recorded(alloc, journals, places.as_slice())?;
-    let items = turns_in(alloc, run.entries())?;
+    let order = order_of(alloc, journals)?;
+    let mut run = Record::new(alloc);
+    let items = tell(alloc, plan, journals, order.as_slice(), &mut run)?;
     let schedule = Schedule {
         written: true,
         items: Dos::new(items),
     };
     Ok(Raced { run, schedule })
+}
+
+/// What is left of a race's run once a watcher has been told of it.
+#[derive(Drop)]
+pub struct Told {
+    /// The callers after it.
+    pub callers: Callers,
+    /// Its actors in maximal runs.
+    pub schedule: Schedule,
+}
+
+/// Shows the run that a closed network's journals tell, which [`woven`] records, to a watcher, entry by entry in order of stamp. The
+/// watcher has seen nothing before. Answers the callers after the run, and the schedule that it followed, as `woven` does. An `Err`
+/// comes only for want of memory, and then nothing is said of the watcher. The call waits for nobody.
+///
+/// It takes a byte a stamp, and a record of the run up to the last step of a caller, which it gives up before the watcher is told.
+pub fn woven_watched<W: Watch>(
+    alloc: Global,
+    plan: &Plan,
+    closed: &Closed,
+    watch: &mut W,
+) -> Result<Told, OutOfMemory>
+    requires whole { IsWhole (network_of plan.now) closed.now.passes closed.now.journals }
+    requires fresh { W.saw watch.old plan.now [] }
+    ensures seen { IfOk result (λ told. IsSeen W.saw plan.now told.callers watch.new (weave_of closed.now.journals)) }
+    ensures runs { IfOk result (λ told. AreMaximalRuns (actors_of (reverse (weave_of closed.now.journals))) told.schedule.items) }
+    ensures written { IfOk result (λ told. told.schedule.written ≡ true) }
+    ensures actors { IfOk result (λ told. Each (IsActorOf plan.now) told.schedule.items) }
+    ensures language { IfOk result (λ told. Each (IsWritable (length plan.now.callers)) told.schedule.items) }
+    ensures played { IfOk result (λ told. IsPlayed (network_of plan.now) told.schedule (weave_of closed.now.journals)) }
+    ensures over { OnOk result ((actor : ℕ) → next_for (network_of plan.now) actor (weave_of closed.now.journals) ≡ None) }
+    ensures run { OnOk result (IsRun (network_of plan.now) (weave_of closed.now.journals)) }
+    ensures table { OnOk result (W.has_table watch.new ≡ W.has_table watch.old) }
+{
+    // Read for what it says of every plan.
+    let _valid = plan.links();
+    let journals = closed.journals.as_slice();
+    let order = order_of(alloc, journals)?;
+    let callers = callers_after(alloc, plan, closed, order.as_slice())?;
+    let items = tell(alloc, plan, journals, order.as_slice(), watch)?;
+    let schedule = Schedule {
+        written: true,
+        items: Dos::new(items),
+    };
+    Ok(Told { callers, schedule })
+}
+
+// The callers after the run that has this order. Its steps after the last one of a caller are the plane's.
+fn callers_after(
+    alloc: Global,
+    plan: &Plan,
+    closed: &Closed,
+    order: &[u8],
+) -> Result<Callers, OutOfMemory>
+    requires whole { IsWhole (network_of plan.now) closed.now.passes closed.now.journals }
+    requires order { IsOrder closed.now.journals order.now }
+    ensures { IfOk result (λ callers. CallersStand plan.now callers (weave_of closed.now.journals)) }
+{
+    let passes = closed.passes.as_slice();
+    let latest = latest_of_all(&passes[..plan.callers().len()]);
+    let front = front_to(order, latest);
+    let mut run = Record::new(alloc);
+    tell(alloc, plan, closed.journals.as_slice(), front, &mut run)?;
+    let callers = replay(alloc, plan, &run)?;
+    Ok(callers)
+}
+
+// The table up to this stamp, or to its end.
+fn front_to(order: &[u8], stamp: u64) -> &[u8]
+    ensures front { (more : List ℕ) × (order.now ≡ result.now ++ more) }
+    ensures long { length result.now < length order.now → stamp < length result.now }
+{
+    let count = (stamp as usize).saturating_add(1).min(order.len());
+    &order[..count]
 }

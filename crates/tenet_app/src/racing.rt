@@ -1,23 +1,24 @@
 //! The word `race`: from the bytes of a scenario to a race of its plan, the schedule that the race has followed, and the report of
 //! its run.
-ghost use Rattle.std.specs.Prelude.{◌≡◌, ◌≤◌, ◌↔◌, IsSome, OnOk, reverse};
+ghost use Rattle.std.specs.Prelude.{◌≡◌, ◌≤◌, ◌↔◌, List, IfOk, IsSome, OnOk, reverse};
 ghost use Rattle.call_script.specs.Tasks.{network_of};
 ghost use Rattle.text_writer.specs.Telling.{WritesText};
-ghost use Rattle.run_engine.specs.runs.Runs.{IsRun};
 ghost use Rattle.run_engine.specs.schedules.Schedules.{IsActorOf};
+ghost use Rattle.run_record.specs.declared.done.Done.{Done as Step};
+ghost use Rattle.channel_report.specs.Tallied.{IsTalliedRun};
 ghost use Rattle.link_steps.specs.Lists.{Each};
-ghost use Rattle.race_run.specs.Whole.{IsWhole};
+ghost use Rattle.race_run.specs.Whole.{IsWhole, weave_of};
 ghost use Rattle.tenet_app.specs.Playing.{CountsRise};
-ghost use Rattle.tenet_app.specs.Racing.{AnswersRace, Races, ReadsForRace, race_text};
+ghost use Rattle.tenet_app.specs.Racing.{AnswersRace, IsRaceOf, Races, ReadsForRace, race_text};
 ghost use Rattle.tenet_app.specs.declared.status.Status.TheVariants.{Done};
 
 use crate::playing::refuse;
 use crate::status::{Ended, Status};
 use byte_ends::{Sink, Source, put_all};
 use call_script::Plan;
-use channel_report::{ReportFault, write_report, write_schedule};
-use net_units::Gate;
-use race_run::{Raced, woven};
+use channel_report::{ReportFault, Tally, write_schedule, write_tallied};
+use net_units::{Gate, OutOfMemory};
+use race_run::{Told, woven_watched};
 use scenario_reader::{ReadRefusal, read_plan};
 use shared_network::Closed;
 use std::alloc::Global;
@@ -100,15 +101,13 @@ fn tell<K: Sink>(alloc: Global, packets: bool, plan: &Plan, closed: Closed, sink
     ensures handed { IsSome result.raced ↔ (result.status ≡ Done) }
     ensures counts { K.faults sink.old ≤ K.faults sink.new }
 {
-    // Read for what it says of every plan.
-    let _valid = plan.links();
-    let Ok(raced) = woven(alloc, plan, &closed) else {
+    let Ok((told, tally)) = tallied(alloc, packets, plan, &closed) else {
         return Ended {
             status: Status::Memory,
             raced: None,
         };
     };
-    match write_race(alloc, packets, plan, &raced, sink) {
+    match write_race(alloc, plan, told, tally, sink) {
         Ok(()) => Ended {
             status: Status::Done,
             raced: Some(closed),
@@ -124,22 +123,42 @@ fn tell<K: Sink>(alloc: Global, packets: bool, plan: &Plan, closed: Closed, sink
     }
 }
 
-// Writes the line `schedule` and the schedule of a race, and the line `report` and the report of its run.
-fn write_race<K: Sink>(
+// What is left of the run of a race, which a tally has seen, with that tally.
+fn tallied(
     alloc: Global,
     packets: bool,
     plan: &Plan,
-    raced: &Raced,
+    closed: &Closed,
+) -> Result<(Told, Tally), OutOfMemory>
+    requires whole { IsWhole (network_of plan.now) closed.now.passes closed.now.journals }
+    ensures race { IfOk result (λ told. IsRaceOf plan.now closed.now told.0.schedule (reverse (weave_of closed.now.journals))) }
+    ensures tallied { IfOk result (λ told. IsTalliedRun plan.now told.0.callers told.1 (weave_of closed.now.journals)) }
+    ensures table { IfOk result (λ told. told.1.packets ≡ packets) }
+{
+    // Read for what it says of every plan.
+    let _valid = plan.links();
+    let mut tally = Tally::new(alloc, plan, packets)?;
+    let told = woven_watched(alloc, plan, closed, &mut tally)?;
+    Ok((told, tally))
+}
+
+// Writes the line `schedule` and the schedule of a race, and the line `report` and the report of its run.
+fn write_race<K: Sink>(
+    alloc: Global,
+    plan: &Plan,
+    told: Told,
+    tally: Tally,
     sink: &mut K,
 ) -> Result<(), ReportFault>
-    requires actors { Each (IsActorOf plan.now) raced.now.schedule.items }
-    requires run { IsRun (network_of plan.now) (reverse raced.now.run.entries) }
-    ensures { WritesText result (K.written sink.old) (K.written sink.new) (K.faults sink.old) (K.faults sink.new) (race_text plan.now raced.now.schedule.items raced.now.run.entries packets) }
+    requires actors { Each (IsActorOf plan.now) told.schedule.items }
+    requires tallied { (run : List Step) × IsTalliedRun plan.now told.callers tally run }
+    ensures { (run : List Step) → IsTalliedRun plan.now told.callers tally run → WritesText result (K.written sink.old) (K.written sink.new) (K.faults sink.old) (K.faults sink.new) (race_text plan.now told.schedule.items (reverse run) tally.packets) }
 {
+    let Told { callers, schedule } = told;
     write_line(sink, "schedule\n")?;
-    write_schedule(alloc, plan, &raced.schedule, sink)?;
+    write_schedule(alloc, plan, &schedule, sink)?;
     write_line(sink, "report\n")?;
-    write_report(alloc, plan, &raced.run, packets, sink)
+    write_tallied(alloc, plan, callers, tally, sink)
 }
 
 // Writes a line.
