@@ -1,7 +1,7 @@
 -- How full a link is with the requests over it, or a group's share with the group's: how many are asked for and how many accepted, the part of
 -- the link that they take in the long run, the least first bound with which level 1 would hold them, the buffer that they keep, and for each level
 -- its load and the room that it has for more like one of them.
-use Rattle.std.specs.Prelude.{◌≡◌, ◌⊎◌, ℕ, ◌+◌, ◌<◌, ◌≤◌, Option, Some, None, List, length}
+use Rattle.std.specs.Prelude.{◌≡◌, ℕ, ◌+◌, Option, Some, None, List, length}
 use Rattle.std.specs.List.{slice_get}
 use Rattle.net_units.specs.Limits.{most_bound}
 use Rattle.net_units.specs.Numbers.{level_number}

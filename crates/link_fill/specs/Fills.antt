@@ -3,23 +3,20 @@
 -- together. A group that has a share of the link is judged by its quota in place of the bounds: its rows may bring no more work into a window as
 -- long as the bound of a level than its quota has of that level. There is room for so many more rows at a level: with these each level from it on
 -- still holds what it is beside, and with one more one of them doesn't.
-use Rattle.std.specs.Prelude.{◌≡◌, ℕ, ◌+◌, ◌*◌, ◌<◌, ◌≤◌, Option, Some, None, List, ◌++◌, length, map, replicate}
+use Rattle.std.specs.Prelude.{◌≡◌, ℕ, ◌+◌, ◌<◌, ◌≤◌, Option, Some, None, List, ◌++◌, length, map, replicate}
 use Rattle.std.specs.List.{filter_map}
 use Rattle.net_units.specs.LevelBounds.{bound_at}
-use Rattle.net_units.specs.Limits.{most_bound}
 use Rattle.traffic_contract.specs.Admission.{total, work_up_to}
 use Rattle.traffic_contract.specs.Contract.{Traffic}
 use Rattle.link_steps.specs.Buffer.{units_for}
 use Rattle.link_steps.specs.Split.{level_part}
 use Rattle.link_steps.specs.declared.quota.Quota.{Quota}
-use Rattle.load_table.specs.Loads.{IsLoadOf, IsWindowWithin, part_in, rows_in}
+use Rattle.load_table.specs.Loads.{IsLoadOf, rows_in}
 use Rattle.load_table.specs.declared.link.LinkRow.{LinkRow}
 use Rattle.load_table.specs.declared.window.LevelLoad.{LevelLoad}
 use Rattle.link_fill.specs.declared.crossing.Crossing.{Crossing}
 use Rattle.link_fill.specs.declared.crossing.Held.{Held}
 use Rattle.link_fill.specs.declared.share.Share.{Share}
-use Rattle.link_fill.specs.declared.fill.Fill.{Fill}
-use Rattle.link_fill.specs.declared.fill.LevelFill.{LevelFill}
 
 -- ---- the rows
 

@@ -1,4 +1,4 @@
-use Rattle.std.proofs.Common.{◌+◌, ◌≤◌, ℕ}
+use Rattle.std.proofs.Common.{◌≤◌, ℕ}
 use Rattle.net_units.specs.Numbers.{level_number}
 use Rattle.link_fill.specs.Fills.{Holds}
 use Rattle.link_fill.proofs.room.do_fit.Given as goal

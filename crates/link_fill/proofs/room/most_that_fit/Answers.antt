@@ -1,7 +1,7 @@
 -- The number in the middle fits, or it doesn't: the rows that are tried are the front of all that there may be.
-use Rattle.std.proofs.Common.{◌≡◌, ◌+◌, ◌-◌, ◌/◌, ◌≤◌, length, take, ap, ◌∙◌, subst, arith}
+use Rattle.std.proofs.Common.{◌+◌, ◌-◌, ◌/◌, ◌≤◌, length, take, ap, ◌∙◌, subst, arith}
 use Rattle.net_units.specs.Numbers.{level_number}
-use Rattle.link_fill.specs.Fills.{AllHold, OneExceeds, with_more}
+use Rattle.link_fill.specs.Fills.{AllHold, OneExceeds}
 use Rattle.link_fill.proofs.RowsOfRequests.{front-of-more}
 use Rattle.link_fill.proofs.room.most_that_fit.Goals as goal
 
