@@ -1,7 +1,5 @@
 -- An edge that is found between two delays lies between any two around them.
 use Rattle.std.proofs.Common.{ℕ, ◌+◌, Bool, not, ◌∙◌, subst, arith}
-use Rattle.call_script.specs.Parts.{PlanParts}
-use Rattle.plan_answers.specs.Delays.{DelayGives}
 use Rattle.answer_tables.specs.Ranges.{DelayIs, HasEdge, IsPartOf}
 use Rattle.answer_tables.specs.declared.ranges.Across.{Across}
 
@@ -12,10 +10,10 @@ part-of-part across part smaller first second = record {
   same = second.same ∙ first.same;
 }
 
-pub edge-of-part : (parts : PlanParts) (number : ℕ) (across part : Across) (edge : ℕ) → IsPartOf across part → HasEdge parts number part edge → HasEdge parts number across edge
-edge-of-part parts number across part edge is has = record {
+pub edge-of-part : (gives : ℕ → Bool → Type 0) (across part : Across) (edge : ℕ) → IsPartOf across part → HasEdge gives part edge → HasEdge gives across edge
+edge-of-part gives across part edge is has = record {
   from = omega (arith, is.from, has.from);
   below = omega (arith, is.to, has.below);
-  is = subst (DelayIs parts number edge) is.same has.is;
-  next = subst (λ (accepted : Bool). DelayGives parts number (edge + 1) (not accepted)) is.same has.next;
+  is = subst (DelayIs gives edge) is.same has.is;
+  next = subst (λ (accepted : Bool). gives (edge + 1) (not accepted)) is.same has.next;
 }

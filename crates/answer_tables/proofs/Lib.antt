@@ -1,4 +1,4 @@
 mod BoundsOver
 mod EdgesFound
 mod RangesSeen
-mod RefusedTogether
+pub mod RefusedTogether

@@ -5,9 +5,8 @@ use Rattle.std.proofs.lemmas.Bool.{cases_lt}
 use Rattle.net_units.specs.Limits.{most_delay}
 use Rattle.link_steps.specs.Lists.{Each}
 use Rattle.link_steps.proofs.SearchAndFilter.{Each-append, Each-if}
-use Rattle.call_script.specs.Parts.{PlanParts}
-use Rattle.plan_answers.specs.Delays.{AcceptsDelay, DelayGives, DeniesDelay}
-use Rattle.answer_tables.specs.Ranges.{AreAllRanges, AreApartFrom, DelayIs, HasSeen, IsBoundIn, IsInOne, IsInOneSoFar, IsJudged, IsJudgedSoFar, IsOpen, IsRange, Stands, hops_of}
+use Rattle.hop_reservation.specs.declared.route.Hop.{Hop}
+use Rattle.answer_tables.specs.Ranges.{Accepts, AreApartFrom, AreRangesOf, DelayIs, Denies, HasSeen, IsBoundIn, IsInOne, IsInOneSoFar, IsJudged, IsJudgedSoFar, IsOpen, IsRange, Stands}
 use Rattle.answer_tables.specs.declared.ranges.Range.{Range}
 use Rattle.answer_tables.specs.declared.ranges.Sweep.{Sweep}
 
@@ -31,39 +30,39 @@ in-new (first ∷ ranges) range delay from to = inr (in-new ranges range delay f
 
 -- ---- what a delay is
 
-accepted-one : (parts : PlanParts) (number delay : ℕ) (accepted : Bool) → accepted ≡ true → DelayIs parts number delay accepted → AcceptsDelay parts number delay
-accepted-one parts number delay accepted given (inl none) = absurd (let clash : true ≡ false = sym given ∙ none.1 in cc)
-accepted-one parts number delay accepted given (inr gives) = subst (DelayGives parts number delay) given gives
+accepted-one : (gives : ℕ → Bool → Type 0) (delay : ℕ) (accepted : Bool) → accepted ≡ true → DelayIs gives delay accepted → Accepts gives delay
+accepted-one gives delay accepted given (inl none) = absurd (let clash : true ≡ false = sym given ∙ none.1 in cc)
+accepted-one gives delay accepted given (inr has) = subst (gives delay) given has
 
-denied-one : (parts : PlanParts) (number delay : ℕ) (accepted : Bool) → accepted ≡ false → DelayIs parts number delay accepted → DeniesDelay parts number delay
-denied-one parts number delay accepted given (inl none) = inl none.0
-denied-one parts number delay accepted given (inr gives) = inr (subst (DelayGives parts number delay) given gives)
+denied-one : (gives : ℕ → Bool → Type 0) (delay : ℕ) (accepted : Bool) → accepted ≡ false → DelayIs gives delay accepted → Denies gives delay
+denied-one gives delay accepted given (inl none) = inl none.0
+denied-one gives delay accepted given (inr has) = inr (subst (gives delay) given has)
 
 -- what holds of the delays up to one, and of the next, holds of all up to that
-further : (parts : PlanParts) (number : ℕ) (ranges new : List Range) (sweep next : Sweep)
-    → ((bound : ℕ) → IsBoundIn (hops_of parts number) bound → sweep.at + 1 < bound → next.at + 1 ≤ bound)
-    → ((delay : ℕ) → IsBoundIn (hops_of parts number) (delay + 1) → delay ≤ sweep.at → IsJudgedSoFar parts number ranges sweep delay)
+further : (gives : ℕ → Bool → Type 0) (hops : List Hop) (ranges new : List Range) (sweep next : Sweep)
+    → ((bound : ℕ) → IsBoundIn hops bound → sweep.at + 1 < bound → next.at + 1 ≤ bound)
+    → ((delay : ℕ) → IsBoundIn hops (delay + 1) → delay ≤ sweep.at → IsJudgedSoFar gives ranges sweep delay)
     → ((delay : ℕ) → delay ≤ sweep.at → IsInOneSoFar ranges sweep delay → IsInOneSoFar new next delay)
-    → IsJudgedSoFar parts number new next next.at
-    → (delay : ℕ) → IsBoundIn (hops_of parts number) (delay + 1) → delay ≤ next.at → IsJudgedSoFar parts number new next delay
-further parts number ranges new sweep next step judged keeps there delay bound to = by (cases_lt sweep.at delay) where
-  kept : delay ≤ sweep.at → IsJudgedSoFar parts number ranges sweep delay → IsJudgedSoFar parts number new next delay
+    → IsJudgedSoFar gives new next next.at
+    → (delay : ℕ) → IsBoundIn hops (delay + 1) → delay ≤ next.at → IsJudgedSoFar gives new next delay
+further gives hops ranges new sweep next step judged keeps there delay bound to = by (cases_lt sweep.at delay) where
+  kept : delay ≤ sweep.at → IsJudgedSoFar gives ranges sweep delay → IsJudgedSoFar gives new next delay
   kept before (inl accepted) = inl (keeps delay before accepted.0, accepted.1)
   kept before (inr denied) = inr denied
 
-  by : (sweep.at < delay) ⊎ (delay ≤ sweep.at) → IsJudgedSoFar parts number new next delay
+  by : (sweep.at < delay) ⊎ (delay ≤ sweep.at) → IsJudgedSoFar gives new next delay
   by (inl behind) =
       let above : sweep.at + 1 < delay + 1 = omega arith in
       let least : next.at + 1 ≤ delay + 1 = step (delay + 1) bound above in
       let same : next.at ≡ delay = omega arith in
-      subst (IsJudgedSoFar parts number new next) same there
+      subst (IsJudgedSoFar gives new next) same there
   by (inr before) = kept before (judged delay bound before)
 
 -- ---- at the beginning
 
-pub none-seen : (parts : PlanParts) (number : ℕ) → HasSeen parts number [] (record { at = 0; accepted = false; first = 0 })
+pub none-seen : (gives : ℕ → Bool → Type 0) (hops : List Hop) → HasSeen gives hops [] (record { at = 0; accepted = false; first = 0 })
 unfolding AreApartFrom
-none-seen parts number = record {
+none-seen gives hops = record {
   most = omega arith;
   is = inl (refl, refl);
   stands = tt;
@@ -74,33 +73,33 @@ none-seen parts number = record {
 
 -- ---- the verdict stays the same
 
-pub seen-same : (parts : PlanParts) (number : ℕ) (ranges : List Range) (sweep : Sweep) (at : ℕ) (accepted : Bool) → HasSeen parts number ranges sweep → sweep.at < at → at ≤ most_delay
-    → ((bound : ℕ) → IsBoundIn (hops_of parts number) bound → sweep.at + 1 < bound → at + 1 ≤ bound) → accepted ≡ sweep.accepted → DelayGives parts number at accepted
-    → HasSeen parts number ranges (record { at = at; accepted = accepted; first = sweep.first })
-seen-same parts number ranges sweep at true seen more most step same gives =
-    let opened : IsOpen parts number ranges sweep = subst (Stands parts number ranges sweep) (sym same) seen.stands in
+pub seen-same : (gives : ℕ → Bool → Type 0) (hops : List Hop) (ranges : List Range) (sweep : Sweep) (at : ℕ) (accepted : Bool) → HasSeen gives hops ranges sweep → sweep.at < at → at ≤ most_delay
+    → ((bound : ℕ) → IsBoundIn hops bound → sweep.at + 1 < bound → at + 1 ≤ bound) → accepted ≡ sweep.accepted → gives at accepted
+    → HasSeen gives hops ranges (record { at = at; accepted = accepted; first = sweep.first })
+seen-same gives hops ranges sweep at true seen more most step same has =
+    let opened : IsOpen gives ranges sweep = subst (Stands gives ranges sweep) (sym same) seen.stands in
     let next : Sweep = record { at = at; accepted = true; first = sweep.first } in
     record {
       most = most;
-      is = inr gives;
+      is = inr has;
       stands = record { rises = omega (arith, opened.rises); some = opened.some; first = opened.first; begins = opened.begins; behind = opened.behind };
       are = seen.are;
       apart = seen.apart;
-      judged = further parts number ranges ranges sweep next step seen.judged (λ delay before one. in-one delay one) (inl (inr (refl, omega (arith, opened.rises)), gives));
+      judged = further gives hops ranges ranges sweep next step seen.judged (λ delay before one. in-one delay one) (inl (inr (refl, omega (arith, opened.rises)), has));
     } where
       in-one : (delay : ℕ) → IsInOneSoFar ranges sweep delay → IsInOneSoFar ranges (record { at = at; accepted = true; first = sweep.first }) delay
       in-one delay (inl one) = inl one
       in-one delay (inr opened) = inr (refl, opened.1)
-seen-same parts number ranges sweep at false seen more most step same gives =
-    let ended : Each (λ (one : Range). one.last < sweep.at) ranges = subst (Stands parts number ranges sweep) (sym same) seen.stands in
+seen-same gives hops ranges sweep at false seen more most step same has =
+    let ended : Each (λ (one : Range). one.last < sweep.at) ranges = subst (Stands gives ranges sweep) (sym same) seen.stands in
     let next : Sweep = record { at = at; accepted = false; first = sweep.first } in
     record {
       most = most;
-      is = inr gives;
+      is = inr has;
       stands = Each-if (λ (one : Range). one.last < sweep.at) (λ (one : Range). one.last < at) ranges (λ one before. omega arith) ended;
       are = seen.are;
       apart = seen.apart;
-      judged = further parts number ranges ranges sweep next step seen.judged (λ delay before one. in-one delay one) (inr (inr gives));
+      judged = further gives hops ranges ranges sweep next step seen.judged (λ delay before one. in-one delay one) (inr (inr has));
     } where
       in-one : (delay : ℕ) → IsInOneSoFar ranges sweep delay → IsInOneSoFar ranges (record { at = at; accepted = false; first = sweep.first }) delay
       in-one delay (inl one) = inl one
@@ -108,27 +107,27 @@ seen-same parts number ranges sweep at false seen more most step same gives =
 
 -- ---- a range begins behind an edge
 
-pub seen-opens : (parts : PlanParts) (number : ℕ) (ranges : List Range) (sweep : Sweep) (at edge : ℕ) → HasSeen parts number ranges sweep → at ≤ most_delay
-    → ((bound : ℕ) → IsBoundIn (hops_of parts number) bound → sweep.at + 1 < bound → at + 1 ≤ bound) → sweep.accepted ≡ false → DelayGives parts number at true
-    → sweep.at ≤ edge → edge < at → DelayIs parts number edge false → DelayGives parts number (edge + 1) true
-    → HasSeen parts number ranges (record { at = at; accepted = true; first = edge + 1 })
-seen-opens parts number ranges sweep at edge seen most step was gives from below denied accepted =
-    let ended : Each (λ (one : Range). one.last < sweep.at) ranges = subst (Stands parts number ranges sweep) was seen.stands in
+pub seen-opens : (gives : ℕ → Bool → Type 0) (hops : List Hop) (ranges : List Range) (sweep : Sweep) (at edge : ℕ) → HasSeen gives hops ranges sweep → at ≤ most_delay
+    → ((bound : ℕ) → IsBoundIn hops bound → sweep.at + 1 < bound → at + 1 ≤ bound) → sweep.accepted ≡ false → gives at true
+    → sweep.at ≤ edge → edge < at → DelayIs gives edge false → gives (edge + 1) true
+    → HasSeen gives hops ranges (record { at = at; accepted = true; first = edge + 1 })
+seen-opens gives hops ranges sweep at edge seen most step was has from below denied accepted =
+    let ended : Each (λ (one : Range). one.last < sweep.at) ranges = subst (Stands gives ranges sweep) was seen.stands in
     let next : Sweep = record { at = at; accepted = true; first = edge + 1 } in
     let back : edge ≡ edge + 1 - 1 = omega arith in
     record {
       most = most;
-      is = inr gives;
+      is = inr has;
       stands = record {
         rises = omega arith;
         some = omega arith;
         first = accepted;
-        begins = subst (DeniesDelay parts number) back (denied-one parts number edge false refl denied);
+        begins = subst (Denies gives) back (denied-one gives edge false refl denied);
         behind = Each-if (λ (one : Range). one.last < sweep.at) (λ (one : Range). one.last + 1 < edge + 1) ranges (λ one before. omega arith) ended;
       };
       are = seen.are;
       apart = seen.apart;
-      judged = further parts number ranges ranges sweep next step seen.judged (λ delay before one. in-one delay one) (inl (inr (refl, omega arith), gives));
+      judged = further gives hops ranges ranges sweep next step seen.judged (λ delay before one. in-one delay one) (inl (inr (refl, omega arith), has));
     } where
       in-one : (delay : ℕ) → IsInOneSoFar ranges sweep delay → IsInOneSoFar ranges (record { at = at; accepted = true; first = edge + 1 }) delay
       in-one delay (inl one) = inl one
@@ -136,29 +135,29 @@ seen-opens parts number ranges sweep at edge seen most step was gives from below
 
 -- ---- a range ends at an edge
 
-pub seen-closes : (parts : PlanParts) (number : ℕ) (ranges : List Range) (sweep : Sweep) (at edge : ℕ) → HasSeen parts number ranges sweep → at ≤ most_delay
-    → ((bound : ℕ) → IsBoundIn (hops_of parts number) bound → sweep.at + 1 < bound → at + 1 ≤ bound) → sweep.accepted ≡ true → DelayGives parts number at false
-    → sweep.at ≤ edge → edge < at → DelayIs parts number edge true → DelayGives parts number (edge + 1) false
-    → HasSeen parts number (ranges ++ record { first = sweep.first; last = edge } ∷ []) (record { at = at; accepted = false; first = 0 })
-seen-closes parts number ranges sweep at edge seen most step was gives from below accepted denied =
-    let opened : IsOpen parts number ranges sweep = subst (Stands parts number ranges sweep) was seen.stands in
+pub seen-closes : (gives : ℕ → Bool → Type 0) (hops : List Hop) (ranges : List Range) (sweep : Sweep) (at edge : ℕ) → HasSeen gives hops ranges sweep → at ≤ most_delay
+    → ((bound : ℕ) → IsBoundIn hops bound → sweep.at + 1 < bound → at + 1 ≤ bound) → sweep.accepted ≡ true → gives at false
+    → sweep.at ≤ edge → edge < at → DelayIs gives edge true → gives (edge + 1) false
+    → HasSeen gives hops (ranges ++ record { first = sweep.first; last = edge } ∷ []) (record { at = at; accepted = false; first = 0 })
+seen-closes gives hops ranges sweep at edge seen most step was has from below accepted denied =
+    let opened : IsOpen gives ranges sweep = subst (Stands gives ranges sweep) was seen.stands in
     let range : Range = record { first = sweep.first; last = edge } in
     let next : Sweep = record { at = at; accepted = false; first = 0 } in
     let rises : sweep.first ≤ sweep.at = opened.rises in
-    let ends : IsRange parts number range = record {
+    let ends : IsRange gives range = record {
       rises = omega arith;
       first = opened.first;
-      last = accepted-one parts number edge true refl accepted;
+      last = accepted-one gives edge true refl accepted;
       begins = opened.begins;
       ends = inr denied;
     } in
     record {
       most = most;
-      is = inr gives;
+      is = inr has;
       stands = Each-append (λ (one : Range). one.last < at) ranges (range ∷ []) (Each-if (λ (one : Range). one.last + 1 < sweep.first) (λ (one : Range). one.last < at) ranges (λ one before. omega arith) opened.behind) (below, tt);
-      are = Each-append (IsRange parts number) ranges (range ∷ []) seen.are (ends, tt);
+      are = Each-append (IsRange gives) ranges (range ∷ []) seen.are (ends, tt);
       apart = apart-more 0 ranges range seen.apart opened.some opened.behind;
-      judged = further parts number ranges (ranges ++ range ∷ []) sweep next step seen.judged (λ delay before one. in-one delay before one) (inr (inr gives));
+      judged = further gives hops ranges (ranges ++ range ∷ []) sweep next step seen.judged (λ delay before one. in-one delay before one) (inr (inr has));
     } where
       in-one : (delay : ℕ) → delay ≤ sweep.at → IsInOneSoFar ranges sweep delay → IsInOneSoFar (ranges ++ record { first = sweep.first; last = edge } ∷ []) (record { at = at; accepted = false; first = 0 }) delay
       in-one delay before (inl one) = inl (in-old ranges (record { first = sweep.first; last = edge }) delay one)
@@ -166,38 +165,38 @@ seen-closes parts number ranges sweep at edge seen most step was gives from belo
 
 -- ---- at the end
 
-pub all-denied-last : (parts : PlanParts) (number : ℕ) (ranges : List Range) (sweep : Sweep) → HasSeen parts number ranges sweep → most_delay ≤ sweep.at → sweep.accepted ≡ false → AreAllRanges parts number ranges
-all-denied-last parts number ranges sweep seen over was =
+pub all-denied-last : (gives : ℕ → Bool → Type 0) (hops : List Hop) (ranges : List Range) (sweep : Sweep) → HasSeen gives hops ranges sweep → most_delay ≤ sweep.at → sweep.accepted ≡ false → AreRangesOf gives hops ranges
+all-denied-last gives hops ranges sweep seen over was =
     let most : sweep.at ≤ most_delay = seen.most in
     let at : sweep.at ≡ most_delay = omega arith in
     record {
       are = seen.are;
       apart = seen.apart;
       before_bounds = λ delay bound to. told delay (seen.judged delay bound (subst (λ n. delay ≤ n) (sym at) to));
-      longest = inr (subst (DeniesDelay parts number) at (denied-one parts number sweep.at sweep.accepted was seen.is));
+      longest = inr (subst (Denies gives) at (denied-one gives sweep.at sweep.accepted was seen.is));
     } where
-      told : (delay : ℕ) → IsJudgedSoFar parts number ranges sweep delay → IsJudged parts number ranges delay
+      told : (delay : ℕ) → IsJudgedSoFar gives ranges sweep delay → IsJudged gives ranges delay
       told delay (inl (inl one, accepted)) = inl (one, accepted)
       told delay (inl (inr opened, accepted)) = absurd (let clash : true ≡ false = sym opened.0 ∙ was in cc)
       told delay (inr denied) = inr denied
 
-pub all-accepted-last : (parts : PlanParts) (number : ℕ) (ranges : List Range) (sweep : Sweep) → HasSeen parts number ranges sweep → most_delay ≤ sweep.at → sweep.accepted ≡ true
-    → AreAllRanges parts number (ranges ++ record { first = sweep.first; last = most_delay } ∷ [])
-all-accepted-last parts number ranges sweep seen over was =
+pub all-accepted-last : (gives : ℕ → Bool → Type 0) (hops : List Hop) (ranges : List Range) (sweep : Sweep) → HasSeen gives hops ranges sweep → most_delay ≤ sweep.at → sweep.accepted ≡ true
+    → AreRangesOf gives hops (ranges ++ record { first = sweep.first; last = most_delay } ∷ [])
+all-accepted-last gives hops ranges sweep seen over was =
     let most : sweep.at ≤ most_delay = seen.most in
     let at : sweep.at ≡ most_delay = omega arith in
-    let opened : IsOpen parts number ranges sweep = subst (Stands parts number ranges sweep) was seen.stands in
+    let opened : IsOpen gives ranges sweep = subst (Stands gives ranges sweep) was seen.stands in
     let range : Range = record { first = sweep.first; last = most_delay } in
-    let accepted : AcceptsDelay parts number most_delay = subst (AcceptsDelay parts number) at (accepted-one parts number sweep.at sweep.accepted was seen.is) in
+    let accepted : Accepts gives most_delay = subst (Accepts gives) at (accepted-one gives sweep.at sweep.accepted was seen.is) in
     let rises : sweep.first ≤ most_delay = subst (λ n. sweep.first ≤ n) at opened.rises in
-    let ends : IsRange parts number range = record { rises = rises; first = opened.first; last = accepted; begins = opened.begins; ends = inl refl } in
+    let ends : IsRange gives range = record { rises = rises; first = opened.first; last = accepted; begins = opened.begins; ends = inl refl } in
     record {
-      are = Each-append (IsRange parts number) ranges (range ∷ []) seen.are (ends, tt);
+      are = Each-append (IsRange gives) ranges (range ∷ []) seen.are (ends, tt);
       apart = apart-more 0 ranges range seen.apart opened.some opened.behind;
       before_bounds = λ delay bound to. told delay to (seen.judged delay bound (subst (λ n. delay ≤ n) (sym at) to));
       longest = inl (in-new ranges range most_delay rises (subst (λ n. most_delay ≤ n) refl (omega arith)), accepted);
     } where
-      told : (delay : ℕ) → delay ≤ most_delay → IsJudgedSoFar parts number ranges sweep delay → IsJudged parts number (ranges ++ record { first = sweep.first; last = most_delay } ∷ []) delay
+      told : (delay : ℕ) → delay ≤ most_delay → IsJudgedSoFar gives ranges sweep delay → IsJudged gives (ranges ++ record { first = sweep.first; last = most_delay } ∷ []) delay
       told delay to (inl (inl one, accepted)) = inl (in-old ranges (record { first = sweep.first; last = most_delay }) delay one, accepted)
       told delay to (inl (inr opened, accepted)) = inl (in-new ranges (record { first = sweep.first; last = most_delay }) delay opened.1 to, accepted)
       told delay to (inr denied) = inr denied

@@ -56,10 +56,6 @@ pub record IsTriedWith (parts : PlanParts) (numbers : List ℕ) (count : ℕ) (r
   pub played : IsRunOf made run
   pub first : refused ≡ first_refused run (length parts.requests) made.requests
 
--- all are accepted
-abbrev pub AreAccepted : PlanParts → List ℕ → ℕ → Type 0
-AreAccepted parts numbers count = (count ≡ 0) ⊎ IsTriedWith parts numbers count None
-
 -- the first copy that isn't accepted comes to this, and is like the request of this number: there are as many copies of each, in the
 -- order of the numbers, after the plan's own requests
 pub record IsRefused (parts : PlanParts) (numbers : List ℕ) (count number : ℕ) (outcome : Option Outcome) : Type 0 where
@@ -71,19 +67,27 @@ abbrev pub IsTriedTogether : PlanParts → List ℕ → ℕ → Tried → Type 0
 IsTriedTogether parts numbers count tried.Accepted = IsTriedWith parts numbers count None
 IsTriedTogether parts numbers count (tried.Refused refusal) = IsRefused parts numbers count refusal.number (option_map outcome_of refusal.verdict)
 
--- ---- the answer
+-- ---- the answer, by what so many more of each come to
+
+-- all are accepted
+abbrev pub AreAccepted : (ℕ → Tried → Type 0) → ℕ → Type 0
+AreAccepted tries count = (count ≡ 0) ⊎ tries count tried.Accepted
 
 -- of one more of each a copy isn't accepted, or no plan has one more of each
-abbrev pub IsNextTogether : PlanParts → List ℕ → ℕ → NextTogether → Type 0
-IsNextTogether parts numbers count (Refused number verdict tight) = IsRefused parts numbers (count + 1) number (option_map outcome_of verdict)
-IsNextTogether parts numbers count Full = most_requests < length parts.requests + length numbers * (count + 1)
+abbrev pub IsNext : (ℕ → Tried → Type 0) → PlanParts → List ℕ → ℕ → NextTogether → Type 0
+IsNext tries parts numbers count (Refused number verdict tight) = tries (count + 1) (tried.Refused (record { number = number; verdict = verdict; tight = tight }))
+IsNext tries parts numbers count Full = most_requests < length parts.requests + length numbers * (count + 1)
 
-pub record IsRoomTogether (parts : PlanParts) (numbers : List ℕ) (room : RoomTogether) : Type 0 where
-  pub fits : AreAccepted parts numbers room.count
-  pub next : IsNextTogether parts numbers room.count room.next
+pub record IsRoomOf (tries : ℕ → Tried → Type 0) (parts : PlanParts) (numbers : List ℕ) (room : RoomTogether) : Type 0 where
+  pub fits : AreAccepted tries room.count
+  pub next : IsNext tries parts numbers room.count room.next
+
+-- among a plan's requests alone
+abbrev pub IsRoomTogether : PlanParts → List ℕ → RoomTogether → Type 0
+IsRoomTogether parts numbers room = IsRoomOf (IsTriedTogether parts numbers) parts numbers room
 
 -- the room lies between two numbers
-pub record LiesBetween (parts : PlanParts) (numbers : List ℕ) (between : Between) : Type 0 where
+pub record LiesBetween (tries : ℕ → Tried → Type 0) (between : Between) : Type 0 where
   pub less : between.accepted < between.refused
-  pub accepted : AreAccepted parts numbers between.accepted
-  pub refused : IsRefused parts numbers between.refused between.why.number (option_map outcome_of between.why.verdict)
+  pub accepted : AreAccepted tries between.accepted
+  pub refused : tries between.refused (tried.Refused between.why)

@@ -7,11 +7,9 @@
 ghost use Rattle.std.specs.Prelude.{◌≡◌, ◌++◌, ◌∷◌, [], ◌+◌, ◌-◌, ◌<◌, ◌≤◌, ℕ, IfOk, OnOk, length};
 ghost use Rattle.net_units.specs.Limits.{most_delay};
 ghost use Rattle.link_steps.specs.Lists.{Each};
-ghost use Rattle.plan_answers.specs.Delays.{DelayGives};
-ghost use Rattle.answer_tables.specs.Ranges.{AreAllRanges, HasEdge, HasSeen, IsAcross, IsBoundIn, IsLeastOver, IsPartOf};
+ghost use Rattle.answer_tables.specs.Ranges.{AreAllRanges, AreRangesOf, HasEdge, HasSeen, IsAcross, IsBoundIn, IsLeastOver, IsPartOf, hops_of};
 
-use crate::nearest::is_accepted_within;
-use crate::rows::near_with;
+use crate::asked::{AmongRequests, AskedWithin};
 use call_script::{BadPlan, Plan};
 use hop_reservation::{Hop, Route};
 use net_units::limits::MOST_DELAY;
@@ -53,6 +51,19 @@ pub fn delay_ranges(alloc: Global, plan: &Plan, number: usize) -> Result<Vec<Ran
     requires inside { number < length plan.now.requests }
     ensures { IfOk result (λ ranges. AreAllRanges plan.now number ranges.items) }
 {
+    ranges_asked(alloc, plan, number, &AmongRequests)
+}
+
+/// The same of a request that is asked elsewhere.
+pub fn ranges_asked<F: From<OutOfMemory>, A: AskedWithin<F>>(
+    alloc: Global,
+    plan: &Plan,
+    number: usize,
+    asked: &A,
+) -> Result<Vec<Range>, F>
+    requires inside { number < length plan.now.requests }
+    ensures { IfOk result (λ ranges. AreRangesOf (A.gives asked.now plan.now number) (hops_of plan.now number) ranges.items) }
+{
     let mut ranges = Vec::new(alloc);
     let mut sweep = Sweep {
         at: 0,
@@ -60,7 +71,7 @@ pub fn delay_ranges(alloc: Global, plan: &Plan, number: usize) -> Result<Vec<Ran
         first: 0,
     };
     while sweep.at < MOST_DELAY {
-        sweep = step(alloc, plan, number, &mut ranges, sweep)?;
+        sweep = step(alloc, plan, number, asked, &mut ranges, sweep)?;
     }
     if sweep.accepted {
         let range = Range {
@@ -73,21 +84,22 @@ pub fn delay_ranges(alloc: Global, plan: &Plan, number: usize) -> Result<Vec<Ran
 }
 
 // Goes on to the next delay at which anything may change.
-fn step(
+fn step<F: From<OutOfMemory>, A: AskedWithin<F>>(
     alloc: Global,
     plan: &Plan,
     number: usize,
+    asked: &A,
     ranges: &mut Vec<Range>,
     sweep: Sweep,
-) -> Result<Sweep, BadPlan>
+) -> Result<Sweep, F>
     requires inside { number < length plan.now.requests }
     requires more { sweep.at < most_delay }
-    requires seen { HasSeen plan.now number ranges.old.items sweep }
-    ensures seen { IfOk result (λ next. HasSeen plan.now number ranges.new.items next) }
+    requires seen { HasSeen (A.gives asked.now plan.now number) (hops_of plan.now number) ranges.old.items sweep }
+    ensures seen { IfOk result (λ next. HasSeen (A.gives asked.now plan.now number) (hops_of plan.now number) ranges.new.items next) }
     ensures further { IfOk result (λ next. sweep.at < next.at) }
 {
     let at = next_after(&plan.requests()[number].request.route, sweep);
-    let accepted = is_accepted_within(alloc, plan, number, at)?;
+    let accepted = asked.is_accepted(alloc, plan, number, at)?;
     if accepted == sweep.accepted {
         return Ok(Sweep {
             at,
@@ -100,7 +112,7 @@ fn step(
         high: at,
         accepted: sweep.accepted,
     };
-    let edge = edge_near(alloc, plan, number, across)?;
+    let edge = edge_near(alloc, plan, number, asked, across)?;
     if accepted {
         return Ok(Sweep {
             at,
@@ -177,23 +189,35 @@ fn bound_at_hop(hop: &Hop, ticks: u64, other: u64) -> u64
 // ---- the end of a range
 
 // The last delay before the one in which the verdict changes. It is looked for first where the sum of the offers lies.
-fn edge_near(alloc: Global, plan: &Plan, number: usize, across: Across) -> Result<u64, BadPlan>
+fn edge_near<F, A: AskedWithin<F>>(
+    alloc: Global,
+    plan: &Plan,
+    number: usize,
+    asked: &A,
+    across: Across,
+) -> Result<u64, F>
     requires inside { number < length plan.now.requests }
-    requires across { IsAcross plan.now number across }
-    ensures { IfOk result (HasEdge plan.now number across) }
+    requires across { IsAcross (A.gives asked.now plan.now number) across }
+    ensures { IfOk result (HasEdge (A.gives asked.now plan.now number) across) }
 {
-    let near = near_with(alloc, plan, number, across.high)?;
-    let left = cut_at(alloc, plan, number, across, near.sum.saturating_sub(1))?;
-    let left = cut_at(alloc, plan, number, left, near.sum)?;
-    let edge = edge_of(alloc, plan, number, left)?;
+    let near = asked.sum_offered(alloc, plan, number, across.high)?;
+    let left = cut_at(alloc, plan, number, asked, across, near.saturating_sub(1))?;
+    let left = cut_at(alloc, plan, number, asked, left, near)?;
+    let edge = edge_of(alloc, plan, number, asked, left)?;
     Ok(edge)
 }
 
 // The same, by binary search.
-fn edge_of(alloc: Global, plan: &Plan, number: usize, across: Across) -> Result<u64, BadPlan>
+fn edge_of<F, A: AskedWithin<F>>(
+    alloc: Global,
+    plan: &Plan,
+    number: usize,
+    asked: &A,
+    across: Across,
+) -> Result<u64, F>
     requires inside { number < length plan.now.requests }
-    requires across { IsAcross plan.now number across }
-    ensures { IfOk result (HasEdge plan.now number across) }
+    requires across { IsAcross (A.gives asked.now plan.now number) across }
+    ensures { IfOk result (HasEdge (A.gives asked.now plan.now number) across) }
 {
     let mut left = across;
     while left.high - left.low > 1 {
@@ -201,6 +225,7 @@ fn edge_of(alloc: Global, plan: &Plan, number: usize, across: Across) -> Result<
             alloc,
             plan,
             number,
+            asked,
             left,
             left.low + (left.high - left.low) / 2,
         )?;
@@ -209,23 +234,24 @@ fn edge_of(alloc: Global, plan: &Plan, number: usize, across: Across) -> Result<
 }
 
 // What is left of two delays once one between them is tried; both, where it isn't between them.
-fn cut_at(
+fn cut_at<F, A: AskedWithin<F>>(
     alloc: Global,
     plan: &Plan,
     number: usize,
+    asked: &A,
     across: Across,
     delay: u64,
-) -> Result<Across, BadPlan>
+) -> Result<Across, F>
     requires inside { number < length plan.now.requests }
-    requires across { IsAcross plan.now number across }
-    ensures across { IfOk result (IsAcross plan.now number) }
+    requires across { IsAcross (A.gives asked.now plan.now number) across }
+    ensures across { IfOk result (IsAcross (A.gives asked.now plan.now number)) }
     ensures part { IfOk result (IsPartOf across) }
     ensures less { across.low < delay → delay < across.high → IfOk result (λ part. part.high - part.low < across.high - across.low) }
 {
     if delay <= across.low || across.high <= delay {
         return Ok(across);
     }
-    let accepted = is_accepted_within(alloc, plan, number, delay)?;
+    let accepted = asked.is_accepted(alloc, plan, number, delay)?;
     if accepted == across.accepted {
         Ok(Across {
             low: delay,

@@ -58,8 +58,8 @@ fn tight_hop(hops: &[HopRow], verdict: &Option<Verdict>) -> Option<usize> {
     largest_of(hops)
 }
 
-// Its link.
-pub(crate) fn tight_link_of(hops: &[HopRow], verdict: &Option<Verdict>) -> Option<LinkNo> {
+/// The link of the tight hop of these, whose request has come to this ([`RequestRow::tight_link`]).
+pub fn tight_link_of(hops: &[HopRow], verdict: &Option<Verdict>) -> Option<LinkNo> {
     let hop = hops.get(tight_hop(hops, verdict)?)?;
     Some(hop.link)
 }
@@ -144,8 +144,8 @@ pub fn with_any_jitter(alloc: Global, plan: &Plan, number: usize) -> Result<Plan
     requests_alone(alloc, plan, &loosened(plan, number))
 }
 
-// The change by which a request whose jitter is controlled wants none that is short.
-fn loosened(plan: &Plan, number: usize) -> Change
+/// The change by which a request whose jitter is controlled wants none that is short; none for another.
+pub fn loosened(plan: &Plan, number: usize) -> Change
     requires inside { number < length plan.now.requests }
     ensures { result ≡ loosened number plan.now.requests }
 {
@@ -173,8 +173,8 @@ fn jitter_of(
     least_jitter_near(alloc, &short, number, near.last)
 }
 
-// The change by which a request wants its least delay.
-fn shortened(number: usize, least: &Least) -> Change
+/// The change by which the request of a number wants its least delay; none where it has none.
+pub fn shortened(number: usize, least: &Least) -> Change
     ensures { result ≡ shortened number least.now }
 {
     match least {

@@ -1,10 +1,12 @@
 //! How many more like several requests together there is room for.
-ghost use Rattle.std.specs.Prelude.{◌≡◌, ◌+◌, ◌-◌, ◌*◌, ◌/◌, ◌<◌, ◌≤◌, Some, IfOk, IfSome, length, reverse};
+ghost use Rattle.std.specs.Prelude.{◌≡◌, ℕ, ◌+◌, ◌-◌, ◌*◌, ◌/◌, ◌<◌, ◌≤◌, List, Some, IfOk, IfSome, length, reverse};
 ghost use Rattle.std.specs.List.{slice_get};
+ghost use Rattle.call_script.specs.Parts.{PlanParts};
 ghost use Rattle.plan_answers.specs.Trials.{IsTrial, run_in};
-ghost use Rattle.answer_tables.specs.Together.{IsRoomTogether, IsTriedTogether, IsWithEach, LiesBetween, first_refused, refused_in};
+ghost use Rattle.answer_tables.specs.Together.{IsRoomOf, IsRoomTogether, IsTriedTogether, IsWithEach, LiesBetween, first_refused, refused_in};
 ghost use Rattle.answer_tables.specs.declared.together.NextTogether.TheVariants.{Full};
 
+use crate::asked::AmongRequests;
 use crate::hops::hop_rows;
 use crate::rows::tight_link_of;
 use call_script::{BadPlan, Plan};
@@ -38,6 +40,55 @@ pub struct RoomTogether {
     pub next: NextTogether,
 }
 
+/// The first copy that isn't accepted.
+#[derive(Clone, Copy, Debug)]
+pub struct Refusal {
+    /// The number of the request that it is a copy of.
+    pub number: usize,
+    /// What it has come to: None where its setup doesn't end.
+    pub verdict: Option<Verdict>,
+    /// Its tight link.
+    pub tight: Option<LinkNo>,
+}
+
+/// What trying some more of each comes to.
+#[derive(Clone, Copy, Debug)]
+pub enum Tried {
+    /// All of them are accepted.
+    Accepted,
+    /// This is the first that isn't.
+    Refused(Refusal),
+}
+
+/// Where more requests like some of a plan's are tried.
+pub trait TriesMore<F>: Drop {
+    ghost use Rattle.answer_tables.specs.declared.together.Tried.{Tried};
+
+    /// What as many more of each, of a plan's requests of these numbers, come to.
+    ghost tries: { Self → PlanParts → List ℕ → ℕ → Tried → Type 0 };
+
+    /// What this many more of each come to.
+    fn tried(&self, alloc: Global, plan: &Plan, numbers: &[usize], count: usize) -> Result<Tried, F>
+        requires some { 0 < count }
+        ensures { IfOk result (tries self.now plan.now numbers.now count) };
+}
+
+impl TriesMore<BadPlan> for AmongRequests {
+    ghost use Rattle.answer_tables.specs.Together.{IsTriedTogether};
+
+    ghost tries = { λ _ parts numbers count tried. IsTriedTogether parts numbers count tried };
+
+    fn tried(
+        &self,
+        alloc: Global,
+        plan: &Plan,
+        numbers: &[usize],
+        count: usize,
+    ) -> Result<Tried, BadPlan> {
+        tried_with(alloc, plan, numbers, count)
+    }
+}
+
 // A request of a trial that isn't accepted.
 #[derive(Clone, Copy)]
 pub(crate) struct Refused {
@@ -45,26 +96,6 @@ pub(crate) struct Refused {
     at: usize,
     // What it has come to.
     verdict: Option<Verdict>,
-}
-
-// The first copy that isn't accepted.
-#[derive(Clone, Copy)]
-pub(crate) struct Refusal {
-    // The number of the request that it is a copy of.
-    number: usize,
-    // What it has come to.
-    verdict: Option<Verdict>,
-    // Its tight link.
-    tight: Option<LinkNo>,
-}
-
-// What trying some more of each comes to.
-#[derive(Clone, Copy)]
-pub(crate) enum Tried {
-    // All of them are accepted.
-    Accepted,
-    // This is the first that isn't.
-    Refused(Refusal),
 }
 
 // Numbers between which the answer lies: this many more of each are all accepted, and of that many more of each `why` is the first that isn't.
@@ -81,15 +112,27 @@ pub(crate) struct Between {
 pub fn room_together(alloc: Global, plan: &Plan, numbers: &[usize]) -> Result<RoomTogether, BadPlan>
     ensures { IfOk result (IsRoomTogether plan.now numbers.now) }
 {
+    room_tried(alloc, plan, numbers, &AmongRequests)
+}
+
+/// The same of copies that are tried elsewhere.
+pub fn room_tried<F: From<BadPlan>, T: TriesMore<F>>(
+    alloc: Global,
+    plan: &Plan,
+    numbers: &[usize],
+    more: &T,
+) -> Result<RoomTogether, F>
+    ensures { IfOk result (IsRoomOf (T.tries more.now plan.now numbers.now) plan.now numbers.now) }
+{
     if numbers.is_empty() {
-        return Err(NO_REQUEST);
+        return Err(F::from(NO_REQUEST));
     }
     let left = MOST_REQUESTS.saturating_sub(plan.requests().len());
     let most = left / numbers.len();
     if most == 0 {
         return Ok(full(most));
     }
-    match tried_with(alloc, plan, numbers, most)? {
+    match more.tried(alloc, plan, numbers, most)? {
         Tried::Accepted => Ok(full(most)),
         Tried::Refused(why) => {
             let between = Between {
@@ -97,7 +140,7 @@ pub fn room_together(alloc: Global, plan: &Plan, numbers: &[usize]) -> Result<Ro
                 refused: most,
                 why,
             };
-            room_between(alloc, plan, numbers, between)
+            room_between(alloc, plan, numbers, more, between)
         }
     }
 }
@@ -116,18 +159,19 @@ fn full(count: usize) -> RoomTogether
 }
 
 // The room between two numbers.
-fn room_between(
+fn room_between<F, T: TriesMore<F>>(
     alloc: Global,
     plan: &Plan,
     numbers: &[usize],
+    more: &T,
     between: Between,
-) -> Result<RoomTogether, BadPlan>
-    requires between { LiesBetween plan.now numbers.now between }
-    ensures { IfOk result (IsRoomTogether plan.now numbers.now) }
+) -> Result<RoomTogether, F>
+    requires between { LiesBetween (T.tries more.now plan.now numbers.now) between }
+    ensures { IfOk result (IsRoomOf (T.tries more.now plan.now numbers.now) plan.now numbers.now) }
 {
     let mut left = between;
     while left.refused - left.accepted > 1 {
-        left = halved(alloc, plan, numbers, left)?;
+        left = halved(alloc, plan, numbers, more, left)?;
     }
     Ok(RoomTogether {
         count: left.accepted,
@@ -140,19 +184,20 @@ fn room_between(
 }
 
 // What is left of these numbers once the one in their middle is tried.
-fn halved(
+fn halved<F, T: TriesMore<F>>(
     alloc: Global,
     plan: &Plan,
     numbers: &[usize],
+    more: &T,
     between: Between,
-) -> Result<Between, BadPlan>
-    requires between { LiesBetween plan.now numbers.now between }
+) -> Result<Between, F>
+    requires between { LiesBetween (T.tries more.now plan.now numbers.now) between }
     requires apart { between.accepted + 1 < between.refused }
-    ensures between { IfOk result (LiesBetween plan.now numbers.now) }
+    ensures between { IfOk result (LiesBetween (T.tries more.now plan.now numbers.now)) }
     ensures less { IfOk result (λ left. left.refused - left.accepted < between.refused - between.accepted) }
 {
     let middle = between.accepted + (between.refused - between.accepted) / 2;
-    match tried_with(alloc, plan, numbers, middle)? {
+    match more.tried(alloc, plan, numbers, middle)? {
         Tried::Accepted => Ok(Between {
             accepted: middle,
             refused: between.refused,
@@ -216,8 +261,8 @@ fn first_refused(trial: &Trial, first: usize) -> Option<Refused>
     None
 }
 
-// Which of these requests the copy at a place, from 0, is like, where there are this many copies of each.
-fn number_of(numbers: &[usize], place: usize, count: usize) -> usize
+/// Which of these requests the copy at a place, from 0, is like, where there are this many copies of each.
+pub fn number_of(numbers: &[usize], place: usize, count: usize) -> usize
     requires some { 0 < count }
     requires inside { place < length numbers.now * count }
     ensures { slice_get numbers.now (place / count) ≡ Some result }

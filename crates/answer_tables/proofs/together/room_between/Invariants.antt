@@ -3,7 +3,7 @@ use Rattle.answer_tables.specs.Together.{LiesBetween}
 use Rattle.answer_tables.proofs.together.room_between.Given as goal
 
 abbrev pub decreases-loop-left : goal.decreases-loop-left
-decreases-loop-left l = l.left.refused - l.left.accepted
+decreases-loop-left g l = l.left.refused - l.left.accepted
 
 abbrev pub invariant-loop-left : goal.invariant-loop-left
-invariant-loop-left l = LiesBetween l.plan l.numbers l.left
+invariant-loop-left g l = LiesBetween (g.T.TriesMore.tries l.more l.plan l.numbers) l.left
