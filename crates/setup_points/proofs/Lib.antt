@@ -1,3 +1,6 @@
 mod Fronts
 mod Runs
 mod Among
+mod Openers
+mod WithEach
+mod Ends

@@ -3,3 +3,5 @@ pub mod Starts
 pub mod Points
 pub mod Least
 pub mod Rooms
+pub mod Ranges
+pub mod Rows

@@ -1,69 +1,95 @@
--- There is room for a number of requests like one of the plan's at the end of a schedule where all of them are accepted after it; and no more than
--- that where of one more a request isn't accepted, which is then told with what it comes to, or where a plan has no more requests. The copies
--- are opened by one more caller, which makes its steps once all turns of the schedule are played. The plane comes after the callers, so its
--- number is one higher there.
-use Rattle.std.specs.Prelude.{◌≡◌, ℕ, suc, ◌+◌, ◌<◌, ◌≤◌, ◌⊎◌, nat_eq, if◌then◌else◌, Option, Some, None, List, length, map, option_map}
-use Rattle.net_units.specs.Limits.{most_requests}
+-- There is room for a number of copies of each of several requests at the end of a schedule where all of them are accepted after it: first all copies
+-- of the first request, then those of the second, and so on. There is room for no more than that where, with one more of each, a copy isn't
+-- accepted, of which is told what it comes to and which request it is like; or where a plan has no room for as many requests. Each kind is
+-- opened by one more caller, which makes its steps once all turns of the schedule and those of the kinds before are played. The plane comes after
+-- the callers, so its number is higher there.
+use Rattle.std.specs.Prelude.{◌≡◌, ℕ, zero, suc, ◌+◌, ◌-◌, ◌/◌, ◌<◌, nat_eq, if◌then◌else◌, Option, Some, None, List, [], ◌∷◌, ◌++◌, length, map, option_map, reverse}
+use Rattle.std.specs.List.{slice_get}
 use Rattle.net_units.specs.Numbers.{actor_at, actor_number}
 use Rattle.net_units.specs.declared.numbers.ActorNo.{ActorNo}
 use Rattle.setup_protocol.specs.Setup.{Outcome}
 use Rattle.setup_protocol.specs.State.{outcome_of}
 use Rattle.call_script.specs.Parts.{PlanParts}
+use Rattle.call_script.specs.Tasks.{network_of}
 use Rattle.call_script.specs.declared.schedule.Do.{Do}
+use Rattle.question_plans.specs.Kept.{changed_plan}
 use Rattle.question_plans.specs.More.{IsWithMoreAfter}
-use Rattle.run_engine.specs.schedules.Schedules.{turns_of}
+use Rattle.question_plans.specs.declared.change.Change.TheVariants.{Nothing}
+use Rattle.run_engine.specs.schedules.Schedules.{FollowsTurns, repeated, turns_of}
 use Rattle.run_record.specs.declared.done.Done.{Done}
-use Rattle.plan_answers.specs.Rooms.{refused_from}
-use Rattle.setup_points.specs.Points.{GoesOn}
-use Rattle.setup_points.specs.declared.room.Between.{Between}
-use Rattle.setup_points.specs.declared.room.NextAfter.{NextAfter}
-use Rattle.setup_points.specs.declared.room.NextAfter.TheVariants.{Refused, Full}
-use Rattle.setup_points.specs.declared.room.RoomAfter.{RoomAfter}
-use Rattle.setup_points.specs.declared.room.Tried.{Tried}
-use Rattle.setup_points.specs.declared.room.Tried.TheVariants as tried
+use Rattle.answer_tables.specs.Together.{IsRoomOf, first_refused}
+use Rattle.answer_tables.specs.declared.together.RoomTogether.{RoomTogether}
+use Rattle.answer_tables.specs.declared.together.Tried.{Tried}
+use Rattle.answer_tables.specs.declared.together.Tried.TheVariants as tried
+use Rattle.setup_points.specs.declared.room.Refused.{Refused}
 
--- ---- the turns among one caller more
+-- ---- the plan
 
--- an actor's number there: the plane, which has the number of callers, comes one later
-abbrev pub actor_among : ℕ → ActorNo → ActorNo
-actor_among callers actor = if nat_eq (actor_number actor) callers then actor_at (suc callers) else actor
+-- a plan is another with all that its callers do, and with this many copies of each of its requests of these numbers after its own; the last
+-- number comes first
+unfoldable pub IsWithEachAfter : PlanParts → List ℕ → ℕ → PlanParts → Type 0
+IsWithEachAfter parts [] count made = made ≡ changed_plan Nothing parts
+IsWithEachAfter parts (number ∷ before) count made =
+    (number < length parts.requests) × ((so_far : PlanParts) × IsWithEachAfter parts before count so_far × IsWithMoreAfter so_far number count made)
 
--- an item of another actor
-abbrev pub with_actor : Do → ActorNo → Do
-with_actor item actor = record { line = item.line; actor = actor; count = item.count }
+-- ---- the turns
 
--- ---- some more
+-- an actor's number among so many callers more: the plane, which has the number of callers, comes as many later
+abbrev pub actor_among : ℕ → ℕ → ActorNo → ActorNo
+actor_among callers more actor = if nat_eq (actor_number actor) callers then actor_at (callers + more) else actor
 
--- with this many more, this is what the first of them that isn't accepted comes to, if there is one
-pub record IsTriedAfter (parts : PlanParts) (items : List Do) (number count : ℕ) (refused : Option (Option Outcome)) : Type 0 where
+-- so many steps of an actor
+abbrev pub steps_by : ActorNo → ℕ → Do
+steps_by actor count = record { line = 0; actor = actor; count = count }
+
+-- so many actors, from a number on; the last one comes first
+unfoldable pub openers : ℕ → ℕ → List ActorNo
+openers first zero = []
+openers first (suc n) = actor_at (first + n) ∷ openers first n
+
+-- turns of these actors, one after the other; the last actor comes first
+unfoldable pub AreTurnsOf : List ActorNo → List ActorNo → Type 0
+AreTurnsOf [] turns = turns ≡ []
+AreTurnsOf (actor ∷ before) turns = (count : ℕ) × ((so_far : List ActorNo) × AreTurnsOf before so_far × (turns ≡ so_far ++ repeated count actor))
+
+-- turns that are followed by some of these actors, one after the other
+pub record AreFollowedBy (turns actors all : List ActorNo) : Type 0 where
+  pub more : List ActorNo
+  pub are : AreTurnsOf actors more
+  pub is : all ≡ turns ++ more
+
+-- a run of these turns, after which these actors go on, one after the other
+pub record GoOn (parts : PlanParts) (turns actors : List ActorNo) (run : List Done) : Type 0 where
+  pub all : List ActorNo
+  pub followed : AreFollowedBy turns actors all
+  pub follows : FollowsTurns (network_of parts) [] all run
+
+-- ---- some more of each
+
+-- what is told of the first that isn't accepted
+abbrev pub refused_in : Option Refused → Option (ℕ × Option Outcome)
+refused_in None = None
+refused_in (Some refused) = Some (refused.at, option_map outcome_of refused.verdict)
+
+-- with this many more of each, this is the first copy that isn't accepted, if there is one
+pub record IsTriedAfter (parts : PlanParts) (items : List Do) (numbers : List ℕ) (count : ℕ) (refused : Option (ℕ × Option Outcome)) : Type 0 where
   pub made : PlanParts
-  pub is : IsWithMoreAfter parts number count made
+  pub is : IsWithEachAfter parts (reverse numbers) count made
   pub run : List Done
-  pub goes : GoesOn made (map (actor_among (length parts.callers)) (turns_of items)) (actor_at (length parts.callers)) run
-  pub first : refused ≡ refused_from run (length parts.requests) made.requests
+  pub goes : GoOn made (map (actor_among (length parts.callers) (length numbers)) (turns_of items)) (openers (length parts.callers) (length numbers)) run
+  pub first : refused ≡ first_refused run (length parts.requests) made.requests
 
--- what is told of it
-abbrev pub refused_in : Tried → Option (Option Outcome)
-refused_in tried.Accepted = None
-refused_in (tried.Refused verdict) = Some (option_map outcome_of verdict)
+-- the first copy that isn't accepted comes to this, and is like the request of this number
+pub record IsRefusedAfter (parts : PlanParts) (items : List Do) (numbers : List ℕ) (count number : ℕ) (outcome : Option Outcome) : Type 0 where
+  pub at : ℕ
+  pub tried : IsTriedAfter parts items numbers count (Some (at, outcome))
+  pub like : slice_get numbers ((at - length parts.requests) / count) ≡ Some number
 
--- this many more are all accepted
-abbrev pub AreAccepted : PlanParts → List Do → ℕ → ℕ → Type 0
-AreAccepted parts items number count = (count ≡ 0) ⊎ IsTriedAfter parts items number count None
-
--- of one more a request isn't, which comes to this, or no plan has one more
-abbrev pub IsNext : PlanParts → List Do → ℕ → ℕ → NextAfter → Type 0
-IsNext parts items number count (Refused verdict) = IsTriedAfter parts items number (count + 1) (Some (Some (outcome_of verdict)))
-IsNext parts items number count Full = most_requests ≤ length parts.requests + count
+abbrev pub IsTriedTogetherAfter : PlanParts → List Do → List ℕ → ℕ → Tried → Type 0
+IsTriedTogetherAfter parts items numbers count tried.Accepted = IsTriedAfter parts items numbers count None
+IsTriedTogetherAfter parts items numbers count (tried.Refused refusal) = IsRefusedAfter parts items numbers count refusal.number (option_map outcome_of refusal.verdict)
 
 -- ---- the answer
 
-pub record IsRoomAfter (parts : PlanParts) (items : List Do) (number : ℕ) (room : RoomAfter) : Type 0 where
-  pub fits : AreAccepted parts items number room.count
-  pub next : IsNext parts items number room.count room.next
-
--- the room lies between two numbers
-pub record LiesBetween (parts : PlanParts) (items : List Do) (number : ℕ) (between : Between) : Type 0 where
-  pub less : between.accepted < between.refused
-  pub accepted : AreAccepted parts items number between.accepted
-  pub refused : IsTriedAfter parts items number between.refused (Some (Some (outcome_of between.why)))
+abbrev pub IsRoomAfter : PlanParts → List Do → List ℕ → RoomTogether → Type 0
+IsRoomAfter parts items numbers room = IsRoomOf (IsTriedTogetherAfter parts items numbers) parts numbers room

@@ -11,6 +11,7 @@ ghost use Rattle.setup_points.specs.Runs.{IsRunFor, run_in};
 use crate::fault::PointFault;
 use crate::front::items_until;
 use crate::run::ScheduledRun;
+use answer_tables::{HopRow, hop_rows};
 use call_script::{Do, Dos, Plan, Schedule};
 use net_units::{ActorNo, Level, OutOfMemory};
 use question_plans::{Change, with_change};
@@ -43,6 +44,22 @@ pub fn asked_at(
     decided_at(alloc, &changed, items, start, number)
 }
 
+// The hops of a request that is asked so, with what they offer there.
+pub(crate) fn hops_at(
+    alloc: Global,
+    plan: &Plan,
+    items: &[Do],
+    start: usize,
+    change: &Change,
+    number: usize,
+) -> Result<Vec<HopRow>, PointFault>
+    requires inside { number < length plan.now.requests }
+{
+    let decided = asked_at(alloc, plan, items, start, change, number)?;
+    let entry = &plan.requests()[number];
+    Ok(hop_rows(alloc, entry, decided.offers.as_slice(), &None)?)
+}
+
 // The same, as the plan says.
 fn decided_at(
     alloc: Global,
@@ -66,7 +83,7 @@ fn decided_at(
 }
 
 // The run of these items, after which an actor makes so many steps, or as many as it has left.
-pub(crate) fn play_on(
+fn play_on(
     alloc: Global,
     plan: &Plan,
     front: &[Do],
@@ -88,7 +105,7 @@ pub(crate) fn play_on(
 }
 
 // The run of these items, and then of so many steps of an actor.
-fn play_front(
+pub(crate) fn play_front(
     alloc: Global,
     plan: &Plan,
     front: &[Do],
@@ -120,7 +137,7 @@ fn followed(alloc: Global, front: &[Do], actor: ActorNo, more: u64) -> Result<Ve
 }
 
 // How many steps these items ask of an actor.
-fn steps_of(items: &[Do], actor: ActorNo) -> u64 {
+pub(crate) fn steps_of(items: &[Do], actor: ActorNo) -> u64 {
     let mut steps: u64 = 0;
     for item in items {
         if item.actor.get() == actor.get() {

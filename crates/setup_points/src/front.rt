@@ -21,6 +21,15 @@ pub fn items_until(alloc: Global, items: &[Do], steps: usize) -> Result<Vec<Do>,
     Ok(front)
 }
 
+// The same items.
+pub(crate) fn copied(alloc: Global, items: &[Do]) -> Result<Vec<Do>, OutOfMemory>
+    ensures { IfOk result (λ made. made.items ≡ items.now) }
+{
+    let mut made = Vec::new(alloc);
+    made.extend_from_slice(items)?;
+    Ok(made)
+}
+
 // The lesser of two.
 fn least_of(one: u64, other: u64) -> u64
     ensures { result ≡ min one other }

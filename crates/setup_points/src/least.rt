@@ -59,7 +59,7 @@ pub fn least_at(
 }
 
 // Whether it is accepted with so many ticks.
-fn is_accepted_with(
+pub(crate) fn is_accepted_with(
     alloc: Global,
     plan: &Plan,
     items: &[Do],

@@ -1,218 +1,259 @@
-//! How many more requests like one of a plan's there is room for at the end of a schedule.
-ghost use Rattle.std.specs.Prelude.{◌≡◌, ◌+◌, ◌-◌, ◌<◌, ◌++◌, ◌∷◌, [], IfOk, OnOk, length, map};
-ghost use Rattle.plan_answers.specs.Rooms.{refused_from};
+//! How many more like some of a plan's requests there is room for at the end of a schedule.
+ghost use Rattle.std.specs.Prelude.{◌≡◌, ◌+◌, ◌<◌, ◌≤◌, ◌++◌, ◌∷◌, [], IfOk, IfSome, OnOk, length, map, reverse};
+ghost use Rattle.answer_tables.specs.Together.{first_refused};
 ghost use Rattle.run_engine.specs.schedules.Schedules.{turns_of};
-ghost use Rattle.setup_points.specs.Rooms.{IsRoomAfter, IsTriedAfter, LiesBetween, actor_among, refused_in, with_actor};
+ghost use Rattle.setup_points.specs.Rooms.{AreFollowedBy, GoOn, IsRoomAfter, IsTriedTogetherAfter, IsWithEachAfter, actor_among, openers, refused_in, steps_by};
 ghost use Rattle.setup_points.specs.Runs.{IsRunFor, run_in};
-ghost use Rattle.setup_points.specs.declared.room.NextAfter.TheVariants.{Full};
 
-use crate::asked::play_on;
+use crate::asked::{play_front, steps_of};
 use crate::fault::PointFault;
+use crate::front::copied;
 use crate::run::ScheduledRun;
-use call_script::{Do, Plan};
-use net_units::limits::{MOST_CALLERS, MOST_REQUESTS};
-use net_units::{ActorNo, OutOfMemory};
+use answer_tables::{
+    Refusal, RoomTogether, Tried, TriesMore, hop_rows, number_of, room_tried, tight_link_of,
+};
+use call_script::{Do, Dos, Plan, Schedule};
+use net_units::limits::MOST_CALLERS;
+use net_units::{ActorNo, LinkNo, OutOfMemory};
 use plan_answers::is_acceptance;
-use question_plans::with_more_after;
-use run_engine::actor_of;
+use question_plans::{Change, with_change, with_more_after};
+use run_engine::{PlayFault, actor_of};
 use setup_protocol::Verdict;
 use std::alloc::Global;
 
-// What trying some more requests comes to.
-#[derive(Clone, Copy)]
-pub(crate) enum Tried {
-    // All of them are accepted.
-    Accepted,
-    // The first that isn't comes to this: None where its setup doesn't end.
-    Refused(Option<Verdict>),
-}
-
-/// Why there is no room for one more.
-#[derive(Clone, Copy, Debug)]
-pub enum NextAfter {
-    /// The first that isn't accepted comes to this.
-    Refused(Verdict),
-    /// A plan has no more requests.
-    Full,
-}
-
-/// How many more requests like one of a plan's there is room for at the end of a schedule.
-#[derive(Clone, Copy, Debug)]
-pub struct RoomAfter {
-    /// That many are accepted.
-    pub count: usize,
-    /// Why one more isn't.
-    pub next: NextAfter,
-}
-
-// Numbers between which the answer lies: this many more are all accepted, and of that many more the first that isn't comes to `why`.
-#[derive(Clone, Copy)]
-pub(crate) struct Between {
-    accepted: usize,
-    refused: usize,
-    why: Verdict,
-}
-
-/// How many more requests like that of a number are accepted once all of these items of a schedule are played, all of them opened by
-/// one more caller of its group. An `Err` comes for want of memory, where the plan has no room for a caller more, or where an item asks
-/// for a step that isn't left.
+/// How many more like the requests of these numbers, as many of each, are accepted once all of these items of a schedule are played: first all
+/// copies of the first, then those of the second, and so on, each kind opened by one more caller. `Rule` tells 7 where there is no number or
+/// one of no request, and 9 where the plan has no room for the callers.
 pub fn room_after(
     alloc: Global,
     plan: &Plan,
     items: &[Do],
-    number: usize,
-) -> Result<RoomAfter, PointFault>
-    requires inside { number < length plan.now.requests }
-    ensures { IfOk result (IsRoomAfter plan.now items.now number) }
+    numbers: &[usize],
+) -> Result<RoomTogether, PointFault>
+    ensures { IfOk result (IsRoomAfter plan.now items.now numbers.now) }
 {
-    let most = MOST_REQUESTS.saturating_sub(plan.requests().len());
-    if most == 0 {
-        return Ok(full(most));
-    }
-    match tried_with(alloc, plan, items, number, most)? {
-        Tried::Accepted => Ok(full(most)),
-        Tried::Refused(why) => {
-            let between = Between {
-                accepted: 0,
-                refused: most,
-                why: why.ok_or(PointFault::Undecided)?,
-            };
-            room_between(alloc, plan, items, number, between)
-        }
+    let after = AfterItems {
+        items: copied(alloc, items)?,
+    };
+    room_tried(alloc, plan, numbers, &after)
+}
+
+// Once these items of a schedule are played.
+#[derive(Drop)]
+pub(crate) struct AfterItems {
+    items: Vec<Do>,
+}
+
+impl TriesMore<PointFault> for AfterItems {
+    ghost use Rattle.setup_points.specs.Rooms.{IsTriedTogetherAfter};
+
+    ghost tries = { λ after parts numbers count tried. IsTriedTogetherAfter parts after.items.items numbers count tried };
+
+    fn tried(
+        &self,
+        alloc: Global,
+        plan: &Plan,
+        numbers: &[usize],
+        count: usize,
+    ) -> Result<Tried, PointFault> {
+        tried_with(alloc, plan, self.items.as_slice(), numbers, count)
     }
 }
 
-// Room for all requests that a plan may have.
-fn full(count: usize) -> RoomAfter
-    ensures { result ≡ record { count = count; next = Full } }
-{
-    RoomAfter {
-        count,
-        next: NextAfter::Full,
-    }
+// A request of a run that isn't accepted.
+#[derive(Clone, Copy)]
+pub(crate) struct Refused {
+    // Its number.
+    at: usize,
+    // What it has come to.
+    verdict: Option<Verdict>,
 }
 
-// The room between two numbers.
-fn room_between(
-    alloc: Global,
-    plan: &Plan,
-    items: &[Do],
-    number: usize,
-    between: Between,
-) -> Result<RoomAfter, PointFault>
-    requires inside { number < length plan.now.requests }
-    requires between { LiesBetween plan.now items.now number between }
-    ensures { IfOk result (IsRoomAfter plan.now items.now number) }
-{
-    let mut left = between;
-    while left.refused - left.accepted > 1 {
-        left = halved(alloc, plan, items, number, left)?;
-    }
-    Ok(RoomAfter {
-        count: left.accepted,
-        next: NextAfter::Refused(left.why),
-    })
-}
-
-// What is left of these numbers once the one in their middle is tried.
-fn halved(
-    alloc: Global,
-    plan: &Plan,
-    items: &[Do],
-    number: usize,
-    between: Between,
-) -> Result<Between, PointFault>
-    requires inside { number < length plan.now.requests }
-    requires between { LiesBetween plan.now items.now number between }
-    requires apart { between.accepted + 1 < between.refused }
-    ensures between { IfOk result (LiesBetween plan.now items.now number) }
-    ensures less { IfOk result (λ left. left.refused - left.accepted < between.refused - between.accepted) }
-{
-    let middle = between.accepted + (between.refused - between.accepted) / 2;
-    match tried_with(alloc, plan, items, number, middle)? {
-        Tried::Accepted => Ok(Between {
-            accepted: middle,
-            refused: between.refused,
-            why: between.why,
-        }),
-        Tried::Refused(why) => Ok(Between {
-            accepted: between.accepted,
-            refused: middle,
-            why: why.ok_or(PointFault::Undecided)?,
-        }),
-    }
-}
-
-// What this many more come to.
+// What this many more of each come to.
 fn tried_with(
     alloc: Global,
     plan: &Plan,
     items: &[Do],
-    number: usize,
+    numbers: &[usize],
     count: usize,
 ) -> Result<Tried, PointFault>
-    requires inside { number < length plan.now.requests }
-    ensures { IfOk result (λ tried. IsTriedAfter plan.now items.now number count (refused_in tried)) }
+    requires some { 0 < count }
+    ensures { IfOk result (IsTriedTogetherAfter plan.now items.now numbers.now count) }
 {
-    let callers = plan.callers().len();
-    if callers >= MOST_CALLERS {
-        return Err(PointFault::Rule { rule: 9 });
+    let own = plan.requests().len();
+    let made = with_each(alloc, plan, numbers, count)?;
+    let run = run_after(alloc, plan, &made, items, numbers.len())?;
+    match first_refused(&run, &made, own) {
+        None => Ok(Tried::Accepted),
+        Some(refused) => {
+            let tight = tight_in(alloc, &made, &run, &refused)?;
+            Ok(Tried::Refused(Refusal {
+                number: number_of(numbers, refused.at - own, count),
+                verdict: refused.verdict,
+                tight,
+            }))
+        }
     }
-    let made = with_more_after(alloc, plan, number, count)?;
-    let steps = 2 * u64::from(plan.requests()[number].request.route.len());
-    let most = steps.saturating_mul(count as u64);
-    let front = items_among(alloc, items, callers)?;
-    let run = play_on(alloc, &made, &front, actor_of(callers), most)?;
-    Ok(first_refused(&run, &made, plan.requests().len()))
 }
 
-// These items among one caller more than so many: the plane's number is one higher there.
-fn items_among(alloc: Global, items: &[Do], callers: usize) -> Result<Vec<Do>, OutOfMemory>
-    requires few { callers < 64 }
-    ensures { IfOk result (λ made. turns_of made.items ≡ map (actor_among callers) (turns_of items.now)) }
+// ---- the plan
+
+// The plan with this many more like each of these, after all that its callers do.
+fn with_each(
+    alloc: Global,
+    plan: &Plan,
+    numbers: &[usize],
+    count: usize,
+) -> Result<Plan, PointFault>
+    ensures { IfOk result (IsWithEachAfter plan.now (reverse numbers.now) count) }
 {
-    let mut made = Vec::new(alloc);
-    for item in items {
-        let actor = actor_among(item.actor, callers);
-        add_item(&mut made, item, actor)?;
+    let mut made = with_change(alloc, plan, &Change::Nothing)?;
+    for number in numbers {
+        if *number >= plan.requests().len() {
+            return Err(PointFault::Rule { rule: 7 });
+        }
+        made = with_more_after(alloc, &made, *number, count)?;
     }
     Ok(made)
 }
 
-// Adds an item, of this actor.
-fn add_item(made: &mut Vec<Do>, item: &Do, actor: ActorNo) -> Result<(), OutOfMemory>
-    ensures { OnOk result (made.new.items ≡ made.old.items ++ with_actor item.now actor ∷ []) }
+// ---- the run
+
+// The run of these items among so many callers more than a plan has, after which these make their steps, one after the other.
+fn run_after(
+    alloc: Global,
+    plan: &Plan,
+    made: &Plan,
+    items: &[Do],
+    kinds: usize,
+) -> Result<ScheduledRun, PointFault>
+    ensures goes { IfOk result (λ run. GoOn made.now (map (actor_among (length plan.now.callers) kinds) (turns_of items.now)) (openers (length plan.now.callers) kinds) (run_in run)) }
+    ensures run { IfOk result (IsRunFor made.now) }
 {
-    made.push(Do {
-        line: item.line,
+    let callers = plan.callers().len();
+    if callers > MOST_CALLERS || kinds > MOST_CALLERS - callers {
+        return Err(PointFault::Rule { rule: 9 });
+    }
+    let front = items_among(alloc, items, callers, kinds)?;
+    let all = with_openers(alloc, made, front, callers, kinds)?;
+    let schedule = Schedule {
+        written: true,
+        items: Dos::new(all),
+    };
+    Ok(ScheduledRun::play(alloc, made, &schedule)?)
+}
+
+// These items, and after them the steps that so many callers, from a number on, have left, one after the other.
+fn with_openers(
+    alloc: Global,
+    plan: &Plan,
+    front: Vec<Do>,
+    first: usize,
+    kinds: usize,
+) -> Result<Vec<Do>, OutOfMemory>
+    requires few { first + kinds ≤ 64 }
+    ensures { IfOk result (λ items. AreFollowedBy (turns_of front.items) (openers first kinds) (turns_of items.items)) }
+{
+    let mut items = front;
+    for kind in 0..kinds {
+        let actor = actor_of(first + kind);
+        let steps = steps_left(alloc, plan, items.as_slice(), actor)?;
+        add_item(&mut items, actor, steps)?;
+    }
+    Ok(items)
+}
+
+// How many steps an actor has left after these items, at most as many as opening all requests of a plan takes.
+fn steps_left(
+    alloc: Global,
+    plan: &Plan,
+    items: &[Do],
+    actor: ActorNo,
+) -> Result<u64, OutOfMemory> {
+    match play_front(alloc, plan, items, actor, MOST_STEPS) {
+        Ok(_) => Ok(MOST_STEPS),
+        Err(PlayFault::Memory) => Err(OutOfMemory),
+        Err(PlayFault::Step { made, .. }) => Ok(made.saturating_sub(steps_of(items, actor))),
+    }
+}
+
+// The most steps that opening takes: two at each of 16 hops, for each of 1,024 requests.
+const MOST_STEPS: u64 = 32_768;
+
+// These items among so many callers more than there are: the plane's number is higher by as many there.
+fn items_among(
+    alloc: Global,
+    items: &[Do],
+    callers: usize,
+    more: usize,
+) -> Result<Vec<Do>, OutOfMemory>
+    requires few { callers + more ≤ 64 }
+    ensures { IfOk result (λ made. turns_of made.items ≡ map (actor_among callers more) (turns_of items.now)) }
+{
+    let mut made = Vec::new(alloc);
+    for item in items {
+        add_item(
+            &mut made,
+            actor_among(item.actor, callers, more),
+            item.count,
+        )?;
+    }
+    Ok(made)
+}
+
+// Adds an item: so many steps of an actor.
+fn add_item(items: &mut Vec<Do>, actor: ActorNo, count: u64) -> Result<(), OutOfMemory>
+    ensures { OnOk result (items.new.items ≡ items.old.items ++ steps_by actor count ∷ []) }
+{
+    items.push(Do {
+        line: 0,
         actor,
-        count: item.count,
+        count,
     })?;
     Ok(())
 }
 
-// An actor among one caller more.
-fn actor_among(actor: ActorNo, callers: usize) -> ActorNo
-    requires few { callers < 64 }
-    ensures { result ≡ actor_among callers actor }
+// An actor among so many callers more than there are.
+fn actor_among(actor: ActorNo, callers: usize, more: usize) -> ActorNo
+    requires few { callers + more ≤ 64 }
+    ensures { result ≡ actor_among callers more actor }
 {
     if usize::from(actor.get()) == callers {
-        actor_of(callers + 1)
+        actor_of(callers + more)
     } else {
         actor
     }
 }
 
-// What the first request, from this number on, that isn't accepted has come to.
-fn first_refused(run: &ScheduledRun, plan: &Plan, first: usize) -> Tried
+// ---- the first that isn't accepted
+
+// The first request, from this number on, that isn't accepted in a run.
+fn first_refused(run: &ScheduledRun, plan: &Plan, first: usize) -> Option<Refused>
     requires run { IsRunFor plan.now run.now }
-    ensures { refused_in result ≡ refused_from (run_in run.now) first plan.now.requests }
+    ensures is { refused_in result ≡ first_refused (run_in run.now) first plan.now.requests }
+    ensures from { IfSome result (λ refused. first ≤ refused.at) }
+    ensures inside { IfSome result (λ refused. refused.at < length plan.now.requests) }
 {
-    for number in first..plan.requests().len() {
-        let verdict = run.verdict(plan, number);
+    for at in first..plan.requests().len() {
+        let verdict = run.verdict(plan, at);
         if !is_acceptance(&verdict) {
-            return Tried::Refused(verdict);
+            return Some(Refused { at, verdict });
         }
     }
-    Tried::Accepted
+    None
+}
+
+// The tight link of a request that isn't accepted in a run.
+fn tight_in(
+    alloc: Global,
+    plan: &Plan,
+    run: &ScheduledRun,
+    refused: &Refused,
+) -> Result<Option<LinkNo>, OutOfMemory>
+    requires inside { refused.now.at < length plan.now.requests }
+{
+    let entry = &plan.requests()[refused.at];
+    let offers = run.offers(alloc, plan, refused.at)?;
+    let hops = hop_rows(alloc, entry, offers.as_slice(), &refused.verdict)?;
+    Ok(tight_link_of(hops.as_slice(), &refused.verdict))
 }

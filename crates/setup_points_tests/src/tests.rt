@@ -4,17 +4,19 @@
 //! holds one channel (4 + 4), and a second one there is offered level 2, of 20 ticks.
 ghost use Rattle.std.specs.Prelude.{◌≡◌};
 
+use answer_tables::{LeastJitter, NextTogether, RoomTogether};
 use byte_ends::SureSource;
 use call_script::{Plan, Schedule};
 use link_steps::Refusal;
 use net_units::Level;
 use net_units::limits::MOST_DELAY;
+use plan_answers::Least;
 use question_plans::{Change, with_change};
 use relaxation::EndDenial;
 use scenario_reader::read_plan;
 use setup_points::{
-    LeastAt, NextAfter, PointFault, Question, ScheduledRun, Sought, asked_at, items_until,
-    least_at, room_after,
+    LeastAt, PointFault, Question, ScheduledRun, Sought, asked_at, items_until, least_at,
+    ranges_at, room_after, row_at,
 };
 use setup_protocol::{Deny, Verdict};
 use std::alloc::Global;
@@ -95,6 +97,36 @@ fn late(verdict: &Verdict) -> Option<(u64, u64)> {
     match verdict {
         Verdict::Denied(Deny::End(EndDenial::Delay { sum, bound })) => Some((*sum, *bound)),
         _ => None,
+    }
+}
+
+// The number of the request of which the first copy is refused.
+fn refused(room: &RoomTogether) -> Option<usize> {
+    match &room.next {
+        NextTogether::Refused { number, .. } => Some(*number),
+        NextTogether::Full => None,
+    }
+}
+
+// By what sum and bound it is late.
+fn late_in(room: &RoomTogether) -> Option<(u64, u64)> {
+    match &room.next {
+        NextTogether::Refused { verdict, .. } => match verdict {
+            Some(verdict) => late(verdict),
+            None => None,
+        },
+        NextTogether::Full => None,
+    }
+}
+
+// By what sum and bound its first hop has no level.
+fn full_in(room: &RoomTogether) -> Option<(u64, u64)> {
+    match &room.next {
+        NextTogether::Refused { verdict, .. } => match verdict {
+            Some(verdict) => full(verdict),
+            None => None,
+        },
+        NextTogether::Full => None,
     }
 }
 
@@ -261,12 +293,10 @@ fn no_room_at_the_end(rt: HostRuntime) -> Result<(), Fail> {
     let alloc = rt.alloc();
     let (plan, schedule) = read(alloc, CLOSING)?;
     assert_eq!(rt; plan.requests().len(), 3);
-    let room = room_after(alloc, &plan, schedule.items.as_slice(), 2)?;
+    let room = room_after(alloc, &plan, schedule.items.as_slice(), &[2])?;
     assert_eq!(rt; room.count, 0);
-    match &room.next {
-        NextAfter::Refused(verdict) => assert_eq!(rt; late(verdict), Some((66, 36))),
-        NextAfter::Full => return Err(Fail::from("expected a denial")),
-    }
+    assert_eq!(rt; refused(&room), Some(2));
+    assert_eq!(rt; late_in(&room), Some((66, 36)));
     Ok(())
 }
 
@@ -285,5 +315,52 @@ fn faults_are_told(rt: HostRuntime) -> Result<(), Fail> {
     };
     let none = asked_at(alloc, &plan, items, 9, &change, 2);
     assert!(rt; matches!(none, Err(PointFault::Rule { rule: 8 })));
+    Ok(())
+}
+
+// Once two of the first group and two of the second are there, a third of each group would bring its share to 24 ticks, of which the first has 20.
+// Once the first of the second group is there alone, its quota has room for one more.
+#[test]
+fn room_for_two_groups(rt: HostRuntime) -> Result<(), Fail> {
+    let alloc = rt.alloc();
+    let (plan, schedule) = read(alloc, SPLIT)?;
+    let run = ScheduledRun::play(alloc, &plan, &schedule)?;
+    let items = schedule.items.as_slice();
+    assert_eq!(rt; plan.requests().len(), 6);
+    assert_eq!(rt; run.end_of(&plan, 1), Some(4));
+    assert_eq!(rt; run.end_of(&plan, 3), Some(6));
+    assert_eq!(rt; run.end_of_all(&plan, &[3, 1]), 6);
+    let front = items_until(alloc, items, 6)?;
+    let room = room_after(alloc, &plan, front.as_slice(), &[4, 2])?;
+    assert_eq!(rt; room.count, 0);
+    assert_eq!(rt; refused(&room), Some(2));
+    assert_eq!(rt; full_in(&room), Some((24, 20)));
+    let alone = room_after(alloc, &plan, front.as_slice(), &[4])?;
+    assert_eq!(rt; alone.count, 1);
+    Ok(())
+}
+
+// The second of CLOSING could have 66 ticks, and a jitter of 20, where its setup begins; a longer delay would do, too.
+#[test]
+fn a_row_at_a_point(rt: HostRuntime) -> Result<(), Fail> {
+    let alloc = rt.alloc();
+    let (plan, schedule) = read(alloc, CLOSING)?;
+    let run = ScheduledRun::play(alloc, &plan, &schedule)?;
+    let items = schedule.items.as_slice();
+    assert_eq!(rt; plan.requests().len(), 3);
+    let row = row_at(alloc, &plan, items, &run, 1)?;
+    assert!(rt; matches!(row.least, Least::Delay(66)));
+    assert!(rt; matches!(row.jitter, LeastJitter::Jitter(20)));
+    let loosened = Change::Jitter {
+        number: 1,
+        jitter: MOST_DELAY,
+    };
+    let loose = with_change(alloc, &plan, &loosened)?;
+    assert_eq!(rt; loose.requests().len(), 3);
+    let ranges = ranges_at(alloc, &loose, items, 73, 1)?;
+    assert_eq!(rt; ranges.len(), 1);
+    let range = ranges.get(0).ok_or("range")?;
+    assert_eq!(rt; range.first, 66);
+    assert_eq!(rt; range.last, MOST_DELAY);
     Ok(())
 }

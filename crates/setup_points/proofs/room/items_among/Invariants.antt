@@ -5,4 +5,4 @@ use Rattle.setup_points.proofs.room.items_among.Given as goal
 
 -- the items so far
 abbrev pub invariant-loop-item : goal.invariant-loop-item
-invariant-loop-item l = turns_of l.made.items ≡ map (actor_among l.callers) (turns_of (take l.item-index l.items))
+invariant-loop-item l = turns_of l.made.items ≡ map (actor_among l.callers l.more) (turns_of (take l.item-index l.items))
