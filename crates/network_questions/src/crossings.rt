@@ -80,8 +80,8 @@ pub(crate) fn crossings_of(
     Ok(crossings)
 }
 
-// As many requests as a plan may have.
-fn few(count: usize) -> usize
+/// As many requests as a plan may have.
+pub(crate) fn few(count: usize) -> usize
     ensures most { result ≤ 1024 }
     ensures within { result ≤ count }
 {

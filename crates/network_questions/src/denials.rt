@@ -49,3 +49,14 @@ pub fn refusing_hop(verdict: &Option<Verdict>) -> Option<u8> {
         _ => None,
     }
 }
+
+/// Whether a hop refuses it since its buffer is too small.
+pub(crate) fn is_for_buffer(verdict: &Option<Verdict>) -> bool {
+    matches!(
+        verdict,
+        Some(Verdict::Denied(Deny::Hop {
+            refusal: Refusal::NoBuffer { .. },
+            ..
+        }))
+    )
+}

@@ -1,17 +1,21 @@
 //! A designer's questions about a network, and their answers as tables and sentences.
 #![tactic(auto)]
 
+mod asking;
 mod crossings;
 mod denials;
 mod fit;
+mod held;
 mod least;
 mod links;
+mod once_more;
 mod parts;
 mod route;
 mod table;
 mod tight;
 mod trouble;
 
+pub use asking::{Asking, asking_of, row_of, rows_of};
 pub use denials::{denial_text, verdict_word};
 pub use fit::fit_of;
 pub use least::least_of;

@@ -3,7 +3,9 @@ ghost use Rattle.plan_answers.specs.Trials.{IsTrial};
 
 use crate::crossings::{crossings_of, share_of_group, share_of_link};
 use crate::least::joined;
-use crate::parts::{link_name, pair_text, percent_cell, push_pair, time_cell};
+use crate::parts::{
+    add_cell, add_column, link_name, pair_text, percent_cell, push_pair, time_cell,
+};
 use crate::trouble::Trouble;
 use answer_grids::{Answer, Cell, Column, Grid};
 use call_script::Plan;
@@ -99,46 +101,58 @@ fn group_name(plan: &Plan, group: u8) -> &str {
 // The columns.
 fn columns_of(alloc: Global, tick: Option<Time>) -> Result<Vec<Column>, AllocError> {
     let mut columns = Vec::new(alloc);
-    columns.push(Column::of_words("", "link").in_text())?;
-    columns.push(Column::of_words("link", "").in_data())?;
-    columns.push(Column::of_words("group", "").in_data())?;
+    add_column(&mut columns, Column::of_words("", "link").in_text())?;
+    add_column(&mut columns, Column::of_words("link", "").in_data())?;
+    add_column(&mut columns, Column::of_words("group", "").in_data())?;
     push_counts(&mut columns)?;
-    columns.push(Column::of_numbers("long_run_percent", "long run %"))?;
-    columns.push(Column::of_numbers("long_run_percent_asked", "asked %"))?;
+    add_column(
+        &mut columns,
+        Column::of_numbers("long_run_percent", "long run %"),
+    )?;
+    add_column(
+        &mut columns,
+        Column::of_numbers("long_run_percent_asked", "asked %"),
+    )?;
     push_bounds(&mut columns, tick)?;
     push_buffer(&mut columns)?;
-    columns.push(Column::of_words("", "work at each level").in_text())?;
-    columns.push(Column::of_words("work", "").in_data())?;
-    columns.push(Column::of_words("bounds", "").in_data())?;
-    columns.push(Column::of_words("room", "room"))?;
+    add_column(
+        &mut columns,
+        Column::of_words("", "work at each level").in_text(),
+    )?;
+    add_column(&mut columns, Column::of_words("work", "").in_data())?;
+    add_column(&mut columns, Column::of_words("bounds", "").in_data())?;
+    add_column(&mut columns, Column::of_words("room", "room"))?;
     Ok(columns)
 }
 
 // Adds the columns of the counts.
 fn push_counts(columns: &mut Vec<Column>) -> Result<(), AllocError> {
-    columns.push(Column::of_numbers("", "accepted").in_text())?;
-    columns.push(Column::of_numbers("accepted", "").in_data())?;
-    columns.push(Column::of_numbers("asked", "").in_data())?;
+    add_column(columns, Column::of_numbers("", "accepted").in_text())?;
+    add_column(columns, Column::of_numbers("accepted", "").in_data())?;
+    add_column(columns, Column::of_numbers("asked", "").in_data())?;
     Ok(())
 }
 
 // Adds the columns of the buffer.
 fn push_buffer(columns: &mut Vec<Column>) -> Result<(), AllocError> {
-    columns.push(Column::of_numbers("", "buffer free").in_text())?;
-    columns.push(Column::of_numbers("buffer_free", "").in_data())?;
-    columns.push(Column::of_numbers("buffer", "").in_data())?;
+    add_column(columns, Column::of_numbers("", "buffer free").in_text())?;
+    add_column(columns, Column::of_numbers("buffer_free", "").in_data())?;
+    add_column(columns, Column::of_numbers("buffer", "").in_data())?;
     Ok(())
 }
 
 // Adds the columns of the least bounds.
 fn push_bounds(columns: &mut Vec<Column>, tick: Option<Time>) -> Result<(), AllocError> {
-    columns.push(Column::of_numbers("least_bound", "least"))?;
+    add_column(columns, Column::of_numbers("least_bound", "least"))?;
     if tick.is_some() {
-        columns.push(Column::of_numbers("least_bound_time", ""))?;
+        add_column(columns, Column::of_numbers("least_bound_time", ""))?;
     }
-    columns.push(Column::of_numbers("least_bound_asked", "for asked"))?;
+    add_column(
+        columns,
+        Column::of_numbers("least_bound_asked", "for asked"),
+    )?;
     if tick.is_some() {
-        columns.push(Column::of_numbers("least_bound_asked_time", ""))?;
+        add_column(columns, Column::of_numbers("least_bound_asked_time", ""))?;
     }
     Ok(())
 }
@@ -154,8 +168,8 @@ fn cells_of(
     let mut cells = Vec::new(alloc);
     push_names(alloc, &mut cells, link, group)?;
     push_pair(alloc, &mut cells, fill.accepted as u64, fill.asked as u64)?;
-    cells.push(percent_cell(alloc, fill.long_run)?)?;
-    cells.push(percent_cell(alloc, fill.long_run_asked)?)?;
+    add_cell(&mut cells, percent_cell(alloc, fill.long_run)?)?;
+    add_cell(&mut cells, percent_cell(alloc, fill.long_run_asked)?)?;
     push_ticks(alloc, &mut cells, fill.least, tick)?;
     push_ticks(alloc, &mut cells, fill.least_asked, tick)?;
     let free = fill.buffer.saturating_sub(fill.kept);
@@ -172,12 +186,12 @@ fn push_names(
     group: &str,
 ) -> Result<(), AllocError> {
     if group.is_empty() {
-        cells.push(Cell::text(alloc, link)?)?;
+        add_cell(cells, Cell::text(alloc, link)?)?;
     } else {
-        cells.push(Cell::Text(joined(alloc, "  ", group)?))?;
+        add_cell(cells, Cell::Text(joined(alloc, "  ", group)?))?;
     }
-    cells.push(Cell::text(alloc, link)?)?;
-    cells.push(Cell::text(alloc, group)?)?;
+    add_cell(cells, Cell::text(alloc, link)?)?;
+    add_cell(cells, Cell::text(alloc, group)?)?;
     Ok(())
 }
 
@@ -189,11 +203,11 @@ fn push_ticks(
     tick: Option<Time>,
 ) -> Result<(), AllocError> {
     match ticks {
-        Some(ticks) => cells.push(Cell::Number(ticks))?,
-        None => cells.push(Cell::text(alloc, "none")?)?,
+        Some(ticks) => add_cell(cells, Cell::Number(ticks))?,
+        None => add_cell(cells, Cell::text(alloc, "none")?)?,
     }
     if let Some(tick) = tick {
-        cells.push(time_cell(alloc, ticks, tick)?)?;
+        add_cell(cells, time_cell(alloc, ticks, tick)?)?;
     }
     Ok(())
 }
@@ -216,10 +230,10 @@ fn push_levels(
             room.push(count as u64)?;
         }
     }
-    cells.push(Cell::Text(text))?;
-    cells.push(Cell::Numbers(work))?;
-    cells.push(Cell::Numbers(bounds))?;
-    cells.push(Cell::Numbers(room))?;
+    add_cell(cells, Cell::Text(text))?;
+    add_cell(cells, Cell::Numbers(work))?;
+    add_cell(cells, Cell::Numbers(bounds))?;
+    add_cell(cells, Cell::Numbers(room))?;
     Ok(())
 }
 

@@ -1,9 +1,27 @@
 //! What is common to the answers.
-use answer_grids::{Cell, time_text};
+use answer_grids::{Cell, Column, time_text};
 use call_script::{Plan, RequestEntry};
 use field_units::Time;
 use net_units::{LinkNo, Name};
 use std::alloc::{AllocError, Global};
+
+/// Adds a column. No clause tells of it, so that proofs of long tables stay short.
+pub(crate) fn add_column(columns: &mut Vec<Column>, column: Column) -> Result<(), AllocError> {
+    columns.push(column)?;
+    Ok(())
+}
+
+/// Adds a cell, likewise.
+pub(crate) fn add_cell(cells: &mut Vec<Cell>, cell: Cell) -> Result<(), AllocError> {
+    cells.push(cell)?;
+    Ok(())
+}
+
+/// Adds a sentence, likewise.
+pub(crate) fn add_line(lines: &mut Vec<String>, line: String) -> Result<(), AllocError> {
+    lines.push(line)?;
+    Ok(())
+}
 
 /// How long so many ticks are, as a cell; an empty one where there are none.
 pub fn time_cell(alloc: Global, ticks: Option<u64>, tick: Time) -> Result<Cell, AllocError> {
@@ -47,8 +65,41 @@ pub(crate) fn push_pair(
     part: u64,
     whole: u64,
 ) -> Result<(), AllocError> {
-    cells.push(Cell::Text(pair_text(alloc, part, whole)?))?;
-    cells.push(Cell::Number(part))?;
-    cells.push(Cell::Number(whole))?;
+    add_cell(cells, Cell::Text(pair_text(alloc, part, whole)?))?;
+    add_cell(cells, Cell::Number(part))?;
+    add_cell(cells, Cell::Number(whole))?;
+    Ok(())
+}
+
+/// Numbers with spaces between them. More than three of the same in a row are shown as `1x12`.
+pub(crate) fn runs_text(alloc: Global, numbers: &[u64]) -> Result<String, AllocError> {
+    let mut text = String::new(alloc);
+    let mut last: u64 = 0;
+    let mut count: usize = 0;
+    for number in numbers {
+        if *number != last {
+            push_run(alloc, &mut text, last, count)?;
+            last = *number;
+            count = 0;
+        }
+        count = count.saturating_add(1);
+    }
+    push_run(alloc, &mut text, last, count)?;
+    Ok(text)
+}
+
+// Adds so many of a number.
+fn push_run(alloc: Global, text: &mut String, number: u64, count: usize) -> Result<(), AllocError> {
+    let (shown, times) = if count > 3 {
+        (format!(in alloc; "{number}x{count}")?, 1)
+    } else {
+        (format!(in alloc; "{number}")?, count)
+    };
+    for _ in 0..times {
+        if !text.is_empty() {
+            text.push(' ')?;
+        }
+        text.push_str(shown.as_str())?;
+    }
     Ok(())
 }

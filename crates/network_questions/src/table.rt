@@ -1,72 +1,104 @@
 //! The table of all requests.
+ghost use Rattle.std.specs.Prelude.{◌≡◌, IfOk};
+ghost use Rattle.network_questions.specs.Asked.{IsTableOf, are_accepted, is_accepted_row};
+
+use crate::asking::{Asking, asking_of, rows_of};
 use crate::denials::{denial_text, verdict_word};
-use crate::parts::{link_name, percent_cell, push_pair, time_cell};
+use crate::parts::{
+    add_cell, add_column, link_name, percent_cell, push_pair, runs_text, time_cell,
+};
 use crate::tight::{Tight, tight_of};
 use crate::trouble::Trouble;
 use answer_grids::{Answer, Cell, Column, Grid};
-use answer_tables::{HopRow, LeastJitter, RequestRow, request_row};
+use answer_tables::{HopRow, LeastJitter, RequestRow};
 use field_units::Time;
 use network_files::Network;
-use plan_answers::{Least, Trial, is_acceptance};
-use question_plans::{Change, requests_alone};
+use plan_answers::{Least, is_acceptance};
 use setup_protocol::Verdict;
 use std::alloc::{AllocError, Global};
 
-/// The table.
-pub fn table_of(alloc: Global, network: &Network) -> Result<Answer, Trouble> {
-    let plan = &network.plan;
-    let trial = Trial::play(alloc, requests_alone(alloc, plan, &Change::Nothing)?)?;
-    let mut rows = Vec::new(alloc);
-    let mut holds = true;
-    for number in 0..plan.requests().len() {
-        if number >= trial.plan.requests().len() {
-            break;
-        }
-        let row = request_row(alloc, plan, &trial, number)?;
-        if !is_acceptance(&row.verdict) {
-            holds = false;
-        }
-        let tight = tight_of(alloc, &trial, &trial.plan.requests()[number], &row)?;
-        rows.push(cells_of(alloc, network, &row, &tight)?)?;
-    }
+/// The table. Each request is asked among the requests alone or, where the network has a schedule, where its own setup begins in its run.
+pub fn table_of(alloc: Global, network: &Network) -> Result<Answer, Trouble>
+    ensures { IfOk result (IsTableOf network.now) }
+{
+    let asking = asking_of(alloc, network)?;
+    let rows = rows_of(alloc, network, &asking)?;
     Ok(Answer {
-        grid: Grid {
-            columns: columns_of(alloc, network.tick)?,
-            rows,
-        },
+        grid: grid_of(alloc, network, &asking, rows.as_slice())?,
         shows_grid: true,
         lines: Vec::new(alloc),
-        holds,
+        holds: all_accepted(&rows),
+    })
+}
+
+// Whether all requests are accepted.
+fn all_accepted(rows: &Vec<RequestRow>) -> bool
+    ensures { result ≡ are_accepted rows.now.items }
+{
+    are_accepted(rows.as_slice())
+}
+
+// Whether all of these requests are accepted.
+fn are_accepted(rows: &[RequestRow]) -> bool
+    ensures { result ≡ are_accepted rows.now }
+{
+    rows.iter().all(|row| is_accepted(row))
+}
+
+// Whether a request is accepted.
+fn is_accepted(row: &RequestRow) -> bool
+    ensures { result ≡ is_accepted_row row.now }
+{
+    is_acceptance(&row.verdict)
+}
+
+// A row for each of them.
+fn grid_of(
+    alloc: Global,
+    network: &Network,
+    asking: &Asking,
+    rows: &[RequestRow],
+) -> Result<Grid, Trouble> {
+    let mut cells = Vec::new(alloc);
+    for row in rows {
+        let tight = tight_of(alloc, network, asking, row)?;
+        cells.push(cells_of(alloc, network, row, &tight)?)?;
+    }
+    Ok(Grid {
+        columns: columns_of(alloc, network.tick)?,
+        rows: cells,
     })
 }
 
 // The columns, with times where the tick is known. In text the verdict is a denial's words, and of the times that stands which is to spare.
 fn columns_of(alloc: Global, tick: Option<Time>) -> Result<Vec<Column>, AllocError> {
     let mut columns = Vec::new(alloc);
-    columns.push(Column::of_words("request", "request"))?;
-    columns.push(Column::of_words("", "verdict").in_text())?;
-    columns.push(Column::of_words("verdict", "").in_data())?;
-    columns.push(Column::of_words("offers", "offers"))?;
-    columns.push(Column::of_words("gets", "gets"))?;
+    add_column(&mut columns, Column::of_words("request", "request"))?;
+    add_column(&mut columns, Column::of_words("", "verdict").in_text())?;
+    add_column(&mut columns, Column::of_words("verdict", "").in_data())?;
+    add_column(&mut columns, Column::of_words("", "offers").in_text())?;
+    add_column(&mut columns, Column::of_words("offers", "").in_data())?;
+    add_column(&mut columns, Column::of_words("", "gets").in_text())?;
+    add_column(&mut columns, Column::of_words("gets", "").in_data())?;
     push_delays(&mut columns, tick)?;
-    columns.push(Column::of_words("why", "").in_data())?;
+    add_column(&mut columns, Column::of_words("why", "").in_data())?;
     push_tight_columns(&mut columns)?;
     Ok(columns)
 }
 
 // Adds the columns of delays and of the jitter.
 fn push_delays(columns: &mut Vec<Column>, tick: Option<Time>) -> Result<(), AllocError> {
-    columns.push(Column::of_numbers("wanted", "wanted"))?;
+    add_column(columns, Column::of_numbers("wanted", "wanted"))?;
     push_time(columns, tick, "wanted_time")?;
-    columns.push(Column::of_numbers("promised", "promised"))?;
+    add_column(columns, Column::of_numbers("promised", "promised"))?;
     push_time(columns, tick, "promised_time")?;
-    columns.push(Column::of_numbers("to_spare", "to spare"))?;
+    add_column(columns, Column::of_numbers("to_spare", "to spare"))?;
     if tick.is_some() {
-        columns.push(Column::of_numbers("to_spare_time", ""))?;
+        add_column(columns, Column::of_numbers("to_spare_time", ""))?;
     }
-    columns.push(Column::of_numbers("least_delay", "least delay"))?;
+    add_column(columns, Column::of_numbers("least_delay", "least delay"))?;
     push_time(columns, tick, "least_delay_time")?;
-    columns.push(Column::of_numbers("least_jitter", "least jitter"))?;
+    add_column(columns, Column::of_numbers("least_jitter", "least jitter"))?;
     push_time(columns, tick, "least_jitter_time")
 }
 
@@ -77,37 +109,28 @@ fn push_time(
     name: &'static str,
 ) -> Result<(), AllocError> {
     if tick.is_some() {
-        columns.push(Column::of_numbers(name, "").in_data())?;
+        add_column(columns, Column::of_numbers(name, "").in_data())?;
     }
     Ok(())
 }
 
 // Adds the columns of the tight link.
 fn push_tight_columns(columns: &mut Vec<Column>) -> Result<(), AllocError> {
-    columns.push(Column::of_words("tight", "tight"))?;
-    columns.push(Column::of_numbers("", "work").in_text())?;
-    columns.push(Column::of_numbers("tight_work", "").in_data())?;
-    columns.push(Column::of_numbers("tight_bound", "").in_data())?;
-    columns.push(Column::of_numbers("tight_least_bound", "least"))?;
-    columns.push(Column::of_numbers("tight_long_run_percent", "run %"))?;
-    columns.push(Column::of_numbers("", "buffer free").in_text())?;
-    columns.push(Column::of_numbers("tight_buffer_free", "").in_data())?;
-    columns.push(Column::of_numbers("tight_buffer", "").in_data())?;
-    Ok(())
-}
-
-// Adds a column of ticks, and one of times where the tick is known.
-fn push_ticks(
-    columns: &mut Vec<Column>,
-    tick: Option<Time>,
-    name: &'static str,
-    head: &'static str,
-    name_of_time: &'static str,
-) -> Result<(), AllocError> {
-    columns.push(Column::of_numbers(name, head))?;
-    if tick.is_some() {
-        columns.push(Column::of_numbers(name_of_time, ""))?;
-    }
+    add_column(columns, Column::of_words("tight", "tight"))?;
+    add_column(columns, Column::of_numbers("", "work").in_text())?;
+    add_column(columns, Column::of_numbers("tight_work", "").in_data())?;
+    add_column(columns, Column::of_numbers("tight_bound", "").in_data())?;
+    add_column(columns, Column::of_numbers("tight_least_bound", "least"))?;
+    add_column(
+        columns,
+        Column::of_numbers("tight_long_run_percent", "run %"),
+    )?;
+    add_column(columns, Column::of_numbers("", "buffer free").in_text())?;
+    add_column(
+        columns,
+        Column::of_numbers("tight_buffer_free", "").in_data(),
+    )?;
+    add_column(columns, Column::of_numbers("tight_buffer", "").in_data())?;
     Ok(())
 }
 
@@ -129,7 +152,7 @@ fn cells_of(
     push_both(alloc, &mut cells, spare, tick)?;
     push_both(alloc, &mut cells, delay_in(&row.least), tick)?;
     push_both(alloc, &mut cells, jitter_in(&row.jitter), tick)?;
-    cells.push(Cell::Text(denial_text(alloc, &row.verdict)?))?;
+    add_cell(&mut cells, Cell::Text(denial_text(alloc, &row.verdict)?))?;
     match tight {
         Some(tight) => push_tight(alloc, &mut cells, network, tight)?,
         None => push_nothing(&mut cells, 9)?,
@@ -144,20 +167,23 @@ fn push_tight(
     network: &Network,
     tight: &Tight,
 ) -> Result<(), AllocError> {
-    cells.push(Cell::text(alloc, link_name(&network.plan, tight.link))?)?;
+    add_cell(
+        cells,
+        Cell::text(alloc, link_name(&network.plan, tight.link))?,
+    )?;
     push_pair(alloc, cells, tight.load.work, tight.load.bound)?;
     match tight.least {
-        Some(least) => cells.push(Cell::Number(least))?,
-        None => cells.push(Cell::text(alloc, "none")?)?,
+        Some(least) => add_cell(cells, Cell::Number(least))?,
+        None => add_cell(cells, Cell::text(alloc, "none")?)?,
     }
-    cells.push(percent_cell(alloc, tight.long_run)?)?;
+    add_cell(cells, percent_cell(alloc, tight.long_run)?)?;
     push_pair(alloc, cells, tight.free, tight.buffer)
 }
 
 // Adds so many empty cells.
 fn push_nothing(cells: &mut Vec<Cell>, count: usize) -> Result<(), AllocError> {
     for _ in 0..count {
-        cells.push(Cell::Nothing)?;
+        add_cell(cells, Cell::Nothing)?;
     }
     Ok(())
 }
@@ -173,12 +199,18 @@ fn push_name(
         Some(entry) => entry.name.as_str(),
         None => "",
     };
-    cells.push(Cell::text(alloc, name)?)?;
-    cells.push(Cell::Text(outcome_text(alloc, &row.verdict)?))?;
-    cells.push(Cell::text(alloc, verdict_word(&row.verdict))?)?;
+    add_cell(cells, Cell::text(alloc, name)?)?;
+    add_cell(cells, Cell::Text(outcome_text(alloc, &row.verdict)?))?;
+    add_cell(cells, Cell::text(alloc, verdict_word(&row.verdict))?)?;
     let (offers, gets) = levels_of(alloc, row.hops.as_slice())?;
-    cells.push(Cell::Numbers(offers))?;
-    cells.push(Cell::Numbers(gets))?;
+    push_levels(alloc, cells, offers)?;
+    push_levels(alloc, cells, gets)
+}
+
+// Adds levels, for text in a short form, and each for itself.
+fn push_levels(alloc: Global, cells: &mut Vec<Cell>, levels: Vec<u64>) -> Result<(), AllocError> {
+    add_cell(cells, Cell::Text(runs_text(alloc, levels.as_slice())?))?;
+    add_cell(cells, Cell::Numbers(levels))?;
     Ok(())
 }
 
@@ -212,9 +244,9 @@ fn push_both(
     ticks: Option<u64>,
     tick: Option<Time>,
 ) -> Result<(), AllocError> {
-    cells.push(Cell::number(ticks))?;
+    add_cell(cells, Cell::number(ticks))?;
     if let Some(tick) = tick {
-        cells.push(time_cell(alloc, ticks, tick)?)?;
+        add_cell(cells, time_cell(alloc, ticks, tick)?)?;
     }
     Ok(())
 }

@@ -1,16 +1,20 @@
 //! A request at its tight link: what the link holds at its level, and what it would take to hold it.
 ghost use Rattle.std.specs.Prelude.{◌≤◌, IfOk, IfSome, length};
 ghost use Rattle.net_units.specs.Numbers.{level_number};
-ghost use Rattle.plan_answers.specs.Trials.{IsTrial};
+ghost use Rattle.network_questions.specs.Asked.{AskingStands};
 
+use crate::asking::Asking;
 use crate::crossings::{crossings_of, group_of, place_of, share_of_group, share_of_link};
+use crate::held::crossings_at;
 use answer_tables::RequestRow;
-use call_script::RequestEntry;
+use call_script::{Plan, RequestEntry};
 use link_fill::{Crossing, Share, held_rows, kept_units, share_load};
 use load_table::{LevelLoad, LinkRow, least_bound, long_run};
 use net_units::limits::MOST_REQUESTS;
 use net_units::{Bounds, Level, LinkNo};
-use plan_answers::Trial;
+use network_files::Network;
+use run_record::Done;
+use setup_points::ScheduledRun;
 use std::alloc::{AllocError, Global};
 
 /// What the tight link of a request holds.
@@ -30,29 +34,65 @@ pub(crate) struct Tight {
     pub buffer: u64,
 }
 
-/// The tight link of a request, where it has one. On a link that is split all of it is of the share of the request's group.
+/// The tight link of a request, where it has one. On a link that is split all of it is of the share of the request's group. In a schedule it is told
+/// of the moment at which the setup of the request has ended.
 pub(crate) fn tight_of(
     alloc: Global,
-    trial: &Trial,
-    entry: &RequestEntry,
+    network: &Network,
+    asking: &Asking,
     row: &RequestRow,
 ) -> Result<Option<Tight>, AllocError>
-    requires trial { IsTrial trial.now }
+    requires stands { AskingStands network.now asking.now }
 {
+    let plan = &network.plan;
     let Some(link) = row.tight_link() else {
         return Ok(None);
     };
-    let group = group_of(&trial.plan, entry);
-    if let Some(share) = share_of_group(&trial.plan, link, group) {
-        let crossings = crossings_of(alloc, trial, link, Some(group))?;
-        return tight_at(alloc, &share, crossings.as_slice(), link, entry, row);
-    }
-    match share_of_link(&trial.plan, link) {
-        Some(share) => {
-            let crossings = crossings_of(alloc, trial, link, None)?;
-            tight_at(alloc, &share, crossings.as_slice(), link, entry, row)
+    let Some(entry) = plan.requests().get(row.number) else {
+        return Ok(None);
+    };
+    let group = group_of(plan, entry);
+    let (share, group) = match share_of_group(plan, link, group) {
+        Some(share) => (share, Some(group)),
+        None => match share_of_link(plan, link) {
+            Some(share) => (share, None),
+            None => return Ok(None),
+        },
+    };
+    let crossings = crossings_then(alloc, network, asking, row.number, link, group)?;
+    tight_at(alloc, &share, crossings.as_slice(), link, entry, row)
+}
+
+// The requests over a link with what they have come to, or with what they hold once the setup of the request of a number has ended.
+fn crossings_then(
+    alloc: Global,
+    network: &Network,
+    asking: &Asking,
+    number: usize,
+    link: LinkNo,
+    group: Option<u8>,
+) -> Result<Vec<Crossing>, AllocError>
+    requires stands { AskingStands network.now asking.now }
+    ensures { IfOk result (λ crossings. length crossings.items ≤ 1024) }
+{
+    match asking {
+        Asking::Alone(trial) => crossings_of(alloc, trial, link, group),
+        Asking::Scheduled(run) => {
+            let entries = entries_until(&network.plan, run, number);
+            crossings_at(alloc, &network.plan, entries, link, group)
         }
-        None => Ok(None),
+    }
+}
+
+// The entries of a run up to the end of a setup.
+fn entries_until<'a>(plan: &Plan, run: &'a ScheduledRun, number: usize) -> &'a [Done] {
+    let entries = run.record.entries();
+    if number >= plan.requests().len() {
+        return entries;
+    }
+    match run.end_of(plan, number) {
+        Some(end) => entries.get(..end).unwrap_or(entries),
+        None => entries,
     }
 }
 

@@ -1,6 +1,8 @@
 //! Why there is no answer.
 use call_script::BadPlan;
 use net_units::OutOfMemory;
+use run_engine::PlayFault;
+use setup_points::PointFault;
 use std::alloc::{AllocError, AllocFailed};
 
 /// Why there is no answer.
@@ -10,6 +12,10 @@ pub enum Trouble {
     Memory,
     /// The plan of the question breaks a rule, by its number.
     Rule(u8),
+    /// The schedule's item on this line asks for a step that its actor doesn't have left.
+    Step { line: u64 },
+    /// The request isn't decided where its setup begins in the schedule. That never comes.
+    Undecided,
 }
 
 impl From<AllocError> for Trouble {
@@ -35,6 +41,26 @@ impl From<BadPlan> for Trouble {
         match bad {
             BadPlan::Memory => Trouble::Memory,
             BadPlan::Broken { rule } => Trouble::Rule(rule),
+        }
+    }
+}
+
+impl From<PlayFault> for Trouble {
+    fn from(fault: PlayFault) -> Trouble {
+        match fault {
+            PlayFault::Memory => Trouble::Memory,
+            PlayFault::Step { line, .. } => Trouble::Step { line },
+        }
+    }
+}
+
+impl From<PointFault> for Trouble {
+    fn from(fault: PointFault) -> Trouble {
+        match fault {
+            PointFault::Memory => Trouble::Memory,
+            PointFault::Rule { rule } => Trouble::Rule(rule),
+            PointFault::Step { line, .. } => Trouble::Step { line },
+            PointFault::Undecided => Trouble::Undecided,
         }
     }
 }
