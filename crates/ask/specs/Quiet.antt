@@ -1,6 +1,6 @@
 -- An answer goes to standard output, and nothing else does. So where the words are wrong, a line of the file is refused or memory is short, no byte
 -- is written there.
-use Rattle.std.specs.Prelude.{◌≡◌, ◌⊎◌, Bool, true, false, Result, Ok, Err}
+use Rattle.std.specs.Prelude.{◌≡◌, Bool, true, false, Result, Ok, Err}
 use Rattle.ask.specs.declared.status.Status.{Status}
 use Rattle.ask.specs.declared.status.Status.TheVariants.{Yes, No, Words, File, Memory, Refused}
 use Rattle.ask.specs.declared.trouble.Trouble.{Trouble}

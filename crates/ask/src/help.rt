@@ -42,8 +42,9 @@ fn push_rest(text: &mut String) -> Result<(), AllocError> {
 // What holds of all questions.
 const REST: &str = "
 FILE is a scenario or a design; - is standard input. All requests are asked for in the order of the file, and none is sent on, moved or
-closed, so all channels that are accepted are held at once. A schedule isn't used. Times stand beside ticks where a scenario has
-a note like # tick 10 us, and for each design.
+closed, so all channels that are accepted are held at once. Where the file has a schedule, table, fit, least and where ask each request
+where its own setup begins there, among the channels that are held then, and fit tries its copies once the setups of the requests that it
+names have ended; links and batch use no schedule. Times stand beside ticks where a scenario has a note like # tick 10 us, and for each design.
 
 Exit status: 0 yes, 1 no, 2 wrong words, 3 a file can't be read or written, 4 out of memory, 5 a line of the file is refused.
 ";

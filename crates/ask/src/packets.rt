@@ -1,12 +1,11 @@
 //! Questions about the packets of a network, which is played by its schedule.
-use crate::questions::{bytes_at, refused};
+use crate::questions::{bytes_at, missing_step, refused};
 use crate::reply::Reply;
 use crate::status::Status;
 use crate::trouble::Trouble;
 use crate::words::{Asked, Question, word_at};
-use network_files::{BadNetwork, Network, push_seen, read_network};
+use network_files::{Network, push_seen, read_network};
 use packet_questions::{Audit, BadLine, Trouble as Unplayed, audit_of, channels_of};
-use scenario_reader::Cause;
 use std::alloc::{AllocError, Global};
 
 /// The reply to a question about the packets of a network.
@@ -31,10 +30,7 @@ pub fn about_packets(
     match reply {
         Ok(reply) => Ok(reply),
         Err(Unplayed::Memory) => Err(Trouble::Memory),
-        Err(Unplayed::Step { line }) => {
-            let cause = Cause::Step;
-            refused(alloc, name, bytes, &BadNetwork::Line { line, cause })
-        }
+        Err(Unplayed::Step { line }) => missing_step(alloc, name, bytes, line),
     }
 }
 

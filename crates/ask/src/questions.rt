@@ -9,6 +9,7 @@ use crate::trouble::Trouble;
 use crate::words::{Asked, Question, word_at};
 use network_files::{BadNetwork, Network, read_network, refusal_of};
 use network_questions::{links_of, table_of};
+use scenario_reader::Cause;
 use std::alloc::Global;
 use std::thread::Threads;
 use timed_files::{refusal_of_timed, schedule_text};
@@ -61,9 +62,18 @@ fn about_network(
     let name = word_at(words, asked.file);
     let bytes = bytes_at(files, 0);
     match read_network(alloc, name, bytes) {
-        Ok(network) => about(alloc, words, asked, &network, bytes),
+        Ok(network) => match about(alloc, words, asked, &network, bytes) {
+            Err(Trouble::Step { line }) => missing_step(alloc, name, bytes, line),
+            replied => replied,
+        },
         Err(bad) => refused(alloc, name, bytes, &bad),
     }
+}
+
+/// What is said of a file of this name and these bytes whose schedule asks on a line for a step that isn't left.
+pub fn missing_step(alloc: Global, name: &str, bytes: &[u8], line: u64) -> Result<Reply, Trouble> {
+    let cause = Cause::Step;
+    refused(alloc, name, bytes, &BadNetwork::Line { line, cause })
 }
 
 /// What is said of a file of this name and these bytes that describes no network.

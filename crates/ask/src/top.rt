@@ -100,6 +100,10 @@ fn tell_trouble<E: Sink>(alloc: Global, trouble: Trouble, errors: &mut E) -> Sta
         Trouble::Memory => Status::Memory,
         Trouble::Write => Status::File,
         Trouble::Rule(rule) => written(rule_text(alloc, rule), errors, Status::Refused),
+        Trouble::Step { .. } | Trouble::Undecided => {
+            let text = "ask: the schedule doesn't come to a decision on the request\n";
+            written(String::from_str(alloc, text), errors, Status::Refused)
+        }
     }
 }
 

@@ -15,6 +15,10 @@ pub enum Trouble {
     Write,
     /// The plan of the question breaks a rule, by its number.
     Rule(u8),
+    /// The schedule's item on this line asks for a step that its actor doesn't have left.
+    Step { line: u64 },
+    /// The request isn't decided where its setup begins in the schedule. That never comes.
+    Undecided,
 }
 
 impl From<AllocError> for Trouble {
@@ -55,6 +59,8 @@ impl From<Unanswered> for Trouble {
         match trouble {
             Unanswered::Memory => Trouble::Memory,
             Unanswered::Rule(rule) => Trouble::Rule(rule),
+            Unanswered::Step { line } => Trouble::Step { line },
+            Unanswered::Undecided => Trouble::Undecided,
         }
     }
 }
