@@ -1,6 +1,6 @@
 //! The table of all requests.
 ghost use Rattle.std.specs.Prelude.{◌≡◌, IfOk};
-ghost use Rattle.network_questions.specs.Asked.{IsTableOf, are_accepted, is_accepted_row};
+ghost use Rattle.network_questions.specs.Asked.{AskingStands, IsTableOf, are_accepted, is_accepted_row};
 
 use crate::asking::{Asking, asking_of, rows_of};
 use crate::denials::{denial_text, verdict_word};
@@ -58,7 +58,9 @@ fn grid_of(
     network: &Network,
     asking: &Asking,
     rows: &[RequestRow],
-) -> Result<Grid, Trouble> {
+) -> Result<Grid, Trouble>
+    requires stands { AskingStands network.now asking.now }
+{
     let mut cells = Vec::new(alloc);
     for row in rows {
         let tight = tight_of(alloc, network, asking, row)?;

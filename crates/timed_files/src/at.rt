@@ -25,6 +25,8 @@ pub enum BadLine {
     AfterEnd,
     /// `both` isn't followed by the names of two requests of this caller.
     Pair,
+    /// A design's note `# both` isn't followed by the names of two of its streams of one group.
+    Streams,
 }
 
 /// What stands in such a line.

@@ -52,6 +52,8 @@ pub struct Cut {
     pub operations: Vec<OpLine>,
     /// Its pairs, in their order.
     pub pairs: Vec<Pair>,
+    // The requests of this caller that pairs have closed so far.
+    gone: Vec<Vec<u8>>,
     // Where the first operation stands, and its line's number, if no caller stands before it.
     nobodys: Option<(usize, u64)>,
     // The line with which it ends, if that has a tick.
@@ -73,6 +75,7 @@ pub fn cut_scenario(
         plain: Vec::with_capacity(alloc, bytes.len())?,
         operations: Vec::new(alloc),
         pairs: Vec::new(alloc),
+        gone: Vec::new(alloc),
         nobodys: None,
         end: None,
         lines: 0,
@@ -165,6 +168,7 @@ impl Cut {
         text.extend_from_slice(name)?;
         if closed.is_some() {
             self.take_operation(text.as_slice(), moment)?;
+            self.gone.push(Vec::from_slice(alloc, name)?)?;
         } else {
             self.plain.extend_from_slice(b"# both")?;
         }
@@ -192,8 +196,13 @@ impl Cut {
         Ok(())
     }
 
-    // Takes an operation at a tick.
+    // Takes an operation at a tick. One on a request that a pair has closed is a note.
     fn take_operation(&mut self, text: &[u8], moment: Moment) -> Result<(), AllocError> {
+        if self.is_on_gone(text) {
+            self.clock = moment.tick;
+            self.plain.extend_from_slice(b"# ")?;
+            return self.plain.extend_from_slice(text);
+        }
         if self.callers == 0 {
             self.nobodys = Some((self.plain.len(), self.lines));
             self.callers = 1;
@@ -206,6 +215,16 @@ impl Cut {
         })?;
         self.clock = moment.tick;
         self.plain.extend_from_slice(text)
+    }
+
+    // Whether an operation is on a request that a pair has closed.
+    fn is_on_gone(&self, text: &[u8]) -> bool {
+        let Some(name) = text.split(|byte| *byte == b' ').nth(1) else {
+            return false;
+        };
+        self.gone
+            .iter()
+            .any(|gone: &Vec<u8>| gone.as_slice() == name)
     }
 
     // Takes a line without a tick: an operation has that of the one above it.
@@ -233,6 +252,7 @@ impl Cut {
         if word == b"caller".as_slice() {
             self.callers = self.callers.saturating_add(1);
             self.clock = 0;
+            self.gone.clear();
         }
         self.plain.extend_from_slice(line)?;
         Ok(())

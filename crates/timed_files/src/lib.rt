@@ -7,6 +7,7 @@ mod notes;
 mod pairs;
 mod refused;
 mod scheduling;
+mod stream_pairs;
 
 pub use at::BadLine;
 pub use refused::{BadTimed, refusal_of_timed};

@@ -51,8 +51,20 @@ pub fn push_rounded(
     Ok(())
 }
 
+/// How a note names the place of a pair: by its line in the file or, of a design, by the names alone.
+#[derive(Clone, Copy, Debug, PartialEq, Eq)]
+pub enum Naming {
+    Lines,
+    Names,
+}
+
 /// A note on each pair of which one request is closed, since the other was denied.
-pub fn push_closed(alloc: Global, text: &mut String, pairs: &[Pair]) -> Result<(), AllocError> {
+pub fn push_closed(
+    alloc: Global,
+    text: &mut String,
+    pairs: &[Pair],
+    named: Naming,
+) -> Result<(), AllocError> {
     for pair in pairs {
         if let Some(closed) = pair.closed {
             let (first, second) = (shown(&pair.first), shown(&pair.second));
@@ -61,8 +73,13 @@ pub fn push_closed(alloc: Global, text: &mut String, pairs: &[Pair]) -> Result<(
                 Closed::Second => second,
             };
             let line = pair.line;
+            let place = match named {
+                Naming::Lines => format!(in alloc; "line {line}: ")?,
+                Naming::Names => String::new(alloc),
+            };
+            let place = place.as_str();
             let note = format!(in alloc;
-                "# line {line}: not both {first} and {second} are accepted, so {name} is closed\n"
+                "# {place}not both {first} and {second} are accepted, so {name} is closed\n"
             )?;
             text.push_str(note.as_str())?;
         }

@@ -154,6 +154,10 @@ fn cure_of(alloc: Global, why: BadLine) -> Result<String, AllocError> {
             alloc,
             "both has to be followed by the names of two requests that this caller opens above",
         ),
+        BadLine::Streams => String::from_str(
+            alloc,
+            "the note both has to be followed by the names of two streams of one group",
+        ),
     }
 }
 

@@ -5,9 +5,10 @@ ghost use Rattle.run_engine.specs.schedules.Schedules.{IsActorOf};
 
 use crate::at::BadLine;
 use crate::cut::{Cut, cut_scenario};
-use crate::notes::{noted_tick, push_closed, push_noted, push_rounded, push_scale};
+use crate::notes::{Naming, noted_tick, push_closed, push_noted, push_rounded, push_scale};
 use crate::pairs::next_broken;
 use crate::refused::BadTimed;
+use crate::stream_pairs::{paired_text, stream_pairs};
 use byte_ends::MemSink;
 use call_script::Plan;
 use call_times::{Made, Times, TimesFault, schedule_at};
@@ -24,14 +25,19 @@ const MOST_BYTES: usize = 4_194_304;
 /// scenario whose operations may begin with `at TIME `, or a design, whose streams begin and end.
 pub fn schedule_text(alloc: Global, name: &str, bytes: &[u8]) -> Result<String, BadTimed> {
     if is_scenario(bytes) {
-        of_scenario(alloc, name, bytes)
+        of_scenario(alloc, name, bytes, Naming::Lines)
     } else {
         of_design(alloc, name, bytes)
     }
 }
 
 // Of a scenario. Each pair of which one request is to be closed takes one run more, from the beginning.
-fn of_scenario(alloc: Global, name: &str, bytes: &[u8]) -> Result<String, BadTimed> {
+fn of_scenario(
+    alloc: Global,
+    name: &str,
+    bytes: &[u8],
+    naming: Naming,
+) -> Result<String, BadTimed> {
     let mut closings = Vec::new(alloc);
     // a scenario has fewer pairs
     for _ in 0..MOST_BYTES {
@@ -40,7 +46,7 @@ fn of_scenario(alloc: Global, name: &str, bytes: &[u8]) -> Result<String, BadTim
         let made = scheduled(alloc, &plan, &cut)?;
         match next_broken(&plan, cut.pairs.as_slice(), made.accepted.as_slice())? {
             Some(closing) => closings.push(closing)?,
-            None => return text_of(alloc, bytes, &plan, &cut, &made),
+            None => return text_of(alloc, bytes, &plan, &cut, &made, naming),
         }
     }
     Err(BadTimed::TooLong)
@@ -53,13 +59,14 @@ fn text_of(
     plan: &Plan,
     cut: &Cut,
     made: &Made,
+    naming: Naming,
 ) -> Result<String, BadTimed>
     requires { Each (IsActorOf plan.now) made.now.schedule.items }
 {
     let mut text = String::new(alloc);
     push_scale(&mut text, bytes)?;
     push_rounded(alloc, &mut text, cut.operations.as_slice())?;
-    push_closed(alloc, &mut text, cut.pairs.as_slice())?;
+    push_closed(alloc, &mut text, cut.pairs.as_slice(), naming)?;
     written(alloc, text, plan, made)
 }
 
@@ -90,11 +97,16 @@ fn scheduled(alloc: Global, plan: &Plan, cut: &Cut) -> Result<Made, BadTimed>
     }
 }
 
-// Of a design.
+// Of a design. Where it has pairs, it goes by way of a scenario with ticks.
 fn of_design(alloc: Global, name: &str, bytes: &[u8]) -> Result<String, BadTimed> {
     let network = read_network(alloc, name, bytes)?;
     let times = ticks_of(alloc, network.times.as_slice())?;
     let made = schedule_at(alloc, &network.plan, times.as_slice())?;
+    let pairs = stream_pairs(alloc, &network, bytes)?;
+    if !pairs.is_empty() {
+        let text = paired_text(alloc, &network, pairs.as_slice())?;
+        return of_scenario(alloc, name, text.as_bytes(), Naming::Names);
+    }
     let text = match network.tick {
         Some(tick) => format!(in alloc; "# tick {tick}\n")?,
         None => String::new(alloc),

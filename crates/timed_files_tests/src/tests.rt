@@ -10,6 +10,28 @@ link B n2 n3 rate 1 cap 4 prop 2 buffer 100 levels 10 20 40
 link C n3 n4 rate 1 cap 4 prop 2 buffer 100 levels 10 20 40
 ";
 
+const PAIRS: &str = "\
+# both go1 back1
+# both go2 back2
+tick = \"10 us\"
+unit = \"1 byte\"
+run = \"0.1 ms\"
+test = \"whole\"
+stream = [
+  { name = \"go1\", class = \"call\", route = \"T\", within = \"0.43 ms\" },
+  { name = \"back1\", class = \"call\", route = \"B\", within = \"0.13 ms\" },
+  { name = \"go2\", class = \"call\", route = \"T\", within = \"0.43 ms\", start = \"50 us\", end = \"90 us\" },
+  { name = \"back2\", class = \"call\", route = \"B\", within = \"0.13 ms\", start = \"50 us\", end = \"90 us\" },
+]
+link = [
+  { name = \"T\", from = \"n1\", to = \"n2\", levels = [\"0.4 ms\"], rate = \"800 kbit/s\", largest = \"4 B\", latency = \"20 us\", buffer = \"100 B\" },
+  { name = \"B\", from = \"n2\", to = \"n1\", levels = [\"0.1 ms\"], rate = \"800 kbit/s\", largest = \"4 B\", latency = \"20 us\", buffer = \"100 B\" },
+]
+[class.call]
+every = \"0.2 ms\"
+size = \"4 B\"
+";
+
 // The text that links with these operations become, or what is said of them.
 fn text_of(rt: &HostRuntime, operations: &str) -> Result<String, Fail> {
     let alloc = rt.alloc();
@@ -242,6 +264,48 @@ do plane 2
             );
         }
         Err(_) => return Err(Fail::new("the calls are refused")),
+    }
+    Ok(())
+}
+
+// The same calls as streams of a design: 4 bytes each 0.2 ms at 400 kbit/s are 20 ticks and 4 units, with bounds of 42 and 12 ticks. The second
+// pair ends at 0.6 ms, which doesn't matter to the one that is closed at once.
+#[test]
+fn both_or_none_of_streams(rt: HostRuntime) -> Result<(), Fail> {
+    let alloc = rt.alloc();
+    let text = schedule_text(alloc, "net", PAIRS.as_bytes());
+    match text {
+        Ok(text) => {
+            assert_eq!(rt;
+                from_word(text.as_str(), "caller"),
+                "\
+caller streams
+open go1 route T contract 20 20 20 4 delay 42 rate
+open back1 route B contract 20 20 20 4 delay 12 rate
+open go2 route T contract 20 20 20 4 delay 42 rate
+open back2 route B contract 20 20 20 4 delay 12 rate
+close go2
+close back2
+rounds 10
+tail 0
+schedule
+# at 0
+do streams 4
+do plane 10
+# at 5
+do streams 4
+do plane 10
+"
+            );
+            assert_eq!(rt;
+                text.as_str().lines().nth(1),
+                Some("# not both go2 and back2 are accepted, so go2 is closed")
+            );
+        }
+        Err(bad) => {
+            let (text, _) = refusal_of_timed(alloc, "net", PAIRS.as_bytes(), &bad)?;
+            assert_eq!(rt; text.as_str(), "");
+        }
     }
     Ok(())
 }
