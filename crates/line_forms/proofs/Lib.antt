@@ -1,0 +1,13 @@
+pub mod CutFields
+pub mod DecimalDigits
+pub mod FieldText
+pub mod NumberText
+pub mod WordText
+pub mod FormByField
+pub mod FormText
+pub mod ValuesInCells
+pub mod SlotsBack
+pub mod ReadOn
+pub mod FormsBack
+pub mod LineByField
+pub mod FitsByPlace

@@ -1,0 +1,11 @@
+use Rattle.std.proofs.Common.{◌∙◌, rules, tests}
+use Rattle.std.specs.Char.{is_ascii_digit}
+use Rattle.std.proofs.lemmas.Iterator.{YieldsList-from_slice}
+use Rattle.std.proofs.lemmas.Iterator.Search.{all_from_yields_List}
+use Rattle.line_forms.proofs.DecimalDigits.{all-digits}
+use Rattle.line_forms.proofs.number.are_digits.Goals as goal
+
+pub returns : goal.returns
+returns c =
+    all_from_yields_List is_ascii_digit c.all.new.self _ _ c.all.ensures.ran (YieldsList-from_slice c.args.field.now c.iter.ensures.rest) (λ x b q k. search (rules, tests))
+    ∙ all-digits c.args.field.now

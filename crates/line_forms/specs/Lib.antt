@@ -1,0 +1,13 @@
+pub mod Fields
+pub mod FieldCells
+pub mod Decimal
+pub mod Words
+pub mod Known
+pub mod Values
+pub mod Slots
+pub mod Forms
+pub mod Reading
+pub mod ReadSteps
+pub mod Writing
+pub mod Fitting
+pub mod BothWays
