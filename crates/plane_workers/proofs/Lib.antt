@@ -8,3 +8,10 @@ pub mod GapLaw
 pub mod LinksAtDesks
 pub mod StepsAddUp
 pub mod BatchReplies
+pub mod QuietReplies
+pub mod QuietWindow
+pub mod SaidInTurn
+pub mod LinkAnswers
+pub mod WindowRests
+pub mod LanesHandOn
+pub mod StepHandedOn

@@ -4,3 +4,5 @@ pub mod Seen
 pub mod Gaps
 pub mod Batches
 pub mod Desks
+pub mod Said
+pub mod Lanes

@@ -1,5 +1,5 @@
 //! Asks of several links, made by several workers.
-ghost use Rattle.std.specs.Prelude.{◌≡◌, ℕ, ◌+◌, ◌^◌, ◌<◌, ◌≤◌, ◌++◌, List, [], length, drop, map, false, Some, IfOk, OnOk};
+ghost use Rattle.std.specs.Prelude.{◌≡◌, ◌≢◌, ℕ, ◌+◌, ◌^◌, ◌<◌, ◌≤◌, ◌++◌, ◌∷◌, List, [], length, drop, map, false, Some, IfOk, OnOk};
 ghost use Rattle.std.specs.List.{slice_get};
 ghost use Rattle.net_units.specs.Numbers.{link_number};
 ghost use Rattle.link_steps.specs.Legal.{AskFits};
@@ -11,8 +11,6 @@ ghost use Rattle.link_steps.specs.Split.{Link};
 ghost use Rattle.plane_workers.specs.Batches.{AreAhead, MadeInTurn, own_asks};
 
 use crate::desk::{Desk, desks_of, links_of};
-use crate::telling::next_reply;
-use crate::window::any_wanted;
 use link_steps::{Ask, LinkStep, Reply};
 use net_units::{ActorNo, Gate, LinkNo, OutOfMemory};
 use std::alloc::Global;
@@ -96,4 +94,23 @@ fn gather<L: LinkStep>(
         replies.push(next_reply(desks, usize::from(to.0.get())))?;
     }
     Ok(replies)
+}
+
+// The next reply of the link of this number that isn't told yet.
+fn next_reply<L: LinkStep>(desks: &mut [Desk<L>], number: usize) -> Reply
+    requires inside { number < length desks.old }
+    requires left { (desk : _) → slice_get desks.old number ≡ Some desk → desk.told < length desk.replies.items }
+    ensures long { length desks.new ≡ length desks.old }
+    ensures others { (n : ℕ) → n ≢ number → slice_get desks.new n ≡ slice_get desks.old n }
+    ensures link { (x y : _) → slice_get desks.old number ≡ Some x → slice_get desks.new number ≡ Some y → y.link ≡ x.link }
+    ensures told { (x y : _) → slice_get desks.old number ≡ Some x → slice_get desks.new number ≡ Some y → drop x.told x.replies.items ≡ result ∷ drop y.told y.replies.items }
+{
+    desks[number].next_reply()
+}
+
+// Whether one of the links has wanted memory.
+fn any_wanted<L: LinkStep>(desks: &[Desk<L>]) -> bool
+    ensures { result ≡ false → (n : ℕ) (desk : _) → slice_get desks.now n ≡ Some desk → desk.wanted ≡ false }
+{
+    desks.iter().any(|desk| desk.wanted)
 }

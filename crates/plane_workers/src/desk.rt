@@ -4,12 +4,10 @@ ghost use Rattle.link_steps.specs.Legal.{AskFits};
 ghost use Rattle.link_steps.specs.Lists.{Each};
 ghost use Rattle.plane_workers.specs.Answered.{IsAnswered, ticks_in};
 ghost use Rattle.plane_workers.specs.Batches.{own_asks};
-ghost use Rattle.tick_plane.specs.Windows.{window_at};
 
 use link_steps::{Ask, LinkStep, Reply};
 use net_units::{ActorNo, Gate, LinkNo, OutOfMemory};
 use std::alloc::Global;
-use tick_plane::Window;
 
 /// A link, what it is asked next, and what it has replied to that.
 #[derive(Drop)]
@@ -24,38 +22,6 @@ pub struct Desk<L: LinkStep> {
 }
 
 impl<L: LinkStep> Desk<L> {
-    // Answers what its link, of this number, is asked in a window.
-    pub(crate) fn answer_window<G: Gate>(
-        &mut self,
-        alloc: Global,
-        window: &Window,
-        number: usize,
-        gate: &G,
-        actor: ActorNo,
-    )
-        requires number { number < 32 }
-        requires fits { Each (AskFits (L.link_of self.old.link).shape) (window_at number window.now.until window.now.at) }
-        requires early { L.clock_at self.old.link + ticks_in (window_at number window.now.until window.now.at) < 2 ^ 61 }
-        ensures { self.new.wanted ≡ false → IsAnswered L.link_of L.stands_for self.old.link self.new.link (window_at number window.now.until window.now.at) (drop self.new.told self.new.replies.items) }
-    {
-        self.told = 0;
-        self.asks.clear();
-        self.replies.clear();
-        let asked = window.asks(alloc, link_of(number), &mut self.asks);
-        if asked.is_err() {
-            self.wanted = true;
-            return;
-        }
-        let answered = answer(
-            gate,
-            actor,
-            &mut self.link,
-            self.asks.as_slice(),
-            &mut self.replies,
-        );
-        self.wanted = answered.is_err();
-    }
-
     // Answers those of these asks that go to its link, of this number.
     pub(crate) fn answer_own<G: Gate>(
         &mut self,

@@ -5,11 +5,11 @@ ghost use Rattle.std.specs.Prelude.{◌≡◌, ◌+◌, ◌<◌, ◌≤◌, ◌^
 // replies are kept until they are told.
 const TICKS_EACH: u64 = 4_000;
 
-// A window is made after this many times its own number of busy rounds.
-const BUSY_BEFORE: u64 = 4;
+// A window has at most this many times as many rounds as were busy before it.
+const BUSY_AHEAD: u64 = 4;
 
 // A round at rest takes back so many busy ones.
-const BUSY_LOST: u64 = 8;
+const BUSY_LOST: u64 = 1;
 
 // The next rounds of the plane: until which one begins, and by how many workers. One worker makes them as `play` does, and more make a
 // window of them.
@@ -63,7 +63,9 @@ impl Pace {
                 workers: self.workers.min(self.links).min(2) as usize,
             };
         }
-        let long = left.min(self.gap + 1).min(self.busy / BUSY_BEFORE);
+        let long = left
+            .min(self.gap + 1)
+            .min(self.busy.saturating_mul(BUSY_AHEAD));
         let workers = self.worth(long, flights);
         if long > 0 && workers > 1 {
             return Part {
@@ -106,33 +108,5 @@ impl Pace {
             return u64::MAX;
         }
         least.max(1)
-    }
-}
-
-// In how many rounds something happened, as they are told one step after the other.
-#[derive(Drop)]
-pub(crate) struct Busy {
-    rounds: u64,
-    last: Option<u64>,
-}
-
-impl Busy {
-    pub(crate) fn new() -> Busy {
-        Busy {
-            rounds: 0,
-            last: None,
-        }
-    }
-
-    // A step of this round was told: a quiet one, or one in which something happened.
-    pub(crate) fn note(&mut self, round: u64, quiet: bool) {
-        if !quiet && self.last != Some(round) {
-            self.rounds = self.rounds.saturating_add(1);
-            self.last = Some(round);
-        }
-    }
-
-    pub(crate) fn rounds(&self) -> u64 {
-        self.rounds
     }
 }

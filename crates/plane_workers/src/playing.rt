@@ -22,7 +22,7 @@ use std::thread::Threads;
 /// `interleave_core`).
 ///
 /// Where no schedule is written, whoever makes an ask of the plane calls the gate's `within` before it and `after` after it, once each,
-/// with the ask's link and the plane. The ticks of rounds at rest are made at once, after the calls for all of them.
+/// with the ask's link and the plane. The ticks in which a link rests are made at once, after the calls for all of them.
 pub fn played<R: Threads + Sync, G: Gate + Sync>(
     rt: &R,
     alloc: Global,

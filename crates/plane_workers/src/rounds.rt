@@ -9,10 +9,10 @@ ghost use Rattle.plane_workers.specs.Windows.{KeepsGap};
 ghost use Rattle.run_record.specs.declared.done.Done.{Done as Step};
 
 use crate::alone::make_alone;
-use crate::desk::{desks_of, links_of};
 use crate::gap::least_gap;
+use crate::lane::{lanes_of, links_in};
 use crate::pace::{Pace, Part};
-use crate::window::make_window;
+use crate::window::make_windows;
 use call_script::Plan;
 use net_units::{ActorNo, Gate, OutOfMemory};
 use run_engine::{Engine, Watch, actor_of};
@@ -41,14 +41,15 @@ pub(crate) fn make_rounds<R: Threads + Sync, W: Watch, G: Gate + Sync>(
     while engine.round() < rounds {
         let round = engine.round();
         let part = pace.next(round, rounds, engine.flights());
-        let made = make_part(rt, alloc, plan, engine, watch, actor, gap, &part, gate)?;
-        engine = made.0;
-        pace.note(part.until.saturating_sub(round), made.1);
+        let made = make_part(
+            rt, alloc, plan, engine, watch, actor, gap, rounds, &part, &mut pace, gate,
+        )?;
+        engine = made;
     }
     Ok(engine)
 }
 
-// The rounds until that of the part begins. Answers in how many of them something happened.
+// The rounds until that of the part begins, and where several workers make them, more of them as long as that pays.
 fn make_part<R: Threads + Sync, W: Watch, G: Gate + Sync>(
     rt: &R,
     alloc: Global,
@@ -57,25 +58,35 @@ fn make_part<R: Threads + Sync, W: Watch, G: Gate + Sync>(
     watch: &mut W,
     actor: ActorNo,
     gap: u64,
+    rounds: u64,
     part: &Part,
+    pace: &mut Pace,
     gate: &G,
-) -> Result<(Engine, u64), OutOfMemory>
+) -> Result<Engine, OutOfMemory>
     requires actor { actor ≡ the_plane (network_of plan.now) }
     requires keeps { KeepsGap (network_of plan.now) gap }
     requires stand { (run : List Step) × WatchStands W.saw plan.now engine watch.old run }
     requires early { engine.actors.plane.at.round < part.now.until }
     requires all { part.now.until ≤ (network_of plan.now).rounds }
     requires near { 1 < part.now.workers → part.now.until ≤ engine.actors.plane.at.round + gap + 1 }
-    ensures plays { IfOk result (λ made. (past : List Step) → WatchStands W.saw plan.now engine watch.old past → PlaysMore W.saw plan.now made.0 watch.new past actor 0) }
-    ensures at { IfOk result (λ made. part.now.until ≤ made.0.actors.plane.at.round) }
+    requires rounds { rounds ≡ (network_of plan.now).rounds }
+    requires gap { pace.old.gap ≡ gap }
+    requires small { gap < 2 ^ 60 }
+    ensures plays { IfOk result (λ made. (past : List Step) → WatchStands W.saw plan.now engine watch.old past → PlaysMore W.saw plan.now made watch.new past actor 0) }
+    ensures at { IfOk result (λ made. part.now.until ≤ made.actors.plane.at.round) }
+    ensures gap { OnOk result (pace.new.gap ≡ gap) }
     ensures table { OnOk result (W.has_table watch.new ≡ W.has_table watch.old) }
 {
     if part.workers > 1 {
-        return make_apart(rt, alloc, plan, engine, watch, actor, gap, part, gate);
+        return make_apart(
+            rt, alloc, plan, engine, watch, actor, gap, rounds, part, pace, gate,
+        );
     }
     let mut engine = engine;
+    let round = engine.round();
     let busy = make_alone(&mut engine, plan, watch, gate, actor, part.until)?;
-    Ok((engine, busy))
+    pace.note(part.until.saturating_sub(round), busy);
+    Ok(engine)
 }
 
 // The same by several workers, for whom the links are taken out of the engine.
@@ -87,9 +98,11 @@ fn make_apart<R: Threads + Sync, W: Watch, G: Gate + Sync>(
     watch: &mut W,
     actor: ActorNo,
     gap: u64,
+    rounds: u64,
     part: &Part,
+    pace: &mut Pace,
     gate: &G,
-) -> Result<(Engine, u64), OutOfMemory>
+) -> Result<Engine, OutOfMemory>
     requires actor { actor ≡ the_plane (network_of plan.now) }
     requires keeps { KeepsGap (network_of plan.now) gap }
     requires stand { (run : List Step) × WatchStands W.saw plan.now engine watch.old run }
@@ -97,25 +110,19 @@ fn make_apart<R: Threads + Sync, W: Watch, G: Gate + Sync>(
     requires early { engine.actors.plane.at.round < part.now.until }
     requires all { part.now.until ≤ (network_of plan.now).rounds }
     requires near { part.now.until ≤ engine.actors.plane.at.round + gap + 1 }
-    ensures plays { IfOk result (λ made. (past : List Step) → WatchStands W.saw plan.now engine watch.old past → PlaysMore W.saw plan.now made.0 watch.new past actor 0) }
-    ensures at { IfOk result (λ made. part.now.until ≤ made.0.actors.plane.at.round) }
+    requires rounds { rounds ≡ (network_of plan.now).rounds }
+    requires gap { pace.old.gap ≡ gap }
+    requires small { gap < 2 ^ 60 }
+    ensures plays { IfOk result (λ made. (past : List Step) → WatchStands W.saw plan.now engine watch.old past → PlaysMore W.saw plan.now made watch.new past actor 0) }
+    ensures at { IfOk result (λ made. part.now.until ≤ made.actors.plane.at.round) }
+    ensures gap { OnOk result (pace.new.gap ≡ gap) }
     ensures table { OnOk result (W.has_table watch.new ≡ W.has_table watch.old) }
 {
     let (links, mut plane, callers) = engine.into_parts();
-    let mut desks = desks_of(alloc, links)?;
-    let busy = make_window(
-        rt,
-        alloc,
-        plan,
-        &mut plane,
-        &mut desks,
-        watch,
-        actor,
-        gap,
-        part.until,
-        part.workers,
-        gate,
+    let mut lanes = lanes_of(alloc, links)?;
+    make_windows(
+        rt, alloc, plan, &mut plane, &mut lanes, watch, actor, gap, rounds, part, pace, gate,
     )?;
-    let links = links_of(alloc, desks)?;
-    Ok((Engine::from_parts(links, plane, callers), busy))
+    let links = links_in(alloc, lanes)?;
+    Ok(Engine::from_parts(links, plane, callers))
 }

@@ -1,5 +1,5 @@
 -- Some steps more, until the round begins. A run is too short for the loop to end before.
-use Rattle.std.proofs.Common.{◌+◌, refl, ◌∙◌, arith}
+use Rattle.std.proofs.Common.{refl, ◌∙◌, arith}
 use Rattle.plane_workers.proofs.StepsAddUp.{none-more, more-again, more-few, more-least}
 use Rattle.plane_workers.proofs.alone.make_alone.Goals as goal
 

@@ -46,10 +46,17 @@ make_part-requires-clause-near g c κs within = λ several.
     let gap = c.loop-alloc.invariant.gap in
     omega (arith, near, at, gap)
 
+pub make_part-requires-clause-rounds : goal.make_part-requires-clause-rounds
+make_part-requires-clause-rounds g c κs within =
+    let is = rounds-of c.args.plan.now in
+    let r = c.rounds.ensures.value in
+    let t = c.tail.ensures.value in
+    omega (arith, is, r, t)
+
 pub loop-alloc-preserved : goal.loop-alloc-preserved
 loop-alloc-preserved g c = record {
-  made = λ past stand. more-again g.W.Watch.saw c.args.plan.now c.loop-alloc.engine c.in_ok-made.made.0 c.loop-alloc.watch c.make_part.new.watch past c.actor_of-actor.result 0 0 (c.loop-alloc.invariant.made past stand) c.in_ok-made.ensures.plays;
-  gap = c.note.ensures ∙ c.loop-alloc.invariant.gap;
+  made = λ past stand. more-again g.W.Watch.saw c.args.plan.now c.loop-alloc.engine c.in_ok-made.made c.loop-alloc.watch c.make_part.new.watch past c.actor_of-actor.result 0 0 (c.loop-alloc.invariant.made past stand) c.in_ok-made.ensures.plays;
+  gap = c.in_ok-made.ensures.gap;
   table = c.in_ok-made.ensures.table ∙ c.loop-alloc.invariant.table;
 }
 

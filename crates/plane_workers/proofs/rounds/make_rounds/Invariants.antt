@@ -1,4 +1,4 @@
-use Rattle.std.proofs.Common.{◌≡◌, ◌-◌, ◌≤◌, List}
+use Rattle.std.proofs.Common.{◌≡◌, ◌-◌, List}
 use Rattle.run_engine.specs.schedules.Watching.{WatchStands}
 use Rattle.plane_workers.specs.Seen.{PlaysMore}
 use Rattle.run_record.specs.declared.done.Done.{Done}

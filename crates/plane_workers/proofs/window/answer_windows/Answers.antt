@@ -1,0 +1,22 @@
+-- Each lane is that of its number.
+use Rattle.std.proofs.Common.{◌≡◌, false, refl, ◌∙◌, arith, subst}
+use Rattle.std.proofs.lemmas.Option.{get_or_from_slice_get, slice_get_within}
+use Rattle.link_quota.specs.Any.{any_rules, AnyStands}
+use Rattle.tick_plane.specs.Windows.{window_at}
+use Rattle.run_engine.proofs.Keeping.Lookups.{found-at}
+use Rattle.plane_workers.specs.Answered.{IsAnswered}
+use Rattle.plane_workers.specs.Lanes.{lane_left}
+use Rattle.plane_workers.specs.declared.lane.Lane.{Lane}
+use Rattle.plane_workers.proofs.window.answer_windows.Goals as goal
+
+pub for_each_mut-requires-clause-accepts : goal.for_each_mut-requires-clause-accepts
+for_each_mut-requires-clause-accepts g c κs within = λ i p inside is.
+    let found = found-at c.args.lanes.now c.args.lanes.now i i p.now refl refl inside is in
+    ((let few = c.requires.few in omega (arith, inside, few)), c.requires.fits i p.now found, c.requires.early i p.now found)
+
+pub returns-clause-answered : goal.returns-clause-answered
+returns-clause-answered g c = λ n x y found after.
+    let is = (c.for_each_mut.ensures n x (slice_get_within c.args.lanes.now n x found)).1 in
+    let was : is.argument.now ≡ x = is.argument_is ∙ get_or_from_slice_get c.args.lanes.now n x x found in
+    let now : is.after_call.now ≡ y = is.left ∙ get_or_from_slice_get c.for_each_mut.new.s n y x after in
+    subst (λ (w : Lane × Lane). w.1.wanted ≡ false → IsAnswered any_rules AnyStands w.0.link w.1.link (window_at n c.args.window.now.until c.args.window.now.at) (lane_left w.1)) (λ i. (was i, now i)) is.call
