@@ -1,8 +1,6 @@
 //! What a caller does.
-ghost use Rattle.std.specs.Prelude.{◌≡◌, ◌++◌, ◌∷◌, [], OnOk, OnErr};
 
-use net_units::{ChanNo, LinkNo, OutOfMemory};
-use std::marker::Model;
+use net_units::{ChanNo, LinkNo, Listed};
 
 /// An operation of a caller.
 #[derive(Clone, Copy, Debug, PartialEq, Eq)]
@@ -35,50 +33,4 @@ pub enum Op {
 }
 
 /// The operations of a caller, in their order.
-///
-/// A contract sees the list of them.
-#[derive(Drop)]
-pub struct Ops {
-    ops: Vec<Op>,
-}
-
-impl Model for Ops {
-    ghost use Rattle.std.specs.Prelude.{List};
-    ghost use Rattle.call_script.specs.declared.operations.Op.{Op};
-
-    ghost Value = { List Op };
-
-    ghost view = { λ o. o.ops.items };
-}
-
-impl Ops {
-    /// These operations.
-    pub fn new(items: Vec<Op>) -> Ops
-        ensures { result ≡ items.items }
-    {
-        Ops { ops: items }
-    }
-
-    /// Adds an operation at the end. Where memory runs out, nothing changes.
-    pub fn push(&mut self, op: Op) -> Result<(), OutOfMemory>
-        ensures ok { OnOk result (self.new ≡ self.old ++ op ∷ []) }
-        ensures err { OnErr result (self.new ≡ self.old) }
-    {
-        self.ops.push(op)?;
-        Ok(())
-    }
-
-    /// The operations.
-    pub fn as_slice(&self) -> &[Op]
-        ensures { result.now ≡ self.now }
-    {
-        self.ops.as_slice()
-    }
-
-    /// The operations, without taking memory.
-    pub fn into_vec(self) -> Vec<Op>
-        ensures { result.items ≡ self }
-    {
-        self.ops
-    }
-}
+pub type Ops = Listed<Op>;

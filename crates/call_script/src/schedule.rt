@@ -1,8 +1,6 @@
 //! The order in which the actors of a run make their steps.
-ghost use Rattle.std.specs.Prelude.{◌≡◌};
 
-use net_units::ActorNo;
-use std::marker::Model;
+use net_units::{ActorNo, Listed};
 
 /// An item of a schedule: how many steps one actor makes in a row.
 #[derive(Clone, Copy, Debug, PartialEq, Eq)]
@@ -16,44 +14,7 @@ pub struct Do {
 }
 
 /// The items of a schedule, in their order.
-///
-/// A contract sees the list of them.
-#[derive(Drop)]
-pub struct Dos {
-    items: Vec<Do>,
-}
-
-impl Model for Dos {
-    ghost use Rattle.std.specs.Prelude.{List};
-    ghost use Rattle.call_script.specs.declared.schedule.Do.{Do};
-
-    ghost Value = { List Do };
-
-    ghost view = { λ d. d.items.items };
-}
-
-impl Dos {
-    /// These items.
-    pub fn new(items: Vec<Do>) -> Dos
-        ensures { result ≡ items.items }
-    {
-        Dos { items }
-    }
-
-    /// The items.
-    pub fn as_slice(&self) -> &[Do]
-        ensures { result.now ≡ self.now }
-    {
-        self.items.as_slice()
-    }
-
-    /// The items, without taking memory.
-    pub fn into_vec(self) -> Vec<Do>
-        ensures { result.items ≡ self }
-    {
-        self.items
-    }
-}
+pub type Dos = Listed<Do>;
 
 /// The order in which the actors of a run make their steps.
 #[derive(Drop)]

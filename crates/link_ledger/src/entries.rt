@@ -1,9 +1,7 @@
 //! The entries of journals and passes.
-ghost use Rattle.std.specs.Prelude.{◌≡◌};
 
 use link_steps::{Ask, Reply};
-use net_units::{ActorNo, LinkNo};
-use std::marker::Model;
+use net_units::{ActorNo, LinkNo, Listed};
 
 /// One step of a link, as its journal has it.
 #[derive(Clone, Copy, Debug, PartialEq, Eq)]
@@ -34,44 +32,7 @@ pub struct OwnEntry {
 }
 
 /// Entries in their order.
-///
-/// A contract sees the list of them.
-#[derive(Drop)]
-pub struct Entries {
-    entries: Vec<Entry>,
-}
-
-impl Model for Entries {
-    ghost use Rattle.std.specs.Prelude.{List};
-    ghost use Rattle.link_ledger.specs.declared.entries.Entry.{Entry};
-
-    ghost Value = { List Entry };
-
-    ghost view = { λ e. e.entries.items };
-}
-
-impl Entries {
-    /// These entries.
-    pub fn new(items: Vec<Entry>) -> Entries
-        ensures { result ≡ items.items }
-    {
-        Entries { entries: items }
-    }
-
-    /// The entries.
-    pub fn as_slice(&self) -> &[Entry]
-        ensures { result.now ≡ self.now }
-    {
-        self.entries.as_slice()
-    }
-
-    /// The entries, without taking memory.
-    pub fn into_vec(self) -> Vec<Entry>
-        ensures { result.items ≡ self }
-    {
-        self.entries
-    }
-}
+pub type Entries = Listed<Entry>;
 
 /// The steps of a link, in the order in which they were made.
 #[derive(Drop)]

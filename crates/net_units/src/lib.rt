@@ -1,7 +1,7 @@
-//! The numbers, names and bounds of a network of real-time channels, with their limits.
+//! The numbers, names and bounds of a network of real-time channels, with their limits; and lists of anything.
 //!
 //! Each type is checked where it is made, so what holds one needs no test of its own. Time counts in whole
-//! ticks, sizes and buffer in units. Nothing here takes memory.
+//! ticks, sizes and buffer in units. Only a list that grows takes memory.
 #![tactic(auto)]
 
 ghost use Rattle.std.specs.Prelude.{◌≡◌, ◌≤◌};
@@ -11,12 +11,14 @@ pub mod bounds;
 pub mod gate;
 pub mod levels;
 pub mod limits;
+pub mod listed;
 pub mod name;
 pub mod numbers;
 
 pub use bounds::Bounds;
 pub use gate::{Gate, NoGate};
 pub use levels::Levels;
+pub use listed::Listed;
 pub use name::Name;
 pub use numbers::{ActorNo, ChanNo, Level, LinkNo};
 

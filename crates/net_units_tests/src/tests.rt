@@ -1,5 +1,5 @@
 //! Values of the limits, worked by hand.
-use net_units::{ActorNo, Bounds, ChanNo, Level, Levels, LinkNo, Name, ceil_div};
+use net_units::{ActorNo, Bounds, ChanNo, Level, Levels, LinkNo, Listed, Name, ceil_div};
 use std::process::Abort;
 use std::test::Fail;
 
@@ -146,5 +146,16 @@ fn levels_are_kept_in_order(rt: HostRuntime) -> Result<(), Fail> {
     }
     levels.clear();
     assert_eq!(rt; levels.len(), 0);
+    Ok(())
+}
+
+#[test]
+fn a_list_grows_at_its_end(rt: HostRuntime) -> Result<(), Fail> {
+    let mut list = Listed::new(Vec::new(rt.alloc()));
+    for number in [3u8, 1, 2] {
+        list.push(number)?;
+    }
+    assert_eq!(rt; list.as_slice(), [3, 1, 2].as_slice());
+    assert_eq!(rt; list.into_vec().as_slice(), [3, 1, 2].as_slice());
     Ok(())
 }

@@ -1,8 +1,5 @@
 //! The rows of a run: what became of each packet at each hop.
-ghost use Rattle.std.specs.Prelude.{◌≡◌};
-
-use net_units::{ChanNo, LinkNo};
-use std::marker::Model;
+use net_units::{ChanNo, LinkNo, Listed};
 
 /// A packet's departure from a hop of its channel's route.
 #[derive(Clone, Copy, Debug, PartialEq, Eq)]
@@ -27,41 +24,4 @@ pub struct HopRow {
 }
 
 /// Rows, in an order.
-///
-/// A contract sees the list of them.
-#[derive(Drop)]
-pub struct HopRows {
-    rows: Vec<HopRow>,
-}
-
-impl Model for HopRows {
-    ghost use Rattle.std.specs.Prelude.{List};
-    ghost use Rattle.run_record.specs.declared.rows.HopRow.{HopRow};
-
-    ghost Value = { List HopRow };
-
-    ghost view = { λ r. r.rows.items };
-}
-
-impl HopRows {
-    /// These rows.
-    pub fn new(items: Vec<HopRow>) -> HopRows
-        ensures { result ≡ items.items }
-    {
-        HopRows { rows: items }
-    }
-
-    /// The rows.
-    pub fn as_slice(&self) -> &[HopRow]
-        ensures { result.now ≡ self.now }
-    {
-        self.rows.as_slice()
-    }
-
-    /// The rows, without taking memory.
-    pub fn into_vec(self) -> Vec<HopRow>
-        ensures { result.items ≡ self }
-    {
-        self.rows
-    }
-}
+pub type HopRows = Listed<HopRow>;

@@ -6,11 +6,10 @@ ghost use Rattle.step_stamp.specs.Seats.{stamps_table, pass_table, pass_view};
 ghost use Rattle.shared_network.specs.Closing.{IsClosed, HaveGivenUp, number_of};
 ghost use Rattle.shared_network.specs.Gathering.{AreAll, AreGathered, IsBelow, IsSettled, AreSettled};
 
-use crate::listed::Listed;
 use crate::network::Network;
 use link_ledger::{Home, Journal, LockedLink, Pass};
 use link_steps::LinkStep;
-use net_units::OutOfMemory;
+use net_units::{Listed, OutOfMemory};
 use std::alloc::Global;
 use step_stamp::{PassSeat, Stamps};
 

@@ -8,11 +8,9 @@
 
 pub mod calls;
 pub mod closing;
-pub mod listed;
 pub mod network;
 pub mod rounds;
 pub mod shifts;
 
 pub use closing::{CloseFault, Closed, Journals, Passes};
-pub use listed::Listed;
 pub use network::Network;

@@ -1,6 +1,7 @@
 //! Lists that a contract sees as such.
-ghost use Rattle.std.specs.Prelude.{◌≡◌};
+ghost use Rattle.std.specs.Prelude.{◌≡◌, ◌++◌, ◌∷◌, [], OnOk, OnErr};
 
+use crate::OutOfMemory;
 use std::marker::Model;
 
 /// Items in their order.
@@ -39,5 +40,16 @@ impl<T> Listed<T> {
         ensures { result.items ≡ self }
     {
         self.items
+    }
+}
+
+impl<T: Drop> Listed<T> {
+    /// Adds an item at the end. Where memory runs out, nothing changes.
+    pub fn push(&mut self, item: T) -> Result<(), OutOfMemory>
+        ensures ok { OnOk result (self.new ≡ self.old ++ item ∷ []) }
+        ensures err { OnErr result (self.new ≡ self.old) }
+    {
+        self.items.push(item)?;
+        Ok(())
     }
 }
