@@ -34,7 +34,7 @@ pub struct Level {
 }
 
 impl LinkNo {
-    ghost use Rattle.net_units.specs.Numbers.{link_number};
+    ghost use Rattle.net_units.specs.Numbers.{link_number, link_at};
 
     /// The link of this number, None exactly where it isn't below 32.
     pub fn new(n: u8) -> Option<LinkNo>
@@ -45,6 +45,16 @@ impl LinkNo {
             Some(LinkNo { number: n })
         } else {
             None
+        }
+    }
+
+    /// The link of a number that is known to be one of a link.
+    pub fn numbered(number: u32) -> LinkNo
+        requires { number < 32 }
+        ensures { result ≡ link_at number }
+    {
+        LinkNo {
+            number: number as u8,
         }
     }
 

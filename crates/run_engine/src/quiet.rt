@@ -1,6 +1,5 @@
 //! Quiet rounds, spelled out step by step.
 ghost use Rattle.std.specs.Prelude.{◌≡◌, ◌+◌, ◌^◌, ◌<◌, ◌≤◌, OnOk, reverse};
-ghost use Rattle.net_units.specs.Numbers.{link_at};
 ghost use Rattle.call_script.specs.Tasks.{network_of};
 ghost use Rattle.run_engine.specs.schedules.Quiet.{quiet_round, quiet_rounds, quiet_step, the_plane};
 
@@ -59,7 +58,7 @@ fn quiet_tick(plane: ActorNo, number: u32, round: u64) -> Done
 {
     Done {
         actor: plane,
-        link: link_of(number),
+        link: LinkNo::numbered(number),
         ask: Ask::Tick,
         reply: Reply::Ticked {
             clock: round,
@@ -68,16 +67,5 @@ fn quiet_tick(plane: ActorNo, number: u32, round: u64) -> Done
             best_sent: false,
             best_lost: false,
         },
-    }
-}
-
-// The link of this number.
-fn link_of(number: u32) -> LinkNo
-    requires { number < 32 }
-    ensures { result ≡ link_at number }
-{
-    match LinkNo::new(number as u8) {
-        Some(link) => link,
-        None => unreachable!(),
     }
 }

@@ -1,6 +1,5 @@
 //! The rounds of arrivals and ticks.
 ghost use Rattle.std.specs.Prelude.{◌≡◌, ◌+◌, ◌-◌, ◌^◌, ◌<◌, ◌≤◌, ◌↔◌, ◌⊎◌, ◌++◌, [], true, None, Some, IsTrue, IsOk, IsSome, IsNone, OnOk, OnErr, IfOk, IfErr, IfSome, length, option_map};
-ghost use Rattle.net_units.specs.Numbers.{link_at};
 ghost use Rattle.link_steps.specs.declared.asks.Ask.TheVariants.{Tick as AskTick};
 ghost use Rattle.link_steps.specs.Lists.{Each};
 ghost use Rattle.tick_plane.specs.QuietRounds.{HasQuietRounds, rounds_later};
@@ -93,7 +92,7 @@ impl Plane {
                 };
                 Some((flight.to, ask))
             }
-            None => Some((link_of(self.ticked), Ask::Tick)),
+            None => Some((LinkNo::numbered(self.ticked), Ask::Tick)),
         }
     }
 
@@ -106,7 +105,7 @@ impl Plane {
         if self.round == self.rounds || self.flights.has_due() {
             return None;
         }
-        Some(link_of(self.ticked))
+        Some(LinkNo::numbered(self.ticked))
     }
 
     /// Takes the reply to the next ask. An ask has to be left, and `ready` has to have made room in this round, so it takes no
@@ -295,16 +294,5 @@ impl Plane {
                 packet: *packet,
             });
         }
-    }
-}
-
-// The link of this number.
-pub(crate) fn link_of(number: u32) -> LinkNo
-    requires { number < 32 }
-    ensures { result ≡ link_at number }
-{
-    match LinkNo::new(number as u8) {
-        Some(link) => link,
-        None => unreachable!(),
     }
 }

@@ -4,7 +4,6 @@ ghost use Rattle.tick_plane.specs.Planes.{is_due};
 ghost use Rattle.tick_plane.specs.Rounds.{arrival_of, ticks_from};
 
 use crate::flight::Flight;
-use crate::plane::link_of;
 use link_steps::Ask;
 use net_units::{LinkNo, OutOfMemory};
 
@@ -35,7 +34,7 @@ pub(crate) fn add_ticks(
     ensures { OnOk result (asks.new.items ≡ asks.old.items ++ ticks_from from (until - from)) }
 {
     for number in from..until {
-        asks.push((link_of(number), Ask::Tick))?;
+        asks.push((LinkNo::numbered(number), Ask::Tick))?;
     }
     Ok(())
 }

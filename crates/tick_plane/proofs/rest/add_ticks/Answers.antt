@@ -9,8 +9,8 @@ loop-number-init c = ticks-none c.args.asks.now.items c.args.from
 
 pub loop-number-preserved : goal.loop-number-preserved
 loop-number-preserved c =
-    ticks-more c.args.asks.now.items c.loop-number.asks.items c.push.new.self.items c.args.from c.loop-number.number c.link_of.result
-    (let from = c.loop-number.auto.number in omega (arith, from)) c.loop-number.invariant c.link_of.ensures c.in_ok-push.ensures.items
+    ticks-more c.args.asks.now.items c.loop-number.asks.items c.push.new.self.items c.args.from c.loop-number.number c.numbered.result
+    (let from = c.loop-number.auto.number in omega (arith, from)) c.loop-number.invariant c.numbered.ensures c.in_ok-push.ensures.items
 
 pub returns : goal.returns
 returns c =
