@@ -51,19 +51,20 @@ left-tasks : (requests : List Request) (ops : List Op) (i : ℕ) (op : Op) → i
 unfolding tasks_of
 left-tasks requests ops i op within is = ap (tasks_of requests) (left-at ops i op within is)
 
-pub step-here : (outcomes : List Learnt) (requests : List Request) (ops : List Op) (i : ℕ) (op : Op) (step : Task) → i < length ops → op ≡ get_or ops i op → if_step outcomes (task_of requests op) ≡ Some step
-    → from_step outcomes (tasks_of requests (drop i ops)) ≡ step ∷ tasks_of requests (drop (i + 1) ops)
-step-here outcomes requests ops i op step within is steps =
-    ap (from_step outcomes) (left-tasks requests ops i op within is) ∙ op-steps outcomes (task_of requests op) (tasks_of requests (drop (i + 1) ops)) step steps
+module _ (outcomes : List Learnt) (requests : List Request) (ops : List Op) (i : ℕ) where
+  pub step-here : (op : Op) (step : Task) → i < length ops → op ≡ get_or ops i op → if_step outcomes (task_of requests op) ≡ Some step
+      → from_step outcomes (tasks_of requests (drop i ops)) ≡ step ∷ tasks_of requests (drop (i + 1) ops)
+  step-here op step within is steps =
+      ap (from_step outcomes) (left-tasks requests ops i op within is) ∙ op-steps outcomes (task_of requests op) (tasks_of requests (drop (i + 1) ops)) step steps
 
-pub step-later : (outcomes : List Learnt) (requests : List Request) (ops : List Op) (i : ℕ) (op : Op) → i < length ops → op ≡ get_or ops i op → if_step outcomes (task_of requests op) ≡ None
-    → from_step outcomes (tasks_of requests (drop i ops)) ≡ from_step outcomes (tasks_of requests (drop (i + 1) ops))
-step-later outcomes requests ops i op within is passes =
-    ap (from_step outcomes) (left-tasks requests ops i op within is) ∙ op-passes outcomes (task_of requests op) (tasks_of requests (drop (i + 1) ops)) passes
+  pub step-later : (op : Op) → i < length ops → op ≡ get_or ops i op → if_step outcomes (task_of requests op) ≡ None
+      → from_step outcomes (tasks_of requests (drop i ops)) ≡ from_step outcomes (tasks_of requests (drop (i + 1) ops))
+  step-later op within is passes =
+      ap (from_step outcomes) (left-tasks requests ops i op within is) ∙ op-passes outcomes (task_of requests op) (tasks_of requests (drop (i + 1) ops)) passes
 
-pub step-none : (outcomes : List Learnt) (requests : List Request) (ops : List Op) (i : ℕ) → length ops ≤ i → from_step outcomes (tasks_of requests (drop i ops)) ≡ []
-unfolding from_step tasks_of
-step-none outcomes requests ops i past = ap (λ rest. from_step outcomes (tasks_of requests rest)) (drop_all i ops past)
+  pub step-none : length ops ≤ i → from_step outcomes (tasks_of requests (drop i ops)) ≡ []
+  unfolding from_step tasks_of
+  step-none past = ap (λ rest. from_step outcomes (tasks_of requests rest)) (drop_all i ops past)
 
 -- at the end no task is left
 pub none-left : (requests : List Request) (ops : List Op) → tasks_of requests (drop (length ops) ops) ≡ []

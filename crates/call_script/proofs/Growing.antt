@@ -119,7 +119,8 @@ few-from parts are =
 pub length-more : {X : Type 0} (xs : List X) (x : X) → length (xs ++ x ∷ []) ≡ suc (length xs)
 length-more xs x = (let both : length (xs ++ x ∷ []) ≡ length xs + 1 = length-append xs (x ∷ []) in omega arith)
 
-pub names-more : (names : List (List ℕ)) (name : List ℕ) → are_distinct names ≡ true → is_new names name ≡ true → are_distinct (names ++ name ∷ []) ≡ true
+pub names-more : (names : List (List ℕ)) (name : List ℕ) → are_distinct names ≡ true → is_new names name ≡ true
+    → are_distinct (names ++ name ∷ []) ≡ true
 names-more names name apart new = after-more is_new [] names name apart new
 
 -- ---- nothing
@@ -151,8 +152,9 @@ no-request parts planned none = by parts.requests (sym (ap (openings_of 0) none)
   by [] same = refl
   by (request ∷ requests) same = cc
 
-link-grown : (version : Version) (links : List LinkEntry) (groups : List (List ℕ)) (entry : LinkEntry) (rounds tail : ℕ) → KeepSoFar (parts_with version links groups [] [] rounds tail)
-    → MayAddLink (parts_with version links groups [] [] rounds tail) entry → KeepSoFar (parts_with version (links ++ entry ∷ []) groups [] [] rounds tail)
+link-grown : (version : Version) (links : List LinkEntry) (groups : List (List ℕ)) (entry : LinkEntry) (rounds tail : ℕ)
+    → KeepSoFar (parts_with version links groups [] [] rounds tail) → MayAddLink (parts_with version links groups [] [] rounds tail) entry
+    → KeepSoFar (parts_with version (links ++ entry ∷ []) groups [] [] rounds tail)
 unfolding have_version are_there are_in_range are_joined are_unclosed pours_are_taken moves_are_fit openings_of
 link-grown version links groups entry rounds tail keep may =
     let few = few-in (parts_with version links groups [] [] rounds tail) keep.few in
@@ -201,7 +203,8 @@ link-keeps parts entry keep may = by parts.callers parts.requests (sym may.first
 
 -- ---- a caller
 
-pub caller-keeps : (parts : PlanParts) (name : List ℕ) (group : ℕ) → KeepSoFar parts → MayAddCaller parts name group → KeepSoFar (with_caller name group parts)
+pub caller-keeps : (parts : PlanParts) (name : List ℕ) (group : ℕ) → KeepSoFar parts → MayAddCaller parts name group
+    → KeepSoFar (with_caller name group parts)
 unfolding have_version are_joined pours_are_taken each_after
 caller-keeps parts name group keep may =
     let names = names-in parts keep.names in
@@ -274,7 +277,8 @@ not-missed : (b : Bool) → b ≡ true → not (not b) ≡ true
 not-missed true holds = refl
 not-missed false fails = cc
 
-pub send-keeps : (parts : PlanParts) (chan : ChanNo) (count gap size : ℕ) → KeepSoFar parts → MaySend parts chan count gap size → KeepSoFar (with_op (Send chan count gap size) parts)
+pub send-keeps : (parts : PlanParts) (chan : ChanNo) (count gap size : ℕ) → KeepSoFar parts → MaySend parts chan count gap size
+    → KeepSoFar (with_op (Send chan count gap size) parts)
 send-keeps parts chan count gap size keep may = op-keeps parts (Send chan count gap size) keep (record {
   version = refl;
   there = refl;
@@ -308,7 +312,8 @@ close-keeps parts chan keep may = op-keeps parts (Close chan) keep (record {
   opens_none = refl;
 })
 
-pub pour-keeps : (parts : PlanParts) (link : LinkNo) (count gap size : ℕ) → KeepSoFar parts → MayPour parts link count gap size → KeepSoFar (with_op (Pour link count gap size) parts)
+pub pour-keeps : (parts : PlanParts) (link : LinkNo) (count gap size : ℕ) → KeepSoFar parts → MayPour parts link count gap size
+    → KeepSoFar (with_op (Pour link count gap size) parts)
 pour-keeps parts link count gap size keep may = op-keeps parts (Pour link count gap size) keep (record {
   version = may.version;
   there = may.there;
@@ -349,7 +354,8 @@ abbrev pub HaveRequests : List RequestEntry → List Op → Type 0
 HaveRequests requests ops = (c : ℕ) → list_any (is_in role.Opens c) ops ≡ true → c < length requests
 
 -- so has each that they use or join
-ops-have : (requests : List RequestEntry) (above ops : List Op) → each_after (is_after role.Uses role.Opens) above ops ≡ true → each_after (is_after role.Joins role.Opens) above ops ≡ true → HaveRequests requests (above ++ ops) → Each (HasHops requests) ops
+ops-have : (requests : List RequestEntry) (above ops : List Op) → each_after (is_after role.Uses role.Opens) above ops ≡ true
+    → each_after (is_after role.Joins role.Opens) above ops ≡ true → HaveRequests requests (above ++ ops) → Each (HasHops requests) ops
 unfolding each_after
 ops-have requests above [] opened onto have = tt
 ops-have requests above (op ∷ ops) opened onto have =
@@ -361,14 +367,17 @@ ops-have requests above (op ∷ ops) opened onto have =
     there None after = tt
     there (Some chan) after = have (channel_number chan) (any-later (is_in role.Opens (channel_number chan)) above (op ∷ ops) (twice-not (list_any (is_in role.Opens (channel_number chan)) above) after))
 
-callers-have : (requests : List RequestEntry) (callers : List CallerEntry) → all_after role.Uses role.Opens callers ≡ true → all_after role.Joins role.Opens callers ≡ true → Each (λ (c : CallerEntry). HaveRequests requests c.ops) callers → Each (λ (c : CallerEntry). Each (HasHops requests) c.ops) callers
+callers-have : (requests : List RequestEntry) (callers : List CallerEntry) → all_after role.Uses role.Opens callers ≡ true
+    → all_after role.Joins role.Opens callers ≡ true → Each (λ (c : CallerEntry). HaveRequests requests c.ops) callers
+    → Each (λ (c : CallerEntry). Each (HasHops requests) c.ops) callers
 callers-have requests [] opened onto have = tt
 callers-have requests (caller ∷ callers) opened onto have =
     let uses = and_parts (each_after (is_after role.Uses role.Opens) [] caller.ops) (all_after role.Uses role.Opens callers) opened in
     let joins = and_parts (each_after (is_after role.Joins role.Opens) [] caller.ops) (all_after role.Joins role.Opens callers) onto in
     (ops-have requests [] caller.ops uses.0 joins.0 have.0, callers-have requests callers uses.1 joins.1 have.1)
 
-over-have : (requests : List RequestEntry) (callers : List CallerEntry) → Each (λ (c : CallerEntry). Each (HasHops requests) c.ops) callers → Each (HasHops requests) (ops_over callers)
+over-have : (requests : List RequestEntry) (callers : List CallerEntry) → Each (λ (c : CallerEntry). Each (HasHops requests) c.ops) callers
+    → Each (HasHops requests) (ops_over callers)
 unfolding ops_over
 over-have requests [] have = tt
 over-have requests (caller ∷ callers) have = Each-append (HasHops requests) caller.ops (ops_over callers) have.0 (over-have requests callers have.1)
@@ -380,11 +389,14 @@ all-have parts planned = Each-by_place (λ (c : CallerEntry). HaveRequests parts
     slice_get_within parts.requests c has.entry has.found)
 
 -- one request more doesn't change the load of callers whose requests are there
-pub callers-load : (parts : PlanParts) (entry : RequestEntry) → HasUsed parts → ArePlanned parts → load_in (parts.requests ++ entry ∷ []) parts.callers ≡ load_in parts.requests parts.callers
+pub callers-load : (parts : PlanParts) (entry : RequestEntry) → HasUsed parts → ArePlanned parts
+    → load_in (parts.requests ++ entry ∷ []) parts.callers ≡ load_in parts.requests parts.callers
 callers-load parts entry used planned = load-more parts.requests entry [] (ops_over parts.callers) (over-have parts.requests parts.callers (callers-have parts.requests parts.callers used.opened used.onto_opened (all-have parts planned)))
 
 -- nor which moves fit
-moves-more : (parts : PlanParts) (entry : RequestEntry) → HasUsed parts → ArePlanned parts → list_all (λ (c : CallerEntry). list_all (move_is_fit parts.links parts.requests) c.ops) parts.callers ≡ true → list_all (λ (c : CallerEntry). list_all (move_is_fit parts.links (parts.requests ++ entry ∷ [])) c.ops) parts.callers ≡ true
+moves-more : (parts : PlanParts) (entry : RequestEntry) → HasUsed parts → ArePlanned parts
+    → list_all (λ (c : CallerEntry). list_all (move_is_fit parts.links parts.requests) c.ops) parts.callers ≡ true
+    → list_all (λ (c : CallerEntry). list_all (move_is_fit parts.links (parts.requests ++ entry ∷ [])) c.ops) parts.callers ≡ true
 moves-more parts entry used planned fit = by parts.callers (callers-have parts.requests parts.callers used.opened used.onto_opened (all-have parts planned)) fit where
   between : (leaves joins : Option ChanNo) → IsThere parts.requests leaves → IsThere parts.requests joins → fits_between parts.links parts.requests leaves joins ≡ true → fits_between parts.links (parts.requests ++ entry ∷ []) leaves joins ≡ true
   between None joins old_there new_there fits = refl
@@ -407,7 +419,8 @@ moves-more parts entry used planned fit = by parts.callers (callers-have parts.r
       and_from (list_all (move_is_fit parts.links (parts.requests ++ entry ∷ [])) caller.ops) (list_all (λ (c : CallerEntry). list_all (move_is_fit parts.links (parts.requests ++ entry ∷ [])) c.ops) callers) (ops caller.ops have.0 split.0) (by callers have.1 split.1))
 
 -- the openings of the callers with this open more
-opens-it : (chan : ChanNo) (by : ℕ) (callers : List CallerEntry) → suc by ≡ length callers → openings_of 0 (add_op (Open chan) callers) ≡ openings_of 0 callers ++ record { caller = by; chan = channel_number chan } ∷ []
+opens-it : (chan : ChanNo) (by : ℕ) (callers : List CallerEntry) → suc by ≡ length callers
+    → openings_of 0 (add_op (Open chan) callers) ≡ openings_of 0 callers ++ record { caller = by; chan = channel_number chan } ∷ []
 opens-it chan by [] last = absurd (omega (arith, last))
 opens-it chan by (caller ∷ callers) last = added-openings 0 by (Open chan) caller callers (omega (arith, last))
 

@@ -53,11 +53,13 @@ twice-not true holds = refl
 twice-not false holds = cc
 
 -- a channel to which it is `asks` is one to which one above is `adds`
-pub after-has : (asks adds : Role) (above : List Op) (op : Op) (c : ℕ) → named asks op ≡ Some c → is_after asks adds above op ≡ true → list_any (is_in adds c) above ≡ true
+pub after-has : (asks adds : Role) (above : List Op) (op : Op) (c : ℕ) → named asks op ≡ Some c → is_after asks adds above op ≡ true
+    → list_any (is_in adds c) above ≡ true
 after-has asks adds above op c is after = twice-not (list_any (is_in adds c) above) (rw is at after)
 
 -- or none is
-pub apart-none : (asks adds : Role) (above : List Op) (op : Op) (c : ℕ) → named asks op ≡ Some c → is_apart asks adds above op ≡ true → list_any (is_in adds c) above ≡ false
+pub apart-none : (asks adds : Role) (above : List Op) (op : Op) (c : ℕ) → named asks op ≡ Some c → is_apart asks adds above op ≡ true
+    → list_any (is_in adds c) above ≡ false
 apart-none asks adds above op c is apart = not-true (list_any (is_in adds c) above) (rw is at apart)
 
 -- one operation more
@@ -100,7 +102,8 @@ record KeepsOrder (above ops : List Op) : Type 0 where
   apart : Each IsApartMove ops
 
 -- the first one does, and those after it
-each-first : (test : List Op → Op → Bool) (above : List Op) (op : Op) (ops : List Op) → each_after test above (op ∷ ops) ≡ true → (test above op ≡ true) × (each_after test (above ++ op ∷ []) ops ≡ true)
+each-first : (test : List Op → Op → Bool) (above : List Op) (op : Op) (ops : List Op) → each_after test above (op ∷ ops) ≡ true
+    → (test above op ≡ true) × (each_after test (above ++ op ∷ []) ops ≡ true)
 unfolding each_after
 each-first test above op ops each = both (test above op) (each_after test (above ++ op ∷ []) ops) each
 
@@ -132,11 +135,13 @@ clash b holds fails = (let same : true ≡ false = sym holds ∙ fails in cc)
 
 -- ---- other callers
 
-each-off : (c : ℕ) (task : Option Task) (tasks : List Task) → TaskIf (TaskOff c) task → Each (TaskOff c) tasks → Each (TaskOff c) (with_task task tasks)
+each-off : (c : ℕ) (task : Option Task) (tasks : List Task) → TaskIf (TaskOff c) task → Each (TaskOff c) tasks
+    → Each (TaskOff c) (with_task task tasks)
 each-off c task tasks off each = with-task (TaskOff c) (Each (TaskOff c)) task tasks off (λ own one. (one, each)) each
 
 -- a script whose channels are all others names another channel in each operation
-ops-off : (c : ℕ) (requests : List Request) (above ops : List Op) → AreInOrder requests → KeepsOrder above ops → ((chan : ℕ) → list_any (is_in role.Opens chan) (above ++ ops) ≡ true → chan ≢ c) → Each (TaskOff c) (tasks_of requests ops)
+ops-off : (c : ℕ) (requests : List Request) (above ops : List Op) → AreInOrder requests → KeepsOrder above ops
+    → ((chan : ℕ) → list_any (is_in role.Opens chan) (above ++ ops) ≡ true → chan ≢ c) → Each (TaskOff c) (tasks_of requests ops)
 unfolding tasks_of
 ops-off c requests above [] ordered keeps others = tt
 ops-off c requests above (op ∷ ops) ordered keeps others =
@@ -170,11 +175,14 @@ abbrev number_of : Request → ℕ
 number_of request = channel_number request.chan
 
 -- a task of that request
-own-task : (requests : List Request) (request : Request) (own : Request → Task) → IsAt requests request → option_map own (slice_get requests (number_of request)) ≡ Some (own request)
+own-task : (requests : List Request) (request : Request) (own : Request → Task) → IsAt requests request
+    → option_map own (slice_get requests (number_of request)) ≡ Some (own request)
 own-task requests request own at = ap (option_map own) at.found
 
 -- a send on that request is one at the first hop of its route, if that is there
-own-send : (P : Request → List Task → Type 0) (requests : List Request) (request : Request) (count gap size : ℕ) (tasks : List Task) → IsAt requests request → P request tasks → ((task : Task) → IsSendOn request task → P request (task ∷ tasks)) → P request (with_task (task_for (send_on count gap size) (slice_get requests (number_of request))) tasks)
+own-send : (P : Request → List Task → Type 0) (requests : List Request) (request : Request) (count gap size : ℕ) (tasks : List Task)
+    → IsAt requests request → P request tasks → ((task : Task) → IsSendOn request task → P request (task ∷ tasks))
+    → P request (with_task (task_for (send_on count gap size) (slice_get requests (number_of request))) tasks)
 own-send P requests request count gap size tasks at rest sent =
     subst (λ found. P request (with_task (task_for (send_on count gap size) found) tasks)) (sym at.found) (by (slice_get request.route 0) refl) where
       by : (hop : Option Hop) → slice_get request.route 0 ≡ hop → P request (with_task (option_map (λ (h : Hop). Sends h.link (Some request.chan) count gap size) hop) tasks)
@@ -182,7 +190,9 @@ own-send P requests request count gap size tasks at rest sent =
       by (Some hop) is = sent (Sends hop.link (Some request.chan) count gap size) (record { hop = hop; count = count; gap = gap; size = size; stands = is; is = refl })
 
 -- a move from that request
-own-from : (P : Request → List Task → Type 0) (requests : List Request) (request : Request) (n : ℕ) (tasks : List Task) → IsAt requests request → n ≢ number_of request → P request tasks → ((task : Task) → IsMoveFrom request task → P request (task ∷ tasks)) → P request (with_task (move_for (slice_get requests (number_of request)) (slice_get requests n)) tasks)
+own-from : (P : Request → List Task → Type 0) (requests : List Request) (request : Request) (n : ℕ) (tasks : List Task)
+    → IsAt requests request → n ≢ number_of request → P request tasks → ((task : Task) → IsMoveFrom request task → P request (task ∷ tasks))
+    → P request (with_task (move_for (slice_get requests (number_of request)) (slice_get requests n)) tasks)
 own-from P requests request n tasks at other rest moved =
     subst (λ found. P request (with_task (move_for found (slice_get requests n)) tasks)) (sym at.found) (by (slice_get requests n) refl) where
       by : (new : Option Request) → slice_get requests n ≡ new → P request (with_task (move_for (Some request) new) tasks)
@@ -190,7 +200,9 @@ own-from P requests request n tasks at other rest moved =
       by (Some new) is = moved (Moves request new 1 1) (record { new = new; gap = 1; size = 1; is = refl; other = λ also. other (sym (at.ordered n new is) ∙ also) })
 
 -- and one onto it
-own-onto : (P : Request → List Task → Type 0) (requests : List Request) (request : Request) (o : ℕ) (tasks : List Task) → IsAt requests request → o ≢ number_of request → P request tasks → ((task : Task) → IsMoveOnto request task → P request (task ∷ tasks)) → P request (with_task (move_for (slice_get requests o) (slice_get requests (number_of request))) tasks)
+own-onto : (P : Request → List Task → Type 0) (requests : List Request) (request : Request) (o : ℕ) (tasks : List Task)
+    → IsAt requests request → o ≢ number_of request → P request tasks → ((task : Task) → IsMoveOnto request task → P request (task ∷ tasks))
+    → P request (with_task (move_for (slice_get requests o) (slice_get requests (number_of request))) tasks)
 own-onto P requests request o tasks at other rest moved =
     subst (λ found. P request (with_task (move_for (slice_get requests o) found) tasks)) (sym at.found) (by (slice_get requests o) refl) where
       by : (old : Option Request) → slice_get requests o ≡ old → P request (with_task (move_for old (Some request)) tasks)
@@ -218,7 +230,9 @@ numbered-off n c m (op ∷ ops) below are = by (attributes_of op).opens are (λ 
   by (Some chan) own rest = (let number : channel_number chan ≡ m = own.0 in (λ same. absurd (omega (arith, number, same, below)), rest (suc m) (omega (arith, below)) own.1))
 
 -- once the channel is closed, no operation names it
-closed-off : (c : ℕ) (requests : List Request) (above ops : List Op) → AreInOrder requests → Each (OpenOff c) ops → list_any (is_in role.Closes c) above ≡ true → list_any (is_in role.Uses c) above ≡ true → KeepsOrder above ops → Each (TaskOff c) (tasks_of requests ops)
+closed-off : (c : ℕ) (requests : List Request) (above ops : List Op) → AreInOrder requests → Each (OpenOff c) ops
+    → list_any (is_in role.Closes c) above ≡ true → list_any (is_in role.Uses c) above ≡ true → KeepsOrder above ops
+    → Each (TaskOff c) (tasks_of requests ops)
 unfolding tasks_of
 closed-off c requests above [] ordered unopened closed used keeps = tt
 closed-off c requests above (op ∷ ops) ordered unopened closed used keeps =
@@ -239,16 +253,22 @@ closed-off c requests above (op ∷ ops) ordered unopened closed used keeps =
       off (Joining o other joins task) = absurd (clash (list_any (is_in role.Uses c) above) used (apart-none role.Joins role.Uses above op c joins first.unused))
 
 -- a closing of the request, after which no operation names it
-own-close : (requests : List Request) (request : Request) (above ops : List Op) (op : Op) → IsAt requests request → Each (OpenOff (number_of request)) ops → IsTo role.Uses (number_of request) op → IsTo role.Closes (number_of request) op → KeepsOrder (above ++ op ∷ []) ops → Each (TaskOff (number_of request)) (tasks_of requests ops)
+own-close : (requests : List Request) (request : Request) (above ops : List Op) (op : Op) → IsAt requests request
+    → Each (OpenOff (number_of request)) ops → IsTo role.Uses (number_of request) op → IsTo role.Closes (number_of request) op
+    → KeepsOrder (above ++ op ∷ []) ops → Each (TaskOff (number_of request)) (tasks_of requests ops)
 own-close requests request above ops op at unopened uses closes keeps =
     closed-off (number_of request) requests (above ++ op ∷ []) ops at.ordered unopened (now-has role.Closes (number_of request) above op closes) (now-has role.Uses (number_of request) above op uses) keeps
 
 -- the task of a closing
-close-task : (requests : List Request) (request : Request) (op : Op) → IsAt requests request → task_of requests op ≡ option_map (λ (r : Request). Closes r) (slice_get requests (number_of request)) → task_of requests op ≡ Some (Closes request)
+close-task : (requests : List Request) (request : Request) (op : Op) → IsAt requests request
+    → task_of requests op ≡ option_map (λ (r : Request). Closes r) (slice_get requests (number_of request))
+    → task_of requests op ≡ Some (Closes request)
 close-task requests request op at task = task ∙ own-task requests request (λ r. Closes r) at
 
 -- once a move has left it, it may be closed alone
-left-closes : (requests : List Request) (request : Request) (above ops : List Op) → IsAt requests request → Each (OpenOff (number_of request)) ops → list_any (is_in role.Leaves (number_of request)) above ≡ true → list_any (is_in role.Uses (number_of request)) above ≡ true → KeepsOrder above ops → ClosesOnce request (tasks_of requests ops)
+left-closes : (requests : List Request) (request : Request) (above ops : List Op) → IsAt requests request
+    → Each (OpenOff (number_of request)) ops → list_any (is_in role.Leaves (number_of request)) above ≡ true
+    → list_any (is_in role.Uses (number_of request)) above ≡ true → KeepsOrder above ops → ClosesOnce request (tasks_of requests ops)
 unfolding tasks_of
 left-closes requests request above [] at unopened left used keeps = tt
 left-closes requests request above (op ∷ ops) at unopened left used keeps =
@@ -269,17 +289,24 @@ left-closes requests request above (op ∷ ops) at unopened left used keeps =
       by rest (Joining o other joins task) = absurd (clash (list_any (is_in role.Uses (number_of request)) above) used (apart-none role.Joins role.Uses above op (number_of request) joins first.unused))
 
 -- a move from the request, after which it may be closed alone
-own-left : (requests : List Request) (request : Request) (above ops : List Op) (op : Op) → IsAt requests request → Each (OpenOff (number_of request)) ops → IsTo role.Uses (number_of request) op → IsTo role.Leaves (number_of request) op → KeepsOrder (above ++ op ∷ []) ops → ClosesOnce request (tasks_of requests ops)
+own-left : (requests : List Request) (request : Request) (above ops : List Op) (op : Op) → IsAt requests request
+    → Each (OpenOff (number_of request)) ops → IsTo role.Uses (number_of request) op → IsTo role.Leaves (number_of request) op
+    → KeepsOrder (above ++ op ∷ []) ops → ClosesOnce request (tasks_of requests ops)
 own-left requests request above ops op at unopened uses leaves keeps =
     left-closes requests request (above ++ op ∷ []) ops at unopened (now-has role.Leaves (number_of request) above op leaves) (now-has role.Uses (number_of request) above op uses) keeps
 
 -- what is used or joined stays so
-named-later : (c : ℕ) (above : List Op) (op : Op) → (list_any (is_in role.Uses c) above ≡ true) ⊎ (list_any (is_in role.Joins c) above ≡ true) → (list_any (is_in role.Uses c) (above ++ op ∷ []) ≡ true) ⊎ (list_any (is_in role.Joins c) (above ++ op ∷ []) ≡ true)
+named-later : (c : ℕ) (above : List Op) (op : Op)
+    → (list_any (is_in role.Uses c) above ≡ true) ⊎ (list_any (is_in role.Joins c) above ≡ true)
+    → (list_any (is_in role.Uses c) (above ++ op ∷ []) ≡ true) ⊎ (list_any (is_in role.Joins c) (above ++ op ∷ []) ≡ true)
 named-later c above op (inl any) = inl (any-later (is_in role.Uses c) above (op ∷ []) any)
 named-later c above op (inr any) = inr (any-later (is_in role.Joins c) above (op ∷ []) any)
 
 -- once it is used or joined, it may be sent on, and then closed or left
-used-sends : (requests : List Request) (request : Request) (above ops : List Op) → IsAt requests request → Each (OpenOff (number_of request)) ops → (list_any (is_in role.Uses (number_of request)) above ≡ true) ⊎ (list_any (is_in role.Joins (number_of request)) above ≡ true) → KeepsOrder above ops → SendsOnce request (tasks_of requests ops)
+used-sends : (requests : List Request) (request : Request) (above ops : List Op) → IsAt requests request
+    → Each (OpenOff (number_of request)) ops
+    → (list_any (is_in role.Uses (number_of request)) above ≡ true) ⊎ (list_any (is_in role.Joins (number_of request)) above ≡ true)
+    → KeepsOrder above ops → SendsOnce request (tasks_of requests ops)
 unfolding tasks_of
 used-sends requests request above [] at unopened used keeps = tt
 used-sends requests request above (op ∷ ops) at unopened used keeps =
@@ -304,7 +331,8 @@ used-sends requests request above (op ∷ ops) at unopened used keeps =
       by rest (Joining o other joins task) = absurd (joins-not joins used)
 
 -- once it is opened, it may be joined before it is used
-opened-used : (requests : List Request) (request : Request) (above ops : List Op) → IsAt requests request → Each (OpenOff (number_of request)) ops → KeepsOrder above ops → UsedOnce request (tasks_of requests ops)
+opened-used : (requests : List Request) (request : Request) (above ops : List Op) → IsAt requests request
+    → Each (OpenOff (number_of request)) ops → KeepsOrder above ops → UsedOnce request (tasks_of requests ops)
 unfolding tasks_of
 opened-used requests request above [] at unopened keeps = tt
 opened-used requests request above (op ∷ ops) at unopened keeps =
@@ -328,7 +356,8 @@ opened-used requests request above (op ∷ ops) at unopened keeps =
           subst (λ t. UsedOnce request (with_task t (tasks_of requests ops))) (sym (task requests)) (own-onto UsedOnce requests request o (tasks_of requests ops) at other rest (λ t move. inr (inl (move, sends)))))
 
 -- it isn't opened by an operation that doesn't open it
-same-opened : (c : ℕ) (above : List Op) (op : Op) → is_in role.Opens c op ≡ false → list_any (is_in role.Opens c) above ≡ false → list_any (is_in role.Opens c) (above ++ op ∷ []) ≡ false
+same-opened : (c : ℕ) (above : List Op) (op : Op) → is_in role.Opens c op ≡ false → list_any (is_in role.Opens c) above ≡ false
+    → list_any (is_in role.Opens c) (above ++ op ∷ []) ≡ false
 same-opened c above op other was = any-end (is_in role.Opens c) above op ∙ ap (λ b. list_any (is_in role.Opens c) above || (b || false)) other ∙ ap (λ b. b || (false || false)) was
 
 -- an operation that is none of the channel's opens another one or none
@@ -339,14 +368,16 @@ opens-other c op off = by (attributes_of op).opens off.opens where
   by (Some chan) other = ne_eqb (channel_number chan) c other
 
 -- the openings after an operation are numbered
-after-numbered : (n m : ℕ) (op : Op) (ops : List Op) → OpeningsAreNumbered m (openings_in n (op ∷ ops)) → (from : ℕ) × OpeningsAreNumbered from (openings_in n ops)
+after-numbered : (n m : ℕ) (op : Op) (ops : List Op) → OpeningsAreNumbered m (openings_in n (op ∷ ops))
+    → (from : ℕ) × OpeningsAreNumbered from (openings_in n ops)
 unfolding openings_in
 after-numbered n m op ops are = by (attributes_of op).opens are where
   by : (opens : Option ChanNo) → OpeningsAreNumbered m (opening_by n opens ++ openings_in n ops) → (from : ℕ) × OpeningsAreNumbered from (openings_in n ops)
   by None own = (m, own)
   by (Some chan) own = (suc m, own.1)
 
-open-numbered : (n m c : ℕ) (op : Op) (ops : List Op) → IsTo role.Opens c op → OpeningsAreNumbered m (openings_in n (op ∷ ops)) → (c ≡ m) × OpeningsAreNumbered (suc m) (openings_in n ops)
+open-numbered : (n m c : ℕ) (op : Op) (ops : List Op) → IsTo role.Opens c op → OpeningsAreNumbered m (openings_in n (op ∷ ops))
+    → (c ≡ m) × OpeningsAreNumbered (suc m) (openings_in n ops)
 unfolding openings_in
 open-numbered n m c op ops is are = by (attributes_of op).opens is are where
   by : (opens : Option ChanNo) → option_map channel_number opens ≡ Some c → OpeningsAreNumbered m (opening_by n opens ++ openings_in n ops) → (c ≡ m) × OpeningsAreNumbered (suc m) (openings_in n ops)
@@ -354,7 +385,9 @@ open-numbered n m c op ops is are = by (attributes_of op).opens is are where
   by (Some chan) same own = (sym (same_Some (channel_number chan) c same) ∙ own.0, own.1)
 
 -- before it is opened, no operation names it
-early-full : (n m : ℕ) (requests : List Request) (request : Request) (above ops : List Op) → IsAt requests request → OpeningsAreNumbered m (openings_in n ops) → list_any (is_in role.Opens (number_of request)) above ≡ false → KeepsOrder above ops → FullScript request (tasks_of requests ops)
+early-full : (n m : ℕ) (requests : List Request) (request : Request) (above ops : List Op) → IsAt requests request
+    → OpeningsAreNumbered m (openings_in n ops) → list_any (is_in role.Opens (number_of request)) above ≡ false → KeepsOrder above ops
+    → FullScript request (tasks_of requests ops)
 unfolding tasks_of
 early-full n m requests request above [] at are none keeps = tt
 early-full n m requests request above (op ∷ ops) at are none keeps =
@@ -392,7 +425,8 @@ in-order parts planned n request found =
     ap (λ (r : Request). channel_number r.chan) (sym at.is) ∙ planned.requests n at.from at.found
 
 -- a move that fits is between two channels
-fit-apart : (links : List LinkEntry) (requests : List RequestEntry) (ops : List Op) → list_all (move_is_fit links requests) ops ≡ true → Each IsApartMove ops
+fit-apart : (links : List LinkEntry) (requests : List RequestEntry) (ops : List Op) → list_all (move_is_fit links requests) ops ≡ true
+    → Each IsApartMove ops
 fit-apart links requests [] all = tt
 fit-apart links requests (op ∷ ops) all =
     (let split = both (move_is_fit links requests op) (list_all (move_is_fit links requests) ops) all in (between (attributes_of op).leaves (attributes_of op).joins split.0, fit-apart links requests ops split.1)) where
@@ -402,7 +436,8 @@ fit-apart links requests (op ∷ ops) all =
       between (Some old) (Some new) fit = eqb-false (channel_number old) (channel_number new) (not-true (nat_eq (channel_number old) (channel_number new)) (both (may_move links (slice_get requests (channel_number old)) (slice_get requests (channel_number new))) _ fit).1)
 
 -- the script of a caller keeps the rules on its operations
-keeps-order : (parts : PlanParts) (n : ℕ) (caller : CallerEntry) → IsPlan parts → slice_get parts.callers n ≡ Some caller → KeepsOrder [] caller.ops
+keeps-order : (parts : PlanParts) (n : ℕ) (caller : CallerEntry) → IsPlan parts → slice_get parts.callers n ≡ Some caller
+    → KeepsOrder [] caller.ops
 keeps-order parts n caller plan found =
     let rules = keeps-rules parts plan.kept in
     let there = used-in parts rules.there in
@@ -421,14 +456,16 @@ keeps-order parts n caller plan found =
       each test all = Each-at (λ (c : CallerEntry). each_after test [] c.ops ≡ true) parts.callers n caller (each-of (λ (c : CallerEntry). each_after test [] c.ops) parts.callers all) found
 
 -- a caller that opens other channels alone names others alone
-caller-off : (parts : PlanParts) (c n : ℕ) (tasks : List Task) → IsPlan parts → (IsOpenedBy parts n c → ⊥) → slice_get (map (script_of (map request_of parts.requests)) parts.callers) n ≡ Some tasks → Each (TaskOff c) tasks
+caller-off : (parts : PlanParts) (c n : ℕ) (tasks : List Task) → IsPlan parts → (IsOpenedBy parts n c → ⊥)
+    → slice_get (map (script_of (map request_of parts.requests)) parts.callers) n ≡ Some tasks → Each (TaskOff c) tasks
 caller-off parts c n tasks plan other found =
     let at = comes-from (script_of (map request_of parts.requests)) parts.callers n tasks found in
     subst (Each (TaskOff c)) at.is
     (ops-off c (map request_of parts.requests) [] at.from.ops (in-order parts plan.planned) (keeps-order parts n at.from plan at.found)
     (λ chan any same. other (subst (IsOpenedBy parts n) same (opened-has parts n chan at.from plan.planned at.found any))))
 
-pub owned-by : (parts : PlanParts) (c : ℕ) (entry : RequestEntry) → IsPlan parts → slice_get parts.requests c ≡ Some entry → OwnedFully (network_of parts) entry.request (actor_number entry.caller)
+pub owned-by : (parts : PlanParts) (c : ℕ) (entry : RequestEntry) → IsPlan parts → slice_get parts.requests c ≡ Some entry
+    → OwnedFully (network_of parts) entry.request (actor_number entry.caller)
 unfolding network_of
 owned-by parts c entry plan found =
     let number : channel_number entry.request.chan ≡ c = plan.planned.requests c entry found in

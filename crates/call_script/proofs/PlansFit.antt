@@ -37,7 +37,8 @@ use Rattle.link_steps.proofs.ListParts.{Each-at, comes-from}
 
 -- ---- requests
 
-hop-there : (groups : List ℕ) (links : List LinkEntry) (hop : Hop) → has_link links hop.link ≡ true → FollowsLink links hop → IsHopOf (map (entry_link groups) links) hop
+hop-there : (groups : List ℕ) (links : List LinkEntry) (hop : Hop) → has_link links hop.link ≡ true → FollowsLink links hop
+    → IsHopOf (map (entry_link groups) links) hop
 hop-there groups links hop there follows =
     elim (slice_get_cases links (link_number hop.link)).1 [
       | inl at ↦ record {
@@ -49,14 +50,16 @@ hop-there groups links hop there follows =
       | inr past ↦ (let within : link_number hop.link < length links = ltb-true (link_number hop.link) (length links) there in absurd (omega (arith, past.0)))
     ]
 
-hops-there : (groups : List ℕ) (links : List LinkEntry) (route : List Hop) → list_all (λ (hop : Hop). has_link links hop.link) route ≡ true → Each (FollowsLink links) route → Each (IsHopOf (map (entry_link groups) links)) route
+hops-there : (groups : List ℕ) (links : List LinkEntry) (route : List Hop) → list_all (λ (hop : Hop). has_link links hop.link) route ≡ true
+    → Each (FollowsLink links) route → Each (IsHopOf (map (entry_link groups) links)) route
 hops-there groups links [] there follows = tt
 hops-there groups links (hop ∷ route) there follows =
     let split = both (has_link links hop.link) (list_all (λ (h : Hop). has_link links h.link) route) there in
     (hop-there groups links hop split.0 follows.0, hops-there groups links route split.1 follows.1)
 
 -- a hop has the bounds of its link, which are a link's bounds
-hops-bounds : (links : List LinkEntry) (route : List Hop) → list_all (λ (hop : Hop). has_link links hop.link) route ≡ true → Each (FollowsLink links) route → HaveBounds route
+hops-bounds : (links : List LinkEntry) (route : List Hop) → list_all (λ (hop : Hop). has_link links hop.link) route ≡ true
+    → Each (FollowsLink links) route → HaveBounds route
 unfolding HaveBounds
 hops-bounds links [] there follows = tt
 hops-bounds links (hop ∷ route) there follows =
@@ -66,7 +69,8 @@ hops-bounds links (hop ∷ route) there follows =
       | inr past ↦ (let within : link_number hop.link < length links = ltb-true (link_number hop.link) (length links) split.0 in absurd (omega (arith, past.0)))
     ]
 
-pub request-fits : (parts : PlanParts) (n : ℕ) (entry : RequestEntry) → IsPlan parts → slice_get parts.requests n ≡ Some entry → RequestFits (map (entry_link (groups_in parts)) parts.links) entry.request
+pub request-fits : (parts : PlanParts) (n : ℕ) (entry : RequestEntry) → IsPlan parts → slice_get parts.requests n ≡ Some entry
+    → RequestFits (map (entry_link (groups_in parts)) parts.links) entry.request
 request-fits parts n entry plan found =
     let rules = keeps-rules parts plan.kept in
     let routes = used-in parts rules.there in
@@ -82,14 +86,17 @@ TaskFitsIf : List Link → Option Task → Type 0
 TaskFitsIf links None = Unit {0}
 TaskFitsIf links (Some task) = TaskFits links task
 
-with-fits : (links : List Link) (task : Option Task) (tasks : List Task) → TaskFitsIf links task → Each (TaskFits links) tasks → Each (TaskFits links) (with_task task tasks)
+with-fits : (links : List Link) (task : Option Task) (tasks : List Task) → TaskFitsIf links task → Each (TaskFits links) tasks
+    → Each (TaskFits links) (with_task task tasks)
 unfolding TaskFitsIf
 with-fits links None tasks fits each = each
 with-fits links (Some task) tasks fits each = (fits, each)
 
 -- of the request at an index
-of-request : (parts : PlanParts) (own : Request → Task) (n : ℕ) → IsPlan parts → ((request : Request) → RequestFits (map (entry_link (groups_in parts)) parts.links) request → TaskFits (map (entry_link (groups_in parts)) parts.links) (own request))
-    → (found : Option Request) → slice_get (map request_of parts.requests) n ≡ found → TaskFitsIf (map (entry_link (groups_in parts)) parts.links) (option_map own found)
+of-request : (parts : PlanParts) (own : Request → Task) (n : ℕ) → IsPlan parts
+    → ((request : Request) → RequestFits (map (entry_link (groups_in parts)) parts.links) request → TaskFits (map (entry_link (groups_in parts)) parts.links) (own request))
+    → (found : Option Request) → slice_get (map request_of parts.requests) n ≡ found
+    → TaskFitsIf (map (entry_link (groups_in parts)) parts.links) (option_map own found)
 unfolding TaskFitsIf
 of-request parts own n plan fits None is = tt
 of-request parts own n plan fits (Some request) is =
@@ -97,14 +104,16 @@ of-request parts own n plan fits (Some request) is =
     fits request (subst (RequestFits (map (entry_link (groups_in parts)) parts.links)) at.is (request-fits parts n at.from plan at.found))
 
 -- packets of a request's channel are asked for at a link of the plan
-send-fits : (links : List Link) (request : Request) (count gap size : ℕ) → RequestFits links request → op_in_range (Send request.chan count gap size) ≡ true → TaskFitsIf links (send_on count gap size request)
+send-fits : (links : List Link) (request : Request) (count gap size : ℕ) → RequestFits links request
+    → op_in_range (Send request.chan count gap size) ≡ true → TaskFitsIf links (send_on count gap size request)
 unfolding TaskFitsIf
 send-fits links request count gap size fits range = by (slice_get request.route 0) refl where
   by : (found : Option Hop) → slice_get request.route 0 ≡ found → TaskFitsIf links (option_map (λ (hop : Hop). Sends hop.link (Some request.chan) count gap size) found)
   by None is = tt
   by (Some hop) is = (let at = Each-at (IsHopOf links) request.route 0 hop fits.hops is in record { link = at.link; linked = at.linked; packets = packets-fit count gap size range })
 
-sends-fit : (parts : PlanParts) (n count gap size : ℕ) (chan : ChanNo) → IsPlan parts → op_in_range (Send chan count gap size) ≡ true → (found : Option Request) → slice_get (map request_of parts.requests) n ≡ found
+sends-fit : (parts : PlanParts) (n count gap size : ℕ) (chan : ChanNo) → IsPlan parts → op_in_range (Send chan count gap size) ≡ true
+    → (found : Option Request) → slice_get (map request_of parts.requests) n ≡ found
     → TaskFitsIf (map (entry_link (groups_in parts)) parts.links) (task_for (send_on count gap size) found)
 unfolding TaskFitsIf
 sends-fit parts n count gap size chan plan range None is = tt
@@ -113,7 +122,9 @@ sends-fit parts n count gap size chan plan range (Some request) is =
     send-fits (map (entry_link (groups_in parts)) parts.links) request count gap size (subst (RequestFits (map (entry_link (groups_in parts)) parts.links)) at.is (request-fits parts n at.from plan at.found)) range
 
 -- best-effort packets are asked for at a link that takes them
-best-fits : (groups : List ℕ) (links : List LinkEntry) (link : LinkNo) (count gap size : ℕ) → takes_best_effort (slice_get links (link_number link)) ≡ true → packets_in_range count gap size ≡ true → TaskFitsIf (map (entry_link groups) links) (Some (Sends link None count gap size))
+best-fits : (groups : List ℕ) (links : List LinkEntry) (link : LinkNo) (count gap size : ℕ)
+    → takes_best_effort (slice_get links (link_number link)) ≡ true → packets_in_range count gap size ≡ true
+    → TaskFitsIf (map (entry_link groups) links) (Some (Sends link None count gap size))
 unfolding TaskFitsIf
 best-fits groups links link count gap size taken range = by (slice_get links (link_number link)) refl taken where
   by : (found : Option LinkEntry) → slice_get links (link_number link) ≡ found → takes_best_effort found ≡ true → TaskFitsIf (map (entry_link groups) links) (Some (Sends link None count gap size))
@@ -135,7 +146,8 @@ contract-same a b same =
 one-packet : SubmitFits 1 1 1
 one-packet = record { count_least = omega arith; count_most = omega arith; gap_least = omega arith; gap_most = omega arith; size_least = omega arith; size_most = omega arith }
 
-move-fits : (parts : PlanParts) (o n : ℕ) → IsPlan parts → o ≢ n → (old new : Option RequestEntry) → slice_get parts.requests o ≡ old → slice_get parts.requests n ≡ new → may_move parts.links old new ≡ true
+move-fits : (parts : PlanParts) (o n : ℕ) → IsPlan parts → o ≢ n → (old new : Option RequestEntry) → slice_get parts.requests o ≡ old
+    → slice_get parts.requests n ≡ new → may_move parts.links old new ≡ true
     → TaskFitsIf (map (entry_link (groups_in parts)) parts.links) (move_for (option_map request_of old) (option_map request_of new))
 unfolding TaskFitsIf
 move-fits parts o n plan apart None new from to fit = cc
@@ -148,7 +160,9 @@ move-fits parts o n plan apart (Some old) (Some new) from to fit = record {
   packets = one-packet;
 }
 
-op-fits : (parts : PlanParts) (op : Op) → IsPlan parts → op_in_range op ≡ true → pour_is_taken parts.links op ≡ true → move_is_fit parts.links parts.requests op ≡ true → TaskFitsIf (map (entry_link (groups_in parts)) parts.links) (task_of (map request_of parts.requests) op)
+op-fits : (parts : PlanParts) (op : Op) → IsPlan parts → op_in_range op ≡ true → pour_is_taken parts.links op ≡ true
+    → move_is_fit parts.links parts.requests op ≡ true
+    → TaskFitsIf (map (entry_link (groups_in parts)) parts.links) (task_of (map request_of parts.requests) op)
 op-fits parts (Open chan) plan range taken fit = of-request parts _ (channel_number chan) plan (λ request fits. fits) (slice_get (map request_of parts.requests) (channel_number chan)) refl
 op-fits parts (Send chan count gap size) plan range taken fit = sends-fit parts (channel_number chan) count gap size chan plan range (slice_get (map request_of parts.requests) (channel_number chan)) refl
 op-fits parts (Close chan) plan range taken fit = of-request parts _ (channel_number chan) plan (λ request fits. fits) (slice_get (map request_of parts.requests) (channel_number chan)) refl
@@ -159,7 +173,9 @@ op-fits parts (Move old new) plan range taken fit =
     (move-fits parts (channel_number old) (channel_number new) plan (eqb-false (channel_number old) (channel_number new) (not-true (nat_eq (channel_number old) (channel_number new)) split.1)) (slice_get parts.requests (channel_number old)) (slice_get parts.requests (channel_number new)) refl refl split.0))
 op-fits parts _ plan range taken fit = best-fits (groups_in parts) parts.links _ _ _ _ taken range
 
-ops-fit : (parts : PlanParts) (ops : List Op) → IsPlan parts → list_all op_in_range ops ≡ true → list_all (pour_is_taken parts.links) ops ≡ true → list_all (move_is_fit parts.links parts.requests) ops ≡ true → Each (TaskFits (map (entry_link (groups_in parts)) parts.links)) (tasks_of (map request_of parts.requests) ops)
+ops-fit : (parts : PlanParts) (ops : List Op) → IsPlan parts → list_all op_in_range ops ≡ true
+    → list_all (pour_is_taken parts.links) ops ≡ true → list_all (move_is_fit parts.links parts.requests) ops ≡ true
+    → Each (TaskFits (map (entry_link (groups_in parts)) parts.links)) (tasks_of (map request_of parts.requests) ops)
 unfolding tasks_of
 ops-fit parts [] plan range taken fit = tt
 ops-fit parts (op ∷ ops) plan range taken fit =
@@ -168,7 +184,10 @@ ops-fit parts (op ∷ ops) plan range taken fit =
     let fits = both (move_is_fit parts.links parts.requests op) (list_all (move_is_fit parts.links parts.requests) ops) fit in
     with-fits (map (entry_link (groups_in parts)) parts.links) (task_of (map request_of parts.requests) op) (tasks_of (map request_of parts.requests) ops) (op-fits parts op plan ranges.0 takes.0 fits.0) (ops-fit parts ops plan ranges.1 takes.1 fits.1)
 
-callers-fit : (parts : PlanParts) (callers : List CallerEntry) → IsPlan parts → list_all (λ (caller : CallerEntry). list_all op_in_range caller.ops) callers ≡ true → list_all (λ (caller : CallerEntry). list_all (pour_is_taken parts.links) caller.ops) callers ≡ true → list_all (λ (caller : CallerEntry). list_all (move_is_fit parts.links parts.requests) caller.ops) callers ≡ true
+callers-fit : (parts : PlanParts) (callers : List CallerEntry) → IsPlan parts
+    → list_all (λ (caller : CallerEntry). list_all op_in_range caller.ops) callers ≡ true
+    → list_all (λ (caller : CallerEntry). list_all (pour_is_taken parts.links) caller.ops) callers ≡ true
+    → list_all (λ (caller : CallerEntry). list_all (move_is_fit parts.links parts.requests) caller.ops) callers ≡ true
     → Each (Each (TaskFits (map (entry_link (groups_in parts)) parts.links))) (map (script_of (map request_of parts.requests)) callers)
 callers-fit parts [] plan range taken fit = tt
 callers-fit parts (caller ∷ callers) plan range taken fit =
@@ -179,7 +198,8 @@ callers-fit parts (caller ∷ callers) plan range taken fit =
 
 -- ---- the network
 
-links-fit : (parts : PlanParts) → KeepGroups parts.version parts.groups parts.links parts.callers → Each SplitFits (map (entry_link (groups_in parts)) parts.links)
+links-fit : (parts : PlanParts) → KeepGroups parts.version parts.groups parts.links parts.callers
+    → Each SplitFits (map (entry_link (groups_in parts)) parts.links)
 links-fit parts keep = by parts.links keep.own keep.quotas_there keep.fit where
   by : (links : List LinkEntry) → list_all (λ (entry : LinkEntry). have_own_groups entry.quotas) links ≡ true → list_all (λ (entry : LinkEntry). list_all (quota_is_there parts.groups) entry.quotas) links ≡ true
       → list_all (λ (entry : LinkEntry). quotas_fit entry.shape entry.quotas) links ≡ true → Each SplitFits (map (entry_link (groups_in parts)) links)

@@ -40,7 +40,8 @@ use Rattle.channel_laws.specs.Channels.{HopTerms, is_of_channel, channel_packets
 
 -- ---- packets
 
-numbered-push : (n : ℕ) (own : List Arrival) (p : Arrival) → AreNumberedAfter n own → p.number ≡ suc (n + length own) → AreNumberedAfter n (own ++ p ∷ [])
+numbered-push : (n : ℕ) (own : List Arrival) (p : Arrival) → AreNumberedAfter n own → p.number ≡ suc (n + length own)
+    → AreNumberedAfter n (own ++ p ∷ [])
 numbered-push n [] p are is = (omega (arith, is), tt)
 numbered-push n (q ∷ own) p are is = (are.0, numbered-push (suc n) own p are.1 (omega (arith, is)))
 
@@ -51,10 +52,12 @@ none-mapped (p ∷ own) none = cc
 pub own-count : (ticks : List ℕ) (own : List Arrival) → reverse ticks ≡ map tick_of_packet own → length own ≡ length ticks
 own-count ticks own same = sym (length-map own tick_of_packet) ∙ ap length (sym same) ∙ length-reverse ticks
 
-pub packets-on : (c : ℕ) (packets : List Arrival) (p : Arrival) → channel_number p.chan ≡ c → 1 ≤ p.number → channel_packets c (packets ++ p ∷ []) ≡ channel_packets c packets ++ p ∷ []
+pub packets-on : (c : ℕ) (packets : List Arrival) (p : Arrival) → channel_number p.chan ≡ c → 1 ≤ p.number
+    → channel_packets c (packets ++ p ∷ []) ≡ channel_packets c packets ++ p ∷ []
 packets-on c packets p same numbered = filter-append (is_of_channel c) packets (p ∷ []) ∙ rw (eq-eqb (channel_number p.chan) c same, lt-ltb 0 p.number numbered) refl
 
-pub packets-off : (c : ℕ) (packets : List Arrival) (p : Arrival) → channel_number p.chan ≢ c → channel_packets c (packets ++ p ∷ []) ≡ channel_packets c packets
+pub packets-off : (c : ℕ) (packets : List Arrival) (p : Arrival) → channel_number p.chan ≢ c
+    → channel_packets c (packets ++ p ∷ []) ≡ channel_packets c packets
 packets-off c packets p other = filter-append (is_of_channel c) packets (p ∷ []) ∙ rw (ne_eqb (channel_number p.chan) c other) (append-nil (channel_packets c packets))
 
 -- best-effort packets are no channel's
@@ -68,7 +71,8 @@ best-none c place t bounds Rests = refl
 best-none c place t bounds Drops = refl
 
 -- the packets of a channel after a tick are those before it and those that the sources bring
-pub tick-packets : (shape : LinkShape) (c t : ℕ) (scan : Scan) → channel_packets c (after_tick shape t scan).packets ≡ channel_packets c scan.packets ++ channel_packets c (source_packets shape.bounds (here_at shape.rate scan.packets t) t (length scan.packets) (filter (stays shape.bounds t) scan.rows))
+pub tick-packets : (shape : LinkShape) (c t : ℕ) (scan : Scan)
+    → channel_packets c (after_tick shape t scan).packets ≡ channel_packets c scan.packets ++ channel_packets c (source_packets shape.bounds (here_at shape.rate scan.packets t) t (length scan.packets) (filter (stays shape.bounds t) scan.rows))
 unfolding after_tick with_best with_sources without_expired
 tick-packets shape c t scan =
     filter-append (is_of_channel c) (scan.packets ++ source_packets shape.bounds (here_at shape.rate scan.packets t) t (length scan.packets) (filter (stays shape.bounds t) scan.rows)) _
@@ -77,8 +81,9 @@ tick-packets shape c t scan =
 
 -- ---- the row with one packet more
 
-tells-more : (terms : HopTerms) (c place t due size : ℕ) (row : Row) (own : List Arrival) (p : Arrival) → RowTells terms c row own → p.eligible ≡ eligible_next row.terms row.ticks t due → p.number ≡ suc (length row.ticks) → p.level ≡ level_number row.terms.level → p.next ≡ row.terms.next
-    → RowTells terms c (with_packet place (eligible_next row.terms row.ticks t due) row) (own ++ p ∷ [])
+tells-more : (terms : HopTerms) (c place t due size : ℕ) (row : Row) (own : List Arrival) (p : Arrival) → RowTells terms c row own
+    → p.eligible ≡ eligible_next row.terms row.ticks t due → p.number ≡ suc (length row.ticks) → p.level ≡ level_number row.terms.level
+    → p.next ≡ row.terms.next → RowTells terms c (with_packet place (eligible_next row.terms row.ticks t due) row) (own ++ p ∷ [])
 unfolding eligible_next
 tells-more terms c place t due size row own p tells e number level next = record {
   chan = tells.chan;
@@ -115,7 +120,9 @@ others-elsewhere c row rows same differ =
 only-elsewhere : (c : ℕ) (row : Row) (rows : List Row) → Each (IsElsewhere c) rows → Each (IsOnly c row) rows
 only-elsewhere c row rows each = Each-if (IsElsewhere c) (IsOnly c row) rows (λ r other is. absurd (other is)) each
 
-only-changed : (test : Row → Bool) (change : Row → Row) (c : ℕ) (row : Row) (rows : List Row) → ((r : Row) → test r ≡ true → channel_of r ≡ c) → DifferInChannel rows → find test rows ≡ Some row → Each (IsOnly c row) rows → Each (IsOnly c (change row)) (change_first test change rows)
+only-changed : (test : Row → Bool) (change : Row → Row) (c : ℕ) (row : Row) (rows : List Row)
+    → ((r : Row) → test r ≡ true → channel_of r ≡ c) → DifferInChannel rows → find test rows ≡ Some row → Each (IsOnly c row) rows
+    → Each (IsOnly c (change row)) (change_first test change rows)
 unfolding change_first
 only-changed test change c row [] tests differ found only = cc
 only-changed test change c row (r ∷ rows) tests differ found only =
@@ -145,8 +152,11 @@ find-passes test row (x ∷ more) some =
     ]
 
 -- a change of the row of a channel found by its number
-changed-stands : (terms : HopTerms) (c n : ℕ) (chan : ChanNo) (scan : Scan) (test : Row → Bool) (change : Row → Row) → ((r : Row) → test r ≡ true → channel_of r ≡ channel_number chan) → ((r : Row) → channel_of (change r) ≡ channel_of r) → DifferInChannel scan.rows
-    → ((r : Row) → find test scan.rows ≡ Some r → RowTells terms c r (channel_packets c scan.packets) → RowTells terms c (change r) (channel_packets c scan.packets)) → ChannelStands terms c n scan → ChannelStands terms c n (record scan { rows = change_first test change scan.rows })
+changed-stands : (terms : HopTerms) (c n : ℕ) (chan : ChanNo) (scan : Scan) (test : Row → Bool) (change : Row → Row)
+    → ((r : Row) → test r ≡ true → channel_of r ≡ channel_number chan) → ((r : Row) → channel_of (change r) ≡ channel_of r)
+    → DifferInChannel scan.rows
+    → ((r : Row) → find test scan.rows ≡ Some r → RowTells terms c r (channel_packets c scan.packets) → RowTells terms c (change r) (channel_packets c scan.packets))
+    → ChannelStands terms c n scan → ChannelStands terms c n (record scan { rows = change_first test change scan.rows })
 changed-stands terms c n chan scan test change tests keeps differ tells stands = record {
   free = λ none. (let is = stands.free none in record { rows = Each-change_first (IsElsewhere c) test change scan.rows (λ r other same. other (sym (keeps r) ∙ same)) is.rows; packets = is.packets });
   known = λ one. by-channel (stands.known one);
@@ -187,10 +197,13 @@ at-first chan r passed = same-true r.terms.first (and_parts (is_of chan r.terms)
 
 -- ---- an arrive
 
-pub arrive-number : (bounds : List ℕ) (t : ℕ) (packet : Packet) (terms : Reservation) (taken held e clock eligible : ℕ) → Is.Taken clock eligible ≡ arrive_reply bounds t packet terms taken held e → packet.number ≡ suc taken
+pub arrive-number : (bounds : List ℕ) (t : ℕ) (packet : Packet) (terms : Reservation) (taken held e clock eligible : ℕ)
+    → Is.Taken clock eligible ≡ arrive_reply bounds t packet terms taken held e → packet.number ≡ suc taken
 arrive-number bounds t packet terms taken held e clock eligible same = (arrive-tells bounds t packet terms taken held e clock eligible same).number
 
-taken-stands : (shape : LinkShape) (terms : HopTerms) (c n t : ℕ) (packet : Packet) (scan : Scan) (row : Row) → TakeFits shape t scan packet row → DifferInChannel scan.rows → ChannelStands terms c n scan → ChannelStands terms c n (with_arrival t packet scan (Some row))
+taken-stands : (shape : LinkShape) (terms : HopTerms) (c n t : ℕ) (packet : Packet) (scan : Scan) (row : Row)
+    → TakeFits shape t scan packet row → DifferInChannel scan.rows → ChannelStands terms c n scan
+    → ChannelStands terms c n (with_arrival t packet scan (Some row))
 unfolding with_arrival
 taken-stands shape terms c n t packet scan row fits differ stands =
     let is = fits.found in
@@ -221,7 +234,8 @@ taken-stands shape terms c n t packet scan row fits differ stands =
 
 -- ---- a tick
 
-pub packet-elsewhere : (c t place : ℕ) (row : Row) (step : SourceStep) → channel_of row ≢ c → channel_packets c (packet_of step t place row) ≡ []
+pub packet-elsewhere : (c t place : ℕ) (row : Row) (step : SourceStep) → channel_of row ≢ c
+    → channel_packets c (packet_of step t place row) ≡ []
 packet-elsewhere c t place row (Brings size) other = rw (ne_eqb (channel_of row) c other) refl
 packet-elsewhere c t place row Rests other = refl
 packet-elsewhere c t place row Drops other = refl
@@ -231,7 +245,8 @@ row-elsewhere c t place row (Brings size) other = other
 row-elsewhere c t place row Rests other = other
 row-elsewhere c t place row Drops other = other
 
-pub sources-elsewhere : (c : ℕ) (bounds : List ℕ) (here : List Arrival) (t taken : ℕ) (rows : List Row) → Each (IsElsewhere c) rows → (channel_packets c (source_packets bounds here t taken rows) ≡ []) × Each (IsElsewhere c) (rows_after bounds here t taken rows)
+pub sources-elsewhere : (c : ℕ) (bounds : List ℕ) (here : List Arrival) (t taken : ℕ) (rows : List Row) → Each (IsElsewhere c) rows
+    → (channel_packets c (source_packets bounds here t taken rows) ≡ []) × Each (IsElsewhere c) (rows_after bounds here t taken rows)
 unfolding source_packets rows_after
 sources-elsewhere c bounds here t taken [] each = (refl, tt)
 sources-elsewhere c bounds here t taken (row ∷ rows) each =
@@ -242,7 +257,8 @@ sources-elsewhere c bounds here t taken (row ∷ rows) each =
     )
 
 -- a row and its packets after the step of its source
-tells-step : (terms : HopTerms) (c t place : ℕ) (row : Row) (own : List Arrival) (step : SourceStep) → RowTells terms c row own → RowTells terms c (row_after step t place row) (own ++ channel_packets c (packet_of step t place row))
+tells-step : (terms : HopTerms) (c t place : ℕ) (row : Row) (own : List Arrival) (step : SourceStep) → RowTells terms c row own
+    → RowTells terms c (row_after step t place row) (own ++ channel_packets c (packet_of step t place row))
 tells-step terms c t place row own Rests tells = rw (append-nil own) tells
 tells-step terms c t place row own Drops tells = rw (append-nil own) (record {
   chan = tells.chan;
@@ -267,7 +283,8 @@ pub record SourcesTell (terms : HopTerms) (c : ℕ) (own new : List Arrival) (ro
   pub tells : RowTells terms c row (own ++ new)
   pub only : Each (IsOnly c row) rows
 
-sources-tell : (terms : HopTerms) (c : ℕ) (bounds : List ℕ) (here : List Arrival) (t taken : ℕ) (rows : List Row) (row : Row) (own : List Arrival) → DifferInChannel rows → RowTells terms c row own → Each (IsOnly c row) rows
+sources-tell : (terms : HopTerms) (c : ℕ) (bounds : List ℕ) (here : List Arrival) (t taken : ℕ) (rows : List Row) (row : Row) (own : List Arrival)
+    → DifferInChannel rows → RowTells terms c row own → Each (IsOnly c row) rows
     → SourcesTell terms c own (channel_packets c (source_packets bounds here t taken rows)) (rows_after bounds here t taken rows)
 unfolding source_packets rows_after
 sources-tell terms c bounds here t taken [] row own differ tells only = record { row = row; tells = rw (append-nil own) tells; only = tt }
@@ -296,7 +313,8 @@ sources-tell terms c bounds here t taken (r ∷ rows) row own differ tells only 
           })
     ]
 
-tick-stands : (shape : LinkShape) (terms : HopTerms) (c n t : ℕ) (scan : Scan) → DifferInChannel scan.rows → ChannelStands terms c n scan → ChannelStands terms c n (after_tick shape t scan)
+tick-stands : (shape : LinkShape) (terms : HopTerms) (c n t : ℕ) (scan : Scan) → DifferInChannel scan.rows → ChannelStands terms c n scan
+    → ChannelStands terms c n (after_tick shape t scan)
 unfolding after_tick with_best with_sources without_expired
 tick-stands shape terms c n t scan differ stands = record {
   free = λ none. (let was = stands.free none in
@@ -308,7 +326,8 @@ tick-stands shape terms c n t scan differ stands = record {
 }
 
 -- the sources of a tick bring no packet of a channel whose first hop isn't here
-pub sources-none : (c : ℕ) (bounds : List ℕ) (here : List Arrival) (t taken : ℕ) (rows : List Row) (row : Row) → row.plan ≡ [] → DifferInChannel rows → Each (IsOnly c row) rows → channel_packets c (source_packets bounds here t taken rows) ≡ []
+pub sources-none : (c : ℕ) (bounds : List ℕ) (here : List Arrival) (t taken : ℕ) (rows : List Row) (row : Row) → row.plan ≡ []
+    → DifferInChannel rows → Each (IsOnly c row) rows → channel_packets c (source_packets bounds here t taken rows) ≡ []
 unfolding source_packets step_of
 sources-none c bounds here t taken [] row none differ only = refl
 sources-none c bounds here t taken (r ∷ rows) row none differ only =
@@ -324,13 +343,15 @@ sources-none c bounds here t taken (r ∷ rows) row none differ only =
           filter-append (is_of_channel c) (packet_of (step_of bounds here t r) t (suc taken) r) _ ∙ ap (λ x. x ++ channel_packets c (source_packets bounds here t (taken + taken_by (step_of bounds here t r)) rows)) (packet-elsewhere c t (suc taken) r (step_of bounds here t r) other) ∙ rest)
     ]
 
-pub tick-none : (shape : LinkShape) (terms : HopTerms) (c t : ℕ) (scan : Scan) → terms.first ≡ false → DifferInChannel scan.rows → HasOneRow terms c scan → channel_packets c (after_tick shape t scan).packets ≡ channel_packets c scan.packets
+pub tick-none : (shape : LinkShape) (terms : HopTerms) (c t : ℕ) (scan : Scan) → terms.first ≡ false → DifferInChannel scan.rows
+    → HasOneRow terms c scan → channel_packets c (after_tick shape t scan).packets ≡ channel_packets c scan.packets
 unfolding after_tick with_best with_sources without_expired
 tick-none shape terms c t scan later differ has =
     tick-packets shape c t scan ∙ ap (λ x. channel_packets c scan.packets ++ x) (sources-none c shape.bounds (here_at shape.rate scan.packets t) t (length scan.packets) (filter (stays shape.bounds t) scan.rows) has.row (has.tells.unplanned later) (differ-filter (stays shape.bounds t) scan.rows differ) (Each-filter (IsOnly c has.row) (stays shape.bounds t) scan.rows has.only)) ∙ append-nil _
 
 -- nor of one that has no row here
-pub tick-free : (shape : LinkShape) (c t : ℕ) (scan : Scan) → IsFree c scan → channel_packets c (after_tick shape t scan).packets ≡ channel_packets c scan.packets
+pub tick-free : (shape : LinkShape) (c t : ℕ) (scan : Scan) → IsFree c scan
+    → channel_packets c (after_tick shape t scan).packets ≡ channel_packets c scan.packets
 unfolding after_tick with_best with_sources without_expired
 tick-free shape c t scan free =
     tick-packets shape c t scan ∙ ap (λ x. channel_packets c scan.packets ++ x) (sources-elsewhere c shape.bounds (here_at shape.rate scan.packets t) t (length scan.packets) (filter (stays shape.bounds t) scan.rows) (Each-filter (IsElsewhere c) (stays shape.bounds t) scan.rows free.rows)).0 ∙ append-nil _
@@ -346,19 +367,23 @@ abbrev pub NewTerms : HopTerms → ℕ → Option Reservation → Type 0
 NewTerms terms c None = Unit {0}
 NewTerms terms c (Some new) = channel_number new.chan ≡ c → NamesTerms terms new.contract new.kind new.first new.next
 
-pub offers-new : (c n : ℕ) (ask : Ask) (reply : Reply) (new : Option Reservation) → new ≡ offer_of ask reply → offers_new c n new ≡ offers_with c n ask reply
+pub offers-new : (c n : ℕ) (ask : Ask) (reply : Reply) (new : Option Reservation) → new ≡ offer_of ask reply
+    → offers_new c n new ≡ offers_with c n ask reply
 offers-new c n ask reply new is = ap (offers_new c n) is ∙ offered ask reply where
   offered : (ask : Ask) (reply : Reply) → offers_new c n (offer_of ask reply) ≡ offers_with c n ask reply
   offered (Reserve chan contract kind delay up_reach first next) (Is.Offer level reach) = refl
   offered _ _ = refl
 
-pub new-terms : (terms : HopTerms) (c : ℕ) (ask : Ask) (reply : Reply) (new : Option Reservation) → new ≡ offer_of ask reply → OffersTerms terms c ask reply → NewTerms terms c new
+pub new-terms : (terms : HopTerms) (c : ℕ) (ask : Ask) (reply : Reply) (new : Option Reservation) → new ≡ offer_of ask reply
+    → OffersTerms terms c ask reply → NewTerms terms c new
 new-terms terms c ask reply new is names = subst (NewTerms terms c) (sym is) (offered ask reply names) where
   offered : (ask : Ask) (reply : Reply) → OffersTerms terms c ask reply → NewTerms terms c (offer_of ask reply)
   offered (Reserve chan contract kind delay up_reach first next) (Is.Offer level reach) names = names
   offered _ _ names = tt
 
-added-stands : (terms : HopTerms) (c n : ℕ) (scan : Scan) (new : Reservation) → IsContract new.contract → NewTerms terms c (Some new) → ChannelStands terms c n scan → ChannelStands terms c (offers_new c n (Some new)) (record scan { rows = scan.rows ++ new_row new ∷ [] })
+added-stands : (terms : HopTerms) (c n : ℕ) (scan : Scan) (new : Reservation) → IsContract new.contract → NewTerms terms c (Some new)
+    → ChannelStands terms c n scan
+    → ChannelStands terms c (offers_new c n (Some new)) (record scan { rows = scan.rows ++ new_row new ∷ [] })
 unfolding keeps_newest_first
 added-stands terms c n scan new valid names stands =
     elim (cases_Bool (nat_eq (channel_number new.chan) c)) [
@@ -396,19 +421,24 @@ added-stands terms c n scan new valid names stands =
 
 -- ---- a changed row
 
-levels-changed : (shape : LinkShape) (terms : HopTerms) (c t : ℕ) (change : Change) (row : Row) (own : List Arrival) → ChangeFits shape t change row → IsInOrder shape t row → RowTells terms c row own → Each (λ p. p.level ≡ level_number (level_with change row.terms.level)) own
+levels-changed : (shape : LinkShape) (terms : HopTerms) (c t : ℕ) (change : Change) (row : Row) (own : List Arrival)
+    → ChangeFits shape t change row → IsInOrder shape t row → RowTells terms c row own
+    → Each (λ p. p.level ≡ level_number (level_with change row.terms.level)) own
 levels-changed shape terms c t (Commits level up_bound) row own fits order tells =
     let none : own ≡ [] = none-mapped own (sym tells.eligible ∙ ap reverse (order.fresh fits.offer.phase).0) in
     subst (Each (λ p. p.level ≡ level_number level)) (sym none) tt
 levels-changed shape terms c t (Plans count gap size) row own fits order tells = tells.levels
 levels-changed shape terms c t (Closes first count) row own fits order tells = tells.levels
 
-unplanned-changed : (terms : HopTerms) (c t : ℕ) (chan : ChanNo) (change : Change) (row : Row) (own : List Arrival) → is_changed chan change row ≡ true → RowTells terms c row own → terms.first ≡ false → plan_with t change row.plan ≡ []
+unplanned-changed : (terms : HopTerms) (c t : ℕ) (chan : ChanNo) (change : Change) (row : Row) (own : List Arrival)
+    → is_changed chan change row ≡ true → RowTells terms c row own → terms.first ≡ false → plan_with t change row.plan ≡ []
 unplanned-changed terms c t chan (Commits level up_bound) row own passed tells later = tells.unplanned later
 unplanned-changed terms c t chan (Plans count gap size) row own passed tells later = absurd (let clash : false ≡ true = sym later ∙ sym tells.first_is ∙ at-first chan row passed in cc)
 unplanned-changed terms c t chan (Closes first count) row own passed tells later = ap (made_by t) (tells.unplanned later)
 
-tells-changed : (shape : LinkShape) (terms : HopTerms) (c t : ℕ) (chan : ChanNo) (change : Change) (row : Row) (own : List Arrival) → is_changed chan change row ≡ true → ChangeFits shape t change row → IsInOrder shape t row → RowTells terms c row own → RowTells terms c (changed_row t change row) own
+tells-changed : (shape : LinkShape) (terms : HopTerms) (c t : ℕ) (chan : ChanNo) (change : Change) (row : Row) (own : List Arrival)
+    → is_changed chan change row ≡ true → ChangeFits shape t change row → IsInOrder shape t row → RowTells terms c row own
+    → RowTells terms c (changed_row t change row) own
 tells-changed shape terms c t chan change row own passed fits order tells = record {
   chan = tells.chan;
   contract_is = tells.contract_is;
@@ -426,7 +456,8 @@ tells-changed shape terms c t chan change row own passed fits order tells = reco
 
 -- ---- each effect
 
-effect-stands : (shape : LinkShape) (terms : HopTerms) (c n t : ℕ) (scan : Scan) (effect : Effect) → EffectFits shape t scan effect → ScanInOrder shape t scan → DifferInChannel scan.rows → NewTerms terms c (new_in effect) → ChannelStands terms c n scan
+effect-stands : (shape : LinkShape) (terms : HopTerms) (c n t : ℕ) (scan : Scan) (effect : Effect) → EffectFits shape t scan effect
+    → ScanInOrder shape t scan → DifferInChannel scan.rows → NewTerms terms c (new_in effect) → ChannelStands terms c n scan
     → ChannelStands terms c (offers_new c n (new_in effect)) (with_effect shape t scan effect)
 unfolding with_effect
 effect-stands shape terms c n t scan (Adds new) fits order differ names stands = added-stands terms c n scan new fits.asked.is_contract names stands
@@ -445,7 +476,8 @@ effect-stands shape terms c n t scan _ fits order differ names stands = record {
 }
 
 -- so after a legal history
-pub legal-stands : (shape : LinkShape) (terms : HopTerms) (c : ℕ) (h : List Entry) → IsAdmissible shape h → AllOfferTerms terms c h → ChannelStands terms c (offers_to c h) (scan_of shape h)
+pub legal-stands : (shape : LinkShape) (terms : HopTerms) (c : ℕ) (h : List Entry) → IsAdmissible shape h → AllOfferTerms terms c h
+    → ChannelStands terms c (offers_to c h) (scan_of shape h)
 unfolding IsAdmissible scan_of clock_of offers_to
 legal-stands shape terms c [] legal names = record { free = λ none. record { rows = tt; packets = refl }; known = λ one. absurd (omega (arith, one)) }
 legal-stands shape terms c (e ∷ past) legal names =
@@ -455,7 +487,8 @@ legal-stands shape terms c (e ∷ past) legal names =
     (new-terms terms c e.ask e.reply (new_in effect) new names.0) (legal-stands shape terms c past legal.0 names.1)))
 
 -- where nothing was offered to the channel, any terms do
-none-offered : (terms : HopTerms) (c : ℕ) (ask : Ask) (reply : Reply) (n : ℕ) → offers_with c n ask reply ≡ 0 → (n ≡ 0) × OffersTerms terms c ask reply
+none-offered : (terms : HopTerms) (c : ℕ) (ask : Ask) (reply : Reply) (n : ℕ) → offers_with c n ask reply ≡ 0
+    → (n ≡ 0) × OffersTerms terms c ask reply
 none-offered terms c (Reserve chan contract kind delay up_reach first next) (Is.Offer level reach) n none =
     elim (cases_Bool (nat_eq (channel_number chan) c)) [
       | inl on ↦ absurd (let h : suc n ≡ 0 = rw on at none in omega (arith, h))
@@ -468,5 +501,6 @@ unfolding offers_to
 all-none terms c [] none = tt
 all-none terms c (e ∷ past) none = (let one = none-offered terms c e.ask e.reply (offers_to c past) none in (one.1, all-none terms c past one.0))
 
-pub legal-free : (shape : LinkShape) (terms : HopTerms) (c : ℕ) (h : List Entry) → IsAdmissible shape h → offers_to c h ≡ 0 → IsFree c (scan_of shape h)
+pub legal-free : (shape : LinkShape) (terms : HopTerms) (c : ℕ) (h : List Entry) → IsAdmissible shape h → offers_to c h ≡ 0
+    → IsFree c (scan_of shape h)
 legal-free shape terms c h legal none = (legal-stands shape terms c h legal (all-none terms c h none)).free none

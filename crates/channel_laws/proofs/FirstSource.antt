@@ -39,29 +39,36 @@ pub record GoneTells (terms : HopTerms) (c offers : ℕ) (scan : Scan) (row : Ro
 abbrev pub AllGone : HopTerms → ℕ → ℕ → Scan → Type 0
 AllGone terms c offers scan = Each (λ row. channel_of row ≡ c → GoneTells terms c offers scan row) scan.gone
 
-gone-more : (terms : HopTerms) (c offers more : ℕ) (scan later : Scan) → (1 ≤ offers → 1 ≤ more) → ((row : Row) → Each (IsElsewhere c) scan.rows → (channel_packets c later.packets ≡ channel_packets c scan.packets) × Each (IsElsewhere c) later.rows) → (rows : List Row) → Each (λ row. channel_of row ≡ c → GoneTells terms c offers scan row) rows → Each (λ row. channel_of row ≡ c → GoneTells terms c more later row) rows
+gone-more : (terms : HopTerms) (c offers more : ℕ) (scan later : Scan) → (1 ≤ offers → 1 ≤ more)
+    → ((row : Row) → Each (IsElsewhere c) scan.rows → (channel_packets c later.packets ≡ channel_packets c scan.packets) × Each (IsElsewhere c) later.rows)
+    → (rows : List Row) → Each (λ row. channel_of row ≡ c → GoneTells terms c offers scan row) rows
+    → Each (λ row. channel_of row ≡ c → GoneTells terms c more later row) rows
 gone-more terms c offers more scan later count keeps rows all =
     Each-if (λ row. channel_of row ≡ c → GoneTells terms c offers scan row) (λ row. channel_of row ≡ c → GoneTells terms c more later row) rows
     (λ row was own. (let is = was own in let both = keeps row is.alone in record { tells = subst (RowTells terms c row) (sym both.0) is.tells; alone = both.1; some = count is.some })) all
 
-tick-elsewhere : (shape : LinkShape) (c t : ℕ) (scan : Scan) → Each (IsElsewhere c) (filter (stays shape.bounds t) scan.rows) → (channel_packets c (after_tick shape t scan).packets ≡ channel_packets c scan.packets) × Each (IsElsewhere c) (after_tick shape t scan).rows
+tick-elsewhere : (shape : LinkShape) (c t : ℕ) (scan : Scan) → Each (IsElsewhere c) (filter (stays shape.bounds t) scan.rows)
+    → (channel_packets c (after_tick shape t scan).packets ≡ channel_packets c scan.packets) × Each (IsElsewhere c) (after_tick shape t scan).rows
 unfolding after_tick with_best with_sources without_expired
 tick-elsewhere shape c t scan each =
     let new = sources-elsewhere c shape.bounds (here_at shape.rate scan.packets t) t (length scan.packets) (filter (stays shape.bounds t) scan.rows) each in
     (tick-packets shape c t scan ∙ ap (λ x. channel_packets c scan.packets ++ x) new.0 ∙ append-nil _, new.1)
 
-tick-gone : (shape : LinkShape) (t : ℕ) (scan : Scan) → (after_tick shape t scan).gone ≡ scan.gone ++ filter (expires shape.bounds t) scan.rows
+tick-gone : (shape : LinkShape) (t : ℕ) (scan : Scan)
+    → (after_tick shape t scan).gone ≡ scan.gone ++ filter (expires shape.bounds t) scan.rows
 unfolding after_tick with_best with_sources without_expired
 tick-gone shape t scan = refl
 
 -- a row that expires was the only one
-left-alone : (c : ℕ) (bounds : List ℕ) (t : ℕ) (row : Row) (rows : List Row) → Each (IsOnly c row) rows → expires bounds t row ≡ true → Each (IsElsewhere c) (filter (stays bounds t) rows)
+left-alone : (c : ℕ) (bounds : List ℕ) (t : ℕ) (row : Row) (rows : List Row) → Each (IsOnly c row) rows → expires bounds t row ≡ true
+    → Each (IsElsewhere c) (filter (stays bounds t) rows)
 left-alone c bounds t row rows only ended =
     Each-if (λ r. IsOnly c row r × (stays bounds t r ≡ true)) (IsElsewhere c) (filter (stays bounds t) rows)
     (λ r both own. (let same : r ≡ row = both.0 own in let clash : false ≡ true = sym (ap (λ x. not (expires bounds t x)) same ∙ ap not ended) ∙ both.1 in cc))
     (Each-both (IsOnly c row) (λ r. stays bounds t r ≡ true) (filter (stays bounds t) rows) (Each-filter (IsOnly c row) (stays bounds t) rows only) (Each-passes (stays bounds t) rows))
 
-expired-tells : (shape : LinkShape) (terms : HopTerms) (c offers t : ℕ) (scan : Scan) → offers ≤ 1 → ChannelStands terms c offers scan → Each (λ row. channel_of row ≡ c → GoneTells terms c offers (after_tick shape t scan) row) (filter (expires shape.bounds t) scan.rows)
+expired-tells : (shape : LinkShape) (terms : HopTerms) (c offers t : ℕ) (scan : Scan) → offers ≤ 1 → ChannelStands terms c offers scan
+    → Each (λ row. channel_of row ≡ c → GoneTells terms c offers (after_tick shape t scan) row) (filter (expires shape.bounds t) scan.rows)
 expired-tells shape terms c offers t scan once stands =
     elim (cases_lt 0 offers) [
       | inl some ↦
@@ -78,7 +85,9 @@ expired-tells shape terms c offers t scan once stands =
           Each-if (IsElsewhere c) (λ row. channel_of row ≡ c → GoneTells terms c offers (after_tick shape t scan) row) (filter (expires shape.bounds t) scan.rows) (λ r other own. absurd (other own)) (Each-filter (IsElsewhere c) (expires shape.bounds t) scan.rows free.rows))
     ]
 
-effect-gone : (shape : LinkShape) (terms : HopTerms) (c offers t : ℕ) (scan : Scan) (effect : Effect) → EffectFits shape t scan effect → offers_new c offers (new_in effect) ≤ 1 → ChannelStands terms c offers scan → AllGone terms c offers scan → AllGone terms c (offers_new c offers (new_in effect)) (with_effect shape t scan effect)
+effect-gone : (shape : LinkShape) (terms : HopTerms) (c offers t : ℕ) (scan : Scan) (effect : Effect) → EffectFits shape t scan effect
+    → offers_new c offers (new_in effect) ≤ 1 → ChannelStands terms c offers scan → AllGone terms c offers scan
+    → AllGone terms c (offers_new c offers (new_in effect)) (with_effect shape t scan effect)
 unfolding with_effect with_arrival
 effect-gone shape terms c offers t scan (Adds new) fits once stands all =
     elim (cases_Bool (nat_eq (channel_number new.chan) c)) [
@@ -113,7 +122,8 @@ offers-before c n (Reserve chan contract kind delay up_reach first next) (Is.Off
     ]
 offers-before c n _ _ once = once
 
-pub legal-gone : (shape : LinkShape) (terms : HopTerms) (c : ℕ) (h : List Entry) → IsAdmissible shape h → AllOfferTerms terms c h → offers_to c h ≤ 1 → AllGone terms c (offers_to c h) (scan_of shape h)
+pub legal-gone : (shape : LinkShape) (terms : HopTerms) (c : ℕ) (h : List Entry) → IsAdmissible shape h → AllOfferTerms terms c h
+    → offers_to c h ≤ 1 → AllGone terms c (offers_to c h) (scan_of shape h)
 unfolding IsAdmissible scan_of offers_to
 legal-gone shape terms c [] legal names once = tt
 legal-gone shape terms c (e ∷ past) legal names once =
@@ -125,7 +135,8 @@ legal-gone shape terms c (e ∷ past) legal names once =
 
 -- ---- a packet of the channel has the row's lead
 
-filter-count : (a b : Arrival → Bool) (xs : List Arrival) → Each (λ x. a x ≡ true → b x ≡ true) xs → length (filter a xs) ≤ length (filter b xs)
+filter-count : (a b : Arrival → Bool) (xs : List Arrival) → Each (λ x. a x ≡ true → b x ≡ true) xs
+    → length (filter a xs) ≤ length (filter b xs)
 filter-count a b [] each = omega arith
 filter-count a b (x ∷ xs) each = go (a x) (b x) refl refl (filter-count a b xs each.1) where
   go : (ax bx : Bool) → a x ≡ ax → b x ≡ bx → length (filter a xs) ≤ length (filter b xs) → length (filter a (x ∷ xs)) ≤ length (filter b (x ∷ xs))
@@ -135,7 +146,8 @@ filter-count a b (x ∷ xs) each = go (a x) (b x) refl refl (filter-count a b xs
   go false false ea eb less = rw (ea, eb) less
 
 -- where one test passes as many as a weaker one, they pass the same
-filter-whole : (a b : Arrival → Bool) (xs : List Arrival) → Each (λ x. a x ≡ true → b x ≡ true) xs → length (filter b xs) ≤ length (filter a xs) → Each (λ x. b x ≡ true → a x ≡ true) xs
+filter-whole : (a b : Arrival → Bool) (xs : List Arrival) → Each (λ x. a x ≡ true → b x ≡ true) xs
+    → length (filter b xs) ≤ length (filter a xs) → Each (λ x. b x ≡ true → a x ≡ true) xs
 filter-whole a b [] each same = tt
 filter-whole a b (x ∷ xs) each same = go (λ h. filter-whole a b xs each.1 h) (a x) (b x) refl refl where
   go : (length (filter b xs) ≤ length (filter a xs) → Each (λ y. b y ≡ true → a y ≡ true) xs) → (ax bx : Bool) → a x ≡ ax → b x ≡ bx → Each (λ y. b y ≡ true → a y ≡ true) (x ∷ xs)
@@ -144,24 +156,29 @@ filter-whole a b (x ∷ xs) each same = go (λ h. filter-whole a b xs each.1 h) 
   go rest false true ea eb = absurd (let h : suc (length (filter b xs)) ≤ length (filter a xs) = rw (ea, eb) at same in let less = filter-count a b xs each.1 in omega (arith, h, less))
   go rest false false ea eb = ((λ passes. absurd (let clash : false ≡ true = sym eb ∙ passes in cc)), rest (let h : length (filter b xs) ≤ length (filter a xs) = rw (ea, eb) at same in h))
 
-own-passes : (row : Row) (packets : List Arrival) → OwnChannel row (own_packets row packets) → Each (λ p. has_lead row.lead p ≡ true → is_of_channel (channel_of row) p ≡ true) packets
+own-passes : (row : Row) (packets : List Arrival) → OwnChannel row (own_packets row packets)
+    → Each (λ p. has_lead row.lead p ≡ true → is_of_channel (channel_of row) p ≡ true) packets
 own-passes row packets own = Each-if_passes (λ p. is_of_channel (channel_of row) p ≡ true) (has_lead row.lead) packets own
 
 -- the row's packets are as many as its ticks, and all of its channel
-led : (terms : HopTerms) (c : ℕ) (row : Row) (packets : List Arrival) → channel_of row ≡ c → RowTells terms c row (channel_packets c packets) → OwnChannel row (own_packets row packets) → length (own_packets row packets) ≡ length row.ticks → Each (λ p. is_of_channel c p ≡ true → has_lead row.lead p ≡ true) packets
+led : (terms : HopTerms) (c : ℕ) (row : Row) (packets : List Arrival) → channel_of row ≡ c
+    → RowTells terms c row (channel_packets c packets) → OwnChannel row (own_packets row packets)
+    → length (own_packets row packets) ≡ length row.ticks → Each (λ p. is_of_channel c p ≡ true → has_lead row.lead p ≡ true) packets
 led terms c row packets chan tells own count =
     let passes : Each (λ p. has_lead row.lead p ≡ true → is_of_channel c p ≡ true) packets = subst (λ n. Each (λ p. has_lead row.lead p ≡ true → is_of_channel n p ≡ true) packets) chan (own-passes row packets own) in
     let all = own-count row.ticks (channel_packets c packets) tells.eligible in
     filter-whole (has_lead row.lead) (is_of_channel c) packets passes (omega (arith, all, count))
 
-at-once-of : (c : ℕ) (row : Row) (packets : List Arrival) → Each (λ p. is_of_channel c p ≡ true → has_lead row.lead p ≡ true) packets → Each (IsEligibleAtOnce row) packets → Each (λ p. p.eligible ≡ p.at) (channel_packets c packets)
+at-once-of : (c : ℕ) (row : Row) (packets : List Arrival) → Each (λ p. is_of_channel c p ≡ true → has_lead row.lead p ≡ true) packets
+    → Each (IsEligibleAtOnce row) packets → Each (λ p. p.eligible ≡ p.at) (channel_packets c packets)
 at-once-of c row packets leads once =
     Each-if (λ p. ((is_of_channel c p ≡ true → has_lead row.lead p ≡ true) × IsEligibleAtOnce row p) × (is_of_channel c p ≡ true)) (λ p. p.eligible ≡ p.at) (channel_packets c packets)
     (λ p all. all.0.1.at_once (eqb-true p.lead row.lead (all.0.0 all.1)))
     (Each-both (λ p. (is_of_channel c p ≡ true → has_lead row.lead p ≡ true) × IsEligibleAtOnce row p) (λ p. is_of_channel c p ≡ true) (channel_packets c packets)
     (Each-filter (λ p. (is_of_channel c p ≡ true → has_lead row.lead p ≡ true) × IsEligibleAtOnce row p) (is_of_channel c) packets (Each-both _ _ packets leads once)) (Each-passes (is_of_channel c) packets))
 
-pub source-served : (shape : LinkShape) (terms : HopTerms) (c : ℕ) (h : List Entry) → IsAdmissible shape h → AllOfferTerms terms c h → offers_to c h ≤ 1 → (kept : SourceIsKept c (clock_of h) (scan_of shape h)) → SourceIsServed c (scan_of shape h) kept.row
+pub source-served : (shape : LinkShape) (terms : HopTerms) (c : ℕ) (h : List Entry) → IsAdmissible shape h → AllOfferTerms terms c h
+    → offers_to c h ≤ 1 → (kept : SourceIsKept c (clock_of h) (scan_of shape h)) → SourceIsServed c (scan_of shape h) kept.row
 source-served shape terms c h legal names once kept =
     let served = source-guarantee shape h legal in
     let stand = (legal-served shape h legal).stand in

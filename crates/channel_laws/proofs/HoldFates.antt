@@ -45,7 +45,8 @@ pub data Fate (least count : ℕ) (held : Option Reservation) : Type 0 where
   FateClosing : (terms : Reservation) → held ≡ Some terms → terms.phase ≡ Closing → least ≤ terms.count → Fate least count held
   FateGone : held ≡ None → least ≤ count → Fate least count held
 
-pub fate-same : (least count more : ℕ) (held now : Option Reservation) → now ≡ held → count ≤ more → Fate least count held → Fate least more now
+pub fate-same : (least count more : ℕ) (held now : Option Reservation) → now ≡ held → count ≤ more → Fate least count held
+    → Fate least more now
 fate-same least count more held now same grows (FateOpen terms is phase) = FateOpen terms (same ∙ is) phase
 fate-same least count more held now same grows (FateClosing terms is phase upto) = FateClosing terms (same ∙ is) phase upto
 fate-same least count more held now same grows (FateGone none upto) = FateGone (same ∙ none) (omega (arith, grows, upto))
@@ -58,7 +59,8 @@ NotCommitted held = (terms : Reservation) → held ≡ Some terms → terms.phas
 abbrev pub RestsAt : ℕ → ℕ → Row → Type 0
 RestsAt c t row = channel_of row ≡ c → find (is_for t) row.plan ≡ None
 
-row-rests : (shape : LinkShape) (t : ℕ) (row : Row) → IsInOrder shape t row → (row.terms.phase ≡ Committed → ⊥) → find (is_for t) row.plan ≡ None
+row-rests : (shape : LinkShape) (t : ℕ) (row : Row) → IsInOrder shape t row → (row.terms.phase ≡ Committed → ⊥)
+    → find (is_for t) row.plan ≡ None
 row-rests shape t row order not-committed = go (find (is_for t) row.plan) refl where
   by-phase : (phase : Phase) → row.terms.phase ≡ phase → (row.terms.phase ≡ Tentative → ⊥) → (row.terms.phase ≡ Closing → ⊥) → ⊥
   by-phase Tentative is a b = a is
@@ -73,7 +75,8 @@ each-vacuous : (c t : ℕ) (rows : List Row) → Each (IsElsewhere c) rows → E
 each-vacuous c t [] each = tt
 each-vacuous c t (row ∷ rows) each = ((λ is. absurd (each.0 is)), each-vacuous c t rows each.1)
 
-rows-rest : (shape : LinkShape) (chan : ChanNo) (t : ℕ) (rows : List Row) → DifferInChannel rows → Each (IsInOrder shape t) rows → NotCommitted (held_by chan rows) → Each (RestsAt (channel_number chan) t) rows
+rows-rest : (shape : LinkShape) (chan : ChanNo) (t : ℕ) (rows : List Row) → DifferInChannel rows → Each (IsInOrder shape t) rows
+    → NotCommitted (held_by chan rows) → Each (RestsAt (channel_number chan) t) rows
 rows-rest shape chan t [] differ order none = tt
 rows-rest shape chan t (row ∷ rows) differ order none =
     elim (cases_Bool (is_of chan row.terms)) [
@@ -87,7 +90,8 @@ rows-rest shape chan t (row ∷ rows) differ order none =
       )
     ]
 
-sources-rest : (c : ℕ) (bounds : List ℕ) (here : List Arrival) (t taken : ℕ) (rows : List Row) → Each (RestsAt c t) rows → channel_packets c (source_packets bounds here t taken rows) ≡ []
+sources-rest : (c : ℕ) (bounds : List ℕ) (here : List Arrival) (t taken : ℕ) (rows : List Row) → Each (RestsAt c t) rows
+    → channel_packets c (source_packets bounds here t taken rows) ≡ []
 unfolding source_packets step_of
 sources-rest c bounds here t taken [] rests = refl
 sources-rest c bounds here t taken (r ∷ rows) rests =
@@ -99,7 +103,9 @@ sources-rest c bounds here t taken (r ∷ rows) rests =
       | inr off ↦ packet-elsewhere c t (suc taken) r (step_of bounds here t r) (eqb-false (channel_of r) c off)
     ]
 
-pub tick-rests : (shape : LinkShape) (chan : ChanNo) (t : ℕ) (scan : Scan) → DifferInChannel scan.rows → Each (IsInOrder shape t) scan.rows → NotCommitted (held_by chan scan.rows) → channel_packets (channel_number chan) (after_tick shape t scan).packets ≡ channel_packets (channel_number chan) scan.packets
+pub tick-rests : (shape : LinkShape) (chan : ChanNo) (t : ℕ) (scan : Scan) → DifferInChannel scan.rows → Each (IsInOrder shape t) scan.rows
+    → NotCommitted (held_by chan scan.rows)
+    → channel_packets (channel_number chan) (after_tick shape t scan).packets ≡ channel_packets (channel_number chan) scan.packets
 unfolding after_tick with_best with_sources without_expired
 tick-rests shape chan t scan differ order none =
     tick-packets shape (channel_number chan) t scan
@@ -114,7 +120,9 @@ pub record HoldEnds (chan : ChanNo) (bounds : List ℕ) (t : ℕ) (rows : List R
   pub is : row.terms ≡ terms
   pub ended : expires bounds t row ≡ true
 
-filter-ends : (chan : ChanNo) (bounds : List ℕ) (t : ℕ) (rows : List Row) (terms : Reservation) → DifferInChannel rows → held_by chan rows ≡ Some terms → (held_by chan (filter (stays bounds t) rows) ≡ Some terms) ⊎ (HoldEnds chan bounds t rows terms × (held_by chan (filter (stays bounds t) rows) ≡ None))
+filter-ends : (chan : ChanNo) (bounds : List ℕ) (t : ℕ) (rows : List Row) (terms : Reservation) → DifferInChannel rows
+    → held_by chan rows ≡ Some terms
+    → (held_by chan (filter (stays bounds t) rows) ≡ Some terms) ⊎ (HoldEnds chan bounds t rows terms × (held_by chan (filter (stays bounds t) rows) ≡ None))
 filter-ends chan bounds t [] terms differ held = cc
 filter-ends chan bounds t (row ∷ rows) terms differ held =
     elim (cases_Bool (is_of chan row.terms)) [
@@ -152,11 +160,13 @@ filter-none-held chan test (row ∷ rows) none =
           ])
     ]
 
-tick-terms : (shape : LinkShape) (chan : ChanNo) (t : ℕ) (scan : Scan) → held_by chan (after_tick shape t scan).rows ≡ held_by chan (filter (stays shape.bounds t) scan.rows)
+tick-terms : (shape : LinkShape) (chan : ChanNo) (t : ℕ) (scan : Scan)
+    → held_by chan (after_tick shape t scan).rows ≡ held_by chan (filter (stays shape.bounds t) scan.rows)
 unfolding after_tick with_best with_sources without_expired
 tick-terms shape chan t scan = ap (find (is_of chan)) (rows_after-terms shape.bounds (here_at shape.rate scan.packets t) t (length scan.packets) (filter (stays shape.bounds t) scan.rows))
 
-ended-count : (bounds : List ℕ) (terms : Reservation) (taken last t : ℕ) → hold_ended bounds terms taken last t ≡ true → (is_phase terms.phase Closing ≡ true) × (terms.count ≤ taken)
+ended-count : (bounds : List ℕ) (terms : Reservation) (taken last t : ℕ) → hold_ended bounds terms taken last t ≡ true
+    → (is_phase terms.phase Closing ≡ true) × (terms.count ≤ taken)
 unfolding hold_ended
 ended-count bounds terms taken last t ended =
     let parts = and_parts (is_phase terms.phase Closing) _ ended in (
@@ -167,7 +177,9 @@ ended-count bounds terms taken last t ended =
       ],
     )
 
-tick-fate : (shape : LinkShape) (chan : ChanNo) (t : ℕ) (scan : Scan) (least count more : ℕ) → DifferInChannel scan.rows → ((row : Row) → find (is_row_of chan) scan.rows ≡ Some row → length row.ticks ≡ count) → count ≤ more → Fate least count (held_by chan scan.rows) → Fate least more (held_by chan (after_tick shape t scan).rows)
+tick-fate : (shape : LinkShape) (chan : ChanNo) (t : ℕ) (scan : Scan) (least count more : ℕ) → DifferInChannel scan.rows
+    → ((row : Row) → find (is_row_of chan) scan.rows ≡ Some row → length row.ticks ≡ count) → count ≤ more
+    → Fate least count (held_by chan scan.rows) → Fate least more (held_by chan (after_tick shape t scan).rows)
 tick-fate shape chan t scan least count more differ own grows (FateOpen terms is phase) =
     elim (filter-ends chan shape.bounds t scan.rows terms differ is) [
       | inl kept ↦ FateOpen terms (tick-terms shape chan t scan ∙ kept) phase
@@ -184,7 +196,8 @@ tick-fate shape chan t scan least count more differ own grows (FateGone none upt
 
 -- ---- a release
 
-closed-kept : (chan other : ChanNo) (first : Bool) (t count : ℕ) (rows : List Row) (terms : Reservation) → held_by chan rows ≡ Some terms → (held_by chan (change_first (is_row_at_hop other first) (close_row t count) rows) ≡ Some terms) ⊎ (held_by chan (change_first (is_row_at_hop other first) (close_row t count) rows) ≡ Some (closing count terms))
+closed-kept : (chan other : ChanNo) (first : Bool) (t count : ℕ) (rows : List Row) (terms : Reservation) → held_by chan rows ≡ Some terms
+    → (held_by chan (change_first (is_row_at_hop other first) (close_row t count) rows) ≡ Some terms) ⊎ (held_by chan (change_first (is_row_at_hop other first) (close_row t count) rows) ≡ Some (closing count terms))
 unfolding change_first
 closed-kept chan other first t count [] terms held = cc
 closed-kept chan other first t count (row ∷ rows) terms held =
@@ -202,7 +215,8 @@ closed-kept chan other first t count (row ∷ rows) terms held =
       ]
     ]
 
-closed-none : (chan other : ChanNo) (first : Bool) (t count : ℕ) (rows : List Row) → held_by chan rows ≡ None → held_by chan (change_first (is_row_at_hop other first) (close_row t count) rows) ≡ None
+closed-none : (chan other : ChanNo) (first : Bool) (t count : ℕ) (rows : List Row) → held_by chan rows ≡ None
+    → held_by chan (change_first (is_row_at_hop other first) (close_row t count) rows) ≡ None
 unfolding change_first
 closed-none chan other first t count [] held = refl
 closed-none chan other first t count (row ∷ rows) held =
@@ -215,7 +229,8 @@ closed-none chan other first t count (row ∷ rows) held =
     ]
 
 -- the release of the row that is held
-pub held-released : (chan : ChanNo) (first : Bool) (t count : ℕ) (rows : List Row) (terms : Reservation) → held_by chan rows ≡ Some terms → terms.first ≡ first → held_by chan (change_first (is_row_at_hop chan first) (close_row t count) rows) ≡ Some (closing count terms)
+pub held-released : (chan : ChanNo) (first : Bool) (t count : ℕ) (rows : List Row) (terms : Reservation) → held_by chan rows ≡ Some terms
+    → terms.first ≡ first → held_by chan (change_first (is_row_at_hop chan first) (close_row t count) rows) ≡ Some (closing count terms)
 unfolding change_first
 held-released chan first t count [] terms held is = cc
 held-released chan first t count (row ∷ rows) terms held is =
@@ -235,7 +250,8 @@ pub record Released (upstream : Option ℕ) (found : Option Row) (count : ℕ) :
   pub is : found ≡ Some row
   pub count_is : count ≡ count_at_release upstream (length row.ticks)
 
-pub released-count : (t : ℕ) (upstream : Option ℕ) (found : Option Row) (count cancelled : ℕ) → Is.Closing count cancelled ≡ release_to t upstream found → Released upstream found count
+pub released-count : (t : ℕ) (upstream : Option ℕ) (found : Option Row) (count cancelled : ℕ)
+    → Is.Closing count cancelled ≡ release_to t upstream found → Released upstream found count
 unfolding release_reply
 released-count t upstream None count cancelled same = cc
 released-count t upstream (Some row) count cancelled same =
@@ -244,16 +260,19 @@ released-count t upstream (Some row) count cancelled same =
 
 -- ---- a relax or a deny changes a tentative row alone
 
-pub relaxed-tent : (t : ℕ) (level : Level) (up_bound clock : ℕ) (held : Option Reservation) (terms : Reservation) → Is.Relaxed clock ≡ relax_reply t level up_bound held → held ≡ Some terms → is_phase terms.phase Tentative ≡ true
+pub relaxed-tent : (t : ℕ) (level : Level) (up_bound clock : ℕ) (held : Option Reservation) (terms : Reservation)
+    → Is.Relaxed clock ≡ relax_reply t level up_bound held → held ≡ Some terms → is_phase terms.phase Tentative ≡ true
 relaxed-tent t level up_bound clock held terms same is =
     ap (λ phase. is_phase phase Tentative) (relax-tells t terms level up_bound clock (same ∙ ap (relax_reply t level up_bound) is)).phase
 
-pub relaxed-none : (t : ℕ) (level : Level) (up_bound clock : ℕ) (held : Option Reservation) → Is.Relaxed clock ≡ relax_reply t level up_bound held → held ≡ None → ⊥
+pub relaxed-none : (t : ℕ) (level : Level) (up_bound clock : ℕ) (held : Option Reservation)
+    → Is.Relaxed clock ≡ relax_reply t level up_bound held → held ≡ None → ⊥
 unfolding relax_reply
 relaxed-none t level up_bound clock None same is = cc
 relaxed-none t level up_bound clock (Some own) same is = cc
 
-pub denied-tent : (held : Option Reservation) (terms : Reservation) → Is.Denied ≡ deny_reply held → held ≡ Some terms → is_phase terms.phase Tentative ≡ true
+pub denied-tent : (held : Option Reservation) (terms : Reservation) → Is.Denied ≡ deny_reply held → held ≡ Some terms
+    → is_phase terms.phase Tentative ≡ true
 denied-tent held terms same is = ap (λ phase. is_phase phase Tentative) (deny-tells terms (same ∙ ap deny_reply is))
 
 pub denied-none : (held : Option Reservation) → Is.Denied ≡ deny_reply held → held ≡ None → ⊥
@@ -262,7 +281,8 @@ denied-none None same is = cc
 denied-none (Some own) same is = cc
 
 -- one of these changes
-changed-never : (least count : ℕ) (held : Option Reservation) → ((terms : Reservation) → held ≡ Some terms → is_phase terms.phase Tentative ≡ true) → (held ≡ None → ⊥) → Fate least count held → ⊥
+changed-never : (least count : ℕ) (held : Option Reservation)
+    → ((terms : Reservation) → held ≡ Some terms → is_phase terms.phase Tentative ≡ true) → (held ≡ None → ⊥) → Fate least count held → ⊥
 changed-never least count held tent some (FateOpen terms is phase) = (let e = tent terms is in let clash : false ≡ true = sym (ap (λ p. is_phase p Tentative) phase) ∙ e in cc)
 changed-never least count held tent some (FateClosing terms is phase upto) = (let e = tent terms is in let clash : false ≡ true = sym (ap (λ p. is_phase p Tentative) phase) ∙ e in cc)
 changed-never least count held tent some (FateGone none upto) = some none
@@ -274,7 +294,9 @@ abbrev pub TellsAll : ℕ → ℕ → ℕ → Ask → Type 0
 TellsAll c least count (Release chan upstream) = channel_number chan ≡ c → least ≤ count_at_release upstream count
 TellsAll c least count _ = Unit {0}
 
-release-fate : (chan other : ChanNo) (first : Bool) (t count : ℕ) (rows : List Row) (least taken : ℕ) → (channel_number other ≡ channel_number chan → least ≤ count) → Fate least taken (held_by chan rows) → Fate least taken (held_by chan (change_first (is_row_at_hop other first) (close_row t count) rows))
+release-fate : (chan other : ChanNo) (first : Bool) (t count : ℕ) (rows : List Row) (least taken : ℕ)
+    → (channel_number other ≡ channel_number chan → least ≤ count) → Fate least taken (held_by chan rows)
+    → Fate least taken (held_by chan (change_first (is_row_at_hop other first) (close_row t count) rows))
 release-fate chan other first t count rows least taken tells fate =
     elim (cases_Bool (nat_eq (channel_number other) (channel_number chan))) [
       | inl on ↦ own (tells (eqb-true (channel_number other) (channel_number chan) on)) fate
@@ -291,7 +313,9 @@ release-fate chan other first t count rows least taken tells fate =
       ]
       own upto (FateGone none before) = FateGone (closed-none chan other first t count rows none) before
 
-reserve-fate : (chan : ChanNo) (rows : List Row) (row : Row) (least count : ℕ) → (channel_of row ≡ channel_number chan → held_by chan rows ≡ None → ⊥) → Fate least count (held_by chan rows) → Fate least count (held_by chan (rows ++ row ∷ []))
+reserve-fate : (chan : ChanNo) (rows : List Row) (row : Row) (least count : ℕ)
+    → (channel_of row ≡ channel_number chan → held_by chan rows ≡ None → ⊥) → Fate least count (held_by chan rows)
+    → Fate least count (held_by chan (rows ++ row ∷ []))
 reserve-fate chan rows row least count never (FateOpen terms is phase) = FateOpen terms (pushed chan rows row (Some terms) is) phase
 reserve-fate chan rows row least count never (FateClosing terms is phase upto) = FateClosing terms (pushed chan rows row (Some terms) is) phase upto
 reserve-fate chan rows row least count never (FateGone none upto) =
@@ -305,7 +329,10 @@ abbrev pub NoSecond : ChanNo → List Row → Ask → Reply → Type 0
 NoSecond chan rows (Reserve other contract kind delay up_reach first next) (Is.Offer level reach) = channel_number other ≡ channel_number chan → held_by chan rows ≡ None → ⊥
 NoSecond chan rows _ _ = Unit {0}
 
-pub fate-after : (shape : LinkShape) (chan : ChanNo) (t : ℕ) (scan : Scan) (ask : Ask) (reply : Reply) (least count more : ℕ) → DifferInChannel scan.rows → MayAnswer shape t scan ask reply → ((row : Row) → channel_of row ≡ channel_number chan → (test : Row → Bool) → find test scan.rows ≡ Some row → length row.ticks ≡ count) → count ≤ more → NoSecond chan scan.rows ask reply → TellsAll (channel_number chan) least count ask
+pub fate-after : (shape : LinkShape) (chan : ChanNo) (t : ℕ) (scan : Scan) (ask : Ask) (reply : Reply) (least count more : ℕ)
+    → DifferInChannel scan.rows → MayAnswer shape t scan ask reply
+    → ((row : Row) → channel_of row ≡ channel_number chan → (test : Row → Bool) → find test scan.rows ≡ Some row → length row.ticks ≡ count)
+    → count ≤ more → NoSecond chan scan.rows ask reply → TellsAll (channel_number chan) least count ask
     → Fate least count (held_by chan scan.rows) → Fate least more (held_by chan (after shape t scan ask reply).rows)
 unfolding after MayAnswer reply_at
 fate-after shape chan t scan (Reserve other contract kind delay up_reach first next) (Is.Offer level reach) least count more differ is own grows second tells fate =
@@ -338,12 +365,16 @@ fate-after shape chan t scan _ _ least count more differ is own grows second tel
 
 -- ---- the packets at the first hop
 
-first-refuses : (bounds : List ℕ) (t : ℕ) (packet : Packet) (terms : Reservation) (taken held e clock eligible : ℕ) → Is.Taken clock eligible ≡ arrive_reply bounds t packet terms taken held e → terms.first ≡ true → ⊥
+first-refuses : (bounds : List ℕ) (t : ℕ) (packet : Packet) (terms : Reservation) (taken held e clock eligible : ℕ)
+    → Is.Taken clock eligible ≡ arrive_reply bounds t packet terms taken held e → terms.first ≡ true → ⊥
 first-refuses bounds t packet terms taken held e clock eligible same first =
     (let clash : true ≡ false = sym first ∙ (arrive-tells bounds t packet terms taken held e clock eligible same).later in cc)
 
 -- other than by a tick, or where no row is committed, no packet of the channel comes there
-pub first-quiet : (shape : LinkShape) (chan : ChanNo) (t : ℕ) (scan : Scan) (ask : Ask) (reply : Reply) → DifferInChannel scan.rows → Each (IsInOrder shape t) scan.rows → MayAnswer shape t scan ask reply → ((row : Row) → channel_of row ≡ channel_number chan → (test : Row → Bool) → find test scan.rows ≡ Some row → row.terms.first ≡ true) → (ask ≡ Tick → NotCommitted (held_by chan scan.rows))
+pub first-quiet : (shape : LinkShape) (chan : ChanNo) (t : ℕ) (scan : Scan) (ask : Ask) (reply : Reply) → DifferInChannel scan.rows
+    → Each (IsInOrder shape t) scan.rows → MayAnswer shape t scan ask reply
+    → ((row : Row) → channel_of row ≡ channel_number chan → (test : Row → Bool) → find test scan.rows ≡ Some row → row.terms.first ≡ true)
+    → (ask ≡ Tick → NotCommitted (held_by chan scan.rows))
     → channel_packets (channel_number chan) (after shape t scan ask reply).packets ≡ channel_packets (channel_number chan) scan.packets
 unfolding MayAnswer reply_at
 first-quiet shape chan t scan ask reply differ order is own none =

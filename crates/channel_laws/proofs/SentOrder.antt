@@ -43,14 +43,16 @@ departed-start rate c (start ∷ earlier) p departed =
     (λ (before : has_departed rate earlier c p ≡ true). (let rest = departed-start rate c earlier p before in record { start = rest.start; among = inr rest.among; own = rest.own; left = rest.left }))
     (or_cases (is_departure_by rate c p start) (has_departed rate earlier c p) departed)
 
-pub start-departed : (rate c : ℕ) (starts : List Start) (p : Arrival) (start : Start) → Among start starts → is_start_of p start ≡ true → leaves_at rate start ≤ c → has_departed rate starts c p ≡ true
+pub start-departed : (rate c : ℕ) (starts : List Start) (p : Arrival) (start : Start) → Among start starts → is_start_of p start ≡ true
+    → leaves_at rate start ≤ c → has_departed rate starts c p ≡ true
 start-departed rate c [] p start among own left = absurd among
 start-departed rate c (s ∷ earlier) p start (inl same) own left =
     or_left (is_departure_by rate c p s) (has_departed rate earlier c p) (and_from (is_start_of p s) (nat_le (leaves_at rate s) c) (subst (λ x. is_start_of p x ≡ true) same own) (subst (λ x. nat_le (leaves_at rate x) c ≡ true) same (le-leb (leaves_at rate start) c left)))
 start-departed rate c (s ∷ earlier) p start (inr among) own left = or_right (is_departure_by rate c p s) (has_departed rate earlier c p) (start-departed rate c earlier p start among own left)
 
 -- a start of an earlier tick
-pub start-before : (rate t : ℕ) (packets : List Arrival) (start : Start) → Among start (starts_below rate packets (suc t)) → start.tick < t → Among start (starts_below rate packets t)
+pub start-before : (rate t : ℕ) (packets : List Arrival) (start : Start) → Among start (starts_below rate packets (suc t)) → start.tick < t
+    → Among start (starts_below rate packets t)
 unfolding starts_below serve_tick
 start-before rate t packets start among early =
     cond_both (is_busy rate (starts_below rate packets t) t) (starts_below rate packets t) (add_start (first_in_line (filter (is_waiting (starts_below rate packets t) t) packets)) t (starts_below rate packets t)) (λ starts. Among start starts → Among start (starts_below rate packets t))
@@ -67,11 +69,14 @@ pub record SentHead (rate t : ℕ) (packets : List Arrival) : Type 0 where
   pub is : starts_below rate packets (suc t) ≡ start ∷ earlier
   pub leaves : leaves_at rate start ≡ suc t
 
-pub works-start : (rate : ℕ) (packets : List Arrival) (t : ℕ) → Each (λ p. 1 ≤ work_of rate p) packets → Each (λ s. 1 ≤ work_of rate s.packet) (starts_below rate packets t)
+pub works-start : (rate : ℕ) (packets : List Arrival) (t : ℕ) → Each (λ p. 1 ≤ work_of rate p) packets
+    → Each (λ s. 1 ≤ work_of rate s.packet) (starts_below rate packets t)
 works-start rate packets t works = starts-fact (λ p. 1 ≤ work_of rate p) rate packets t works
 
 -- a packet that has departed by the end of tick t, and not before, is the one that is sent
-departs-now : (rate t : ℕ) (packets : List Arrival) (p : Arrival) (head : SentHead rate t packets) → Each (λ q. 1 ≤ work_of rate q) packets → has_departed rate (starts_below rate packets (suc t)) (suc t) p ≡ true → (has_departed rate (starts_below rate packets t) t p ≡ true → ⊥) → is_start_of p head.start ≡ true
+departs-now : (rate t : ℕ) (packets : List Arrival) (p : Arrival) (head : SentHead rate t packets) → Each (λ q. 1 ≤ work_of rate q) packets
+    → has_departed rate (starts_below rate packets (suc t)) (suc t) p ≡ true
+    → (has_departed rate (starts_below rate packets t) t p ≡ true → ⊥) → is_start_of p head.start ≡ true
 departs-now rate t packets p head works departed fresh =
     let by = departed-start rate (suc t) (starts_below rate packets (suc t)) p departed in
     let work = Each-among (λ s. 1 ≤ work_of rate s.packet) by.start _ (works-start rate packets (suc t) works) by.among in
@@ -84,7 +89,8 @@ departs-now rate t packets p head works departed fresh =
       at-head {x} (inr among) own leaves follow begun = absurd (let left = Each-among (λ s. leaves_at rate s ≤ head.start.tick) x head.earlier follow.0 among in omega (arith, left, leaves, begun))
 
 -- and that one had not departed before
-sent-fresh : (rate t : ℕ) (packets : List Arrival) (head : SentHead rate t packets) → has_departed rate (starts_below rate packets t) t head.start.packet ≡ true → ⊥
+sent-fresh : (rate t : ℕ) (packets : List Arrival) (head : SentHead rate t packets)
+    → has_departed rate (starts_below rate packets t) t head.start.packet ≡ true → ⊥
 sent-fresh rate t packets head departed =
     let later = departed-at rate packets t t t (suc t) head.start.packet (omega arith) (omega arith) departed in
     let left = leaves-once rate t (starts_below rate packets (suc t)) head.start (starts-once rate packets (suc t)) (subst (Among head.start) (sym head.is) (inl refl)) later in
@@ -93,7 +99,9 @@ sent-fresh rate t packets head departed =
 
 -- ---- counting a prefix
 
-count-front : (test : Arrival → Bool) (own : List Arrival) (index : ℕ) → index ≤ length own → ((k : ℕ) (p : Arrival) → slice_get own k ≡ Some p → k < index → test p ≡ true) → ((k : ℕ) (p : Arrival) → slice_get own k ≡ Some p → index ≤ k → test p ≡ false) → length (filter test own) ≡ index
+count-front : (test : Arrival → Bool) (own : List Arrival) (index : ℕ) → index ≤ length own
+    → ((k : ℕ) (p : Arrival) → slice_get own k ≡ Some p → k < index → test p ≡ true)
+    → ((k : ℕ) (p : Arrival) → slice_get own k ≡ Some p → index ≤ k → test p ≡ false) → length (filter test own) ≡ index
 count-front test [] zero upto yes' no' = refl
 count-front test [] (suc index) upto yes' no' = absurd (omega arith)
 count-front test (p ∷ own) zero upto yes' no' = rw (no' 0 p refl (omega arith)) (count-front test own zero (omega arith) (λ k q found less. absurd (omega (arith, less))) (λ k q found from. no' (suc k) q found (omega arith)))
@@ -101,7 +109,8 @@ count-front test (p ∷ own) (suc index) upto yes' no' = rw (yes' 0 p refl (omeg
 
 -- ---- the order of a channel's packets
 
-spaced-rise : (least : ℕ) (ticks : List ℕ) (j d : ℕ) → Spaced 1 least ticks → j + d < length ticks → get_or ticks j 0 ≤ get_or ticks (j + d) 0
+spaced-rise : (least : ℕ) (ticks : List ℕ) (j d : ℕ) → Spaced 1 least ticks → j + d < length ticks
+    → get_or ticks j 0 ≤ get_or ticks (j + d) 0
 spaced-rise least ticks j zero spaced within = (let e : j + 0 ≡ j = omega arith in let f : get_or ticks (j + 0) 0 ≡ get_or ticks j 0 = ap (λ k. get_or ticks k 0) e in omega (arith, f))
 spaced-rise least ticks j (suc d) spaced within =
     let before = spaced-rise least ticks j d spaced (omega arith) in
@@ -110,7 +119,8 @@ spaced-rise least ticks j (suc d) spaced within =
     let f : get_or ticks (j + d + 1) 0 ≡ get_or ticks (j + suc d) 0 = ap (λ k. get_or ticks k 0) e in
     omega (arith, before, step, f)
 
-spaced-between : (least : ℕ) (ticks : List ℕ) (j k : ℕ) → Spaced 1 least ticks → j < k → k < length ticks → get_or ticks j 0 ≤ get_or ticks k 0
+spaced-between : (least : ℕ) (ticks : List ℕ) (j k : ℕ) → Spaced 1 least ticks → j < k → k < length ticks
+    → get_or ticks j 0 ≤ get_or ticks k 0
 spaced-between least ticks j k spaced less within = at-sum (k - j) (omega arith) where
   at-sum : (d : ℕ) → j + d ≡ k → get_or ticks j 0 ≤ get_or ticks k 0
   at-sum d same = (let rise = spaced-rise least ticks j d spaced (omega (arith, same, within)) in let e : get_or ticks (j + d) 0 ≡ get_or ticks k 0 = ap (λ i. get_or ticks i 0) same in omega (arith, rise, e))
@@ -121,7 +131,8 @@ number-above [] p among n are = absurd among
 number-above (q ∷ own) p (inl same) n are = (let e : p.number ≡ q.number = ap (λ x. x.number) same in let f = are.0 in omega (arith, e, f))
 number-above (q ∷ own) p (inr among) n are = (let rest = number-above own p among (suc n) are.1 in omega (arith, rest))
 
-found-at : (own : List Arrival) (p : Arrival) → Among p own → (n : ℕ) → AreNumberedAfter n own → (index : ℕ) → p.number ≡ suc (n + index) → slice_get own index ≡ Some p
+found-at : (own : List Arrival) (p : Arrival) → Among p own → (n : ℕ) → AreNumberedAfter n own → (index : ℕ) → p.number ≡ suc (n + index)
+    → slice_get own index ≡ Some p
 found-at [] p among n are index number = absurd among
 found-at (q ∷ own) p (inl same) n are zero number = ap Some (sym same)
 found-at (q ∷ own) p (inl same) n are (suc index) number = absurd (let e : p.number ≡ q.number = ap (λ x. x.number) same in let f = are.0 in omega (arith, e, f, number))
@@ -133,10 +144,12 @@ place-above n [] p placed among = absurd among
 place-above n (q ∷ packets) p placed (inl same) = (let e : p.place ≡ q.place = ap (λ x. x.place) same in let f = placed.0 in omega (arith, e, f))
 place-above n (q ∷ packets) p placed (inr among) = (let rest = place-above (suc n) packets p placed.1 among in omega (arith, rest))
 
-filter-above : (test : Arrival → Bool) (n : ℕ) (packets : List Arrival) (k : ℕ) (p : Arrival) → ArePlaced n packets → slice_get (filter test packets) k ≡ Some p → n < p.place
+filter-above : (test : Arrival → Bool) (n : ℕ) (packets : List Arrival) (k : ℕ) (p : Arrival) → ArePlaced n packets
+    → slice_get (filter test packets) k ≡ Some p → n < p.place
 filter-above test n packets k p placed found = place-above n packets p placed (Among-filter test p packets (Among-at (filter test packets) k p found)).0
 
-filter-rises : (test : Arrival → Bool) (n : ℕ) (packets : List Arrival) (j k : ℕ) (p q : Arrival) → ArePlaced n packets → slice_get (filter test packets) j ≡ Some p → slice_get (filter test packets) k ≡ Some q → j < k → p.place < q.place
+filter-rises : (test : Arrival → Bool) (n : ℕ) (packets : List Arrival) (j k : ℕ) (p q : Arrival) → ArePlaced n packets
+    → slice_get (filter test packets) j ≡ Some p → slice_get (filter test packets) k ≡ Some q → j < k → p.place < q.place
 filter-rises test n [] j k p q placed fp fq less = absurd (let clash : None ≡ Some p = fp in cc)
 filter-rises test n (x ∷ packets) j k p q placed fp fq less =
     elim (cases_Bool (test x)) [
@@ -156,7 +169,9 @@ pub record SentCounts (shape : LinkShape) (c t : ℕ) (packets : List Arrival) (
   pub before : number ≡ suc (length (filter (has_departed shape.rate (starts_below shape.rate packets t) t) (channel_packets c packets)))
   pub after : number ≡ length (filter (has_departed shape.rate (starts_below shape.rate packets (suc t)) (suc t)) (channel_packets c packets))
 
-pub sent-number : (shape : LinkShape) (terms : HopTerms) (c t : ℕ) (row : Row) (h : List Entry) (head : SentHead shape.rate t (scan_of shape h).packets) → RowTells terms c row (channel_packets c (scan_of shape h).packets) → Each (λ p. 1 ≤ work_of shape.rate p) (scan_of shape h).packets → Among head.start.packet (scan_of shape h).packets → is_of_channel c head.start.packet ≡ true
+pub sent-number : (shape : LinkShape) (terms : HopTerms) (c t : ℕ) (row : Row) (h : List Entry) (head : SentHead shape.rate t (scan_of shape h).packets)
+    → RowTells terms c row (channel_packets c (scan_of shape h).packets) → Each (λ p. 1 ≤ work_of shape.rate p) (scan_of shape h).packets
+    → Among head.start.packet (scan_of shape h).packets → is_of_channel c head.start.packet ≡ true
     → SentCounts shape c t (scan_of shape h).packets head.start.packet.number
 sent-number shape terms c t row h head tells works among chan =
     let packets : List Arrival = (scan_of shape h).packets in

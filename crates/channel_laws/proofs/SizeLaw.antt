@@ -54,48 +54,49 @@ sources-sizes terms c t shape now here taken (row ∷ rows) order names =
       (one.1, rest.1),
     )
 
-tick-sizes : (shape : LinkShape) (terms : HopTerms) (c t now : ℕ) (scan : Scan) → Each (IsInOrder shape now) scan.rows → SizesStand terms c scan → SizesStand terms c (after_tick shape t scan)
-unfolding after_tick with_best with_sources without_expired
-tick-sizes shape terms c t now scan order stands =
-    let new = sources-sizes terms c t shape now (here_at shape.rate scan.packets t) (length scan.packets) (filter (stays shape.bounds t) scan.rows) (Each-filter (IsInOrder shape now) (stays shape.bounds t) scan.rows order) (Each-filter (NamesContract terms c) (stays shape.bounds t) scan.rows stands.rows) in
-    record {
-      rows = new.1;
-      sizes = subst (Each (SizeWithin terms)) (sym (tick-packets shape c t scan)) (Each-append (SizeWithin terms) _ _ stands.sizes new.0);
-    }
+module _ (shape : LinkShape) (terms : HopTerms) (c : ℕ) where
+  tick-sizes : (t now : ℕ) (scan : Scan) → Each (IsInOrder shape now) scan.rows → SizesStand terms c scan → SizesStand terms c (after_tick shape t scan)
+  unfolding after_tick with_best with_sources without_expired
+  tick-sizes t now scan order stands =
+      let new = sources-sizes terms c t shape now (here_at shape.rate scan.packets t) (length scan.packets) (filter (stays shape.bounds t) scan.rows) (Each-filter (IsInOrder shape now) (stays shape.bounds t) scan.rows order) (Each-filter (NamesContract terms c) (stays shape.bounds t) scan.rows stands.rows) in
+      record {
+        rows = new.1;
+        sizes = subst (Each (SizeWithin terms)) (sym (tick-packets shape c t scan)) (Each-append (SizeWithin terms) _ _ stands.sizes new.0);
+      }
 
-taken-sizes : (shape : LinkShape) (terms : HopTerms) (c t : ℕ) (packet : Packet) (scan : Scan) (row : Row) → TakeFits shape t scan packet row → SizesStand terms c scan → SizesStand terms c (with_arrival t packet scan (Some row))
-unfolding with_arrival
-taken-sizes shape terms c t packet scan row taken stands =
-    let number = taken.takes.number in
-    let fits = taken.takes.fits in
-    let names = Each-find (NamesContract terms c) (is_row_of packet.chan) scan.rows row stands.rows taken.found in
-    record {
-      rows = Each-change_first (NamesContract terms c) (is_row_of packet.chan) (arrived_row t (suc (length scan.packets)) packet) scan.rows (λ r x. x) stands.rows;
-      sizes = elim (cases_Bool (nat_eq (channel_of row) c)) [
-        | inl on ↦
-            (let own = eqb-true (channel_of row) c on in
-            let contract : row.terms.contract.smax ≡ terms.contract.smax = ap (λ k. k.smax) (names own) in
-            subst (Each (SizeWithin terms)) (sym (packets-on c scan.packets (arrived_packet t (suc (length scan.packets)) packet row) own (omega (arith, number)))) (Each-append (SizeWithin terms) _ _ stands.sizes ((omega (arith, fits, contract)), tt)))
-        | inr off ↦ subst (Each (SizeWithin terms)) (sym (packets-off c scan.packets (arrived_packet t (suc (length scan.packets)) packet row) (eqb-false (channel_of row) c off))) stands.sizes
-      ];
-    }
+  taken-sizes : (t : ℕ) (packet : Packet) (scan : Scan) (row : Row) → TakeFits shape t scan packet row → SizesStand terms c scan → SizesStand terms c (with_arrival t packet scan (Some row))
+  unfolding with_arrival
+  taken-sizes t packet scan row taken stands =
+      let number = taken.takes.number in
+      let fits = taken.takes.fits in
+      let names = Each-find (NamesContract terms c) (is_row_of packet.chan) scan.rows row stands.rows taken.found in
+      record {
+        rows = Each-change_first (NamesContract terms c) (is_row_of packet.chan) (arrived_row t (suc (length scan.packets)) packet) scan.rows (λ r x. x) stands.rows;
+        sizes = elim (cases_Bool (nat_eq (channel_of row) c)) [
+          | inl on ↦
+              (let own = eqb-true (channel_of row) c on in
+              let contract : row.terms.contract.smax ≡ terms.contract.smax = ap (λ k. k.smax) (names own) in
+              subst (Each (SizeWithin terms)) (sym (packets-on c scan.packets (arrived_packet t (suc (length scan.packets)) packet row) own (omega (arith, number)))) (Each-append (SizeWithin terms) _ _ stands.sizes ((omega (arith, fits, contract)), tt)))
+          | inr off ↦ subst (Each (SizeWithin terms)) (sym (packets-off c scan.packets (arrived_packet t (suc (length scan.packets)) packet row) (eqb-false (channel_of row) c off))) stands.sizes
+        ];
+      }
 
-effect-sizes : (shape : LinkShape) (terms : HopTerms) (c t : ℕ) (scan : Scan) (effect : Effect) → EffectFits shape t scan effect → Each (IsInOrder shape t) scan.rows → NewTerms terms c (new_in effect) → SizesStand terms c scan → SizesStand terms c (with_effect shape t scan effect)
-unfolding with_effect
-effect-sizes shape terms c t scan (Adds new) fits order names stands = record { rows = Each-append (NamesContract terms c) scan.rows _ stands.rows ((λ own. (names own).contract_is), tt); sizes = stands.sizes }
-effect-sizes shape terms c t scan (Changes chan change) fits order names stands = record { rows = Each-change_first (NamesContract terms c) _ _ scan.rows (λ r x. x) stands.rows; sizes = stands.sizes }
-effect-sizes shape terms c t scan (Removes chan) fits order names stands = record { rows = Each-without_first (NamesContract terms c) _ scan.rows stands.rows; sizes = stands.sizes }
-effect-sizes shape terms c t scan (Takes packet row) fits order names stands = taken-sizes shape terms c t packet scan row fits stands
-effect-sizes shape terms c t scan Ticks fits order names stands = tick-sizes shape terms c t t scan order stands
-effect-sizes shape terms c t scan _ fits order names stands = record { rows = stands.rows; sizes = stands.sizes }
+  effect-sizes : (t : ℕ) (scan : Scan) (effect : Effect) → EffectFits shape t scan effect → Each (IsInOrder shape t) scan.rows → NewTerms terms c (new_in effect) → SizesStand terms c scan → SizesStand terms c (with_effect shape t scan effect)
+  unfolding with_effect
+  effect-sizes t scan (Adds new) fits order names stands = record { rows = Each-append (NamesContract terms c) scan.rows _ stands.rows ((λ own. (names own).contract_is), tt); sizes = stands.sizes }
+  effect-sizes t scan (Changes chan change) fits order names stands = record { rows = Each-change_first (NamesContract terms c) _ _ scan.rows (λ r x. x) stands.rows; sizes = stands.sizes }
+  effect-sizes t scan (Removes chan) fits order names stands = record { rows = Each-without_first (NamesContract terms c) _ scan.rows stands.rows; sizes = stands.sizes }
+  effect-sizes t scan (Takes packet row) fits order names stands = taken-sizes t packet scan row fits stands
+  effect-sizes t scan Ticks fits order names stands = tick-sizes t t scan order stands
+  effect-sizes t scan _ fits order names stands = record { rows = stands.rows; sizes = stands.sizes }
 
--- in every admissible history
-pub legal-sizes : (shape : LinkShape) (terms : HopTerms) (c : ℕ) (h : List Entry) → IsAdmissible shape h → AllOfferTerms terms c h → SizesStand terms c (scan_of shape h)
-unfolding IsAdmissible scan_of clock_of
-legal-sizes shape terms c [] legal names = record { rows = tt; sizes = tt }
-legal-sizes shape terms c (e ∷ past) legal names =
-    by-fit (λ t scan. SizesStand terms c scan) shape past e legal.1
-    (λ effect new fits. effect-sizes shape terms c (clock_of past) (scan_of shape past) effect fits (legal-order shape past legal.0).held (new-terms terms c e.ask e.reply (new_in effect) new names.0) (legal-sizes shape terms c past legal.0 names.1))
+  -- in every admissible history
+  pub legal-sizes : (h : List Entry) → IsAdmissible shape h → AllOfferTerms terms c h → SizesStand terms c (scan_of shape h)
+  unfolding IsAdmissible scan_of clock_of
+  legal-sizes [] legal names = record { rows = tt; sizes = tt }
+  legal-sizes (e ∷ past) legal names =
+      by-fit (λ t scan. SizesStand terms c scan) shape past e legal.1
+      (λ effect new fits. effect-sizes (clock_of past) (scan_of shape past) effect fits (legal-order shape past legal.0).held (new-terms terms c e.ask e.reply (new_in effect) new names.0) (legal-sizes past legal.0 names.1))
 
-pub legal-within : (shape : LinkShape) (terms : HopTerms) (c : ℕ) (h : List Entry) → IsAdmissible shape h → AllOfferTerms terms c h → Each (SizeWithin terms) (channel_packets c (scan_of shape h).packets)
-legal-within shape terms c h legal names = (legal-sizes shape terms c h legal names).sizes
+  pub legal-within : (h : List Entry) → IsAdmissible shape h → AllOfferTerms terms c h → Each (SizeWithin terms) (channel_packets c (scan_of shape h).packets)
+  legal-within h legal names = (legal-sizes h legal names).sizes

@@ -38,7 +38,9 @@ use Rattle.channel_laws.proofs.ChannelRows.{row-of, others-elsewhere}
 skip : (chan : ChanNo) (row : Row) (rows : List Row) → channel_of row ≢ channel_number chan → held_by chan (row ∷ rows) ≡ held_by chan rows
 skip chan row rows other = rw (ne_eqb (channel_of row) (channel_number chan) other) refl
 
-pub other-changed : (chan : ChanNo) (test : Row → Bool) (change : Row → Row) (rows : List Row) → ((r : Row) → test r ≡ true → channel_of r ≢ channel_number chan) → ((r : Row) → channel_of (change r) ≡ channel_of r) → held_by chan (change_first test change rows) ≡ held_by chan rows
+pub other-changed : (chan : ChanNo) (test : Row → Bool) (change : Row → Row) (rows : List Row)
+    → ((r : Row) → test r ≡ true → channel_of r ≢ channel_number chan) → ((r : Row) → channel_of (change r) ≡ channel_of r)
+    → held_by chan (change_first test change rows) ≡ held_by chan rows
 unfolding change_first
 other-changed chan test change [] others keeps = refl
 other-changed chan test change (row ∷ rows) others keeps =
@@ -50,7 +52,8 @@ other-changed chan test change (row ∷ rows) others keeps =
       step true rest = refl
       step false rest = rest
 
-pub other-without : (chan : ChanNo) (test : Row → Bool) (rows : List Row) → ((r : Row) → test r ≡ true → channel_of r ≢ channel_number chan) → held_by chan (without_first test rows) ≡ held_by chan rows
+pub other-without : (chan : ChanNo) (test : Row → Bool) (rows : List Row) → ((r : Row) → test r ≡ true → channel_of r ≢ channel_number chan)
+    → held_by chan (without_first test rows) ≡ held_by chan rows
 unfolding without_first
 other-without chan test [] others = refl
 other-without chan test (row ∷ rows) others =
@@ -70,12 +73,15 @@ or-pushed : (a b : Option Reservation) → option_or a b ≡ pushed_to a b
 or-pushed None b = refl
 or-pushed (Some terms) b = refl
 
-pub pushed : (chan : ChanNo) (rows : List Row) (row : Row) (before : Option Reservation) → held_by chan rows ≡ before → held_by chan (rows ++ row ∷ []) ≡ pushed_to before (held_by chan (row ∷ []))
+pub pushed : (chan : ChanNo) (rows : List Row) (row : Row) (before : Option Reservation) → held_by chan rows ≡ before
+    → held_by chan (rows ++ row ∷ []) ≡ pushed_to before (held_by chan (row ∷ []))
 pushed chan rows row before same = ap (find (is_of chan)) (map-append row_terms rows (row ∷ [])) ∙ find-append (is_of chan) (map row_terms rows) (row.terms ∷ []) ∙ or-pushed (held_by chan rows) (held_by chan (row ∷ [])) ∙ ap (λ t. pushed_to t (held_by chan (row ∷ []))) same
 
 -- ---- changes of the channel's own row
 
-own-changed : (chan : ChanNo) (change : Row → Row) (changed : Reservation → Reservation) (rows : List Row) → ((r : Row) → (change r).terms ≡ changed r.terms) → ((terms : Reservation) → (changed terms).chan ≡ terms.chan) → held_by chan (change_first (is_row_of chan) change rows) ≡ option_map changed (held_by chan rows)
+own-changed : (chan : ChanNo) (change : Row → Row) (changed : Reservation → Reservation) (rows : List Row)
+    → ((r : Row) → (change r).terms ≡ changed r.terms) → ((terms : Reservation) → (changed terms).chan ≡ terms.chan)
+    → held_by chan (change_first (is_row_of chan) change rows) ≡ option_map changed (held_by chan rows)
 unfolding change_first
 own-changed chan change changed [] alike keeps = refl
 own-changed chan change changed (row ∷ rows) alike keeps =
@@ -103,7 +109,8 @@ kept-stays : (bounds : List ℕ) (t : ℕ) (row : Row) → is_phase row.terms.ph
 unfolding hold_ended
 kept-stays bounds t row not-closing = rw not-closing refl
 
-filtered : (chan : ChanNo) (bounds : List ℕ) (t : ℕ) (rows : List Row) → IsOpen (held_by chan rows) → DifferInChannel rows → held_by chan (filter (stays bounds t) rows) ≡ held_by chan rows
+filtered : (chan : ChanNo) (bounds : List ℕ) (t : ℕ) (rows : List Row) → IsOpen (held_by chan rows) → DifferInChannel rows
+    → held_by chan (filter (stays bounds t) rows) ≡ held_by chan rows
 filtered chan bounds t [] opened differ = refl
 filtered chan bounds t (row ∷ rows) opened differ =
     elim (cases_Bool (is_of chan row.terms)) [
@@ -116,63 +123,74 @@ filtered chan bounds t (row ∷ rows) opened differ =
           ])
     ]
 
-tick-held : (shape : LinkShape) (chan : ChanNo) (t : ℕ) (scan : Scan) → IsOpen (held_by chan scan.rows) → DifferInChannel scan.rows → held_by chan (after_tick shape t scan).rows ≡ held_by chan scan.rows
+tick-held : (shape : LinkShape) (chan : ChanNo) (t : ℕ) (scan : Scan) → IsOpen (held_by chan scan.rows) → DifferInChannel scan.rows
+    → held_by chan (after_tick shape t scan).rows ≡ held_by chan scan.rows
 unfolding after_tick with_best with_sources without_expired
 tick-held shape chan t scan opened differ =
     ap (find (is_of chan)) (rows_after-terms shape.bounds (here_at shape.rate scan.packets t) t (length scan.packets) (filter (stays shape.bounds t) scan.rows)) ∙ filtered chan shape.bounds t scan.rows opened differ
 
-pub arrival-held : (chan : ChanNo) (t : ℕ) (packet : Packet) (scan : Scan) (found : Option Row) → held_by chan (with_arrival t packet scan found).rows ≡ held_by chan scan.rows
+pub arrival-held : (chan : ChanNo) (t : ℕ) (packet : Packet) (scan : Scan) (found : Option Row)
+    → held_by chan (with_arrival t packet scan found).rows ≡ held_by chan scan.rows
 unfolding with_arrival
 arrival-held chan t packet scan None = refl
 arrival-held chan t packet scan (Some row) = ap (find (is_of chan)) (map-change_first-same row_terms (is_row_of packet.chan) (arrived_row t (suc (length scan.packets)) packet) (λ r. refl) scan.rows)
 
 -- ---- an entry of another channel
 
-pub apart-row : (chan other : ChanNo) → channel_number other ≢ channel_number chan → (r : Row) → is_row_of other r ≡ true → channel_of r ≢ channel_number chan
+pub apart-row : (chan other : ChanNo) → channel_number other ≢ channel_number chan → (r : Row) → is_row_of other r ≡ true
+    → channel_of r ≢ channel_number chan
 apart-row chan other apart r passed same = apart (sym (row-of other r passed) ∙ same)
 
-pub apart-hop : (chan other : ChanNo) (first : Bool) → channel_number other ≢ channel_number chan → (r : Row) → is_row_at_hop other first r ≡ true → channel_of r ≢ channel_number chan
+pub apart-hop : (chan other : ChanNo) (first : Bool) → channel_number other ≢ channel_number chan → (r : Row)
+    → is_row_at_hop other first r ≡ true → channel_of r ≢ channel_number chan
 apart-hop chan other first apart r passed same = apart (sym (eqb-true (channel_of r) (channel_number other) (and_parts (is_of other r.terms) (is_same r.terms.first first) passed).0) ∙ same)
 
-pub reserved-other : (chan : ChanNo) (rows : List Row) (row : Row) → channel_of row ≢ channel_number chan → held_by chan (rows ++ row ∷ []) ≡ held_by chan rows
+pub reserved-other : (chan : ChanNo) (rows : List Row) (row : Row) → channel_of row ≢ channel_number chan
+    → held_by chan (rows ++ row ∷ []) ≡ held_by chan rows
 reserved-other chan rows row other = go (held_by chan rows) refl where
   go : (before : Option Reservation) → held_by chan rows ≡ before → held_by chan (rows ++ row ∷ []) ≡ held_by chan rows
   go None same = pushed chan rows row None same ∙ skip chan row [] other ∙ sym same
   go (Some terms) same = pushed chan rows row (Some terms) same ∙ sym same
 
-pub held-off : (shape : LinkShape) (chan : ChanNo) (t : ℕ) (scan : Scan) (ask : Ask) (reply : Reply) → IsOff (channel_number chan) ask → IsOpen (held_by chan scan.rows) → DifferInChannel scan.rows → held_by chan (after shape t scan ask reply).rows ≡ held_by chan scan.rows
-unfolding after
-held-off shape chan t scan (Reserve other contract kind delay up_reach first next) (Is.Offer level reach) off opened differ = reserved-other chan scan.rows (new_row (tentative other contract kind first next up_reach level reach)) off
-held-off shape chan t scan (Relax other level up_bound) (Is.Relaxed clock) off opened differ = other-changed chan (is_row_of other) (relax_row level up_bound) scan.rows (apart-row chan other off) (λ r. refl)
-held-off shape chan t scan (Deny other) Is.Denied off opened differ = other-without chan (is_row_of other) scan.rows (apart-row chan other off)
-held-off shape chan t scan (Submit other count gap size) (Is.Planned clock) off opened differ = other-changed chan (is_row_at_hop other true) (plan_row t count gap size) scan.rows (apart-hop chan other true off) (λ r. refl)
-held-off shape chan t scan (Release other upstream) (Is.Closing count cancelled) off opened differ = other-changed chan (is_row_at_hop other (names_first_hop upstream)) (close_row t count) scan.rows (apart-hop chan other (names_first_hop upstream) off) (λ r. refl)
-held-off shape chan t scan (Arrive packet) (Is.Taken clock eligible) off opened differ = arrival-held chan t packet scan (find (is_row_of packet.chan) scan.rows)
-held-off shape chan t scan Tick reply off opened differ = tick-held shape chan t scan opened differ
-held-off shape chan t scan _ (Is.Planned clock) off opened differ = refl
-held-off shape chan t scan _ _ off opened differ = refl
+module _ (shape : LinkShape) (chan : ChanNo) (t : ℕ) (scan : Scan) where
+  pub held-off : (ask : Ask) (reply : Reply) → IsOff (channel_number chan) ask → IsOpen (held_by chan scan.rows) → DifferInChannel scan.rows
+      → held_by chan (after shape t scan ask reply).rows ≡ held_by chan scan.rows
+  unfolding after
+  held-off (Reserve other contract kind delay up_reach first next) (Is.Offer level reach) off opened differ = reserved-other chan scan.rows (new_row (tentative other contract kind first next up_reach level reach)) off
+  held-off (Relax other level up_bound) (Is.Relaxed clock) off opened differ = other-changed chan (is_row_of other) (relax_row level up_bound) scan.rows (apart-row chan other off) (λ r. refl)
+  held-off (Deny other) Is.Denied off opened differ = other-without chan (is_row_of other) scan.rows (apart-row chan other off)
+  held-off (Submit other count gap size) (Is.Planned clock) off opened differ = other-changed chan (is_row_at_hop other true) (plan_row t count gap size) scan.rows (apart-hop chan other true off) (λ r. refl)
+  held-off (Release other upstream) (Is.Closing count cancelled) off opened differ = other-changed chan (is_row_at_hop other (names_first_hop upstream)) (close_row t count) scan.rows (apart-hop chan other (names_first_hop upstream) off) (λ r. refl)
+  held-off (Arrive packet) (Is.Taken clock eligible) off opened differ = arrival-held chan t packet scan (find (is_row_of packet.chan) scan.rows)
+  held-off Tick reply off opened differ = tick-held shape chan t scan opened differ
+  held-off _ (Is.Planned clock) off opened differ = refl
+  held-off _ _ off opened differ = refl
 
--- ---- an entry of the channel
+  -- ---- an entry of the channel
 
-pub held-offered : (shape : LinkShape) (chan : ChanNo) (t : ℕ) (scan : Scan) (contract : Traffic) (kind : Kind) (delay up_reach : ℕ) (first : Bool) (next : Option LinkNo) (level reach : Level) → held_by chan scan.rows ≡ None → held_by chan (after shape t scan (Reserve chan contract kind delay up_reach first next) (Is.Offer level reach)).rows ≡ Some (tentative chan contract kind first next up_reach level reach)
-unfolding after
-held-offered shape chan t scan contract kind delay up_reach first next level reach none =
-    pushed chan scan.rows (new_row (tentative chan contract kind first next up_reach level reach)) None none ∙ rw (eq-eqb (channel_number chan) (channel_number chan) refl) refl
+  pub held-offered : (contract : Traffic) (kind : Kind) (delay up_reach : ℕ) (first : Bool) (next : Option LinkNo) (level reach : Level)
+      → held_by chan scan.rows ≡ None
+      → held_by chan (after shape t scan (Reserve chan contract kind delay up_reach first next) (Is.Offer level reach)).rows ≡ Some (tentative chan contract kind first next up_reach level reach)
+  unfolding after
+  held-offered contract kind delay up_reach first next level reach none =
+      pushed chan scan.rows (new_row (tentative chan contract kind first next up_reach level reach)) None none ∙ rw (eq-eqb (channel_number chan) (channel_number chan) refl) refl
 
-pub held-relaxed : (shape : LinkShape) (chan : ChanNo) (t : ℕ) (scan : Scan) (level : Level) (up_bound clock : ℕ) → held_by chan (after shape t scan (Relax chan level up_bound) (Is.Relaxed clock)).rows ≡ option_map (committed level up_bound) (held_by chan scan.rows)
-unfolding after
-held-relaxed shape chan t scan level up_bound clock = own-changed chan (relax_row level up_bound) (committed level up_bound) scan.rows (λ r. refl) (λ terms. refl)
+  pub held-relaxed : (level : Level) (up_bound clock : ℕ)
+      → held_by chan (after shape t scan (Relax chan level up_bound) (Is.Relaxed clock)).rows ≡ option_map (committed level up_bound) (held_by chan scan.rows)
+  unfolding after
+  held-relaxed level up_bound clock = own-changed chan (relax_row level up_bound) (committed level up_bound) scan.rows (λ r. refl) (λ terms. refl)
 
-pub held-denied : (shape : LinkShape) (chan : ChanNo) (t : ℕ) (scan : Scan) → DifferInChannel scan.rows → held_by chan (after shape t scan (Deny chan) Is.Denied).rows ≡ None
-unfolding after
-held-denied shape chan t scan differ = own-without chan scan.rows differ
+  pub held-denied : DifferInChannel scan.rows → held_by chan (after shape t scan (Deny chan) Is.Denied).rows ≡ None
+  unfolding after
+  held-denied differ = own-without chan scan.rows differ
 
 -- ---- an entry that neither reserves, relaxes nor denies the channel
 
 comes-same : (terms : Reservation) (now before : Option Reservation) → now ≡ before → now ≡ Some terms → ComesOf terms before
 comes-same terms now before same is = Stays (sym same ∙ is)
 
-pub comes-closed : (chan other : ChanNo) (first : Bool) (t count : ℕ) (rows : List Row) (terms : Reservation) → held_by chan (change_first (is_row_at_hop other first) (close_row t count) rows) ≡ Some terms → ComesOf terms (held_by chan rows)
+pub comes-closed : (chan other : ChanNo) (first : Bool) (t count : ℕ) (rows : List Row) (terms : Reservation)
+    → held_by chan (change_first (is_row_at_hop other first) (close_row t count) rows) ≡ Some terms → ComesOf terms (held_by chan rows)
 unfolding change_first
 comes-closed chan other first t count [] terms is = cc
 comes-closed chan other first t count (row ∷ rows) terms is =
@@ -187,7 +205,8 @@ comes-closed chan other first t count (row ∷ rows) terms is =
       ]
     ]
 
-pub comes-filtered : (chan : ChanNo) (test : Row → Bool) (rows : List Row) (terms : Reservation) → DifferInChannel rows → held_by chan (filter test rows) ≡ Some terms → held_by chan rows ≡ Some terms
+pub comes-filtered : (chan : ChanNo) (test : Row → Bool) (rows : List Row) (terms : Reservation) → DifferInChannel rows
+    → held_by chan (filter test rows) ≡ Some terms → held_by chan rows ≡ Some terms
 comes-filtered chan test [] terms differ is = is
 comes-filtered chan test (row ∷ rows) terms differ is =
     elim (cases_Bool (is_of chan row.terms)) [
@@ -203,12 +222,15 @@ comes-filtered chan test (row ∷ rows) terms differ is =
       ]
     ]
 
-pub comes-tick : (shape : LinkShape) (chan : ChanNo) (t : ℕ) (scan : Scan) (terms : Reservation) → DifferInChannel scan.rows → held_by chan (after_tick shape t scan).rows ≡ Some terms → ComesOf terms (held_by chan scan.rows)
+pub comes-tick : (shape : LinkShape) (chan : ChanNo) (t : ℕ) (scan : Scan) (terms : Reservation) → DifferInChannel scan.rows
+    → held_by chan (after_tick shape t scan).rows ≡ Some terms → ComesOf terms (held_by chan scan.rows)
 unfolding after_tick with_best with_sources without_expired
 comes-tick shape chan t scan terms differ is =
     Stays (comes-filtered chan (stays shape.bounds t) scan.rows terms differ (sym (ap (find (is_of chan)) (rows_after-terms shape.bounds (here_at shape.rate scan.packets t) t (length scan.packets) (filter (stays shape.bounds t) scan.rows))) ∙ is))
 
-pub comes-mild : (shape : LinkShape) (chan : ChanNo) (t : ℕ) (scan : Scan) (ask : Ask) (reply : Reply) (terms : Reservation) → IsMild (channel_number chan) ask → DifferInChannel scan.rows → held_by chan (after shape t scan ask reply).rows ≡ Some terms → ComesOf terms (held_by chan scan.rows)
+pub comes-mild : (shape : LinkShape) (chan : ChanNo) (t : ℕ) (scan : Scan) (ask : Ask) (reply : Reply) (terms : Reservation)
+    → IsMild (channel_number chan) ask → DifferInChannel scan.rows → held_by chan (after shape t scan ask reply).rows ≡ Some terms
+    → ComesOf terms (held_by chan scan.rows)
 unfolding after
 comes-mild shape chan t scan (Reserve other contract kind delay up_reach first next) (Is.Offer level reach) terms off differ is = comes-same terms _ _ (reserved-other chan scan.rows (new_row (tentative other contract kind first next up_reach level reach)) off) is
 comes-mild shape chan t scan (Relax other level up_bound) (Is.Relaxed clock) terms off differ is = comes-same terms _ _ (other-changed chan (is_row_of other) (relax_row level up_bound) scan.rows (apart-row chan other off) (λ r. refl)) is
@@ -221,7 +243,8 @@ comes-mild shape chan t scan _ (Is.Planned clock) terms off differ is = Stays is
 comes-mild shape chan t scan _ _ terms off differ is = Stays is
 
 -- a submit
-pub held-submitted : (shape : LinkShape) (chan other : ChanNo) (t : ℕ) (scan : Scan) (count gap size : ℕ) (reply : Reply) → held_by chan (after shape t scan (Submit other count gap size) reply).rows ≡ held_by chan scan.rows
+pub held-submitted : (shape : LinkShape) (chan other : ChanNo) (t : ℕ) (scan : Scan) (count gap size : ℕ) (reply : Reply)
+    → held_by chan (after shape t scan (Submit other count gap size) reply).rows ≡ held_by chan scan.rows
 unfolding after
 held-submitted shape chan other t scan count gap size (Is.Planned clock) = ap (find (is_of chan)) (map-change_first-same row_terms (is_row_at_hop other true) (plan_row t count gap size) (λ r. refl) scan.rows)
 held-submitted shape chan other t scan count gap size _ = refl

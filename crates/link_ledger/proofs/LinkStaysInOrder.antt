@@ -86,20 +86,21 @@ in_order-more stands stands' owners links held held' e o may rules entries list 
       most = Each-append (λ (x : Mark). x.stamp ≤ 65 * 2 ^ 40) held.list (m ∷ []) o.most (may.most, tt);
     })
 
--- at the beginning
-pub in_order-new : (stands : List Done → Type 0) (owners : List ActorNo) (links : ℕ) (held : HeldLink) → held.entries ≡ [] → held.list ≡ [] → SplitFits held.rules → stands [] → IsInOrder stands owners links held
-unfolding IsLegal
-in_order-new stands owners links held entries list split stands_now =
-    let new : HeldLink = record held { entries = []; list = [] } in
-    let is : new ≡ held = λ i. record held { entries = sym entries i; list = sym list i } in
-    subst (IsInOrder stands owners links) is
-    (record { split = split; stands_for = stands_now; legal = tt; guaranteed = hop-guarantee held.rules.shape [] (legal-admissible held.rules [] split tt); marks = refl; rises = tt; most_seen = tt; owned = tt; next = tt; most = tt })
+module _ (stands : List Done → Type 0) (owners : List ActorNo) (links : ℕ) (held : HeldLink) where
+  -- at the beginning
+  pub in_order-new : held.entries ≡ [] → held.list ≡ [] → SplitFits held.rules → stands [] → IsInOrder stands owners links held
+  unfolding IsLegal
+  in_order-new entries list split stands_now =
+      let new : HeldLink = record held { entries = []; list = [] } in
+      let is : new ≡ held = λ i. record held { entries = sym entries i; list = sym list i } in
+      subst (IsInOrder stands owners links) is
+      (record { split = split; stands_for = stands_now; legal = tt; guaranteed = hop-guarantee held.rules.shape [] (legal-admissible held.rules [] split tt); marks = refl; rises = tt; most_seen = tt; owned = tt; next = tt; most = tt })
 
--- out of the lock
-pub order-out : (stands : List Done → Type 0) (owners : List ActorNo) (links : ℕ) (held : HeldLink) → IsInOrder stands owners links held → IsOrdered owners links held
-order-out stands owners links held o =
-    record { split = o.split; stands_for = tt; legal = o.legal; guaranteed = o.guaranteed; marks = o.marks; rises = o.rises; most_seen = o.most_seen; owned = o.owned; next = o.next; most = o.most }
+  -- out of the lock
+  pub order-out : IsInOrder stands owners links held → IsOrdered owners links held
+  order-out o =
+      record { split = o.split; stands_for = tt; legal = o.legal; guaranteed = o.guaranteed; marks = o.marks; rises = o.rises; most_seen = o.most_seen; owned = o.owned; next = o.next; most = o.most }
 
--- and of its list alone
-pub order-marks : (stands : List Done → Type 0) (owners : List ActorNo) (links : ℕ) (held : HeldLink) → IsInOrder stands owners links held → AreInOrder owners links held.list
-order-marks stands owners links held o = record { rises = o.rises; owned = o.owned; next = o.next; most = o.most }
+  -- and of its list alone
+  pub order-marks : IsInOrder stands owners links held → AreInOrder owners links held.list
+  order-marks o = record { rises = o.rises; owned = o.owned; next = o.next; most = o.most }

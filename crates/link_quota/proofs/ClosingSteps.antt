@@ -47,15 +47,20 @@ use Rattle.link_quota.proofs.RowChanges.{IsSetupOf, OffersNew, none-of, find-non
 
 -- ---- where no sum changes
 
-pub closing-same : (link : Link) (held held' : List Reservation) (rows : List HeldRow) → ((f : Reservation → ℕ) → total f held' ≡ total f held) → AreClosing link held rows → AreClosing link held' rows
+pub closing-same : (link : Link) (held held' : List Reservation) (rows : List HeldRow)
+    → ((f : Reservation → ℕ) → total f held' ≡ total f held) → AreClosing link held rows → AreClosing link held' rows
 closing-same link held held' rows same before = λ splits f. before splits f ∙ sym (same (closing_part link.shape.bounds f))
 
-pub closing-kept : (link : Link) (k k' : Account) (rows : List HeldRow) → ((h : List Entry) → StandsFor link.shape k h → StandsFor link.shape k' h) → IsLegallyStood link k → AreClosing link (held_in k) rows → AreClosing link (held_in k') rows
+pub closing-kept : (link : Link) (k k' : Account) (rows : List HeldRow)
+    → ((h : List Entry) → StandsFor link.shape k h → StandsFor link.shape k' h) → IsLegallyStood link k → AreClosing link (held_in k) rows
+    → AreClosing link (held_in k') rows
 closing-kept link k k' rows same stood before =
     closing-same link (held_in k) (held_in k') rows (λ f. same-total link k k' f stood (λ h legal stands.
     terms-stand link.shape k' h (same h stands) ∙ sym (terms-stand link.shape k h stands))) before
 
-pub closing-carried : {E : Type 0} (link : Link) (k k' : Account) (ask : Ask) (r : Result Reply E) (rows : List HeldRow) → IfOk r (GoesOn link k k' ask) → OnErr r ((h : List Entry) → StandsFor link.shape k h → StandsFor link.shape k' h) → IsCarrying ask → IsLegallyStood link k → AreClosing link (held_in k) rows → AreClosing link (held_in k') rows
+pub closing-carried : {E : Type 0} (link : Link) (k k' : Account) (ask : Ask) (r : Result Reply E) (rows : List HeldRow)
+    → IfOk r (GoesOn link k k' ask) → OnErr r ((h : List Entry) → StandsFor link.shape k h → StandsFor link.shape k' h) → IsCarrying ask
+    → IsLegallyStood link k → AreClosing link (held_in k) rows → AreClosing link (held_in k') rows
 unfolding scan_of
 closing-carried link k k' ask (Ok reply) rows goes same carries stood before =
     closing-same link (held_in k) (held_in k') rows (λ f. same-total link k k' f stood (λ h legal stands.
@@ -64,7 +69,9 @@ closing-carried link k k' ask (Ok reply) rows goes same carries stood before =
     ∙ sym (terms-stand link.shape k h stands))) before
 closing-carried link k k' ask (Err e) rows goes same carries stood before = closing-kept link k k' rows same stood before
 
-pub closing-ticked : {E : Type 0} (link : Link) (k k' : Account) (r : Result Reply E) (rows : List HeldRow) → IfOk r (GoesOn link k k' Tick) → OnErr r ((h : List Entry) → StandsFor link.shape k h → StandsFor link.shape k' h) → length (held_in k) ≤ length (held_in k') → IsLegallyStood link k → AreClosing link (held_in k) rows → AreClosing link (held_in k') rows
+pub closing-ticked : {E : Type 0} (link : Link) (k k' : Account) (r : Result Reply E) (rows : List HeldRow) → IfOk r (GoesOn link k k' Tick)
+    → OnErr r ((h : List Entry) → StandsFor link.shape k h → StandsFor link.shape k' h) → length (held_in k) ≤ length (held_in k')
+    → IsLegallyStood link k → AreClosing link (held_in k) rows → AreClosing link (held_in k') rows
 unfolding scan_of after
 closing-ticked link k k' (Ok reply) rows goes same most stood before =
     closing-same link (held_in k) (held_in k') rows (λ f. same-total link k k' f stood (λ h legal stands.
@@ -76,7 +83,8 @@ closing-ticked link k k' (Err e) rows goes same most stood before = closing-kept
 
 -- ---- a reserve, whose row is tentative
 
-reserved-same : (bounds : List ℕ) (f : HeldRow → ℕ) (shape : LinkShape) (t : ℕ) (scan : Scan) (ask : Ask) (reply : Reply) → IsReserve ask → total (closing_part bounds f) (map row_terms (after shape t scan ask reply).rows) ≡ total (closing_part bounds f) (map row_terms scan.rows)
+reserved-same : (bounds : List ℕ) (f : HeldRow → ℕ) (shape : LinkShape) (t : ℕ) (scan : Scan) (ask : Ask) (reply : Reply) → IsReserve ask
+    → total (closing_part bounds f) (map row_terms (after shape t scan ask reply).rows) ≡ total (closing_part bounds f) (map row_terms scan.rows)
 unfolding after
 reserved-same bounds f shape t scan (Reserve chan contract kind delay up_reach first next) (Is.Offer level reach) is =
     let new = new_row (tentative chan contract kind first next up_reach level reach) in
@@ -87,7 +95,8 @@ reserved-same bounds f shape t scan (Reserve chan contract kind delay up_reach f
 reserved-same bounds f shape t scan (Reserve chan contract kind delay up_reach first next) _ is = refl
 reserved-same bounds f shape t scan _ reply is = absurd is
 
-pub closing-reserved : (link : Link) (k k' : Account) (ask : Ask) (reply : Reply) (rows : List HeldRow) → GoesOn link k k' ask reply → IsReserve ask → IsLegallyStood link k → AreClosing link (held_in k) rows → AreClosing link (held_in k') rows
+pub closing-reserved : (link : Link) (k k' : Account) (ask : Ask) (reply : Reply) (rows : List HeldRow) → GoesOn link k k' ask reply
+    → IsReserve ask → IsLegallyStood link k → AreClosing link (held_in k) rows → AreClosing link (held_in k') rows
 unfolding scan_of
 closing-reserved link k k' ask reply rows goes is stood before = λ splits f. before splits f ∙ sym (sure-equal _ _ (λ other. stood (λ h legal stands. other
     (ap (total (closing_part link.shape.bounds f)) (terms-stand link.shape k' (record { ask = ask; reply = reply } ∷ h) (goes.entered h stands))
@@ -107,7 +116,8 @@ not-committed Committed is = cc
 not-committed Closing is = refl
 
 -- what is found at a hop of a channel is the channel's row
-found-hop : (test : Row → Bool) (chan : ChanNo) (rows : List Row) (row other : Row) → ((r : Row) → test r ≡ true → is_row_of chan r ≡ true) → DifferInChannel rows → find (is_row_of chan) rows ≡ Some row → find test rows ≡ Some other → row ≡ other
+found-hop : (test : Row → Bool) (chan : ChanNo) (rows : List Row) (row other : Row) → ((r : Row) → test r ≡ true → is_row_of chan r ≡ true)
+    → DifferInChannel rows → find (is_row_of chan) rows ≡ Some row → find test rows ≡ Some other → row ≡ other
 found-hop test chan [] row other within differ found at = absurd (let clash : None ≡ Some row = found in cc)
 found-hop test chan (x ∷ rows) row other within differ found at =
     elim (cases_Bool (is_row_of chan x)) [
@@ -123,7 +133,9 @@ found-hop test chan (x ∷ rows) row other within differ found at =
           ]
     ]
 
-closing-refused : (link : Link) (t : ℕ) (scan : Scan) (ask : Ask) (chan : ChanNo) (row : Row) → IsSettling chan ask → DifferInChannel scan.rows → find (is_row_of chan) scan.rows ≡ Some row → is_phase row.terms.phase Closing ≡ true → (why : Refusal) × (reply_at link t scan ask ≡ Is.Refused why)
+closing-refused : (link : Link) (t : ℕ) (scan : Scan) (ask : Ask) (chan : ChanNo) (row : Row) → IsSettling chan ask
+    → DifferInChannel scan.rows → find (is_row_of chan) scan.rows ≡ Some row → is_phase row.terms.phase Closing ≡ true
+    → (why : Refusal) × (reply_at link t scan ask ≡ Is.Refused why)
 unfolding reply_at relax_reply deny_reply release_reply
 closing-refused link t scan (Relax chan' level up_bound) chan row is differ found phase =
     (Why.NotInPhase row.terms.phase, ap (λ c. relax_reply t level up_bound (find (is_of c) (map row_terms scan.rows))) is ∙ ap (relax_reply t level up_bound) (find-terms chan scan.rows ∙ ap (option_map row_terms) found) ∙ (rw (not-tentative row.terms.phase phase) refl))
@@ -140,7 +152,8 @@ closing-refused link t scan (Release chan' upstream) chan row is differ found ph
 closing-refused link t scan (Reserve chan' contract kind delay up_reach first next) chan row is differ found phase = absurd is
 closing-refused link t scan _ chan row is differ found phase = absurd is
 
-refused-same : (shape : LinkShape) (t : ℕ) (scan : Scan) (ask : Ask) (chan : ChanNo) (why : Refusal) → IsSettling chan ask → (after shape t scan ask (Is.Refused why)).rows ≡ scan.rows
+refused-same : (shape : LinkShape) (t : ℕ) (scan : Scan) (ask : Ask) (chan : ChanNo) (why : Refusal) → IsSettling chan ask
+    → (after shape t scan ask (Is.Refused why)).rows ≡ scan.rows
 unfolding after
 refused-same shape t scan (Relax chan' level up_bound) chan why is = refl
 refused-same shape t scan (Deny chan') chan why is = refl
@@ -149,7 +162,10 @@ refused-same shape t scan (Reserve chan' contract kind delay up_reach first next
 refused-same shape t scan _ chan why is = absurd is
 
 -- so where the channel's row is closing, an ask on it changes no row
-closing-stays : (link : Link) (t : ℕ) (scan : Scan) (ask : Ask) (reply : Reply) (chan : ChanNo) → IsSettling chan ask → DifferInChannel scan.rows → reply ≡ reply_at link t scan ask → (bounds : List ℕ) → is_closing (option_map (seen bounds) (find (is_of chan) (map row_terms scan.rows))) ≡ true → (after link.shape t scan ask reply).rows ≡ scan.rows
+closing-stays : (link : Link) (t : ℕ) (scan : Scan) (ask : Ask) (reply : Reply) (chan : ChanNo) → IsSettling chan ask
+    → DifferInChannel scan.rows → reply ≡ reply_at link t scan ask → (bounds : List ℕ)
+    → is_closing (option_map (seen bounds) (find (is_of chan) (map row_terms scan.rows))) ≡ true
+    → (after link.shape t scan ask reply).rows ≡ scan.rows
 closing-stays link t scan ask reply chan is differ legal bounds closes =
     one (find (is_row_of chan) scan.rows) refl (sym (ap (λ found. is_closing (option_map (seen bounds) found)) (find-terms chan scan.rows)) ∙ closes) where
       one : (found : Option Row) → find (is_row_of chan) scan.rows ≡ found → is_closing (option_map (seen bounds) (option_map row_terms (find (is_row_of chan) scan.rows))) ≡ true → (after link.shape t scan ask reply).rows ≡ scan.rows
@@ -171,7 +187,8 @@ no-offer : (chan : ChanNo) (ask : Ask) (reply : Reply) (rows : List Row) → IsS
 no-offer chan (Reserve chan' contract kind delay up_reach first next) reply rows is = absurd is
 no-offer chan _ reply rows is = tt
 
-pub value-part : (bounds : List ℕ) (f : HeldRow → ℕ) (found : Option Reservation) → value_of (if_closing f) (option_map (seen bounds) found) ≡ value_of (closing_part bounds f) found
+pub value-part : (bounds : List ℕ) (f : HeldRow → ℕ) (found : Option Reservation)
+    → value_of (if_closing f) (option_map (seen bounds) found) ≡ value_of (closing_part bounds f) found
 value-part bounds f None = refl
 value-part bounds f (Some terms) = refl
 
@@ -179,10 +196,11 @@ pub value-open : (f : HeldRow → ℕ) (row : Option HeldRow) → is_closing row
 value-open f None open_is = refl
 value-open f (Some row) open_is = rw open_is refl
 
-pub closing-settled : (link : Link) (k k' : Account) (ask : Ask) (reply : Reply) (chan : ChanNo) (rows rows' : List HeldRow) → SplitFits link → GoesOn link k k' ask reply → IsSettling chan ask → IsLegallyStood link k
+pub closing-settled : (link : Link) (k k' : Account) (ask : Ask) (reply : Reply) (chan : ChanNo) (rows rows' : List HeldRow)
+    → SplitFits link → GoesOn link k k' ask reply → IsSettling chan ask → IsLegallyStood link k
     → (is_closing (seen_of link.shape.bounds (held_in k) chan) ≡ false → (f : HeldRow → ℕ) → total f rows' ≡ total f rows + value_of (if_closing f) (seen_of link.shape.bounds (held_in k') chan))
-    → (is_closing (seen_of link.shape.bounds (held_in k) chan) ≡ true → rows' ≡ rows)
-    → AreClosing link (held_in k) rows → AreClosing link (held_in k') rows'
+    → (is_closing (seen_of link.shape.bounds (held_in k) chan) ≡ true → rows' ≡ rows) → AreClosing link (held_in k) rows
+    → AreClosing link (held_in k') rows'
 unfolding scan_of reply_to
 closing-settled link k k' ask reply chan rows rows' fits goes is stood fresh old before = λ splits f.
     elim (cases_Bool (is_closing (seen_of link.shape.bounds (held_in k) chan))) [
@@ -207,11 +225,13 @@ closing-settled link k k' ask reply chan rows rows' fits goes is stood fresh old
 -- ---- a tick in which rows expire
 
 -- the rows held after a tick are those that stay
-pub left-terms : (shape : LinkShape) (t : ℕ) (scan : Scan) → map row_terms (after_tick shape t scan).rows ≡ map row_terms (filter (stays shape.bounds t) scan.rows)
+pub left-terms : (shape : LinkShape) (t : ℕ) (scan : Scan)
+    → map row_terms (after_tick shape t scan).rows ≡ map row_terms (filter (stays shape.bounds t) scan.rows)
 unfolding after_tick with_best with_sources without_expired
 left-terms shape t scan = rows_after-terms shape.bounds (here_at shape.rate scan.packets t) t (length scan.packets) (filter (stays shape.bounds t) scan.rows)
 
-pub lost-total : (link : Link) (k k' : Account) (reply : Reply) (f : HeldRow → ℕ) → SplitFits link → GoesOn link k k' Tick reply → IsLegallyStood link k
+pub lost-total : (link : Link) (k k' : Account) (reply : Reply) (f : HeldRow → ℕ) → SplitFits link → GoesOn link k k' Tick reply
+    → IsLegallyStood link k
     → total (closing_part link.shape.bounds (if_gone link.shape.bounds (held_in k') f)) (held_in k) + total (λ terms. f (seen link.shape.bounds terms)) (held_in k') ≡ total (λ terms. f (seen link.shape.bounds terms)) (held_in k)
 unfolding scan_of after
 lost-total link k k' reply f fits goes stood = sure-equal _ _ (λ other. stood (λ h legal stands. other
@@ -223,7 +243,8 @@ lost-total link k k' reply f fits goes stood = sure-equal _ _ (λ other. stood (
     (subst (λ held. total (closing_part link.shape.bounds (if_gone link.shape.bounds (map row_terms (filter (stays link.shape.bounds (clock_of h)) (scan_of link.shape h).rows)) f)) held + total (λ terms. f (seen link.shape.bounds terms)) (map row_terms (filter (stays link.shape.bounds (clock_of h)) (scan_of link.shape h).rows)) ≡ total (λ terms. f (seen link.shape.bounds terms)) held) (sym was)
     (gone-total link.shape.bounds f (stays link.shape.bounds (clock_of h)) (scan_of link.shape h).rows differ (expires-closing link.shape.bounds (clock_of h)))))))
 
-pub stayed-total : (link : Link) (k k' : Account) (reply : Reply) (f : HeldRow → ℕ) → SplitFits link → GoesOn link k k' Tick reply → IsLegallyStood link k
+pub stayed-total : (link : Link) (k k' : Account) (reply : Reply) (f : HeldRow → ℕ) → SplitFits link → GoesOn link k k' Tick reply
+    → IsLegallyStood link k
     → total (closing_part link.shape.bounds (if_held link.shape.bounds (held_in k') f)) (held_in k) ≡ total (closing_part link.shape.bounds f) (held_in k')
 unfolding scan_of after
 stayed-total link k k' reply f fits goes stood = sure-equal _ _ (λ other. stood (λ h legal stands. other
@@ -235,7 +256,8 @@ stayed-total link k k' reply f fits goes stood = sure-equal _ _ (λ other. stood
     (left-total link.shape.bounds f (stays link.shape.bounds (clock_of h)) (scan_of link.shape h).rows differ)))))
 
 -- the same of the parts of a group, as a share has them
-lost-work : (link : Link) (k k' : Account) (reply : Reply) (rows : List HeldRow) (group m : ℕ) → SplitFits link → GoesOn link k k' Tick reply → IsLegallyStood link k → is_split link.split ≡ true → AreClosing link (held_in k) rows
+lost-work : (link : Link) (k k' : Account) (reply : Reply) (rows : List HeldRow) (group m : ℕ) → SplitFits link
+    → GoesOn link k k' Tick reply → IsLegallyStood link k → is_split link.split ≡ true → AreClosing link (held_in k) rows
     → total (if_gone link.shape.bounds (held_in k') (work_for link group m)) rows + total (group_work link group m) (held_in k') ≡ total (group_work link group m) (held_in k)
 unfolding group_work
 lost-work link k k' reply rows group m fits goes stood splits listed =
@@ -243,7 +265,8 @@ lost-work link k k' reply rows group m fits goes stood splits listed =
     let two = lost-total link k k' reply (work_for link group m) fits goes stood in
     ap (λ n. n + total (group_work link group m) (held_in k')) one ∙ two
 
-lost-units : (link : Link) (k k' : Account) (reply : Reply) (rows : List HeldRow) (group : ℕ) → SplitFits link → GoesOn link k k' Tick reply → IsLegallyStood link k → is_split link.split ≡ true → AreClosing link (held_in k) rows
+lost-units : (link : Link) (k k' : Account) (reply : Reply) (rows : List HeldRow) (group : ℕ) → SplitFits link → GoesOn link k k' Tick reply
+    → IsLegallyStood link k → is_split link.split ≡ true → AreClosing link (held_in k) rows
     → total (if_gone link.shape.bounds (held_in k') (units_for_row link group)) rows + total (group_units link group) (held_in k') ≡ total (group_units link group) (held_in k)
 unfolding group_units
 lost-units link k k' reply rows group fits goes stood splits listed =
@@ -251,7 +274,9 @@ lost-units link k k' reply rows group fits goes stood splits listed =
     let two = lost-total link k k' reply (units_for_row link group) fits goes stood in
     ap (λ n. n + total (group_units link group) (held_in k')) one ∙ two
 
-pub have-gone : {E : Type 0} (link : Link) (k k' : Account) (r : Result Reply E) (rows : List HeldRow) (shares : List Share) → SplitFits link → IsOk r → IfOk r (GoesOn link k k' Tick) → IsLegallyStood link k → is_split link.split ≡ true → AreClosing link (held_in k) rows → AreShares link (held_in k) shares → HaveGone link (held_in k') rows shares
+pub have-gone : {E : Type 0} (link : Link) (k k' : Account) (r : Result Reply E) (rows : List HeldRow) (shares : List Share)
+    → SplitFits link → IsOk r → IfOk r (GoesOn link k k' Tick) → IsLegallyStood link k → is_split link.split ≡ true
+    → AreClosing link (held_in k) rows → AreShares link (held_in k) shares → HaveGone link (held_in k') rows shares
 have-gone link k k' (Ok reply) rows shares fits ok goes stood splits listed are = λ n quota share at is.
     let share_is = are.each n quota share at is in
     record {
@@ -260,7 +285,10 @@ have-gone link k k' (Ok reply) rows shares fits ok goes stood splits listed are 
     }
 have-gone link k k' (Err e) rows shares fits ok goes stood splits listed are = absurd (let clash : false ≡ true = ok in cc)
 
-pub shares-lowered : {E : Type 0} (link : Link) (k k' : Account) (r : Result Reply E) (rows : List HeldRow) (shares shares' : List Share) → SplitFits link → IsOk r → IfOk r (GoesOn link k k' Tick) → IsLegallyStood link k → is_split link.split ≡ true → AreClosing link (held_in k) rows → AreShares link (held_in k) shares → AreLowered link (held_in k') rows shares shares' → AreShares link (held_in k') shares'
+pub shares-lowered : {E : Type 0} (link : Link) (k k' : Account) (r : Result Reply E) (rows : List HeldRow) (shares shares' : List Share)
+    → SplitFits link → IsOk r → IfOk r (GoesOn link k k' Tick) → IsLegallyStood link k → is_split link.split ≡ true
+    → AreClosing link (held_in k) rows → AreShares link (held_in k) shares → AreLowered link (held_in k') rows shares shares'
+    → AreShares link (held_in k') shares'
 shares-lowered link k k' (Ok reply) rows shares shares' fits ok goes stood splits listed are lowered = record {
   long = lowered.long ∙ are.long;
   each = λ n quota share' at is.
@@ -276,7 +304,9 @@ shares-lowered link k k' (Ok reply) rows shares shares' fits ok goes stood split
 }
 shares-lowered link k k' (Err e) rows shares shares' fits ok goes stood splits listed are lowered = absurd (let clash : false ≡ true = ok in cc)
 
-pub closing-left : {E : Type 0} (link : Link) (k k' : Account) (r : Result Reply E) (rows : List HeldRow) → SplitFits link → IsOk r → IfOk r (GoesOn link k k' Tick) → IsLegallyStood link k → AreClosing link (held_in k) rows → AreClosing link (held_in k') (filter (is_held link.shape.bounds (held_in k')) rows)
+pub closing-left : {E : Type 0} (link : Link) (k k' : Account) (r : Result Reply E) (rows : List HeldRow) → SplitFits link → IsOk r
+    → IfOk r (GoesOn link k k' Tick) → IsLegallyStood link k → AreClosing link (held_in k) rows
+    → AreClosing link (held_in k') (filter (is_held link.shape.bounds (held_in k')) rows)
 closing-left link k k' (Ok reply) rows fits ok goes stood listed = λ splits f.
     total-filtered f (is_held link.shape.bounds (held_in k')) rows ∙ listed splits (if_held link.shape.bounds (held_in k') f) ∙ stayed-total link k k' reply f fits goes stood
 closing-left link k k' (Err e) rows fits ok goes stood listed = absurd (let clash : false ≡ true = ok in cc)

@@ -41,12 +41,14 @@ use Rattle.link_steps.proofs.NewPackets.{best-from}
 abbrev IsNumbered : Scan → Type 0
 IsNumbered scan = Each (IsUpTo (length scan.packets)) scan.packets
 
-numbered-append : (packets new : List Arrival) → Each (IsUpTo (length packets)) packets → Each (IsUpTo (length packets + length new)) new → Each (IsUpTo (length (packets ++ new))) (packets ++ new)
+numbered-append : (packets new : List Arrival) → Each (IsUpTo (length packets)) packets → Each (IsUpTo (length packets + length new)) new
+    → Each (IsUpTo (length (packets ++ new))) (packets ++ new)
 numbered-append packets new before rest =
     rw (length-append packets new)
     (Each-append (IsUpTo (length packets + length new)) packets new (Each-if (IsUpTo (length packets)) (IsUpTo (length packets + length new)) packets (λ p upto. omega arith) before) rest)
 
-best-numbered : (bounds : List ℕ) (t n : ℕ) (step : SourceStep) → Each (IsUpTo (n + length (best_packet step bounds (suc n) t))) (best_packet step bounds (suc n) t)
+best-numbered : (bounds : List ℕ) (t n : ℕ) (step : SourceStep)
+    → Each (IsUpTo (n + length (best_packet step bounds (suc n) t))) (best_packet step bounds (suc n) t)
 best-numbered bounds t n Rests = tt
 best-numbered bounds t n Drops = tt
 best-numbered bounds t n (Brings size) = (omega arith, tt)
@@ -56,7 +58,8 @@ best-above bounds t n place Rests above = tt
 best-above bounds t n place Drops above = tt
 best-above bounds t n place (Brings size) above = (omega (arith, above), tt)
 
-numbered-effect : (shape : LinkShape) (t : ℕ) (scan : Scan) (effect : Effect) → IsNumbered scan → IsNumbered (with_effect shape t scan effect)
+numbered-effect : (shape : LinkShape) (t : ℕ) (scan : Scan) (effect : Effect) → IsNumbered scan
+    → IsNumbered (with_effect shape t scan effect)
 unfolding with_effect with_arrival after_tick with_best with_sources without_expired
 numbered-effect shape t scan (Takes packet row) before = numbered-append scan.packets (arrived_packet t (suc (length scan.packets)) packet row ∷ []) before (omega arith, tt)
 numbered-effect shape t scan Ticks before =
@@ -85,7 +88,8 @@ sources_in shape t scan = source_packets shape.bounds (here_at shape.rate scan.p
 abbrev new_in : LinkShape → ℕ → Scan → List Arrival
 new_in shape t scan = sources_in shape t scan ++ best_packet (best_step_at shape t scan) shape.bounds (suc (length scan.packets + length (sources_in shape t scan))) t
 
-sources-tick : (shape : LinkShape) (t : ℕ) (scan : Scan) → HaveContracts scan → from_sources shape (account_at shape t scan) ≡ sources_in shape t scan
+sources-tick : (shape : LinkShape) (t : ℕ) (scan : Scan) → HaveContracts scan
+    → from_sources shape (account_at shape t scan) ≡ sources_in shape t scan
 unfolding account_at
 sources-tick shape t scan each =
     rw (held-kept shape.bounds t scan.rows each)
@@ -101,7 +105,8 @@ best-tick shape t scan =
     ap (λ found. source_step (nat_lt (length (filter (waits_here shape.bounds (start_on shape.rate (starts_below shape.rate scan.packets t) t)) (here_at shape.rate scan.packets t))) shape.best) found) (find-planned t scan.best_plan)
     ∙ ap (λ n. source_step (nat_lt n shape.best) (find (is_for t) scan.best_plan)) (sym (waiting-kept shape.bounds shape.rate t scan.packets))
 
-brought-tick : (shape : LinkShape) (t : ℕ) (scan : Scan) → HaveContracts scan → brought shape (account_at shape t scan) ≡ new_in shape t scan
+brought-tick : (shape : LinkShape) (t : ℕ) (scan : Scan) → HaveContracts scan
+    → brought shape (account_at shape t scan) ≡ new_in shape t scan
 brought-tick shape t scan each =
     ap (λ all. all ++ best_packet (account_best shape (account_at shape t scan)) shape.bounds (suc ((account_at shape t scan).taken + length all)) (account_at shape t scan).clock) (sources-tick shape t scan each)
     ∙ (unfold account_at in ap (λ step. sources_in shape t scan ++ best_packet step shape.bounds (suc (length scan.packets + length (sources_in shape t scan))) t) (best-tick shape t scan))
@@ -113,7 +118,8 @@ packets-tick shape t scan =
     ∙ append_assoc scan.packets (sources_in shape t scan) (best_packet (best_step_at shape t scan) shape.bounds (suc (length scan.packets + length (sources_in shape t scan))) t)
 
 -- the starts after the tick show what the account says of it
-shows-after : (shape : LinkShape) (t : ℕ) (scan : Scan) → HaveContracts scan → IsNumbered scan → ShowsTick shape t (after_tick shape t scan).packets (present shape (account_at shape t scan)) (occupies shape (account_at shape t scan)) (starts_below shape.rate (after_tick shape t scan).packets (suc t))
+shows-after : (shape : LinkShape) (t : ℕ) (scan : Scan) → HaveContracts scan → IsNumbered scan
+    → ShowsTick shape t (after_tick shape t scan).packets (present shape (account_at shape t scan)) (occupies shape (account_at shape t scan)) (starts_below shape.rate (after_tick shape t scan).packets (suc t))
 shows-after shape t scan each numbered =
     rw (brought-tick shape t scan each, packets-tick shape t scan)
     (unfold account_at in
@@ -121,23 +127,27 @@ shows-after shape t scan each numbered =
     (Each-append (IsAbove (length scan.packets)) (sources_in shape t scan) _ (source_packets-above shape.bounds (here_at shape.rate scan.packets t) t (length scan.packets) (held_in shape t scan)) (best-above shape.bounds t (length scan.packets) _ (best_step_at shape t scan) (omega arith)))
     (Each-append (IsFrom t) (sources_in shape t scan) _ (source_packets-from shape.bounds (here_at shape.rate scan.packets t) t (length scan.packets) (held_in shape t scan)) (best-from shape.bounds t _ (best_step_at shape t scan))))
 
-lost-tick : (shape : LinkShape) (t : ℕ) (scan : Scan) → HaveContracts scan → dropped_in shape.bounds (here_at shape.rate scan.packets t) t (without_expired shape.bounds t scan).rows ≡ account_dropped shape.bounds (account_at shape t scan).here (account_at shape t scan).clock (held_rows shape (account_at shape t scan))
+lost-tick : (shape : LinkShape) (t : ℕ) (scan : Scan) → HaveContracts scan
+    → dropped_in shape.bounds (here_at shape.rate scan.packets t) t (without_expired shape.bounds t scan).rows ≡ account_dropped shape.bounds (account_at shape t scan).here (account_at shape t scan).clock (held_rows shape (account_at shape t scan))
 unfolding account_at without_expired
 lost-tick shape t scan each =
     rw (held-kept shape.bounds t scan.rows each) (sym (lost-kept shape.bounds (here_at shape.rate scan.packets t) t (held_in shape t scan)))
 
 -- the parts of the account after the tick, and the reply
-taken-tick : (shape : LinkShape) (t : ℕ) (scan : Scan) → HaveContracts scan → (account_at shape (suc t) (after_tick shape t scan)).taken ≡ (account_at shape t scan).taken + length (brought shape (account_at shape t scan))
+taken-tick : (shape : LinkShape) (t : ℕ) (scan : Scan) → HaveContracts scan
+    → (account_at shape (suc t) (after_tick shape t scan)).taken ≡ (account_at shape t scan).taken + length (brought shape (account_at shape t scan))
 unfolding account_at
 taken-tick shape t scan each = ap length (packets-tick shape t scan) ∙ length-append scan.packets (new_in shape t scan) ∙ ap (λ all. length scan.packets + length all) (sym (brought-tick shape t scan each))
 
-rows-tick : (shape : LinkShape) (t : ℕ) (scan : Scan) → HaveContracts scan → (account_at shape (suc t) (after_tick shape t scan)).rows ≡ account_rows_after shape.bounds (account_at shape t scan).here (account_at shape t scan).clock (account_at shape t scan).taken (held_rows shape (account_at shape t scan))
+rows-tick : (shape : LinkShape) (t : ℕ) (scan : Scan) → HaveContracts scan
+    → (account_at shape (suc t) (after_tick shape t scan)).rows ≡ account_rows_after shape.bounds (account_at shape t scan).here (account_at shape t scan).clock (account_at shape t scan).taken (held_rows shape (account_at shape t scan))
 unfolding account_at after_tick with_best with_sources without_expired
 rows-tick shape t scan each =
     rw (held-kept shape.bounds t scan.rows each)
     (sym (rows-kept shape.bounds (here_at shape.rate scan.packets t) t (length scan.packets) (held_in shape t scan) (Each-filter RowHasContract (stays shape.bounds t) scan.rows each)))
 
-reply-tick : (shape : LinkShape) (t : ℕ) (scan : Scan) → HaveContracts scan → IsNumbered scan → tick_reply shape t scan ≡ account_tick_reply shape (account_at shape t scan)
+reply-tick : (shape : LinkShape) (t : ℕ) (scan : Scan) → HaveContracts scan → IsNumbered scan
+    → tick_reply shape t scan ≡ account_tick_reply shape (account_at shape t scan)
 unfolding account_tick_reply account_at
 reply-tick shape t scan each numbered =
     let shows = shows-after shape t scan each numbered in
@@ -146,11 +156,13 @@ reply-tick shape t scan each numbered =
       same-ticked t full other sent left best gone lost missing a b c d = λ i. Is.Ticked t (a i) (b i) (c i) (d i)
 
 -- accounts with the same parts
-pub same-kept : (k other : Account) → k.clock ≡ other.clock → k.taken ≡ other.taken → k.rows ≡ other.rows → k.here ≡ other.here → k.on ≡ other.on → k.best_left ≡ other.best_left → k ≡ other
+pub same-kept : (k other : Account) → k.clock ≡ other.clock → k.taken ≡ other.taken → k.rows ≡ other.rows → k.here ≡ other.here
+    → k.on ≡ other.on → k.best_left ≡ other.best_left → k ≡ other
 same-kept k other clock taken rows here on left = λ i. record { clock = clock i; taken = taken i; rows = rows i; here = here i; on = on i; best_left = left i }
 
 -- so the account of the scan after the tick is the one that the account goes on to
-after-tick : (shape : LinkShape) (t : ℕ) (scan : Scan) → HaveContracts scan → IsNumbered scan → account_at shape (suc t) (after_tick shape t scan) ≡ account_after_tick shape (account_at shape t scan)
+after-tick : (shape : LinkShape) (t : ℕ) (scan : Scan) → HaveContracts scan → IsNumbered scan
+    → account_at shape (suc t) (after_tick shape t scan) ≡ account_after_tick shape (account_at shape t scan)
 unfolding account_at account_after_tick here_at after_tick with_best with_sources without_expired
 after-tick shape t scan each numbered =
     let shows = shows-after shape t scan each numbered in
@@ -164,28 +176,34 @@ pub terms-scanned : (t : ℕ) (rows : List Row) → map account_terms (map (acco
 terms-scanned t [] = refl
 terms-scanned t (row ∷ rows) = ap (λ all. row.terms ∷ all) (terms-scanned t rows)
 
-find-kept : (t : ℕ) (chan : ChanNo) (rows : List Row) → find (is_account_of chan) (map (account_row t) rows) ≡ option_map (account_row t) (find (is_row_of chan) rows)
+find-kept : (t : ℕ) (chan : ChanNo) (rows : List Row)
+    → find (is_account_of chan) (map (account_row t) rows) ≡ option_map (account_row t) (find (is_row_of chan) rows)
 find-kept t chan rows = find-map (account_row t) (is_row_of chan) (is_account_of chan) (λ row. refl) rows
 
-find-kept-hop : (t : ℕ) (chan : ChanNo) (first : Bool) (rows : List Row) → find (is_account_at_hop chan first) (map (account_row t) rows) ≡ option_map (account_row t) (find (is_row_at_hop chan first) rows)
+find-kept-hop : (t : ℕ) (chan : ChanNo) (first : Bool) (rows : List Row)
+    → find (is_account_at_hop chan first) (map (account_row t) rows) ≡ option_map (account_row t) (find (is_row_at_hop chan first) rows)
 find-kept-hop t chan first rows = find-map (account_row t) (is_row_at_hop chan first) (is_account_at_hop chan first) (λ row. refl) rows
 
 submit-kept : (t size : ℕ) (found : Option Row) → submit_to t size found ≡ account_submit t size (option_map (account_row t) found)
 submit-kept t size None = refl
 submit-kept t size (Some row) = refl
 
-release-kept : (t : ℕ) (upstream : Option ℕ) (found : Option Row) → release_to t upstream found ≡ account_release upstream (option_map (account_row t) found)
+release-kept : (t : ℕ) (upstream : Option ℕ) (found : Option Row)
+    → release_to t upstream found ≡ account_release upstream (option_map (account_row t) found)
 release-kept t upstream None = refl
 release-kept t upstream (Some row) = refl
 
-arrive-kept : (shape : LinkShape) (t : ℕ) (packets : List Arrival) (packet : Packet) (found : Option Row) → ((row : Row) → found ≡ Some row → RowHasContract row) → arrive_to shape t packets packet found ≡ account_arrive shape t (here_at shape.rate packets t) packet (option_map (account_row t) found)
+arrive-kept : (shape : LinkShape) (t : ℕ) (packets : List Arrival) (packet : Packet) (found : Option Row)
+    → ((row : Row) → found ≡ Some row → RowHasContract row)
+    → arrive_to shape t packets packet found ≡ account_arrive shape t (here_at shape.rate packets t) packet (option_map (account_row t) found)
 arrive-kept shape t packets packet None each = refl
 arrive-kept shape t packets packet (Some row) each =
     ap (λ e. arrive_reply shape.bounds t packet row.terms (length row.ticks) (held_packets row.lead (here_at shape.rate packets t)) e)
     (sym (eligible-recent row.terms row.ticks t packet.due (each row refl)))
 
 -- the reply of the scan is that of the account
-reply-at : (link : Link) (t : ℕ) (scan : Scan) (ask : Ask) → HaveContracts scan → IsNumbered scan → reply_at link t scan ask ≡ account_reply link (account_at link.shape t scan) ask
+reply-at : (link : Link) (t : ℕ) (scan : Scan) (ask : Ask) → HaveContracts scan → IsNumbered scan
+    → reply_at link t scan ask ≡ account_reply link (account_at link.shape t scan) ask
 unfolding reply_at account_reply account_at
 reply-at link t scan (Reserve chan contract kind delay up_reach first next) each numbered = rw (terms-scanned t scan.rows) refl
 reply-at link t scan (Relax chan level up_bound) each numbered = rw (terms-scanned t scan.rows) refl
@@ -202,12 +220,15 @@ reply-at link t scan (Pour count gap size) each numbered = refl
 -- ---- the account goes on
 
 -- a row that takes a packet that arrives, as it is kept
-arrived-kept : (t place : ℕ) (packet : Packet) (row : Row) → RowHasContract row → account_arrived_row t place packet (account_row t row) ≡ account_row t (arrived_row t place packet row)
+arrived-kept : (t place : ℕ) (packet : Packet) (row : Row) → RowHasContract row
+    → account_arrived_row t place packet (account_row t row) ≡ account_row t (arrived_row t place packet row)
 arrived-kept t place packet row is =
     rw (eligible-recent row.terms row.ticks t packet.due is) (kept-packet t place (arrived_tick t packet row) row)
 
 -- the account with a packet that arrives
-arrival-kept : (shape : LinkShape) (t : ℕ) (packet : Packet) (scan : Scan) (found : Option Row) → ((row : Row) → found ≡ Some row → RowHasContract row) → HaveContracts scan → IsNumbered scan → account_at shape t (with_arrival t packet scan found) ≡ account_with_arrival packet (account_at shape t scan) (option_map (account_row t) found)
+arrival-kept : (shape : LinkShape) (t : ℕ) (packet : Packet) (scan : Scan) (found : Option Row)
+    → ((row : Row) → found ≡ Some row → RowHasContract row) → HaveContracts scan → IsNumbered scan
+    → account_at shape t (with_arrival t packet scan found) ≡ account_with_arrival packet (account_at shape t scan) (option_map (account_row t) found)
 unfolding with_arrival account_with_arrival account_at
 arrival-kept shape t packet scan None one each numbered = refl
 arrival-kept shape t packet scan (Some row) one each numbered =
@@ -225,21 +246,25 @@ arrival-kept shape t packet scan (Some row) one each numbered =
     refl
 
 -- a change of the rows alone
-rows-kept-at : (shape : LinkShape) (t : ℕ) (scan : Scan) (rows : List Row) (kept : List AccountRow) → map (account_row t) rows ≡ kept → account_at shape t (with_rows scan rows) ≡ with_account_rows (account_at shape t scan) kept
+rows-kept-at : (shape : LinkShape) (t : ℕ) (scan : Scan) (rows : List Row) (kept : List AccountRow) → map (account_row t) rows ≡ kept
+    → account_at shape t (with_rows scan rows) ≡ with_account_rows (account_at shape t scan) kept
 unfolding account_at
 rows-kept-at shape t scan rows kept same = ap (λ all. with_account_rows (account_at shape t scan) all) same
 
 new-kept : (t : ℕ) (terms : Reservation) → account_row t (new_row terms) ≡ new_account terms
 new-kept t terms = rw (take-nil {A = ℕ} (burst_of terms.contract)) refl
 
-planned-kept : (t count gap size : ℕ) (row : Row) → RowHasContract row → account_planned t count gap size (account_row t row) ≡ account_row t (plan_row t count gap size row)
+planned-kept : (t count gap size : ℕ) (row : Row) → RowHasContract row
+    → account_planned t count gap size (account_row t row) ≡ account_row t (plan_row t count gap size row)
 planned-kept t count gap size row is = rw (left-planned t count gap size row.plan) refl
 
-closed-kept : (t count : ℕ) (row : Row) → RowHasContract row → account_closed count (account_row t row) ≡ account_row t (close_row t count row)
+closed-kept : (t count : ℕ) (row : Row) → RowHasContract row
+    → account_closed count (account_row t row) ≡ account_row t (close_row t count row)
 closed-kept t count row is = rw (left-cancelled t row.plan) refl
 
 -- the account after an entry, from the account before
-after-at : (shape : LinkShape) (t : ℕ) (scan : Scan) (ask : Ask) (reply : Reply) → HaveContracts scan → IsNumbered scan → account_at shape (clock_with ask t) (after shape t scan ask reply) ≡ account_after shape (account_at shape t scan) ask reply
+after-at : (shape : LinkShape) (t : ℕ) (scan : Scan) (ask : Ask) (reply : Reply) → HaveContracts scan → IsNumbered scan
+    → account_at shape (clock_with ask t) (after shape t scan ask reply) ≡ account_after shape (account_at shape t scan) ask reply
 unfolding after account_after account_at
 after-at shape t scan (Reserve chan contract kind delay up_reach first next) (Is.Offer level reach) each numbered =
     let row : Row = new_row (tentative chan contract kind first next up_reach level reach) in
@@ -270,12 +295,14 @@ unfolding account_at
 contracts-scan shape h each = Each-mapped HasContract (account_row (clock_of h)) (scan_of shape h).rows each
 
 -- the legal reply after a history is that of its account
-pub reply_to-account : (link : Link) (h : List Entry) (ask : Ask) → HasContracts (account_of link.shape h) → reply_to link h ask ≡ account_reply link (account_of link.shape h) ask
+pub reply_to-account : (link : Link) (h : List Entry) (ask : Ask) → HasContracts (account_of link.shape h)
+    → reply_to link h ask ≡ account_reply link (account_of link.shape h) ask
 unfolding reply_to
 reply_to-account link h ask each = reply-at link (clock_of h) (scan_of link.shape h) ask (contracts-scan link.shape h each) (scan-numbered link.shape h)
 
 -- and the account with one more entry is the next of the account before
-pub account_of-entry : (shape : LinkShape) (h : List Entry) (e : Entry) → HasContracts (account_of shape h) → account_of shape (e ∷ h) ≡ account_after shape (account_of shape h) e.ask e.reply
+pub account_of-entry : (shape : LinkShape) (h : List Entry) (e : Entry) → HasContracts (account_of shape h)
+    → account_of shape (e ∷ h) ≡ account_after shape (account_of shape h) e.ask e.reply
 unfolding clock_of scan_of
 account_of-entry shape h e each = after-at shape (clock_of h) (scan_of shape h) e.ask e.reply (contracts-scan shape h each) (scan-numbered shape h)
 
@@ -287,11 +314,13 @@ unfolding account_at clock_of scan_of here_at starts_below
 nothing-stands shape = refl
 
 -- a link that stands for a history gives the legal reply from what it keeps
-pub stands-reply : (link : Link) (k : Account) (h : List Entry) (ask : Ask) → HasContracts k → StandsFor link.shape k h → account_reply link k ask ≡ reply_to link h ask
+pub stands-reply : (link : Link) (k : Account) (h : List Entry) (ask : Ask) → HasContracts k → StandsFor link.shape k h
+    → account_reply link k ask ≡ reply_to link h ask
 stands-reply link k h ask each stands =
     ap (λ kept. account_reply link kept ask) stands ∙ sym (reply_to-account link h ask (subst HasContracts stands each))
 
 -- and stands for it with the entry added, once it keeps what follows
-pub stands-entry : (shape : LinkShape) (k : Account) (h : List Entry) (ask : Ask) (reply : Reply) → HasContracts k → StandsFor shape k h → StandsFor shape (account_after shape k ask reply) (record { ask = ask; reply = reply } ∷ h)
+pub stands-entry : (shape : LinkShape) (k : Account) (h : List Entry) (ask : Ask) (reply : Reply) → HasContracts k → StandsFor shape k h
+    → StandsFor shape (account_after shape k ask reply) (record { ask = ask; reply = reply } ∷ h)
 stands-entry shape k h ask reply each stands =
     ap (λ kept. account_after shape kept ask reply) stands ∙ sym (account_of-entry shape h (record { ask = ask; reply = reply }) (subst HasContracts stands each))

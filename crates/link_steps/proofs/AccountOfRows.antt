@@ -131,69 +131,70 @@ after-kept Drops t place row is = past-kept t row
 
 -- ---- all rows in tick t
 
--- the account tells the packets that all sources bring, the rows afterwards, and the packets dropped
-pub packets-kept : (bounds : List ℕ) (here : List Arrival) (t taken : ℕ) (rows : List Row) → Each RowHasContract rows → account_packets bounds here t taken (map (account_row t) rows) ≡ source_packets bounds here t taken rows
-unfolding account_packets source_packets
-packets-kept bounds here t taken [] each = refl
-packets-kept bounds here t taken (row ∷ rows) each =
-    rw (step-kept bounds here t row, packet-kept (step_of bounds here t row) t (suc taken) row each.0)
-    (ap (λ all. packet_of (step_of bounds here t row) t (suc taken) row ++ all) (packets-kept bounds here t (taken + taken_by (step_of bounds here t row)) rows each.1))
+module _ (bounds : List ℕ) (here : List Arrival) (t : ℕ) where
+  -- the account tells the packets that all sources bring, the rows afterwards, and the packets dropped
+  pub packets-kept : (taken : ℕ) (rows : List Row) → Each RowHasContract rows → account_packets bounds here t taken (map (account_row t) rows) ≡ source_packets bounds here t taken rows
+  unfolding account_packets source_packets
+  packets-kept taken [] each = refl
+  packets-kept taken (row ∷ rows) each =
+      rw (step-kept bounds here t row, packet-kept (step_of bounds here t row) t (suc taken) row each.0)
+      (ap (λ all. packet_of (step_of bounds here t row) t (suc taken) row ++ all) (packets-kept (taken + taken_by (step_of bounds here t row)) rows each.1))
 
-pub rows-kept : (bounds : List ℕ) (here : List Arrival) (t taken : ℕ) (rows : List Row) → Each RowHasContract rows → account_rows_after bounds here t taken (map (account_row t) rows) ≡ map (account_row (suc t)) (rows_after bounds here t taken rows)
-unfolding account_rows_after rows_after
-rows-kept bounds here t taken [] each = refl
-rows-kept bounds here t taken (row ∷ rows) each =
-    rw (step-kept bounds here t row, after-kept (step_of bounds here t row) t (suc taken) row each.0)
-    (ap (λ all. account_row (suc t) (row_after (step_of bounds here t row) t (suc taken) row) ∷ all) (rows-kept bounds here t (taken + taken_by (step_of bounds here t row)) rows each.1))
+  pub rows-kept : (taken : ℕ) (rows : List Row) → Each RowHasContract rows → account_rows_after bounds here t taken (map (account_row t) rows) ≡ map (account_row (suc t)) (rows_after bounds here t taken rows)
+  unfolding account_rows_after rows_after
+  rows-kept taken [] each = refl
+  rows-kept taken (row ∷ rows) each =
+      rw (step-kept bounds here t row, after-kept (step_of bounds here t row) t (suc taken) row each.0)
+      (ap (λ all. account_row (suc t) (row_after (step_of bounds here t row) t (suc taken) row) ∷ all) (rows-kept (taken + taken_by (step_of bounds here t row)) rows each.1))
 
-pub lost-kept : (bounds : List ℕ) (here : List Arrival) (t : ℕ) (rows : List Row) → account_dropped bounds here t (map (account_row t) rows) ≡ dropped_in bounds here t rows
-unfolding account_dropped dropped_in
-lost-kept bounds here t [] = refl
-lost-kept bounds here t (row ∷ rows) = rw (step-kept bounds here t row, lost-kept bounds here t rows) refl
+  pub lost-kept : (rows : List Row) → account_dropped bounds here t (map (account_row t) rows) ≡ dropped_in bounds here t rows
+  unfolding account_dropped dropped_in
+  lost-kept [] = refl
+  lost-kept (row ∷ rows) = rw (step-kept bounds here t row, lost-kept rows) refl
 
--- ---- the packets that sources bring
+  -- ---- the packets that sources bring
 
--- they have arrival numbers above `taken`
-pub source_packets-above : (bounds : List ℕ) (here : List Arrival) (t taken : ℕ) (rows : List Row) → Each (IsAbove taken) (source_packets bounds here t taken rows)
-unfolding source_packets
-source_packets-above bounds here t taken [] = tt
-source_packets-above bounds here t taken (row ∷ rows) =
-    Each-append (IsAbove taken) (packet_of (step_of bounds here t row) t (suc taken) row) _ (packet-above (step_of bounds here t row))
-    (Each-if (IsAbove (taken + taken_by (step_of bounds here t row))) (IsAbove taken) _ (λ p above. omega arith) (source_packets-above bounds here t (taken + taken_by (step_of bounds here t row)) rows)) where
-      packet-above : (step : SourceStep) → Each (IsAbove taken) (packet_of step t (suc taken) row)
-      packet-above (Brings size) = (omega arith, tt)
-      packet-above Rests = tt
-      packet-above Drops = tt
+  -- they have arrival numbers above `taken`
+  pub source_packets-above : (taken : ℕ) (rows : List Row) → Each (IsAbove taken) (source_packets bounds here t taken rows)
+  unfolding source_packets
+  source_packets-above taken [] = tt
+  source_packets-above taken (row ∷ rows) =
+      Each-append (IsAbove taken) (packet_of (step_of bounds here t row) t (suc taken) row) _ (packet-above (step_of bounds here t row))
+      (Each-if (IsAbove (taken + taken_by (step_of bounds here t row))) (IsAbove taken) _ (λ p above. omega arith) (source_packets-above (taken + taken_by (step_of bounds here t row)) rows)) where
+        packet-above : (step : SourceStep) → Each (IsAbove taken) (packet_of step t (suc taken) row)
+        packet-above (Brings size) = (omega arith, tt)
+        packet-above Rests = tt
+        packet-above Drops = tt
 
--- up to `taken` and their number
-pub source_packets-upto : (bounds : List ℕ) (here : List Arrival) (t taken : ℕ) (rows : List Row) → Each (IsUpTo (taken + length (source_packets bounds here t taken rows))) (source_packets bounds here t taken rows)
-unfolding source_packets
-source_packets-upto bounds here t taken [] = tt
-source_packets-upto bounds here t taken (row ∷ rows) =
-    let step : SourceStep = step_of bounds here t row in
-    let rest : List Arrival = source_packets bounds here t (taken + taken_by (step_of bounds here t row)) rows in
-    let n = length-append (packet_of (step_of bounds here t row) t (suc taken) row) (source_packets bounds here t (taken + taken_by (step_of bounds here t row)) rows) in
-    let m = taken-length (step_of bounds here t row) in
-    Each-append (IsUpTo (taken + length (packet_of (step_of bounds here t row) t (suc taken) row ++ source_packets bounds here t (taken + taken_by (step_of bounds here t row)) rows))) (packet_of (step_of bounds here t row) t (suc taken) row) _
-    (Each-if (IsUpTo (taken + taken_by (step_of bounds here t row))) (IsUpTo (taken + length (packet_of (step_of bounds here t row) t (suc taken) row ++ source_packets bounds here t (taken + taken_by (step_of bounds here t row)) rows))) _ (λ p upto. omega (arith, n, m)) (packet-upto (step_of bounds here t row)))
-    (Each-if (IsUpTo (taken + taken_by (step_of bounds here t row) + length (source_packets bounds here t (taken + taken_by (step_of bounds here t row)) rows))) (IsUpTo (taken + length (packet_of (step_of bounds here t row) t (suc taken) row ++ source_packets bounds here t (taken + taken_by (step_of bounds here t row)) rows))) _ (λ p upto. omega (arith, n, m)) (source_packets-upto bounds here t (taken + taken_by (step_of bounds here t row)) rows)) where
-      taken-length : (step : SourceStep) → length (packet_of step t (suc taken) row) ≡ taken_by step
-      taken-length (Brings size) = refl
-      taken-length Rests = refl
-      taken-length Drops = refl
+  -- up to `taken` and their number
+  pub source_packets-upto : (taken : ℕ) (rows : List Row) → Each (IsUpTo (taken + length (source_packets bounds here t taken rows))) (source_packets bounds here t taken rows)
+  unfolding source_packets
+  source_packets-upto taken [] = tt
+  source_packets-upto taken (row ∷ rows) =
+      let step : SourceStep = step_of bounds here t row in
+      let rest : List Arrival = source_packets bounds here t (taken + taken_by (step_of bounds here t row)) rows in
+      let n = length-append (packet_of (step_of bounds here t row) t (suc taken) row) (source_packets bounds here t (taken + taken_by (step_of bounds here t row)) rows) in
+      let m = taken-length (step_of bounds here t row) in
+      Each-append (IsUpTo (taken + length (packet_of (step_of bounds here t row) t (suc taken) row ++ source_packets bounds here t (taken + taken_by (step_of bounds here t row)) rows))) (packet_of (step_of bounds here t row) t (suc taken) row) _
+      (Each-if (IsUpTo (taken + taken_by (step_of bounds here t row))) (IsUpTo (taken + length (packet_of (step_of bounds here t row) t (suc taken) row ++ source_packets bounds here t (taken + taken_by (step_of bounds here t row)) rows))) _ (λ p upto. omega (arith, n, m)) (packet-upto (step_of bounds here t row)))
+      (Each-if (IsUpTo (taken + taken_by (step_of bounds here t row) + length (source_packets bounds here t (taken + taken_by (step_of bounds here t row)) rows))) (IsUpTo (taken + length (packet_of (step_of bounds here t row) t (suc taken) row ++ source_packets bounds here t (taken + taken_by (step_of bounds here t row)) rows))) _ (λ p upto. omega (arith, n, m)) (source_packets-upto (taken + taken_by (step_of bounds here t row)) rows)) where
+        taken-length : (step : SourceStep) → length (packet_of step t (suc taken) row) ≡ taken_by step
+        taken-length (Brings size) = refl
+        taken-length Rests = refl
+        taken-length Drops = refl
 
-      packet-upto : (step : SourceStep) → Each (IsUpTo (taken + taken_by step)) (packet_of step t (suc taken) row)
-      packet-upto (Brings size) = (omega arith, tt)
-      packet-upto Rests = tt
-      packet-upto Drops = tt
+        packet-upto : (step : SourceStep) → Each (IsUpTo (taken + taken_by step)) (packet_of step t (suc taken) row)
+        packet-upto (Brings size) = (omega arith, tt)
+        packet-upto Rests = tt
+        packet-upto Drops = tt
 
--- and are eligible from t on
-pub source_packets-from : (bounds : List ℕ) (here : List Arrival) (t taken : ℕ) (rows : List Row) → Each (IsFrom t) (source_packets bounds here t taken rows)
-unfolding source_packets
-source_packets-from bounds here t taken [] = tt
-source_packets-from bounds here t taken (row ∷ rows) =
-    Each-append (IsFrom t) (packet_of (step_of bounds here t row) t (suc taken) row) _ (packet-from (step_of bounds here t row)) (source_packets-from bounds here t (taken + taken_by (step_of bounds here t row)) rows) where
-      packet-from : (step : SourceStep) → Each (IsFrom t) (packet_of step t (suc taken) row)
-      packet-from (Brings size) = (eligible-from row.terms row.ticks t 0, tt)
-      packet-from Rests = tt
-      packet-from Drops = tt
+  -- and are eligible from t on
+  pub source_packets-from : (taken : ℕ) (rows : List Row) → Each (IsFrom t) (source_packets bounds here t taken rows)
+  unfolding source_packets
+  source_packets-from taken [] = tt
+  source_packets-from taken (row ∷ rows) =
+      Each-append (IsFrom t) (packet_of (step_of bounds here t row) t (suc taken) row) _ (packet-from (step_of bounds here t row)) (source_packets-from (taken + taken_by (step_of bounds here t row)) rows) where
+        packet-from : (step : SourceStep) → Each (IsFrom t) (packet_of step t (suc taken) row)
+        packet-from (Brings size) = (eligible-from row.terms row.ticks t 0, tt)
+        packet-from Rests = tt
+        packet-from Drops = tt

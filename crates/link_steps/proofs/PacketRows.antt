@@ -44,7 +44,8 @@ Any-append-right P [] ys any = any
 Any-append-right P (x ∷ xs) ys any = inr (Any-append-right P xs ys any)
 
 -- each element with a fact of its own is one that passes a test, or one that doesn't
-Any-split : {X : Type 0} (P : X → Type 0) (test : X → Bool) (xs : List X) → Any P xs → Any P (filter (λ x. not (test x)) xs) ⊎ Any P (filter test xs)
+Any-split : {X : Type 0} (P : X → Type 0) (test : X → Bool) (xs : List X) → Any P xs
+    → Any P (filter (λ x. not (test x)) xs) ⊎ Any P (filter test xs)
 Any-split P test [] any = absurd any
 Any-split P test (x ∷ xs) any = by-test (test x) any (Any-split P test xs) where
   by-test : (b : Bool) → Any P (x ∷ xs) → (Any P xs → Any P (filter (λ y. not (test y)) xs) ⊎ Any P (filter test xs)) → Any P (cond (not b) (x ∷ filter (λ y. not (test y)) xs) (filter (λ y. not (test y)) xs)) ⊎ Any P (cond b (x ∷ filter test xs) (filter test xs))
@@ -54,7 +55,8 @@ Any-split P test (x ∷ xs) any = by-test (test x) any (Any-split P test xs) whe
   by-test false (inr any) rest = ⊎_elim (λ (held : Any P (filter (λ y. not (test y)) xs)). inl (inr held)) (λ (gone : Any P (filter test xs)). inr gone) (rest any)
 
 -- an element stays one where the change keeps the fact of the one found, or where the one taken out hasn't got it
-Any-change_first : {X : Type 0} (P : X → Type 0) (test : X → Bool) (change : X → X) (xs : List X) → ((x : X) → P x → P (change x)) → Any P xs → Any P (change_first test change xs)
+Any-change_first : {X : Type 0} (P : X → Type 0) (test : X → Bool) (change : X → X) (xs : List X) → ((x : X) → P x → P (change x))
+    → Any P xs → Any P (change_first test change xs)
 unfolding change_first
 Any-change_first P test change [] keeps any = absurd any
 Any-change_first P test change (x ∷ xs) keeps any = by-test (test x) any (Any-change_first P test change xs keeps) where
@@ -64,7 +66,8 @@ Any-change_first P test change (x ∷ xs) keeps any = by-test (test x) any (Any-
   by-test false (inl here) rest = inl here
   by-test false (inr any) rest = inr (rest any)
 
-Any-without_first : {X : Type 0} (P : X → Type 0) (test : X → Bool) (xs : List X) → ((x : X) → find test xs ≡ Some x → P x → ⊥) → Any P xs → Any P (without_first test xs)
+Any-without_first : {X : Type 0} (P : X → Type 0) (test : X → Bool) (xs : List X) → ((x : X) → find test xs ≡ Some x → P x → ⊥) → Any P xs
+    → Any P (without_first test xs)
 unfolding without_first
 Any-without_first P test [] other any = absurd any
 Any-without_first P test (x ∷ xs) other any =
@@ -81,7 +84,8 @@ Any-without_first P test (x ∷ xs) other any =
       stays-there rest (inr any) = inr (rest any)
 
 -- the one found, changed
-Any-found : {X : Type 0} (P : X → Type 0) (test : X → Bool) (change : X → X) (x : X) (xs : List X) → find test xs ≡ Some x → P (change x) → Any P (change_first test change xs)
+Any-found : {X : Type 0} (P : X → Type 0) (test : X → Bool) (change : X → X) (x : X) (xs : List X) → find test xs ≡ Some x → P (change x)
+    → Any P (change_first test change xs)
 unfolding change_first
 Any-found P test change x [] found fact = cc
 Any-found P test change x (y ∷ xs) found fact =
@@ -115,29 +119,34 @@ lead_with-later lead place some =
     (lead-cases lead place)
 
 -- the row of a packet stays its row with one packet more
-row-kept : (p : Arrival) (row after : Row) (place : ℕ) → 1 ≤ p.lead → after.lead ≡ lead_with row.lead place → IsRowOf p row → IsRowOf p after
+row-kept : (p : Arrival) (row after : Row) (place : ℕ) → 1 ≤ p.lead → after.lead ≡ lead_with row.lead place → IsRowOf p row
+    → IsRowOf p after
 row-kept p row after place some lead is = lead ∙ lead_with-later row.lead place (omega (arith, some, is)) ∙ is
 
 -- ---- the sources of a tick
 
-step-kept : (step : SourceStep) (p : Arrival) (t place : ℕ) (row : Row) → 1 ≤ p.lead → IsRowOf p row → IsRowOf p (row_after step t place row)
+step-kept : (step : SourceStep) (p : Arrival) (t place : ℕ) (row : Row) → 1 ≤ p.lead → IsRowOf p row
+    → IsRowOf p (row_after step t place row)
 step-kept Rests p t place row some is = is
 step-kept Drops p t place row some is = is
 step-kept (Brings size) p t place row some is = row-kept p row (row_after (Brings size) t place row) place some refl is
 
-rows-kept : (bounds : List ℕ) (here : List Arrival) (p : Arrival) (t taken : ℕ) (rows : List Row) → 1 ≤ p.lead → Any (IsRowOf p) rows → Any (IsRowOf p) (rows_after bounds here t taken rows)
+rows-kept : (bounds : List ℕ) (here : List Arrival) (p : Arrival) (t taken : ℕ) (rows : List Row) → 1 ≤ p.lead → Any (IsRowOf p) rows
+    → Any (IsRowOf p) (rows_after bounds here t taken rows)
 unfolding rows_after
 rows-kept bounds here p t taken [] some any = absurd any
 rows-kept bounds here p t taken (row ∷ rows) some (inl is) = inl (step-kept (step_of bounds here t row) p t (suc taken) row some is)
 rows-kept bounds here p t taken (row ∷ rows) some (inr any) = inr (rows-kept bounds here p t (taken + taken_by (step_of bounds here t row)) rows some any)
 
 -- what a source brings is of its row
-step-brings : (step : SourceStep) (t place : ℕ) (row : Row) → Each (λ p. IsRowOf p (row_after step t place row)) (packet_of step t place row)
+step-brings : (step : SourceStep) (t place : ℕ) (row : Row)
+    → Each (λ p. IsRowOf p (row_after step t place row)) (packet_of step t place row)
 step-brings Rests t place row = tt
 step-brings Drops t place row = tt
 step-brings (Brings size) t place row = (refl, tt)
 
-sources-bring : (bounds : List ℕ) (here : List Arrival) (t taken : ℕ) (rows : List Row) → Each (λ p. Any (IsRowOf p) (rows_after bounds here t taken rows)) (source_packets bounds here t taken rows)
+sources-bring : (bounds : List ℕ) (here : List Arrival) (t taken : ℕ) (rows : List Row)
+    → Each (λ p. Any (IsRowOf p) (rows_after bounds here t taken rows)) (source_packets bounds here t taken rows)
 unfolding source_packets rows_after
 sources-bring bounds here t taken [] = tt
 sources-bring bounds here t taken (row ∷ rows) =
@@ -153,13 +162,15 @@ abbrev HaveRows : ℕ → Scan → Type 0
 HaveRows levels scan = Each (HasRow levels scan.rows scan.gone) scan.packets
 
 -- packets with leads stay with their rows, where the rows held keep their leads
-have-with : (levels : ℕ) (scan : Scan) (rows : List Row) → ((p : Arrival) → 1 ≤ p.lead → Any (IsRowOf p) scan.rows → Any (IsRowOf p) rows) → Each (IsLedUpTo (length scan.packets)) scan.packets → HaveRows levels scan → HaveRows levels (record scan { rows = rows })
+have-with : (levels : ℕ) (scan : Scan) (rows : List Row) → ((p : Arrival) → 1 ≤ p.lead → Any (IsRowOf p) scan.rows → Any (IsRowOf p) rows)
+    → Each (IsLedUpTo (length scan.packets)) scan.packets → HaveRows levels scan → HaveRows levels (record scan { rows = rows })
 have-with levels scan rows keeps leads have =
     Each-if (λ p. IsLedUpTo (length scan.packets) p × HasRow levels scan.rows scan.gone p) (HasRow levels rows scan.gone) scan.packets
     (λ p both. record { one = λ upto. ⊎_elim (λ (held : Any (IsRowOf p) scan.rows). inl (keeps p both.0.some held)) (λ (gone : Any (IsRowOf p) scan.gone). inr gone) (both.1.one upto) })
     (Each-both (IsLedUpTo (length scan.packets)) (HasRow levels scan.rows scan.gone) scan.packets leads have)
 
-have-taken : (levels t : ℕ) (packet : Packet) (scan : Scan) (row : Row) → find (is_row_of packet.chan) scan.rows ≡ Some row → Each (IsLedUpTo (length scan.packets)) scan.packets → HaveRows levels scan → HaveRows levels (with_arrival t packet scan (Some row))
+have-taken : (levels t : ℕ) (packet : Packet) (scan : Scan) (row : Row) → find (is_row_of packet.chan) scan.rows ≡ Some row
+    → Each (IsLedUpTo (length scan.packets)) scan.packets → HaveRows levels scan → HaveRows levels (with_arrival t packet scan (Some row))
 unfolding with_arrival
 have-taken levels t packet scan row is leads have =
     let rows : List Row = change_first (is_row_of packet.chan) (arrived_row t (suc (length scan.packets)) packet) scan.rows in
@@ -169,12 +180,14 @@ have-taken levels t packet scan row is leads have =
     (record { one = λ upto. inl (Any-found (IsRowOf (arrived_packet t (suc (length scan.packets)) packet row)) (is_row_of packet.chan) (arrived_row t (suc (length scan.packets)) packet) row scan.rows is refl) }, tt)
 
 -- a best-effort packet is of none of the levels
-have-best : (levels t place : ℕ) (bounds : List ℕ) (rows gone : List Row) (step : SourceStep) → levels ≡ length bounds → Each (HasRow levels rows gone) (best_packet step bounds place t)
+have-best : (levels t place : ℕ) (bounds : List ℕ) (rows gone : List Row) (step : SourceStep) → levels ≡ length bounds
+    → Each (HasRow levels rows gone) (best_packet step bounds place t)
 have-best levels t place bounds rows gone Rests same = tt
 have-best levels t place bounds rows gone Drops same = tt
 have-best levels t place bounds rows gone (Brings size) same = (record { one = λ upto. absurd (omega (arith, upto, same)) }, tt)
 
-have-tick : (shape : LinkShape) (t : ℕ) (scan : Scan) → Each (IsLedUpTo (length scan.packets)) scan.packets → HaveRows (length shape.bounds) scan → HaveRows (length shape.bounds) (after_tick shape t scan)
+have-tick : (shape : LinkShape) (t : ℕ) (scan : Scan) → Each (IsLedUpTo (length scan.packets)) scan.packets
+    → HaveRows (length shape.bounds) scan → HaveRows (length shape.bounds) (after_tick shape t scan)
 unfolding after_tick with_best with_sources without_expired
 have-tick shape t scan leads have = ticked (filter (stays shape.bounds t) scan.rows) (filter (expires shape.bounds t) scan.rows) (here_at shape.rate scan.packets t) (best_step_at shape t scan) (λ p any. Any-split (IsRowOf p) (expires shape.bounds t) scan.rows any) where
   ticked : (held expired : List Row) (here : List Arrival) (step : SourceStep) → ((p : Arrival) → Any (IsRowOf p) scan.rows → Any (IsRowOf p) held ⊎ Any (IsRowOf p) expired) → Each (HasRow (length shape.bounds) (rows_after shape.bounds here t (length scan.packets) held) (scan.gone ++ expired)) ((scan.packets ++ source_packets shape.bounds here t (length scan.packets) held) ++ best_packet step shape.bounds (suc (length (scan.packets ++ source_packets shape.bounds here t (length scan.packets) held))) t)
@@ -198,13 +211,16 @@ have-tick shape t scan leads have = ticked (filter (stays shape.bounds t) scan.r
       (have-best (length shape.bounds) t (suc (length (scan.packets ++ source_packets shape.bounds here t (length scan.packets) held))) shape.bounds (rows_after shape.bounds here t (length scan.packets) held) (scan.gone ++ expired) step refl)
 
 -- a row that is denied has no packets
-none-denied : (t : ℕ) (scan : Scan) (p : Arrival) (row : Row) → row.ticks ≡ [] → HasSource t row (own_packets row scan.packets) → Among p scan.packets → IsRowOf p row → ⊥
+none-denied : (t : ℕ) (scan : Scan) (p : Arrival) (row : Row) → row.ticks ≡ [] → HasSource t row (own_packets row scan.packets)
+    → Among p scan.packets → IsRowOf p row → ⊥
 none-denied t scan p row none source among is =
     let nothing : length (own_packets row scan.packets) ≡ 0 = sym (length-map (own_packets row scan.packets) eligible_of) ∙ ap length (sym source.eligible) ∙ ap (λ ticks. length (reverse ticks)) none in
     let some = Among-some p (own_packets row scan.packets) (Among-passes (has_lead row.lead) p scan.packets (eq-eqb p.lead row.lead (sym is)) among) in
     omega (arith, nothing, some)
 
-have-removed : (levels t : ℕ) (shape : LinkShape) (scan : Scan) (chan : ChanNo) → ((row : Row) → find (is_row_of chan) scan.rows ≡ Some row → row.terms.phase ≡ Tentative) → ScanInOrder shape t scan → ScanServed t scan → HaveRows levels scan → HaveRows levels (record scan { rows = without_first (is_row_of chan) scan.rows })
+have-removed : (levels t : ℕ) (shape : LinkShape) (scan : Scan) (chan : ChanNo)
+    → ((row : Row) → find (is_row_of chan) scan.rows ≡ Some row → row.terms.phase ≡ Tentative) → ScanInOrder shape t scan
+    → ScanServed t scan → HaveRows levels scan → HaveRows levels (record scan { rows = without_first (is_row_of chan) scan.rows })
 have-removed levels t shape scan chan tentative order served have =
     Each-from_among (HasRow levels (without_first (is_row_of chan) scan.rows) scan.gone) scan.packets (λ p among. record {
       one = λ upto. ⊎_elim
@@ -217,7 +233,8 @@ have-removed levels t shape scan chan tentative order served have =
           ((Each-among (HasRow levels scan.rows scan.gone) p scan.packets have among).one upto);
     })
 
-have-effect : (shape : LinkShape) (t : ℕ) (scan : Scan) (effect : Effect) → EffectFits shape t scan effect → ScanInOrder shape t scan → ScanServed t scan → HaveRows (length shape.bounds) scan → HaveRows (length shape.bounds) (with_effect shape t scan effect)
+have-effect : (shape : LinkShape) (t : ℕ) (scan : Scan) (effect : Effect) → EffectFits shape t scan effect → ScanInOrder shape t scan
+    → ScanServed t scan → HaveRows (length shape.bounds) scan → HaveRows (length shape.bounds) (with_effect shape t scan effect)
 unfolding with_effect
 have-effect shape t scan (Adds terms) fits order served have =
     have-with (length shape.bounds) scan (scan.rows ++ new_row terms ∷ []) (λ p some any. Any-append-left (IsRowOf p) scan.rows _ any) served.stand.leads have

@@ -49,26 +49,27 @@ rows-stay bounds until t [] each before = refl
 rows-stay bounds until t (row ∷ rows) each before =
     rw (each.0.stays t (omega arith) before) (ap (λ rest. row ∷ rest) (rows-stay bounds until t rows each.1 before))
 
--- they bring no packet, drop none, and stay as they are
-rows-bring : (bounds : List ℕ) (here : List Arrival) (until t taken : ℕ) (rows : List AccountRow) → Each (RowRests bounds t until) rows → t < until → account_packets bounds here t taken rows ≡ []
-unfolding account_packets
-rows-bring bounds here until t taken [] each before = refl
-rows-bring bounds here until t taken (row ∷ rows) each before =
-    rw (row-rests bounds here until t row each.0.plans before) (rows-bring bounds here until t (taken + 0) rows each.1 before)
+module _ (bounds : List ℕ) (here : List Arrival) (until t : ℕ) where
+  -- they bring no packet, drop none, and stay as they are
+  rows-bring : (taken : ℕ) (rows : List AccountRow) → Each (RowRests bounds t until) rows → t < until → account_packets bounds here t taken rows ≡ []
+  unfolding account_packets
+  rows-bring taken [] each before = refl
+  rows-bring taken (row ∷ rows) each before =
+      rw (row-rests bounds here until t row each.0.plans before) (rows-bring (taken + 0) rows each.1 before)
 
-rows-lose : (bounds : List ℕ) (here : List Arrival) (until t : ℕ) (rows : List AccountRow) → Each (RowRests bounds t until) rows → t < until → account_dropped bounds here t rows ≡ 0
-unfolding account_dropped
-rows-lose bounds here until t [] each before = refl
-rows-lose bounds here until t (row ∷ rows) each before =
-    rw (row-rests bounds here until t row each.0.plans before) (omega (arith, rows-lose bounds here until t rows each.1 before))
+  rows-lose : (rows : List AccountRow) → Each (RowRests bounds t until) rows → t < until → account_dropped bounds here t rows ≡ 0
+  unfolding account_dropped
+  rows-lose [] each before = refl
+  rows-lose (row ∷ rows) each before =
+      rw (row-rests bounds here until t row each.0.plans before) (omega (arith, rows-lose rows each.1 before))
 
-rows-same : (bounds : List ℕ) (here : List Arrival) (until t taken : ℕ) (rows : List AccountRow) → Each (RowRests bounds t until) rows → t < until → account_rows_after bounds here t taken rows ≡ rows
-unfolding account_rows_after
-rows-same bounds here until t taken [] each before = refl
-rows-same bounds here until t taken (row ∷ rows) each before =
-    rw (row-rests bounds here until t row each.0.plans before)
-    (ap (λ first. first ∷ account_rows_after bounds here t (taken + 0) rows) (row-past until t row each.0.plans before)
-    ∙ ap (λ rest. row ∷ rest) (rows-same bounds here until t (taken + 0) rows each.1 before))
+  rows-same : (taken : ℕ) (rows : List AccountRow) → Each (RowRests bounds t until) rows → t < until → account_rows_after bounds here t taken rows ≡ rows
+  unfolding account_rows_after
+  rows-same taken [] each before = refl
+  rows-same taken (row ∷ rows) each before =
+      rw (row-rests bounds here until t row each.0.plans before)
+      (ap (λ first. first ∷ account_rows_after bounds here t (taken + 0) rows) (row-past until t row each.0.plans before)
+      ∙ ap (λ rest. row ∷ rest) (rows-same (taken + 0) rows each.1 before))
 
 -- ---- the service
 
@@ -78,59 +79,61 @@ none-eligible until t (p ∷ here) each before =
     let from = each.0 in
     rw (lt-leb p.eligible t (omega (arith, from, before))) (none-eligible until t here each.1 before)
 
--- none starts
-none-served : (rate until t : ℕ) (here : List Arrival) → Each (IsEligibleFrom until) here → t < until → served t here None ≡ None
-unfolding first_in_line
-none-served rate until t here each before = rw (none-eligible until t here each before) refl
+module _ (rate until t : ℕ) (here : List Arrival) where
+  -- none starts
+  none-served : Each (IsEligibleFrom until) here → t < until → served t here None ≡ None
+  unfolding first_in_line
+  none-served each before = rw (none-eligible until t here each before) refl
 
--- what is on the link stays on it, and those here stay here
-on-stays : (rate until t : ℕ) (here : List Arrival) (on : Option Start) → ServiceRests rate until here on → t < until → still_on rate t (served t here on) ≡ on
-on-stays rate until t here None rests before = rw (none-served rate until t here rests before) refl
-on-stays rate until t here (Some start) rests before = rw (lt-leb (leaves_at rate start) (suc t) (omega (arith, rests, before))) refl
+  -- what is on the link stays on it, and those here stay here
+  on-stays : (on : Option Start) → ServiceRests rate until here on → t < until → still_on rate t (served t here on) ≡ on
+  on-stays None rests before = rw (none-served rests before) refl
+  on-stays (Some start) rests before = rw (lt-leb (leaves_at rate start) (suc t) (omega (arith, rests, before))) refl
 
-here-stays : (rate until t : ℕ) (here : List Arrival) (on : Option Start) → ServiceRests rate until here on → t < until → still_here rate t (served t here on) here ≡ here
-here-stays rate until t here None rests before = rw (none-served rate until t here rests before) refl
-here-stays rate until t here (Some start) rests before = rw (lt-leb (leaves_at rate start) (suc t) (omega (arith, rests, before))) refl
+  here-stays : (on : Option Start) → ServiceRests rate until here on → t < until → still_here rate t (served t here on) here ≡ here
+  here-stays None rests before = rw (none-served rests before) refl
+  here-stays (Some start) rests before = rw (lt-leb (leaves_at rate start) (suc t) (omega (arith, rests, before))) refl
 
--- and nothing departs
-none-departs : (shape : LinkShape) (until t : ℕ) (here : List Arrival) (on : Option Start) → ServiceRests shape.rate until here on → t < until → departs shape t (served t here on) ≡ None
-none-departs shape until t here None rests before = rw (none-served shape.rate until t here rests before) refl
-none-departs shape until t here (Some start) rests before =
-    rw (ne_eqb (leaves_at shape.rate start) (suc t) (λ same. omega (arith, rests, before, same))) refl
+module _ (shape : LinkShape) (until : ℕ) where
+  -- and nothing departs
+  none-departs : (t : ℕ) (here : List Arrival) (on : Option Start) → ServiceRests shape.rate until here on → t < until → departs shape t (served t here on) ≡ None
+  none-departs t here None rests before = rw (none-served shape.rate until t here rests before) refl
+  none-departs t here (Some start) rests before =
+      rw (ne_eqb (leaves_at shape.rate start) (suc t) (λ same. omega (arith, rests, before, same))) refl
 
-no-best-departs : (shape : LinkShape) (until t : ℕ) (here : List Arrival) (on : Option Start) → ServiceRests shape.rate until here on → t < until → best_departs shape t (served t here on) ≡ false
-no-best-departs shape until t here None rests before = rw (none-served shape.rate until t here rests before) refl
-no-best-departs shape until t here (Some start) rests before =
-    rw (ne_eqb (leaves_at shape.rate start) (suc t) (λ same. omega (arith, rests, before, same))) refl
+  no-best-departs : (t : ℕ) (here : List Arrival) (on : Option Start) → ServiceRests shape.rate until here on → t < until → best_departs shape t (served t here on) ≡ false
+  no-best-departs t here None rests before = rw (none-served shape.rate until t here rests before) refl
+  no-best-departs t here (Some start) rests before =
+      rw (ne_eqb (leaves_at shape.rate start) (suc t) (λ same. omega (arith, rests, before, same))) refl
 
--- ---- one tick
+  -- ---- one tick
 
-rows-held : (shape : LinkShape) (until : ℕ) (k : Account) → RestsUntil shape until k → k.clock < until → held_rows shape k ≡ k.rows
-rows-held shape until k rests before = rows-stay shape.bounds until k.clock k.rows rests.rows before
+  rows-held : (k : Account) → RestsUntil shape until k → k.clock < until → held_rows shape k ≡ k.rows
+  rows-held k rests before = rows-stay shape.bounds until k.clock k.rows rests.rows before
 
-best-rests : (shape : LinkShape) (until : ℕ) (k : Account) → RestsUntil shape until k → k.clock < until → account_best shape k ≡ Rests
-unfolding account_best best_step
-best-rests shape until k rests before = rw (none-planned until k.clock k.best_left rests.best before) refl
+  best-rests : (k : Account) → RestsUntil shape until k → k.clock < until → account_best shape k ≡ Rests
+  unfolding account_best best_step
+  best-rests k rests before = rw (none-planned until k.clock k.best_left rests.best before) refl
 
-none-brought : (shape : LinkShape) (until : ℕ) (k : Account) → RestsUntil shape until k → k.clock < until → brought shape k ≡ []
-none-brought shape until k rests before =
-    rw (rows-held shape until k rests before)
-    (rw (rows-bring shape.bounds k.here until k.clock k.taken k.rows rests.rows before)
-    (rw (best-rests shape until k rests before) refl))
+  none-brought : (k : Account) → RestsUntil shape until k → k.clock < until → brought shape k ≡ []
+  none-brought k rests before =
+      rw (rows-held k rests before)
+      (rw (rows-bring shape.bounds k.here until k.clock k.taken k.rows rests.rows before)
+      (rw (best-rests k rests before) refl))
 
-same-present : (shape : LinkShape) (until : ℕ) (k : Account) → RestsUntil shape until k → k.clock < until → present shape k ≡ k.here
-same-present shape until k rests before = ap (λ new. k.here ++ new) (none-brought shape until k rests before) ∙ append-nil k.here
+  same-present : (k : Account) → RestsUntil shape until k → k.clock < until → present shape k ≡ k.here
+  same-present k rests before = ap (λ new. k.here ++ new) (none-brought k rests before) ∙ append-nil k.here
 
-pub quiet-after : (shape : LinkShape) (until : ℕ) (k : Account) → RestsUntil shape until k → k.clock < until → account_after_tick shape k ≡ record k { clock = suc k.clock }
-unfolding account_after_tick
-quiet-after shape until k rests before =
-    let same = same-present shape until k rests before in
-    same-kept (account_after_tick shape k) (record k { clock = suc k.clock }) refl
-    (ap (λ new. k.taken + length new) (none-brought shape until k rests before) ∙ omega arith)
-    (ap (account_rows_after shape.bounds k.here k.clock k.taken) (rows-held shape until k rests before) ∙ rows-same shape.bounds k.here until k.clock k.taken k.rows rests.rows before)
-    (ap (λ here. still_here shape.rate k.clock (served k.clock here k.on) here) same ∙ here-stays shape.rate until k.clock k.here k.on rests.service before)
-    (ap (λ here. still_on shape.rate k.clock (served k.clock here k.on)) same ∙ on-stays shape.rate until k.clock k.here k.on rests.service before)
-    (all-left until k.clock k.best_left rests.best before)
+  pub quiet-after : (k : Account) → RestsUntil shape until k → k.clock < until → account_after_tick shape k ≡ record k { clock = suc k.clock }
+  unfolding account_after_tick
+  quiet-after k rests before =
+      let same = same-present k rests before in
+      same-kept (account_after_tick shape k) (record k { clock = suc k.clock }) refl
+      (ap (λ new. k.taken + length new) (none-brought k rests before) ∙ omega arith)
+      (ap (account_rows_after shape.bounds k.here k.clock k.taken) (rows-held k rests before) ∙ rows-same shape.bounds k.here until k.clock k.taken k.rows rests.rows before)
+      (ap (λ here. still_here shape.rate k.clock (served k.clock here k.on) here) same ∙ here-stays shape.rate until k.clock k.here k.on rests.service before)
+      (ap (λ here. still_on shape.rate k.clock (served k.clock here k.on)) same ∙ on-stays shape.rate until k.clock k.here k.on rests.service before)
+      (all-left until k.clock k.best_left rests.best before)
 
 same-tick : (t lost : ℕ) (sent : Option Sent) (best_sent best_lost : Bool) → lost ≡ 0 → sent ≡ None → best_sent ≡ false → best_lost ≡ false → Ticked t lost sent best_sent best_lost ≡ quiet_reply t
 same-tick t lost sent best_sent best_lost none left kept held = rw (none, left, kept, held) refl

@@ -108,72 +108,73 @@ lead-other taken lead p row other upto is apart same =
     (λ (old : (1 ≤ row.lead) × (lead_with row.lead (suc taken) ≡ row.lead)). apart old.0 (sym old.1 ∙ sym is ∙ same))
     (lead-cases row.lead (suc taken))
 
--- the head of the rows takes a packet, and goes beside the others
-pub stand-takes : (P Q : Row → List Arrival → Type 0) (packets : List Arrival) (others rows : List Row) (row after : Row) (p : Arrival) (place : ℕ) → suc (length packets) ≡ place → after.lead ≡ lead_with row.lead place → p.lead ≡ lead_with row.lead place → P after (own_packets row packets ++ p ∷ []) → RowsStand P Q packets others (row ∷ rows) → RowsStand P Q (packets ++ p ∷ []) (after ∷ others) rows
-stand-takes P Q packets others rows row after p place next lead is fact stand =
-    let lead' : after.lead ≡ lead_with row.lead (suc (length packets)) = lead ∙ ap (lead_with row.lead) (sym next) in
-    let is' : p.lead ≡ lead_with row.lead (suc (length packets)) = is ∙ ap (lead_with row.lead) (sym next) in
-    let more : length (packets ++ p ∷ []) ≡ length packets + 1 = length_push packets p in
-    let own : own_packets after (packets ++ p ∷ []) ≡ own_packets row packets ++ p ∷ [] =
-    ap (λ n. filter (has_lead n) (packets ++ p ∷ [])) lead' ∙ own-taken (length packets) row.lead packets p stand.leads is' in
-    let upto = stand.held.0.upto in
-    let bounds = lead-bounds row.lead (length packets) upto in
-    record {
-      leads = Each-append (IsLedUpTo (length (packets ++ p ∷ []))) packets (p ∷ [])
-          (Each-if (IsLedUpTo (length packets)) (IsLedUpTo (length (packets ++ p ∷ []))) packets (λ q led. record { some = led.some; upto = (let h = led.upto in omega (arith, h, more)) }) stand.leads)
-          (record { some = omega (arith, is', bounds); upto = omega (arith, is', bounds, more) }, tt);
-      beside = (
-        record {
-          fact = subst (P after) (sym own) fact;
-          upto = omega (arith, lead', bounds, more);
-          apart = Each-if (λ other. IsHeld Q packets other × IsApart row other) (IsApart after) rows (λ other both. (let under = both.0.upto in taken-apart (length packets) row after other under lead' both.1)) (Each-both (IsHeld Q packets) (IsApart row) rows stand.held.1 stand.apart.0);
-        },
-        Each-if (IsBeside P packets (row ∷ rows)) (IsBeside P (packets ++ p ∷ []) rows) others (λ other beside. record {
-          fact = subst (P other) (sym (own-same other.lead packets p (lead-other (length packets) row.lead p row other beside.upto is' (λ some same. (let zeroth = beside.apart.0 same in omega (arith, some, same, zeroth)))))) beside.fact;
-          upto = (let under = beside.upto in omega (arith, under, more));
-          apart = beside.apart.1;
-        }) stand.beside,
-      );
-      held = Each-if (λ other. IsHeld Q packets other × IsApart row other) (IsHeld Q (packets ++ p ∷ [])) rows (λ other both. record {
-        fact = subst (Q other) (sym (own-same other.lead packets p (lead-other (length packets) row.lead p row other both.0.upto is' (λ some same. (let zeroth = both.1 (sym same) in omega (arith, some, zeroth)))))) both.0.fact;
-        upto = (let under = both.0.upto in omega (arith, under, more));
-      }) (Each-both (IsHeld Q packets) (IsApart row) rows stand.held.1 stand.apart.0);
-      apart = stand.apart.1;
-    } where
-      lead-bounds : (lead taken : ℕ) → lead ≤ taken → (1 ≤ lead_with lead (suc taken)) × (lead_with lead (suc taken) ≤ suc taken)
-      lead-bounds lead taken upto =
-          ⊎_elim
-          (λ (new : (lead ≡ 0) × (lead_with lead (suc taken) ≡ suc taken)). (let e = new.1 in (omega (arith, e), omega (arith, e))))
-          (λ (old : (1 ≤ lead) × (lead_with lead (suc taken) ≡ lead)). (let e = old.1 in let some = old.0 in (omega (arith, e, some), omega (arith, e, upto))))
-          (lead-cases lead (suc taken))
+module _ (P Q : Row → List Arrival → Type 0) (packets : List Arrival) (others rows : List Row) (row after : Row) where
+  -- the head of the rows takes a packet, and goes beside the others
+  pub stand-takes : (p : Arrival) (place : ℕ) → suc (length packets) ≡ place → after.lead ≡ lead_with row.lead place → p.lead ≡ lead_with row.lead place → P after (own_packets row packets ++ p ∷ []) → RowsStand P Q packets others (row ∷ rows) → RowsStand P Q (packets ++ p ∷ []) (after ∷ others) rows
+  stand-takes p place next lead is fact stand =
+      let lead' : after.lead ≡ lead_with row.lead (suc (length packets)) = lead ∙ ap (lead_with row.lead) (sym next) in
+      let is' : p.lead ≡ lead_with row.lead (suc (length packets)) = is ∙ ap (lead_with row.lead) (sym next) in
+      let more : length (packets ++ p ∷ []) ≡ length packets + 1 = length_push packets p in
+      let own : own_packets after (packets ++ p ∷ []) ≡ own_packets row packets ++ p ∷ [] =
+      ap (λ n. filter (has_lead n) (packets ++ p ∷ [])) lead' ∙ own-taken (length packets) row.lead packets p stand.leads is' in
+      let upto = stand.held.0.upto in
+      let bounds = lead-bounds row.lead (length packets) upto in
+      record {
+        leads = Each-append (IsLedUpTo (length (packets ++ p ∷ []))) packets (p ∷ [])
+            (Each-if (IsLedUpTo (length packets)) (IsLedUpTo (length (packets ++ p ∷ []))) packets (λ q led. record { some = led.some; upto = (let h = led.upto in omega (arith, h, more)) }) stand.leads)
+            (record { some = omega (arith, is', bounds); upto = omega (arith, is', bounds, more) }, tt);
+        beside = (
+          record {
+            fact = subst (P after) (sym own) fact;
+            upto = omega (arith, lead', bounds, more);
+            apart = Each-if (λ other. IsHeld Q packets other × IsApart row other) (IsApart after) rows (λ other both. (let under = both.0.upto in taken-apart (length packets) row after other under lead' both.1)) (Each-both (IsHeld Q packets) (IsApart row) rows stand.held.1 stand.apart.0);
+          },
+          Each-if (IsBeside P packets (row ∷ rows)) (IsBeside P (packets ++ p ∷ []) rows) others (λ other beside. record {
+            fact = subst (P other) (sym (own-same other.lead packets p (lead-other (length packets) row.lead p row other beside.upto is' (λ some same. (let zeroth = beside.apart.0 same in omega (arith, some, same, zeroth)))))) beside.fact;
+            upto = (let under = beside.upto in omega (arith, under, more));
+            apart = beside.apart.1;
+          }) stand.beside,
+        );
+        held = Each-if (λ other. IsHeld Q packets other × IsApart row other) (IsHeld Q (packets ++ p ∷ [])) rows (λ other both. record {
+          fact = subst (Q other) (sym (own-same other.lead packets p (lead-other (length packets) row.lead p row other both.0.upto is' (λ some same. (let zeroth = both.1 (sym same) in omega (arith, some, zeroth)))))) both.0.fact;
+          upto = (let under = both.0.upto in omega (arith, under, more));
+        }) (Each-both (IsHeld Q packets) (IsApart row) rows stand.held.1 stand.apart.0);
+        apart = stand.apart.1;
+      } where
+        lead-bounds : (lead taken : ℕ) → lead ≤ taken → (1 ≤ lead_with lead (suc taken)) × (lead_with lead (suc taken) ≤ suc taken)
+        lead-bounds lead taken upto =
+            ⊎_elim
+            (λ (new : (lead ≡ 0) × (lead_with lead (suc taken) ≡ suc taken)). (let e = new.1 in (omega (arith, e), omega (arith, e))))
+            (λ (old : (1 ≤ lead) × (lead_with lead (suc taken) ≡ lead)). (let e = old.1 in let some = old.0 in (omega (arith, e, some), omega (arith, e, upto))))
+            (lead-cases lead (suc taken))
 
--- those beside are apart from it then
-pub takes-apart : (P Q : Row → List Arrival → Type 0) (packets : List Arrival) (others rows : List Row) (row after : Row) (place : ℕ) → suc (length packets) ≡ place → after.lead ≡ lead_with row.lead place → RowsStand P Q packets others (row ∷ rows) → Each (λ other. IsApart other after) others
-takes-apart P Q packets others rows row after place next lead stand =
-    Each-if (IsBeside P packets (row ∷ rows)) (λ other. IsApart other after) others
-    (λ other beside. apart-taken (length packets) row after other beside.upto (lead ∙ ap (lead_with row.lead) (sym next)) beside.apart.0) stand.beside
+  -- those beside are apart from it then
+  pub takes-apart : (place : ℕ) → suc (length packets) ≡ place → after.lead ≡ lead_with row.lead place → RowsStand P Q packets others (row ∷ rows) → Each (λ other. IsApart other after) others
+  takes-apart place next lead stand =
+      Each-if (IsBeside P packets (row ∷ rows)) (λ other. IsApart other after) others
+      (λ other beside. apart-taken (length packets) row after other beside.upto (lead ∙ ap (lead_with row.lead) (sym next)) beside.apart.0) stand.beside
 
--- the head of the rows goes beside the others without a packet
-pub stand-rests : (P Q : Row → List Arrival → Type 0) (packets : List Arrival) (others rows : List Row) (row after : Row) → after.lead ≡ row.lead → P after (own_packets row packets) → RowsStand P Q packets others (row ∷ rows) → RowsStand P Q packets (after ∷ others) rows
-stand-rests P Q packets others rows row after lead fact stand =
-    record {
-      leads = stand.leads;
-      beside = (
-        record {
-          fact = subst (λ n. P after (filter (has_lead n) packets)) (sym lead) fact;
-          upto = (let under = stand.held.0.upto in omega (arith, under, lead));
-          apart = Each-if (IsApart row) (IsApart after) rows (λ other apart same. lead ∙ apart (same ∙ lead)) stand.apart.0;
-        },
-        Each-if (IsBeside P packets (row ∷ rows)) (IsBeside P packets rows) others (λ other beside. record { fact = beside.fact; upto = beside.upto; apart = beside.apart.1 }) stand.beside,
-      );
-      held = stand.held.1;
-      apart = stand.apart.1;
-    }
+  -- the head of the rows goes beside the others without a packet
+  pub stand-rests : after.lead ≡ row.lead → P after (own_packets row packets) → RowsStand P Q packets others (row ∷ rows) → RowsStand P Q packets (after ∷ others) rows
+  stand-rests lead fact stand =
+      record {
+        leads = stand.leads;
+        beside = (
+          record {
+            fact = subst (λ n. P after (filter (has_lead n) packets)) (sym lead) fact;
+            upto = (let under = stand.held.0.upto in omega (arith, under, lead));
+            apart = Each-if (IsApart row) (IsApart after) rows (λ other apart same. lead ∙ apart (same ∙ lead)) stand.apart.0;
+          },
+          Each-if (IsBeside P packets (row ∷ rows)) (IsBeside P packets rows) others (λ other beside. record { fact = beside.fact; upto = beside.upto; apart = beside.apart.1 }) stand.beside,
+        );
+        held = stand.held.1;
+        apart = stand.apart.1;
+      }
 
--- those beside are apart from it then
-pub rests-apart : (P Q : Row → List Arrival → Type 0) (packets : List Arrival) (others rows : List Row) (row after : Row) → after.lead ≡ row.lead → RowsStand P Q packets others (row ∷ rows) → Each (λ other. IsApart other after) others
-rests-apart P Q packets others rows row after lead stand =
-    Each-if (IsBeside P packets (row ∷ rows)) (λ other. IsApart other after) others (λ other beside same. beside.apart.0 (sym lead ∙ same)) stand.beside
+  -- those beside are apart from it then
+  pub rests-apart : after.lead ≡ row.lead → RowsStand P Q packets others (row ∷ rows) → Each (λ other. IsApart other after) others
+  rests-apart lead stand =
+      Each-if (IsBeside P packets (row ∷ rows)) (λ other. IsApart other after) others (λ other beside same. beside.apart.0 (sym lead ∙ same)) stand.beside
 
 -- one of those beside goes back to the head of the rows
 pub stand-back : (P : Row → List Arrival → Type 0) (packets : List Arrival) (others rows : List Row) (row : Row) → Each (λ other. IsApart other row) others → RowsStand P P packets (row ∷ others) rows → RowsStand P P packets others (row ∷ rows)
@@ -193,30 +194,31 @@ stand-back P packets others rows row apart stand =
 abbrev Onward : (Row → List Arrival → Type 0) → (Row → List Arrival → Type 0) → List ℕ → List Arrival → ℕ → List Row → Type 0
 Onward P Q bounds here t rows = (others : List Row) (packets : List Arrival) (taken : ℕ) → length packets ≡ taken → RowsStand P Q packets others rows → RowsStand P P (packets ++ source_packets bounds here t taken rows) others (rows_after bounds here t taken rows)
 
--- a row whose source brings nothing that is taken
-onward-rests : (P Q : Row → List Arrival → Type 0) (bounds : List ℕ) (here : List Arrival) (t : ℕ) (rows : List Row) → Onward P Q bounds here t rows → (others : List Row) (packets : List Arrival) (taken : ℕ) (row after : Row) → length packets ≡ taken → after.lead ≡ row.lead → P after (own_packets row packets ++ []) → RowsStand P Q packets others (row ∷ rows) → RowsStand P P (packets ++ source_packets bounds here t (taken + 0) rows) others (after ∷ rows_after bounds here t (taken + 0) rows)
-onward-rests P Q bounds here t rows onward others packets taken row after count lead fact stand =
-    stand-back P (packets ++ source_packets bounds here t (taken + 0) rows) others (rows_after bounds here t (taken + 0) rows) after (rests-apart P Q packets others rows row after lead stand)
-    (onward (after ∷ others) packets (taken + 0) (omega (arith, count)) (stand-rests P Q packets others rows row after lead (subst (P after) (append-nil (own_packets row packets)) fact) stand))
+module _ (P Q : Row → List Arrival → Type 0) (bounds : List ℕ) (here : List Arrival) (t : ℕ) where
+  -- a row whose source brings nothing that is taken
+  onward-rests : (rows : List Row) → Onward P Q bounds here t rows → (others : List Row) (packets : List Arrival) (taken : ℕ) (row after : Row) → length packets ≡ taken → after.lead ≡ row.lead → P after (own_packets row packets ++ []) → RowsStand P Q packets others (row ∷ rows) → RowsStand P P (packets ++ source_packets bounds here t (taken + 0) rows) others (after ∷ rows_after bounds here t (taken + 0) rows)
+  onward-rests rows onward others packets taken row after count lead fact stand =
+      stand-back P (packets ++ source_packets bounds here t (taken + 0) rows) others (rows_after bounds here t (taken + 0) rows) after (rests-apart P Q packets others rows row after lead stand)
+      (onward (after ∷ others) packets (taken + 0) (omega (arith, count)) (stand-rests P Q packets others rows row after lead (subst (P after) (append-nil (own_packets row packets)) fact) stand))
 
--- a row that takes a packet
-onward-takes : (P Q : Row → List Arrival → Type 0) (bounds : List ℕ) (here : List Arrival) (t : ℕ) (rows : List Row) → Onward P Q bounds here t rows → (others : List Row) (packets : List Arrival) (taken : ℕ) (row after : Row) (p : Arrival) → length packets ≡ taken → after.lead ≡ lead_with row.lead (suc taken) → p.lead ≡ lead_with row.lead (suc taken) → P after (own_packets row packets ++ p ∷ []) → RowsStand P Q packets others (row ∷ rows) → RowsStand P P (packets ++ (p ∷ [] ++ source_packets bounds here t (taken + 1) rows)) others (after ∷ rows_after bounds here t (taken + 1) rows)
-onward-takes P Q bounds here t rows onward others packets taken row after p count lead is fact stand =
-    subst (λ all. RowsStand P P all others (after ∷ rows_after bounds here t (taken + 1) rows)) (append_assoc packets (p ∷ []) (source_packets bounds here t (taken + 1) rows))
-    (stand-back P ((packets ++ p ∷ []) ++ source_packets bounds here t (taken + 1) rows) others (rows_after bounds here t (taken + 1) rows) after
-    (takes-apart P Q packets others rows row after (suc taken) (ap suc count) lead stand)
-    (onward (after ∷ others) (packets ++ p ∷ []) (taken + 1) (length_push packets p ∙ omega (arith, count))
-    (stand-takes P Q packets others rows row after p (suc taken) (ap suc count) lead is fact stand)))
+  -- a row that takes a packet
+  onward-takes : (rows : List Row) → Onward P Q bounds here t rows → (others : List Row) (packets : List Arrival) (taken : ℕ) (row after : Row) (p : Arrival) → length packets ≡ taken → after.lead ≡ lead_with row.lead (suc taken) → p.lead ≡ lead_with row.lead (suc taken) → P after (own_packets row packets ++ p ∷ []) → RowsStand P Q packets others (row ∷ rows) → RowsStand P P (packets ++ (p ∷ [] ++ source_packets bounds here t (taken + 1) rows)) others (after ∷ rows_after bounds here t (taken + 1) rows)
+  onward-takes rows onward others packets taken row after p count lead is fact stand =
+      subst (λ all. RowsStand P P all others (after ∷ rows_after bounds here t (taken + 1) rows)) (append_assoc packets (p ∷ []) (source_packets bounds here t (taken + 1) rows))
+      (stand-back P ((packets ++ p ∷ []) ++ source_packets bounds here t (taken + 1) rows) others (rows_after bounds here t (taken + 1) rows) after
+      (takes-apart P Q packets others rows row after (suc taken) (ap suc count) lead stand)
+      (onward (after ∷ others) (packets ++ p ∷ []) (taken + 1) (length_push packets p ∙ omega (arith, count))
+      (stand-takes P Q packets others rows row after p (suc taken) (ap suc count) lead is fact stand)))
 
--- where the step of each row's source leads from Q to P
-pub stand-sources : (P Q : Row → List Arrival → Type 0) (bounds : List ℕ) (here : List Arrival) (t : ℕ) → ((row : Row) (own : List Arrival) (place : ℕ) → Q row own → P (row_after (step_of bounds here t row) t place row) (own ++ packet_of (step_of bounds here t row) t place row)) → (rows : List Row) → Onward P Q bounds here t rows
-unfolding source_packets rows_after
-stand-sources P Q bounds here t step [] others packets taken count stand =
-    rw (append-nil packets) (record { leads = stand.leads; beside = stand.beside; held = tt; apart = tt })
-stand-sources P Q bounds here t step (row ∷ rows) others packets taken count stand =
-    by-step (stand-sources P Q bounds here t step rows) (step_of bounds here t row) (step row (own_packets row packets) (suc taken) stand.held.0.fact) where
-      by-step : Onward P Q bounds here t rows → (s : SourceStep) → P (row_after s t (suc taken) row) (own_packets row packets ++ packet_of s t (suc taken) row) → RowsStand P P (packets ++ (packet_of s t (suc taken) row ++ source_packets bounds here t (taken + taken_by s) rows)) others (row_after s t (suc taken) row ∷ rows_after bounds here t (taken + taken_by s) rows)
-      by-step onward (Brings size) fact =
-          onward-takes P Q bounds here t rows onward others packets taken row (row_after (Brings size) t (suc taken) row) (arrival_at row.terms row.lead (suc taken) (suc (length row.ticks)) size t (source_tick row t)) count refl refl fact stand
-      by-step onward Rests fact = onward-rests P Q bounds here t rows onward others packets taken row row count refl fact stand
-      by-step onward Drops fact = onward-rests P Q bounds here t rows onward others packets taken row (row_after Drops t (suc taken) row) count refl fact stand
+  -- where the step of each row's source leads from Q to P
+  pub stand-sources : ((row : Row) (own : List Arrival) (place : ℕ) → Q row own → P (row_after (step_of bounds here t row) t place row) (own ++ packet_of (step_of bounds here t row) t place row)) → (rows : List Row) → Onward P Q bounds here t rows
+  unfolding source_packets rows_after
+  stand-sources step [] others packets taken count stand =
+      rw (append-nil packets) (record { leads = stand.leads; beside = stand.beside; held = tt; apart = tt })
+  stand-sources step (row ∷ rows) others packets taken count stand =
+      by-step (stand-sources step rows) (step_of bounds here t row) (step row (own_packets row packets) (suc taken) stand.held.0.fact) where
+        by-step : Onward P Q bounds here t rows → (s : SourceStep) → P (row_after s t (suc taken) row) (own_packets row packets ++ packet_of s t (suc taken) row) → RowsStand P P (packets ++ (packet_of s t (suc taken) row ++ source_packets bounds here t (taken + taken_by s) rows)) others (row_after s t (suc taken) row ∷ rows_after bounds here t (taken + taken_by s) rows)
+        by-step onward (Brings size) fact =
+            onward-takes rows onward others packets taken row (row_after (Brings size) t (suc taken) row) (arrival_at row.terms row.lead (suc taken) (suc (length row.ticks)) size t (source_tick row t)) count refl refl fact stand
+        by-step onward Rests fact = onward-rests rows onward others packets taken row row count refl fact stand
+        by-step onward Drops fact = onward-rests rows onward others packets taken row (row_after Drops t (suc taken) row) count refl fact stand

@@ -47,14 +47,16 @@ abbrev pub ScanFits : LinkShape → ℕ → Scan → Type 0
 ScanFits shape t scan = RowsStand (IsFew shape (starts_below shape.rate scan.packets t) t) (IsFew shape (starts_below shape.rate scan.packets t) t) scan.packets scan.gone scan.rows
 
 -- a committed row has as many slots as a closing one
-pub slots-closed : (bounds : List ℕ) (count : ℕ) (terms : Reservation) → terms.phase ≡ Committed → slots_of bounds (closing count terms) ≡ slots_of bounds terms
+pub slots-closed : (bounds : List ℕ) (count : ℕ) (terms : Reservation) → terms.phase ≡ Committed
+    → slots_of bounds (closing count terms) ≡ slots_of bounds terms
 unfolding slots_of
 slots-closed bounds count terms is = rw is refl
 
 -- ---- one packet more
 
 -- one more is at most one more here
-one-more : (test : Arrival → Bool) (own : List Arrival) (p : Arrival) → length (filter test (own ++ p ∷ [])) ≤ suc (length (filter test own))
+one-more : (test : Arrival → Bool) (own : List Arrival) (p : Arrival)
+    → length (filter test (own ++ p ∷ [])) ≤ suc (length (filter test own))
 one-more test own p =
     let parts = filter-append test own (p ∷ []) in
     let lengths = ap length parts ∙ length-append (filter test own) (filter test (p ∷ [])) in
@@ -67,7 +69,9 @@ one-more test own p =
 -- ---- a tick
 
 -- a row after the step of its source
-few-step : (shape : LinkShape) (starts : List Start) (here : List Arrival) (t place : ℕ) (row : Row) (own : List Arrival) (slot : Bool) (found : Option SourcePacket) → has_slot shape.bounds row.terms row.lead here ≡ slot → IsCounted shape starts here t row own → IsFew shape starts t (row_after (source_step slot found) t place row) (own ++ packet_of (source_step slot found) t place row)
+few-step : (shape : LinkShape) (starts : List Start) (here : List Arrival) (t place : ℕ) (row : Row) (own : List Arrival) (slot : Bool) (found : Option SourcePacket)
+    → has_slot shape.bounds row.terms row.lead here ≡ slot → IsCounted shape starts here t row own
+    → IsFew shape starts t (row_after (source_step slot found) t place row) (own ++ packet_of (source_step slot found) t place row)
 few-step shape starts here t place row own slot None free counted = rw (append-nil own) (record { few = counted.few })
 few-step shape starts here t place row own true (Some p) free counted =
     let below : held_packets row.lead here < slots_of shape.bounds row.terms = ltb-true (held_packets row.lead here) (slots_of shape.bounds row.terms) free in
@@ -76,12 +80,15 @@ few-step shape starts here t place row own true (Some p) free counted =
     record { few = omega (arith, below, more, held) }
 few-step shape starts here t place row own false (Some p) free counted = rw (append-nil own) (record { few = counted.few })
 
-few-source : (shape : LinkShape) (starts : List Start) (here : List Arrival) (t : ℕ) (row : Row) (own : List Arrival) (place : ℕ) → IsCounted shape starts here t row own → IsFew shape starts t (row_after (step_of shape.bounds here t row) t place row) (own ++ packet_of (step_of shape.bounds here t row) t place row)
+few-source : (shape : LinkShape) (starts : List Start) (here : List Arrival) (t : ℕ) (row : Row) (own : List Arrival) (place : ℕ)
+    → IsCounted shape starts here t row own
+    → IsFew shape starts t (row_after (step_of shape.bounds here t row) t place row) (own ++ packet_of (step_of shape.bounds here t row) t place row)
 unfolding step_of
 few-source shape starts here t row own place counted = few-step shape starts here t place row own (has_slot shape.bounds row.terms row.lead here) (find (is_for t) row.plan) refl counted
 
 -- a test that passes less
-pub filter-fewer : (test less : Arrival → Bool) (packets : List Arrival) → Each (λ p. less p ≡ true → test p ≡ true) packets → length (filter less packets) ≤ length (filter test packets)
+pub filter-fewer : (test less : Arrival → Bool) (packets : List Arrival) → Each (λ p. less p ≡ true → test p ≡ true) packets
+    → length (filter less packets) ≤ length (filter test packets)
 filter-fewer test less [] passes = omega arith
 filter-fewer test less (p ∷ packets) passes =
     let rest = filter-fewer test less packets passes.1 in
@@ -94,7 +101,8 @@ filter-fewer test less (p ∷ packets) passes =
       by-test false rest = rest
 
 -- what is here a tick later was here before
-here-before : (rate : ℕ) (packets all : List Arrival) (t : ℕ) (p : Arrival) → starts_below rate all t ≡ starts_below rate packets t → is_here rate (starts_below rate all (suc t)) (suc t) p ≡ true → is_here rate (starts_below rate packets t) t p ≡ true
+here-before : (rate : ℕ) (packets all : List Arrival) (t : ℕ) (p : Arrival) → starts_below rate all t ≡ starts_below rate packets t
+    → is_here rate (starts_below rate all (suc t)) (suc t) p ≡ true → is_here rate (starts_below rate packets t) t p ≡ true
 here-before rate packets all t p same here =
     elim (cases_Bool (has_departed rate (starts_below rate packets t) t p)) [
       | inl gone ↦ (let before : has_departed rate (starts_below rate all t) t p ≡ true = ap (λ starts. has_departed rate starts t p) same ∙ gone in
@@ -103,20 +111,26 @@ here-before rate packets all t p same here =
       | inr still ↦ rw still refl
     ]
 
-few-later : (shape : LinkShape) (packets all : List Arrival) (t : ℕ) (row : Row) (own : List Arrival) → starts_below shape.rate all t ≡ starts_below shape.rate packets t → IsFew shape (starts_below shape.rate packets t) t row own → IsFew shape (starts_below shape.rate all (suc t)) (suc t) row own
+few-later : (shape : LinkShape) (packets all : List Arrival) (t : ℕ) (row : Row) (own : List Arrival)
+    → starts_below shape.rate all t ≡ starts_below shape.rate packets t → IsFew shape (starts_below shape.rate packets t) t row own
+    → IsFew shape (starts_below shape.rate all (suc t)) (suc t) row own
 few-later shape packets all t row own same is =
     let less = filter-fewer (is_here shape.rate (starts_below shape.rate packets t) t) (is_here shape.rate (starts_below shape.rate all (suc t)) (suc t)) own (Each-from _ own (λ p here. here-before shape.rate packets all t p same here)) in
     let few = is.few in
     record { few = omega (arith, less, few) }
 
 -- all rows and packets, where nothing else is asked of the rows
-stand-all : (P Q R S : Row → List Arrival → Type 0) (packets : List Arrival) (others rows : List Row) → ((row : Row) → P row (own_packets row packets) → R row (own_packets row packets)) → ((row : Row) → Q row (own_packets row packets) → S row (own_packets row packets)) → RowsStand P Q packets others rows → RowsStand R S packets others rows
+stand-all : (P Q R S : Row → List Arrival → Type 0) (packets : List Arrival) (others rows : List Row)
+    → ((row : Row) → P row (own_packets row packets) → R row (own_packets row packets))
+    → ((row : Row) → Q row (own_packets row packets) → S row (own_packets row packets)) → RowsStand P Q packets others rows
+    → RowsStand R S packets others rows
 stand-all P Q R S packets others rows aside within stand =
     stand-if P Q R S (λ row. Unit {0}) (λ row. Unit {0}) packets others rows (λ row none fact. aside row fact) (λ row none fact. within row fact)
     (Each-from (λ row. Unit {0}) others (λ row. tt)) (Each-from (λ row. Unit {0}) rows (λ row. tt)) stand
 
 -- the rows and packets of the tick, with the starts before it
-stand-tick : (shape : LinkShape) (t : ℕ) (scan : Scan) → ScanFits shape t scan → RowsStand (IsFew shape (starts_below shape.rate scan.packets t) t) (IsFew shape (starts_below shape.rate scan.packets t) t) (after_tick shape t scan).packets (after_tick shape t scan).gone (after_tick shape t scan).rows
+stand-tick : (shape : LinkShape) (t : ℕ) (scan : Scan) → ScanFits shape t scan
+    → RowsStand (IsFew shape (starts_below shape.rate scan.packets t) t) (IsFew shape (starts_below shape.rate scan.packets t) t) (after_tick shape t scan).packets (after_tick shape t scan).gone (after_tick shape t scan).rows
 unfolding after_tick with_best with_sources without_expired
 stand-tick shape t scan fits =
     let ready = stand-all (IsFew shape (starts_below shape.rate scan.packets t) t) (IsFew shape (starts_below shape.rate scan.packets t) t) (IsFew shape (starts_below shape.rate scan.packets t) t) (IsCounted shape (starts_below shape.rate scan.packets t) (here_at shape.rate scan.packets t) t) scan.packets
@@ -142,19 +156,24 @@ fits-tick shape t scan fits =
 -- ---- the other entries
 
 -- a tentative row has no packets, and so few at any level
-few-relaxed : (shape : LinkShape) (starts : List Start) (t u up_bound : ℕ) (level : Level) (row : Row) (own : List Arrival) → row.ticks ≡ [] → HasSource u row own → IsFew shape starts t (relax_row level up_bound row) own
+few-relaxed : (shape : LinkShape) (starts : List Start) (t u up_bound : ℕ) (level : Level) (row : Row) (own : List Arrival) → row.ticks ≡ []
+    → HasSource u row own → IsFew shape starts t (relax_row level up_bound row) own
 few-relaxed shape starts t u up_bound level row own none source = record { few = subst (λ all. length (filter (is_here shape.rate starts t) all) ≤ slots_of shape.bounds (relax_row level up_bound row).terms) (sym (no-packets own (sym source.eligible ∙ ap reverse none))) (omega arith) }
 
 -- a committed row keeps its slots when it closes
-few-closed : (shape : LinkShape) (starts : List Start) (t u count : ℕ) (row : Row) (own : List Arrival) → row.terms.phase ≡ Committed → IsFew shape starts t row own → IsFew shape starts t (close_row u count row) own
+few-closed : (shape : LinkShape) (starts : List Start) (t u count : ℕ) (row : Row) (own : List Arrival) → row.terms.phase ≡ Committed
+    → IsFew shape starts t row own → IsFew shape starts t (close_row u count row) own
 few-closed shape starts t u count row own is few = record { few = subst (λ n. length (filter (is_here shape.rate starts t) own) ≤ n) (sym (slots-closed shape.bounds count row.terms is)) few.few }
 
-few-changed : (shape : LinkShape) (starts : List Start) (t : ℕ) (change : Change) (row : Row) (own : List Arrival) → ChangeFits shape t change row → IsInOrder shape t row → HasSource t row own → IsFew shape starts t row own → IsFew shape starts t (changed_row t change row) own
+few-changed : (shape : LinkShape) (starts : List Start) (t : ℕ) (change : Change) (row : Row) (own : List Arrival)
+    → ChangeFits shape t change row → IsInOrder shape t row → HasSource t row own → IsFew shape starts t row own
+    → IsFew shape starts t (changed_row t change row) own
 few-changed shape starts t (Commits level up_bound) row own fits order source few = few-relaxed shape starts t t up_bound level row own (order.fresh fits.offer.phase).0 source
 few-changed shape starts t (Plans count gap size) row own fits order source few = record { few = few.few }
 few-changed shape starts t (Closes first count) row own fits order source few = few-closed shape starts t t count row own fits.phase few
 
-fits-taken : (shape : LinkShape) (t : ℕ) (packet : Packet) (scan : Scan) (row : Row) → TakeFits shape t scan packet row → ScanFits shape t scan → ScanFits shape t (with_arrival t packet scan (Some row))
+fits-taken : (shape : LinkShape) (t : ℕ) (packet : Packet) (scan : Scan) (row : Row) → TakeFits shape t scan packet row
+    → ScanFits shape t scan → ScanFits shape t (with_arrival t packet scan (Some row))
 unfolding with_arrival
 fits-taken shape t packet scan row own fits =
     let takes = own.takes in
@@ -166,7 +185,8 @@ fits-taken shape t packet scan row own fits =
     (λ fact. (let more = one-more (is_here shape.rate (starts_below shape.rate scan.packets t) t) (own_packets row scan.packets) (arrived_packet t (suc (length scan.packets)) packet row) in record { few = omega (arith, more, below, held) }))
     scan.rows scan.gone own.found fits)
 
-fits-effect : (shape : LinkShape) (t : ℕ) (scan : Scan) (effect : Effect) → EffectFits shape t scan effect → ScanInOrder shape t scan → ScanServed t scan → ScanFits shape t scan → ScanFits shape (clock_by effect t) (with_effect shape t scan effect)
+fits-effect : (shape : LinkShape) (t : ℕ) (scan : Scan) (effect : Effect) → EffectFits shape t scan effect → ScanInOrder shape t scan
+    → ScanServed t scan → ScanFits shape t scan → ScanFits shape (clock_by effect t) (with_effect shape t scan effect)
 unfolding with_effect
 fits-effect shape t scan (Adds terms) own order served fits =
     stand-reserved (IsFew shape (starts_below shape.rate scan.packets t) t) scan.packets scan.gone scan.rows (new_row terms) refl (record { few = omega arith }) fits

@@ -104,7 +104,8 @@ run-next : (network : Network) (done : Done) (past : List Done) → IsRun networ
 unfolding IsRun
 run-next network done past run = run.1
 
-run-below : (network : Network) (stamp : ℕ) (xs : List Stamped) → Falls xs → IsRun network (map done_of xs) → IsRun network (map done_of (below stamp xs))
+run-below : (network : Network) (stamp : ℕ) (xs : List Stamped) → Falls xs → IsRun network (map done_of xs)
+    → IsRun network (map done_of (below stamp xs))
 run-below network stamp [] falls run = run
 run-below network stamp (x ∷ xs) falls run = elim (cases_lt x.stamp stamp) [
   | inl less ↦ subst (λ ys. IsRun network (map done_of ys)) (sym (below-all stamp (x ∷ xs) (less, under-more x.stamp stamp xs (omega (arith, less)) falls.0))) run
@@ -150,7 +151,9 @@ pub record NextTold (network : Network) (journals : List Journal) (place stamp :
   pub next : IsNext network (weave_below stamp journals) (done_on journal.link entry)
 
 -- no other journal has its stamp
-others-not : (network : Network) (passes : List Token) (journals : List Journal) (place stamp l : ℕ) (journal other : Journal) → IsWhole network passes journals → slice_get journals place ≡ Some journal → NextIn stamp journal.entries → l ≢ place → slice_get journals l ≡ Some other → HasNot stamp other
+others-not : (network : Network) (passes : List Token) (journals : List Journal) (place stamp l : ℕ) (journal other : Journal)
+    → IsWhole network passes journals → slice_get journals place ≡ Some journal → NextIn stamp journal.entries → l ≢ place
+    → slice_get journals l ≡ Some other → HasNot stamp other
 others-not network passes journals place stamp l journal other whole found next ne there = elim (cases_Bool (has_stamp stamp other.entries)) [
   | inl has ↦ absurd (
       let rises = Each-at (λ (j : Journal). StampsRise (marks_in j.entries)) journals l other whole.closed.rises there in
@@ -159,7 +162,9 @@ others-not network passes journals place stamp l journal other whole found next 
   | inr not ↦ not
 ]
 
-tells-at : (network : Network) (passes : List Token) (journals : List Journal) (place stamp : ℕ) (journal : Journal) → IsWhole network passes journals → slice_get journals place ≡ Some journal → has_stamp stamp journal.entries ≡ true → NextTold network journals place stamp
+tells-at : (network : Network) (passes : List Token) (journals : List Journal) (place stamp : ℕ) (journal : Journal)
+    → IsWhole network passes journals → slice_get journals place ≡ Some journal → has_stamp stamp journal.entries ≡ true
+    → NextTold network journals place stamp
 tells-at network passes journals place stamp journal whole found has =
     let rises = Each-at (λ (j : Journal). StampsRise (marks_in j.entries)) journals place journal whole.closed.rises found in
     let next = next-in 0 stamp journal.entries rises has in
@@ -181,7 +186,8 @@ tells-at network passes journals place stamp journal whole found has =
       next = run-next network x.done (weave_below stamp journals) (subst (λ ys. IsRun network (map done_of ys)) one (run-below network (suc stamp) (weave journals) falls run));
     }
 
-pub next-told : (network : Network) (passes : List Token) (journals : List Journal) (place stamp : ℕ) → IsWhole network passes journals → length journals ≤ 32 → journal_with stamp 0 255 journals ≡ place → place < length journals → NextTold network journals place stamp
+pub next-told : (network : Network) (passes : List Token) (journals : List Journal) (place stamp : ℕ) → IsWhole network passes journals
+    → length journals ≤ 32 → journal_with stamp 0 255 journals ≡ place → place < length journals → NextTold network journals place stamp
 next-told network passes journals place stamp whole few is inside = elim (one-has stamp 0 255 journals) [
   | inl never ↦ absurd (let none = never.0 in omega (arith, none, is, inside, few))
   | inr one ↦ (
@@ -195,7 +201,8 @@ pub record NoneTold (journals : List Journal) (stamp : ℕ) : Type 0 where
   pub counts : counts_below (stamp + 1) journals ≡ counts_below stamp journals
   pub tells : weave_below (stamp + 1) journals ≡ weave_below stamp journals
 
-pub none-told : (journals : List Journal) (place stamp : ℕ) → journal_with stamp 0 255 journals ≡ place → length journals ≤ place → NoneTold journals stamp
+pub none-told : (journals : List Journal) (place stamp : ℕ) → journal_with stamp 0 255 journals ≡ place → length journals ≤ place
+    → NoneTold journals stamp
 none-told journals place stamp is past = elim (one-has stamp 0 255 journals) [
   | inl never ↦ (
       let up = add-one stamp in
@@ -212,7 +219,8 @@ none-told journals place stamp is past = elim (one-has stamp 0 255 journals) [
 
 -- ---- at first, and at last
 
-zeros : (journals : List Journal) → Each (λ (j : Journal). count_below 0 j.entries ≡ 0) journals → replicate (length journals) 0 ≡ counts_below 0 journals
+zeros : (journals : List Journal) → Each (λ (j : Journal). count_below 0 j.entries ≡ 0) journals
+    → replicate (length journals) 0 ≡ counts_below 0 journals
 zeros [] each = refl
 zeros (journal ∷ journals) each = ap (λ ns. 0 ∷ ns) (zeros journals each.1) ∙ ap (λ n. n ∷ counts_below 0 journals) (sym each.0)
 
@@ -222,7 +230,8 @@ counts-first journals told is = is ∙ zeros journals (counts-nothing journals)
 pub weave-first : (journals : List Journal) → weave_below 0 journals ≡ []
 weave-first journals = ap (map done_of) (below-zero (weave journals))
 
-pub weave-last : (journals : List Journal) (order : List ℕ) → IsOrder journals order → weave_below (length order) journals ≡ weave_of journals
+pub weave-last : (journals : List Journal) (order : List ℕ) → IsOrder journals order
+    → weave_below (length order) journals ≡ weave_of journals
 weave-last journals order order_is = ap (map done_of) (below-all (length order) (weave journals) (Each-from_among (IsUnder (length order)) (weave journals) (λ x among.
     (let from = origin journals x among in
     let all = Each-at (λ (j : Journal). AreBelow (length order) j.entries) journals from.place from.journal order_is.all from.found in
@@ -232,7 +241,9 @@ weave-last journals order order_is = ap (map done_of) (below-all (length order) 
 -- ---- turns
 
 -- there are no more turns than stamps
-pub turns-few : (network : Network) (passes : List Token) (journals : List Journal) (stamp : ℕ) (items : List Do) → IsWhole network passes journals → AreMaximalRuns (actors_of (reverse (weave_below stamp journals))) items → length (turns_of items) ≤ stamp
+pub turns-few : (network : Network) (passes : List Token) (journals : List Journal) (stamp : ℕ) (items : List Do)
+    → IsWhole network passes journals → AreMaximalRuns (actors_of (reverse (weave_below stamp journals))) items
+    → length (turns_of items) ≤ stamp
 turns-few network passes journals stamp items whole runs =
     let spelled = ap length runs.spelled in
     let actors = length-map (reverse (weave_below stamp journals)) actor_of in
@@ -241,7 +252,8 @@ turns-few network passes journals stamp items whole runs =
     let few = falls-few stamp (below stamp (weave journals)) (falls-filter (is_below stamp) (weave journals) (weave-falls network passes journals whole)) (below-under stamp (weave journals)) in
     omega (arith, spelled, actors, turned, dones, few)
 
-pub actors-more : (done : Done) (past run : List Done) (items : List Do) → run ≡ done ∷ past → AreMaximalRuns (actors_of (reverse past) ++ done.actor ∷ []) items → AreMaximalRuns (actors_of (reverse run)) items
+pub actors-more : (done : Done) (past run : List Done) (items : List Do) → run ≡ done ∷ past
+    → AreMaximalRuns (actors_of (reverse past) ++ done.actor ∷ []) items → AreMaximalRuns (actors_of (reverse run)) items
 actors-more done past run items is runs =
     let more : actors_of (reverse run) ≡ actors_of (reverse past) ++ done.actor ∷ [] = ap (λ r. actors_of (reverse r)) is ∙ ap actors_of (reverse-append (done ∷ []) past) ∙ map-append actor_of (reverse past) (done ∷ []) in
     subst (λ actors. AreMaximalRuns actors items) (sym more) runs
@@ -249,21 +261,26 @@ actors-more done past run items is runs =
 -- ---- the callers
 
 -- the callers stand for the weave where they stand for it up to a stamp, and what comes after is the plane's
-callers-below : (parts : PlanParts) (callers : List Actor) (count : ℕ) (xs : List Stamped) → Falls xs → ((x : Stamped) → Among x xs → count ≤ x.stamp → actor_number x.done.actor ≡ length callers) → AreCallers parts callers (map done_of (below count xs)) → AreCallers parts callers (map done_of xs)
+callers-below : (parts : PlanParts) (callers : List Actor) (count : ℕ) (xs : List Stamped) → Falls xs
+    → ((x : Stamped) → Among x xs → count ≤ x.stamp → actor_number x.done.actor ≡ length callers)
+    → AreCallers parts callers (map done_of (below count xs)) → AreCallers parts callers (map done_of xs)
 callers-below parts callers count [] falls later stand = stand
 callers-below parts callers count (x ∷ xs) falls later stand = elim (cases_lt x.stamp count) [
   | inl less ↦ subst (λ ys. AreCallers parts callers (map done_of ys)) (below-all count (x ∷ xs) (less, under-more x.stamp count xs (omega (arith, less)) falls.0)) stand
   | inr le ↦ callers-same parts callers (map done_of xs) x.done (callers-below parts callers count xs falls.1 (λ y among. later y (inr among)) (subst (λ ys. AreCallers parts callers (map done_of ys)) (first-left count x xs le) stand)) (later x (inl refl) le)
 ]
 
-each-front : {X Y : Type 0} (P : Y → Type 0) (f : X → Y) (n k : ℕ) (xs : List X) (x : X) → Each P (map f (take n xs)) → slice_get xs k ≡ Some x → k < n → P (f x)
+each-front : {X Y : Type 0} (P : Y → Type 0) (f : X → Y) (n k : ℕ) (xs : List X) (x : X) → Each P (map f (take n xs))
+    → slice_get xs k ≡ Some x → k < n → P (f x)
 each-front P f n k [] x each found less = absurd (let clash : None ≡ Some x = found in cc)
 each-front P f zero k (y ∷ ys) x each found less = absurd (omega (arith, less))
 each-front P f (suc n) zero (y ∷ ys) x each found less = subst (λ z. P (f z)) (same_Some y x found) each.0
 each-front P f (suc n) (suc k) (y ∷ ys) x each found less = each-front P f n k ys x each.1 found (omega (arith, less))
 
 -- an entry after the last of the callers is the plane's
-plane-later : (network : Network) (passes : List Token) (journals : List Journal) (latest : ℕ) (x : Stamped) → IsWhole network passes journals → Each (AreUpTo latest) (map own_in (take (plane_no network) passes)) → Among x (weave journals) → latest < x.stamp → actor_number x.done.actor ≡ plane_no network
+plane-later : (network : Network) (passes : List Token) (journals : List Journal) (latest : ℕ) (x : Stamped)
+    → IsWhole network passes journals → Each (AreUpTo latest) (map own_in (take (plane_no network) passes)) → Among x (weave journals)
+    → latest < x.stamp → actor_number x.done.actor ≡ plane_no network
 plane-later network passes journals latest x whole upto among above =
     let number = actor_number x.done.actor in
     let there = (whole-asked network passes journals whole).own number in
@@ -283,8 +300,11 @@ plane-later network passes journals latest x whole upto among above =
             | inr past ↦ omega (arith, same, within, all, past)
           ]
 
-pub callers-after : (parts : PlanParts) (passes : List Token) (journals : List Journal) (callers : List Actor) (latest count : ℕ) (order : List ℕ) → IsWhole (network_of parts) passes journals → IsOrder journals order → Each (AreUpTo latest) (map own_in (take (length parts.callers) passes)) → count ≤ length order → (count < length order → latest < count)
-    → AreCallers parts callers (weave_below count journals) → AreCallers parts callers (weave_of journals)
+pub callers-after : (parts : PlanParts) (passes : List Token) (journals : List Journal) (callers : List Actor) (latest count : ℕ) (order : List ℕ)
+    → IsWhole (network_of parts) passes journals → IsOrder journals order
+    → Each (AreUpTo latest) (map own_in (take (length parts.callers) passes)) → count ≤ length order
+    → (count < length order → latest < count) → AreCallers parts callers (weave_below count journals)
+    → AreCallers parts callers (weave_of journals)
 callers-after parts passes journals callers latest count order whole order_is upto inside front stand =
     let plane = plane-number parts in
     callers-below parts callers count (weave journals) (weave-falls (network_of parts) passes journals whole) (λ x among le.
@@ -298,7 +318,8 @@ callers-after parts passes journals callers latest count order whole order_is up
 
 -- ---- step by step
 
-pub whole-few : (parts : PlanParts) (passes : List Token) (journals : List Journal) → IsPlan parts → IsWhole (network_of parts) passes journals → length journals ≤ 32
+pub whole-few : (parts : PlanParts) (passes : List Token) (journals : List Journal) → IsPlan parts
+    → IsWhole (network_of parts) passes journals → length journals ≤ 32
 unfolding network_of
 whole-few parts passes journals plan whole =
     let few = (has-few parts plan).few in
@@ -306,10 +327,13 @@ whole-few parts passes journals plan whole =
     let long = whole-length (network_of parts) passes journals whole in
     omega (arith, few, same, long)
 
-pub order-at : (journals : List Journal) (order : List ℕ) (i d n : ℕ) → HasOrder journals order → i < length order → n ≡ get_or order i d → journal_with i 0 255 journals ≡ n
+pub order-at : (journals : List Journal) (order : List ℕ) (i d n : ℕ) → HasOrder journals order → i < length order → n ≡ get_or order i d
+    → journal_with i 0 255 journals ≡ n
 order-at journals order i d n has inside is = same_Some (journal_with i 0 255 journals) n (sym (has i inside) ∙ slice_get-get_or order i d inside ∙ ap Some (sym is))
 
-pub stays-told : {W : Type 0} (saw : W → PlanParts → List Done → Type 0) (parts : PlanParts) (journals : List Journal) (told : List ℕ) (items : List Do) (watch : W) (place stamp : ℕ) → TellsNext saw parts journals told items watch place stamp → length journals ≤ place → HasTold saw parts journals told items watch (stamp + 1)
+pub stays-told : {W : Type 0} (saw : W → PlanParts → List Done → Type 0) (parts : PlanParts) (journals : List Journal) (told : List ℕ) (items : List Do) (watch : W) (place stamp : ℕ)
+    → TellsNext saw parts journals told items watch place stamp → length journals ≤ place
+    → HasTold saw parts journals told items watch (stamp + 1)
 stays-told saw parts journals told items watch place stamp tells past =
     let none = none-told journals place stamp tells.number past in
     record {
@@ -319,14 +343,19 @@ stays-told saw parts journals told items watch place stamp tells past =
     }
 
 -- the journal, and how many of its entries are told, as they are read
-pub reads-journal : (network : Network) (journals : List Journal) (place stamp : ℕ) (journal : Journal) → (next : NextTold network journals place stamp) → journal ≡ get_or journals place journal → next.journal ≡ journal
+pub reads-journal : (network : Network) (journals : List Journal) (place stamp : ℕ) (journal : Journal)
+    → (next : NextTold network journals place stamp) → journal ≡ get_or journals place journal → next.journal ≡ journal
 reads-journal network journals place stamp journal next is = sym (is ∙ get_or_from_slice_get journals place next.journal journal next.found)
 
-pub reads-count : (network : Network) (journals : List Journal) (place stamp : ℕ) (told : List ℕ) (at : ℕ) → (next : NextTold network journals place stamp) → told ≡ counts_below stamp journals → at ≡ get_or told place at → at ≡ count_below stamp next.journal.entries
+pub reads-count : (network : Network) (journals : List Journal) (place stamp : ℕ) (told : List ℕ) (at : ℕ)
+    → (next : NextTold network journals place stamp) → told ≡ counts_below stamp journals → at ≡ get_or told place at
+    → at ≡ count_below stamp next.journal.entries
 reads-count network journals place stamp told at next counts is =
     is ∙ ap (λ ts. get_or ts place at) counts ∙ get_or_from_slice_get (counts_below stamp journals) place (count_below stamp next.journal.entries) at (mapped-at (λ (j : Journal). count_below stamp j.entries) journals place next.journal next.found)
 
-pub reads-inside : (network : Network) (journals : List Journal) (place stamp : ℕ) (told : List ℕ) (journal : Journal) (at : ℕ) → (next : NextTold network journals place stamp) → told ≡ counts_below stamp journals → journal ≡ get_or journals place journal → at ≡ get_or told place at → at < length journal.entries
+pub reads-inside : (network : Network) (journals : List Journal) (place stamp : ℕ) (told : List ℕ) (journal : Journal) (at : ℕ)
+    → (next : NextTold network journals place stamp) → told ≡ counts_below stamp journals → journal ≡ get_or journals place journal
+    → at ≡ get_or told place at → at < length journal.entries
 reads-inside network journals place stamp told journal at next counts here is =
     let same = reads-journal network journals place stamp journal next here in
     let count = reads-count network journals place stamp told at next counts is in
@@ -334,22 +363,27 @@ reads-inside network journals place stamp told journal at next counts here is =
     subst (λ (j : Journal). at < length j.entries) same (omega (arith, count, within))
 
 -- the entry that is read is the next one
-pub reads-next : (network : Network) (journals : List Journal) (place stamp : ℕ) (told : List ℕ) (journal : Journal) (at : ℕ) (entry : Entry) → (next : NextTold network journals place stamp) → told ≡ counts_below stamp journals → journal ≡ get_or journals place journal → at ≡ get_or told place at
-    → slice_get journal.entries at ≡ Some entry → done_on next.journal.link next.entry ≡ done_on journal.link entry
+pub reads-next : (network : Network) (journals : List Journal) (place stamp : ℕ) (told : List ℕ) (journal : Journal) (at : ℕ) (entry : Entry)
+    → (next : NextTold network journals place stamp) → told ≡ counts_below stamp journals → journal ≡ get_or journals place journal
+    → at ≡ get_or told place at → slice_get journal.entries at ≡ Some entry
+    → done_on next.journal.link next.entry ≡ done_on journal.link entry
 reads-next network journals place stamp told journal at entry next counts here is found =
     let same = reads-journal network journals place stamp journal next here in
     let count = reads-count network journals place stamp told at next counts is in
     let one : next.entry ≡ entry = same_Some next.entry entry (sym next.here ∙ ap (slice_get next.journal.entries) (sym count) ∙ ap (λ (j : Journal). slice_get j.entries at) same ∙ found) in
     ap (λ (j : Journal). done_on j.link next.entry) same ∙ ap (done_on journal.link) one
 
-pub next-seen : {W : Type 0} (saw : W → PlanParts → List Done → Type 0) (parts : PlanParts) (journals : List Journal) (told : List ℕ) (items : List Do) (watch : W) (place stamp : ℕ) (done : Done) → IsPlan parts → TellsNext saw parts journals told items watch place stamp
-    → (next : NextTold (network_of parts) journals place stamp) → done_on next.journal.link next.entry ≡ done → IsNextSeen saw parts watch (weave_below stamp journals) done
+pub next-seen : {W : Type 0} (saw : W → PlanParts → List Done → Type 0) (parts : PlanParts) (journals : List Journal) (told : List ℕ) (items : List Do) (watch : W) (place stamp : ℕ) (done : Done)
+    → IsPlan parts → TellsNext saw parts journals told items watch place stamp → (next : NextTold (network_of parts) journals place stamp)
+    → done_on next.journal.link next.entry ≡ done → IsNextSeen saw parts watch (weave_below stamp journals) done
 next-seen saw parts journals told items watch place stamp done plan tells next is =
     record { plan = plan; run = next.run; next = subst (IsNext (network_of parts) (weave_below stamp journals)) is next.next; seen = tells.so_far.seen }
 
-pub goes-told : {W : Type 0} (saw : W → PlanParts → List Done → Type 0) (parts : PlanParts) (journals : List Journal) (told told' : List ℕ) (items items' : List Do) (watch watch' : W) (place stamp at : ℕ) (done : Done) → TellsNext saw parts journals told items watch place stamp
-    → (next : NextTold (network_of parts) journals place stamp) → at ≡ get_or told place at → done_on next.journal.link next.entry ≡ done → told' ≡ set told place (at + 1)
-    → ((actors : List ActorNo) → AreMaximalRuns actors items → AreMaximalRuns (actors ++ done.actor ∷ []) items') → saw watch' parts (done ∷ weave_below stamp journals) → HasTold saw parts journals told' items' watch' (stamp + 1)
+pub goes-told : {W : Type 0} (saw : W → PlanParts → List Done → Type 0) (parts : PlanParts) (journals : List Journal) (told told' : List ℕ) (items items' : List Do) (watch watch' : W) (place stamp at : ℕ) (done : Done)
+    → TellsNext saw parts journals told items watch place stamp → (next : NextTold (network_of parts) journals place stamp)
+    → at ≡ get_or told place at → done_on next.journal.link next.entry ≡ done → told' ≡ set told place (at + 1)
+    → ((actors : List ActorNo) → AreMaximalRuns actors items → AreMaximalRuns (actors ++ done.actor ∷ []) items')
+    → saw watch' parts (done ∷ weave_below stamp journals) → HasTold saw parts journals told' items' watch' (stamp + 1)
 goes-told saw parts journals told told' items items' watch watch' place stamp at done tells next count is told_is more seen =
     let tells_done : weave_below (stamp + 1) journals ≡ done ∷ weave_below stamp journals = next.tells ∙ ap (λ d. d ∷ weave_below stamp journals) is in
     let counted = reads-count (network_of parts) journals place stamp told at next tells.so_far.counts count in
@@ -366,21 +400,25 @@ get-front [] more stamp less = absurd (omega (arith, less))
 get-front (x ∷ front) more zero less = refl
 get-front (x ∷ front) more (suc stamp) less = get-front front more stamp (omega (arith, less))
 
-pub front-has : (journals : List Journal) (order front more : List ℕ) → HasOrder journals order → order ≡ front ++ more → HasOrder journals front
+pub front-has : (journals : List Journal) (order front more : List ℕ) → HasOrder journals order → order ≡ front ++ more
+    → HasOrder journals front
 front-has journals order front more has is stamp less =
     let long = ap length is ∙ length-append front more in
     sym (get-front front more stamp less) ∙ ap (λ os. slice_get os stamp) (sym is) ∙ has stamp (omega (arith, less, long))
 
 -- ---- the whole weave, and a front of it
 
-pub woven-by : (js journals : List Journal) (order os : List ℕ) → js ≡ journals → os ≡ order → IsOrder js order → weave_below (length os) js ≡ weave_of journals
+pub woven-by : (js journals : List Journal) (order os : List ℕ) → js ≡ journals → os ≡ order → IsOrder js order
+    → weave_below (length os) js ≡ weave_of journals
 woven-by js journals order os same is has = ap (λ (l : List ℕ). weave_below (length l) js) is ∙ weave-last js order has ∙ ap weave_of same
 
-pub run-front : (network : Network) (passes : List Token) (journals : List Journal) (stamp : ℕ) → IsWhole network passes journals → IsRun network (weave_below stamp journals)
+pub run-front : (network : Network) (passes : List Token) (journals : List Journal) (stamp : ℕ) → IsWhole network passes journals
+    → IsRun network (weave_below stamp journals)
 run-front network passes journals stamp whole = run-below network stamp (weave journals) (weave-falls network passes journals whole) (whole-run network passes journals whole)
 
 -- the passes of the callers come first
-pub callers-inside : (parts : PlanParts) (passes : List Token) (journals : List Journal) (count : ℕ) (ps : List Token) → IsWhole (network_of parts) passes journals → ps ≡ passes → count ≡ length parts.callers → count ≡ length (take count ps)
+pub callers-inside : (parts : PlanParts) (passes : List Token) (journals : List Journal) (count : ℕ) (ps : List Token)
+    → IsWhole (network_of parts) passes journals → ps ≡ passes → count ≡ length parts.callers → count ≡ length (take count ps)
 callers-inside parts passes journals count ps whole same is =
     let all = passes-long (network_of parts) passes journals whole in
     let plane = plane-number parts in

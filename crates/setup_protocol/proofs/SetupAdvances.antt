@@ -120,74 +120,75 @@ progress-tested request replies whole = rw (le-ltb (length (offers_in replies)) 
 one-more : (replies : List Reply) (reply : Reply) → length (replies ++ reply ∷ []) ≡ suc (length replies)
 one-more replies reply = omega (arith, length-append replies (reply ∷ []))
 
--- the reply to a reserve
-reserved-advances : (request : Request) (replies : List Reply) (reply : Reply) → length (offers_in replies) < length request.route → after_offers replies ≡ []
-    → answers_reserve (next_levels request.route (offers_in replies)) reply ≡ true → progress_of request (replies ++ reply ∷ []) ≡ after_reserve request (offers_in replies) reply
-reserved-advances request replies (Offer level reach) fits none expected =
-    rw (offers-more replies (Offer level reach) none refl)
-    (rw (after-none replies (Offer level reach) none refl)
-    (rw (reach-more 0 request.route replies (Offer level reach) none refl fits) refl))
-reserved-advances request replies (Refused refusal) fits none expected =
-    let other = offers-other replies (Refused refusal) refl in
-    let after : after_offers (replies ++ Refused refusal ∷ []) ≡ Refused refusal ∷ [] = after-other replies (Refused refusal) refl ∙ ap (λ rest. rest ++ Refused refusal ∷ []) none in
-    let whole : length (offers_in replies) - 0 ≡ length (offers_in replies) = omega arith in
-    progress-on_the_way request (replies ++ Refused refusal ∷ []) (omega (arith, fits, ap length other))
-    ∙ rw after (rw other (ap (λ n. undoing n (AtHop (suc (length (offers_in replies))) refusal)) whole))
-reserved-advances request replies (Relaxed clock) fits none expected = absurd (let clash : false ≡ true = expected in cc)
-reserved-advances request replies Denied fits none expected = absurd (let clash : false ≡ true = expected in cc)
-reserved-advances request replies (Planned clock) fits none expected = absurd (let clash : false ≡ true = expected in cc)
-reserved-advances request replies (Closing count cancelled) fits none expected = absurd (let clash : false ≡ true = expected in cc)
-reserved-advances request replies (Taken clock eligible) fits none expected = absurd (let clash : false ≡ true = expected in cc)
-reserved-advances request replies (Ticked clock full sent best_sent best_lost) fits none expected = absurd (let clash : false ≡ true = expected in cc)
+module _ (request : Request) (replies : List Reply) where
+  -- the reply to a reserve
+  reserved-advances : (reply : Reply) → length (offers_in replies) < length request.route → after_offers replies ≡ []
+      → answers_reserve (next_levels request.route (offers_in replies)) reply ≡ true → progress_of request (replies ++ reply ∷ []) ≡ after_reserve request (offers_in replies) reply
+  reserved-advances (Offer level reach) fits none expected =
+      rw (offers-more replies (Offer level reach) none refl)
+      (rw (after-none replies (Offer level reach) none refl)
+      (rw (reach-more 0 request.route replies (Offer level reach) none refl fits) refl))
+  reserved-advances (Refused refusal) fits none expected =
+      let other = offers-other replies (Refused refusal) refl in
+      let after : after_offers (replies ++ Refused refusal ∷ []) ≡ Refused refusal ∷ [] = after-other replies (Refused refusal) refl ∙ ap (λ rest. rest ++ Refused refusal ∷ []) none in
+      let whole : length (offers_in replies) - 0 ≡ length (offers_in replies) = omega arith in
+      progress-on_the_way request (replies ++ Refused refusal ∷ []) (omega (arith, fits, ap length other))
+      ∙ rw after (rw other (ap (λ n. undoing n (AtHop (suc (length (offers_in replies))) refusal)) whole))
+  reserved-advances (Relaxed clock) fits none expected = absurd (let clash : false ≡ true = expected in cc)
+  reserved-advances Denied fits none expected = absurd (let clash : false ≡ true = expected in cc)
+  reserved-advances (Planned clock) fits none expected = absurd (let clash : false ≡ true = expected in cc)
+  reserved-advances (Closing count cancelled) fits none expected = absurd (let clash : false ≡ true = expected in cc)
+  reserved-advances (Taken clock eligible) fits none expected = absurd (let clash : false ≡ true = expected in cc)
+  reserved-advances (Ticked clock full sent best_sent best_lost) fits none expected = absurd (let clash : false ≡ true = expected in cc)
 
--- a reply on the way, with these replies after the offers
-way-advances : (request : Request) (replies : List Reply) (reply : Reply) (rest : List Reply) → length (offers_in replies) < length request.route → after_offers replies ≡ rest
-    → is_expected request (on_the_way (offers_in replies) (reach_after 0 request.route replies) rest) reply ≡ true
-    → progress_of request (replies ++ reply ∷ []) ≡ advance request (on_the_way (offers_in replies) (reach_after 0 request.route replies) rest) reply
-way-advances request replies reply [] fits after expected = reserved-advances request replies reply fits after expected
-way-advances request replies reply (first ∷ denied) fits after expected =
-    let deny = AtHop (suc (length (offers_in replies))) (refusal_in first) in
-    let less = undoing-less request (length (offers_in replies)) (length denied) (length (offers_in replies) - length denied) deny reply refl expected in
-    let other = offers-other replies reply less.0 in
-    let more : after_offers (replies ++ reply ∷ []) ≡ first ∷ denied ++ reply ∷ [] = after-other replies reply less.0 ∙ ap (λ rest. rest ++ reply ∷ []) after in
-    progress-on_the_way request (replies ++ reply ∷ []) (omega (arith, fits, ap length other))
-    ∙ rw more (rw other (ap (λ n. undoing (length (offers_in replies) - n) deny) (one-more denied reply))) ∙ less.1
+  -- a reply on the way, with these replies after the offers
+  way-advances : (reply : Reply) (rest : List Reply) → length (offers_in replies) < length request.route → after_offers replies ≡ rest
+      → is_expected request (on_the_way (offers_in replies) (reach_after 0 request.route replies) rest) reply ≡ true
+      → progress_of request (replies ++ reply ∷ []) ≡ advance request (on_the_way (offers_in replies) (reach_after 0 request.route replies) rest) reply
+  way-advances reply [] fits after expected = reserved-advances reply fits after expected
+  way-advances reply (first ∷ denied) fits after expected =
+      let deny = AtHop (suc (length (offers_in replies))) (refusal_in first) in
+      let less = undoing-less request (length (offers_in replies)) (length denied) (length (offers_in replies) - length denied) deny reply refl expected in
+      let other = offers-other replies reply less.0 in
+      let more : after_offers (replies ++ reply ∷ []) ≡ first ∷ denied ++ reply ∷ [] = after-other replies reply less.0 ∙ ap (λ rest. rest ++ reply ∷ []) after in
+      progress-on_the_way request (replies ++ reply ∷ []) (omega (arith, fits, ap length other))
+      ∙ rw more (rw other (ap (λ n. undoing (length (offers_in replies) - n) deny) (one-more denied reply))) ∙ less.1
 
--- after the test, one reply more that is no offer
-tested-more : (request : Request) (replies : List Reply) (reply : Reply) (denial : Option EndDenial) → length request.route ≤ length (offers_in replies)
-    → denial_of request.route (offers_in replies) request.delay (jitter_of request.control) ≡ denial → is_offer reply ≡ false
-    → progress_of request (replies ++ reply ∷ []) ≡ after_test request (offers_in replies) (suc (length (after_offers replies))) denial
-tested-more request replies reply denial whole is plain =
-    let other = offers-other replies reply plain in
-    let more : length (after_offers (replies ++ reply ∷ [])) ≡ suc (length (after_offers replies)) = ap length (after-other replies reply plain) ∙ one-more (after_offers replies) reply in
-    progress-tested request (replies ++ reply ∷ []) (omega (arith, whole, ap length other))
-    ∙ rw more (rw other (ap (after_test request (offers_in replies) (suc (length (after_offers replies)))) is))
+  -- after the test, one reply more that is no offer
+  tested-more : (reply : Reply) (denial : Option EndDenial) → length request.route ≤ length (offers_in replies)
+      → denial_of request.route (offers_in replies) request.delay (jitter_of request.control) ≡ denial → is_offer reply ≡ false
+      → progress_of request (replies ++ reply ∷ []) ≡ after_test request (offers_in replies) (suc (length (after_offers replies))) denial
+  tested-more reply denial whole is plain =
+      let other = offers-other replies reply plain in
+      let more : length (after_offers (replies ++ reply ∷ [])) ≡ suc (length (after_offers replies)) = ap length (after-other replies reply plain) ∙ one-more (after_offers replies) reply in
+      progress-tested request (replies ++ reply ∷ []) (omega (arith, whole, ap length other))
+      ∙ rw more (rw other (ap (after_test request (offers_in replies) (suc (length (after_offers replies)))) is))
 
--- a reply after the test, whose result this is
-test-advances : (request : Request) (replies : List Reply) (reply : Reply) (denial : Option EndDenial) → length request.route ≤ length (offers_in replies)
-    → denial_of request.route (offers_in replies) request.delay (jitter_of request.control) ≡ denial
-    → is_expected request (after_test request (offers_in replies) (length (after_offers replies)) denial) reply ≡ true
-    → progress_of request (replies ++ reply ∷ []) ≡ advance request (after_test request (offers_in replies) (length (after_offers replies)) denial) reply
-test-advances request replies reply (Some denial) whole is expected =
-    let less = undoing-less request (length request.route) (length (after_offers replies)) (length request.route - length (after_offers replies)) (End denial) reply refl expected in
-    tested-more request replies reply (Some denial) whole is less.0 ∙ less.1
-test-advances request replies reply None whole is expected =
-    let levels = allotted request.route (offers_in replies) request.delay (jitter_of request.control) in
-    let less = relaxing-less request (length request.route) (length (after_offers replies)) (length request.route - length (after_offers replies)) levels reply refl expected in
-    tested-more request replies reply None whole is less.0 ∙ less.1
+  -- a reply after the test, whose result this is
+  test-advances : (reply : Reply) (denial : Option EndDenial) → length request.route ≤ length (offers_in replies)
+      → denial_of request.route (offers_in replies) request.delay (jitter_of request.control) ≡ denial
+      → is_expected request (after_test request (offers_in replies) (length (after_offers replies)) denial) reply ≡ true
+      → progress_of request (replies ++ reply ∷ []) ≡ advance request (after_test request (offers_in replies) (length (after_offers replies)) denial) reply
+  test-advances reply (Some denial) whole is expected =
+      let less = undoing-less request (length request.route) (length (after_offers replies)) (length request.route - length (after_offers replies)) (End denial) reply refl expected in
+      tested-more reply (Some denial) whole is less.0 ∙ less.1
+  test-advances reply None whole is expected =
+      let levels = allotted request.route (offers_in replies) request.delay (jitter_of request.control) in
+      let less = relaxing-less request (length request.route) (length (after_offers replies)) (length request.route - length (after_offers replies)) levels reply refl expected in
+      tested-more reply None whole is less.0 ∙ less.1
 
--- each reply to what is asked goes on from where the setup has come
-pub progress-advances : (request : Request) (replies : List Reply) (reply : Reply) → is_expected request (progress_of request replies) reply ≡ true
-    → progress_of request (replies ++ reply ∷ []) ≡ advance request (progress_of request replies) reply
-progress-advances request replies reply expected =
-    elim (cases_lt (length (offers_in replies)) (length request.route)) [
-      | inl fits ↦
-          let now = progress-on_the_way request replies fits in
-          way-advances request replies reply (after_offers replies) fits refl (subst (λ p. is_expected request p reply ≡ true) now expected) ∙ ap (λ p. advance request p reply) (sym now)
-      | inr whole ↦
-          let now = progress-tested request replies whole in
-          test-advances request replies reply _ whole refl (subst (λ p. is_expected request p reply ≡ true) now expected) ∙ ap (λ p. advance request p reply) (sym now)
-    ]
+  -- each reply to what is asked goes on from where the setup has come
+  pub progress-advances : (reply : Reply) → is_expected request (progress_of request replies) reply ≡ true
+      → progress_of request (replies ++ reply ∷ []) ≡ advance request (progress_of request replies) reply
+  progress-advances reply expected =
+      elim (cases_lt (length (offers_in replies)) (length request.route)) [
+        | inl fits ↦
+            let now = progress-on_the_way request replies fits in
+            way-advances reply (after_offers replies) fits refl (subst (λ p. is_expected request p reply ≡ true) now expected) ∙ ap (λ p. advance request p reply) (sym now)
+        | inr whole ↦
+            let now = progress-tested request replies whole in
+            test-advances reply _ whole refl (subst (λ p. is_expected request p reply ≡ true) now expected) ∙ ap (λ p. advance request p reply) (sym now)
+      ]
 
 -- without a reply the first hop is to reserve
 pub progress-none : (request : Request) → 1 ≤ length request.route → progress_of request [] ≡ Reserving [] 0

@@ -53,20 +53,25 @@ pub data SetupAsks (request : Request) (replies : List Reply) (to : LinkNo) (ask
   Relaxes : (k : ℕ) (levels : List ℕ) → k < length (offers_in replies) → AreWithinReach request.delay request.route (offers_in replies) levels → progress_of request replies ≡ relaxing request.route (suc k) levels
       → AskedAt request.route k (λ hop. relax_at request levels k) to ask → SetupAsks request replies to ask
 
-back-asks : (request : Request) (replies : List Reply) (left : ℕ) (deny : Denial) (to : LinkNo) (ask : Ask) → progress_of request replies ≡ undoing left deny → asked request (undoing left deny) ≡ Some (to, ask) → SetupAsks request replies to ask
+back-asks : (request : Request) (replies : List Reply) (left : ℕ) (deny : Denial) (to : LinkNo) (ask : Ask)
+    → progress_of request replies ≡ undoing left deny → asked request (undoing left deny) ≡ Some (to, ask)
+    → SetupAsks request replies to ask
 back-asks request replies zero deny to ask is asks = absurd (let clash : None ≡ Some (to, ask) = asks in cc)
 back-asks request replies (suc k) deny to ask is asks =
     let place : suc k - 1 ≡ k = omega arith in
     GivesBack k deny is (subst (λ j. AskedAt request.route j (λ hop. Deny request.chan) to ask) place (asked-at request.route (suc k - 1) (λ hop. Deny request.chan) to ask asks))
 
-forth-asks : (request : Request) (replies : List Reply) (left : ℕ) (levels : List ℕ) (to : LinkNo) (ask : Ask) → left ≤ length request.route → length request.route ≤ length (offers_in replies) → AreWithinReach request.delay request.route (offers_in replies) levels
-    → progress_of request replies ≡ relaxing request.route left levels → asked request (relaxing request.route left levels) ≡ Some (to, ask) → SetupAsks request replies to ask
+forth-asks : (request : Request) (replies : List Reply) (left : ℕ) (levels : List ℕ) (to : LinkNo) (ask : Ask) → left ≤ length request.route
+    → length request.route ≤ length (offers_in replies) → AreWithinReach request.delay request.route (offers_in replies) levels
+    → progress_of request replies ≡ relaxing request.route left levels → asked request (relaxing request.route left levels) ≡ Some (to, ask)
+    → SetupAsks request replies to ask
 forth-asks request replies zero levels to ask few whole within is asks = absurd (let clash : None ≡ Some (to, ask) = asks in cc)
 forth-asks request replies (suc k) levels to ask few whole within is asks =
     let place : suc k - 1 ≡ k = omega arith in
     Relaxes k levels (omega (arith, few, whole)) within is (subst (λ j. AskedAt request.route j (λ hop. relax_at request levels j) to ask) place (asked-at request.route (suc k - 1) (λ hop. relax_of request levels (suc k)) to ask asks))
 
-pub setup-asks : (request : Request) (replies : List Reply) (to : LinkNo) (ask : Ask) → HaveBounds request.route → AreLevels request.route (offers_in replies) → next_ask request replies ≡ Some (to, ask) → SetupAsks request replies to ask
+pub setup-asks : (request : Request) (replies : List Reply) (to : LinkNo) (ask : Ask) → HaveBounds request.route
+    → AreLevels request.route (offers_in replies) → next_ask request replies ≡ Some (to, ask) → SetupAsks request replies to ask
 setup-asks request replies to ask bounds are asks = by-view (view request replies) where
   by-view : View request replies → SetupAsks request replies to ask
   by-view (OnWay fewer alone is) = Reserves fewer alone is (asked-at request.route (length (offers_in replies)) (λ hop. reserve_of request (offers_in replies) (reach_after 0 request.route replies)) to ask (subst (λ p. asked request p ≡ Some (to, ask)) is asks))
@@ -78,7 +83,9 @@ setup-asks request replies to ask bounds are asks = by-view (view request replie
 -- ---- the levels allotted
 
 -- the bound allotted to the hop before is within that of its reach
-given-within : (request : Request) (offers levels : List ℕ) → HaveBounds request.route → AreWithinReach request.delay request.route offers levels → (j : ℕ) → j < length offers → bound_given request.route levels j ≤ reach_bound request offers j
+given-within : (request : Request) (offers levels : List ℕ) → HaveBounds request.route
+    → AreWithinReach request.delay request.route offers levels → (j : ℕ) → j < length offers
+    → bound_given request.route levels j ≤ reach_bound request offers j
 given-within request offers levels bounds within zero less = omega arith
 given-within request offers levels bounds within (suc j) less = by-hop (slice_get request.route j) refl where
   by-hop : (found : Option Hop) → slice_get request.route j ≡ found → bound_if found (get_or levels j 0) ≤ bound_at (bounds_in found) (levels_within (bounds_in found) (max request.delay (bound_at (bounds_in found) (get_or offers j 0))))
@@ -97,7 +104,8 @@ module _ {X : Type 0} (holds : Reservation → X) (request : Request) (offers le
       level_of-number (get_or levels k 0) fit.is_level.least (omega (arith, most, few))
 
   -- so the relax is not refused
-  pub relax-told : (t : ℕ) → relax_reply t (level_of (get_or levels k 0)) (bound_given request.route levels k) (Some tent.terms) ≡ Is.Relaxed t
+  pub relax-told : (t : ℕ)
+      → relax_reply t (level_of (get_or levels k 0)) (bound_given request.route levels k) (Some tent.terms) ≡ Is.Relaxed t
   relax-told t =
       let fit = AreWithinReach-at request.delay request.route offers levels k hop within stands less in
       let number = level-number in
@@ -106,7 +114,8 @@ module _ {X : Type 0} (holds : Reservation → X) (request : Request) (offers le
       (let l = tent.level in let f = fit.from_offer in omega (arith, number, l, f)) (let f = fit.up_to_reach in omega (arith, number, reach, f)) (subst (λ u. bound_given request.route levels k ≤ u) (sym tent.up_reach) (given-within request offers levels bounds within k less))
 
   -- and leaves the hop committed
-  relaxed-comm : (new : X) → new ≡ holds (committed (level_of (get_or levels k 0)) (bound_given request.route levels k) tent.terms) → IsComm holds request levels k new
+  relaxed-comm : (new : X) → new ≡ holds (committed (level_of (get_or levels k 0)) (bound_given request.route levels k) tent.terms)
+      → IsComm holds request levels k new
   relaxed-comm new is = record {
     terms = committed (level_of (get_or levels k 0)) (bound_given request.route levels k) tent.terms;
     is = is;
@@ -131,7 +140,8 @@ offer_of request replies level reach =
 -- what stands after these replies
 pub record RouteStands {X : Type 0} (free : X) (holds : Reservation → X) (request : Request) (At : ℕ → Type 0) (now : (i : ℕ) → At i → X) (replies : List Reply) : Type 0 where
   pub hops : (i : ℕ) (at : At i) → HopStands free holds request (offers_in replies) (progress_of request replies) i (now i at)
-  pub up : after_offers replies ≡ [] → reach_after 0 request.route replies ≡ reach_bound request (offers_in replies) (length (offers_in replies))
+  pub up : after_offers replies ≡ []
+      → reach_after 0 request.route replies ≡ reach_bound request (offers_in replies) (length (offers_in replies))
 
 -- and with one reply more, which is one of its ask's
 pub record RouteGoes {X : Type 0} (free : X) (holds : Reservation → X) (request : Request) (At : ℕ → Type 0) (later : (i : ℕ) → At i → X) (replies : List Reply) (reply : Reply) : Type 0 where
@@ -144,7 +154,10 @@ not-empty (x ∷ xs) reply e = cc
 
 module _ {X : Type 0} (free : X) (holds : Reservation → X) (request : Request) (At : ℕ → Type 0) (now later : (i : ℕ) → At i → X) (replies : List Reply) (reply : Reply) (stood : RouteStands free holds request At now replies) where
   -- a reply that is no offer
-  plain-goes : (p : Progress) → is_offer reply ≡ false → is_expected request (progress_of request replies) reply ≡ true → progress_of request (replies ++ reply ∷ []) ≡ p → ((i : ℕ) (at : At i) → HopStands free holds request (offers_in replies) p i (later i at)) → RouteGoes free holds request At later replies reply
+  plain-goes : (p : Progress) → is_offer reply ≡ false → is_expected request (progress_of request replies) reply ≡ true
+      → progress_of request (replies ++ reply ∷ []) ≡ p
+      → ((i : ℕ) (at : At i) → HopStands free holds request (offers_in replies) p i (later i at))
+      → RouteGoes free holds request At later replies reply
   plain-goes p plain expected goes hops = record {
     expected = expected;
     stands = record {
@@ -154,14 +167,17 @@ module _ {X : Type 0} (free : X) (holds : Reservation → X) (request : Request)
   }
 
   -- hop k holds the reservation of its offer until it gives it back, or is relaxed
-  pub back-tent : (k : ℕ) (deny : Denial) → progress_of request replies ≡ undoing (suc k) deny → (at : At k) → IsTent holds request (offers_in replies) k (now k at)
+  pub back-tent : (k : ℕ) (deny : Denial) → progress_of request replies ≡ undoing (suc k) deny → (at : At k)
+      → IsTent holds request (offers_in replies) k (now k at)
   back-tent k deny is at = (undo-says free holds request (offers_in replies) (suc k) deny k (now k at) (subst (λ p. HopStands free holds request (offers_in replies) p k (now k at)) is (stood.hops k at))).0 (omega arith)
 
-  pub forth-tent : (k : ℕ) (levels : List ℕ) → progress_of request replies ≡ relaxing request.route (suc k) levels → (at : At k) → IsTent holds request (offers_in replies) k (now k at)
+  pub forth-tent : (k : ℕ) (levels : List ℕ) → progress_of request replies ≡ relaxing request.route (suc k) levels → (at : At k)
+      → IsTent holds request (offers_in replies) k (now k at)
   forth-tent k levels is at = (relax-says free holds request (offers_in replies) (suc k) levels k (now k at) (subst (λ p. HopStands free holds request (offers_in replies) p k (now k at)) is (stood.hops k at))).0 (omega arith)
 
   -- hop k has given its reservation back
-  pub back-goes : (k : ℕ) (deny : Denial) → progress_of request replies ≡ undoing (suc k) deny → reply ≡ Is.Denied → Changes At now later k free → RouteGoes free holds request At later replies reply
+  pub back-goes : (k : ℕ) (deny : Denial) → progress_of request replies ≡ undoing (suc k) deny → reply ≡ Is.Denied
+      → Changes At now later k free → RouteGoes free holds request At later replies reply
   back-goes k deny is told changes =
       let expected : is_expected request (progress_of request replies) reply ≡ true = ap (λ r. is_expected request (progress_of request replies) r) told ∙ ap (λ p. is_expected request p Is.Denied) is in
       let goes : progress_of request (replies ++ reply ∷ []) ≡ undoing (suc k - 1) deny = progress-advances request replies reply expected ∙ ap (λ p. advance request p reply) is in
@@ -176,8 +192,12 @@ module _ {X : Type 0} (free : X) (holds : Reservation → X) (request : Request)
       ]))
 
   -- hop k has been relaxed
-  pub forth-goes : (k : ℕ) (levels : List ℕ) (t : ℕ) (hop : Hop) (held : X) → HaveBounds request.route → AreWithinReach request.delay request.route (offers_in replies) levels → slice_get request.route k ≡ Some hop → k < length (offers_in replies)
-      → progress_of request replies ≡ relaxing request.route (suc k) levels → (tent : IsTent holds request (offers_in replies) k held) → reply ≡ Is.Relaxed t → Changes At now later k (holds (committed (level_of (get_or levels k 0)) (bound_given request.route levels k) tent.terms)) → RouteGoes free holds request At later replies reply
+  pub forth-goes : (k : ℕ) (levels : List ℕ) (t : ℕ) (hop : Hop) (held : X) → HaveBounds request.route
+      → AreWithinReach request.delay request.route (offers_in replies) levels → slice_get request.route k ≡ Some hop
+      → k < length (offers_in replies) → progress_of request replies ≡ relaxing request.route (suc k) levels
+      → (tent : IsTent holds request (offers_in replies) k held) → reply ≡ Is.Relaxed t
+      → Changes At now later k (holds (committed (level_of (get_or levels k 0)) (bound_given request.route levels k) tent.terms))
+      → RouteGoes free holds request At later replies reply
   forth-goes k levels t hop held bounds within stands_at inside is tent told changes =
       let expected : is_expected request (progress_of request replies) reply ≡ true = ap (λ r. is_expected request (progress_of request replies) r) told ∙ ap (λ p. is_expected request p (Is.Relaxed t)) is in
       let goes : progress_of request (replies ++ reply ∷ []) ≡ relaxing request.route (suc k - 1) levels = progress-advances request replies reply expected ∙ ap (λ p. advance request p reply) is in

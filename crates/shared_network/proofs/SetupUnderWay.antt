@@ -41,13 +41,17 @@ use Rattle.setup_protocol.proofs.HopAsks.{of-setup}
 
 -- ---- entries that follow a protocol
 
-pub follows-more : (next : List Reply → Option (LinkNo × Ask)) (replies : List Reply) (entries : List OwnEntry) (e : OwnEntry) → Follows next replies entries → next (replies ++ map reply_in entries) ≡ Some (e.link, e.ask) → Follows next replies (entries ++ e ∷ [])
+pub follows-more : (next : List Reply → Option (LinkNo × Ask)) (replies : List Reply) (entries : List OwnEntry) (e : OwnEntry)
+    → Follows next replies entries → next (replies ++ map reply_in entries) ≡ Some (e.link, e.ask)
+    → Follows next replies (entries ++ e ∷ [])
 unfolding Follows
 follows-more next replies [] e follows asks = (ap next (sym (append-nil replies)) ∙ asks, tt)
 follows-more next replies (o ∷ entries) e follows asks = (follows.0, follows-more next (replies ++ o.reply ∷ []) entries e follows.1 (ap next (append_assoc replies (o.reply ∷ []) (map reply_in entries)) ∙ asks))
 
 -- what holds of each ask of a protocol holds of these entries
-pub each-follows : (P : Ask → Type 0) (next : List Reply → Option (LinkNo × Ask)) (replies : List Reply) (entries : List OwnEntry) → ((rs : List Reply) (to : LinkNo) (ask : Ask) → next rs ≡ Some (to, ask) → P ask) → Follows next replies entries → Each (λ (e : OwnEntry). P e.ask) entries
+pub each-follows : (P : Ask → Type 0) (next : List Reply → Option (LinkNo × Ask)) (replies : List Reply) (entries : List OwnEntry)
+    → ((rs : List Reply) (to : LinkNo) (ask : Ask) → next rs ≡ Some (to, ask) → P ask) → Follows next replies entries
+    → Each (λ (e : OwnEntry). P e.ask) entries
 unfolding Follows
 each-follows P next replies [] all follows = tt
 each-follows P next replies (e ∷ entries) all follows = (all replies e.link e.ask follows.0, each-follows P next (replies ++ e.reply ∷ []) entries all follows.1)
@@ -71,31 +75,38 @@ left-relaxing : (hops left : ℕ) (route : List Hop) (levels : List ℕ) → ask
 left-relaxing hops zero route levels = refl
 left-relaxing hops (suc left) route levels = refl
 
-left-tested : (request : Request) (offers : List ℕ) (denial : Option EndDenial) → asks_left (length request.route) (after_test request offers 0 denial) ≤ length request.route
+left-tested : (request : Request) (offers : List ℕ) (denial : Option EndDenial)
+    → asks_left (length request.route) (after_test request offers 0 denial) ≤ length request.route
 left-tested request offers (Some denial) = (let is = left-undoing (length request.route) (length request.route - 0) (End denial) in omega (arith, is))
 left-tested request offers None = (let is = left-relaxing (length request.route) (length request.route - 0) request.route (allotted request.route offers request.delay (jitter_of request.control)) in omega (arith, is))
 
-left-offered : (request : Request) (offers : List ℕ) (level reach : ℕ) → length offers < length request.route → asks_left (length request.route) (with_offers request (offers ++ level ∷ []) reach) < length request.route + length request.route - length offers
+left-offered : (request : Request) (offers : List ℕ) (level reach : ℕ) → length offers < length request.route
+    → asks_left (length request.route) (with_offers request (offers ++ level ∷ []) reach) < length request.route + length request.route - length offers
 left-offered request offers level reach few =
     let more = length_push offers level in
     let tested = left-tested request (offers ++ level ∷ []) (denial_of request.route (offers ++ level ∷ []) request.delay (jitter_of request.control)) in
     cond_both (nat_lt (length (offers ++ level ∷ [])) (length request.route)) (Reserving (offers ++ level ∷ []) reach) (at_destination request (offers ++ level ∷ []) 0) (λ p. asks_left (length request.route) p < length request.route + length request.route - length offers)
     (λ on. omega (arith, more, few)) (λ off. omega (arith, tested, few))
 
-left-refused : (request : Request) (offers : List ℕ) (deny : Denial) → length offers < length request.route → asks_left (length request.route) (undoing (length offers) deny) < length request.route + length request.route - length offers
+left-refused : (request : Request) (offers : List ℕ) (deny : Denial) → length offers < length request.route
+    → asks_left (length request.route) (undoing (length offers) deny) < length request.route + length request.route - length offers
 left-refused request offers deny few = (let is = left-undoing (length request.route) (length offers) deny in omega (arith, is, few))
 
-left-reserved : (request : Request) (offers : List ℕ) (reply : Reply) → length offers < length request.route → asks_left (length request.route) (after_reserve request offers reply) < length request.route + length request.route - length offers
+left-reserved : (request : Request) (offers : List ℕ) (reply : Reply) → length offers < length request.route
+    → asks_left (length request.route) (after_reserve request offers reply) < length request.route + length request.route - length offers
 left-reserved request offers (Is.Offer level reach) few = left-offered request offers (level_number level) (next_bound request.route offers (level_number reach)) few
 left-reserved request offers _ few = left-refused request offers _ few
 
-left-state : (request : Request) (offers : List ℕ) (reach : ℕ) (s : State) (reply : Reply) → IsStateOf request.route offers s → is_expected request (progress_at offers reach s) reply ≡ true → asks_left (length request.route) (advance request (progress_at offers reach s) reply) < asks_left (length request.route) (progress_at offers reach s)
+left-state : (request : Request) (offers : List ℕ) (reach : ℕ) (s : State) (reply : Reply) → IsStateOf request.route offers s
+    → is_expected request (progress_at offers reach s) reply ≡ true
+    → asks_left (length request.route) (advance request (progress_at offers reach s) reply) < asks_left (length request.route) (progress_at offers reach s)
 left-state request offers reach state.Reserving reply range expected = left-reserved request offers reply range
 left-state request offers reach (state.Undoing left deny) reply range expected = (let is = left-undoing (length request.route) (left - 1) deny in let least = range.0.least in omega (arith, is, least))
 left-state request offers reach (state.Relaxing left levels) reply range expected = (let is = left-relaxing (length request.route) (left - 1) request.route (levels_of levels) in let least = range.0.least in omega (arith, is, least))
 left-state request offers reach (state.Settled verdict) reply range expected = absurd (let clash : false ≡ true = expected in cc)
 
-pub setup-less : (setup : Setup) (reply : Reply) → is_expected setup.request (progress_in setup) reply ≡ true → asks_left (length setup.request.route) (advance setup.request (progress_in setup) reply) < setup_left setup
+pub setup-less : (setup : Setup) (reply : Reply) → is_expected setup.request (progress_in setup) reply ≡ true
+    → asks_left (length setup.request.route) (advance setup.request (progress_in setup) reply) < setup_left setup
 setup-less setup reply expected = left-state setup.request setup.itinerary.levels setup.itinerary.reach setup.state reply setup.in_range expected
 
 -- ---- a setup under way
@@ -130,7 +141,9 @@ rows-first request own some none = record {
   levels = tt;
 }
 
-pub setting-first : (table : TableId) (owners : List ActorNo) (links : List Link) (request : Request) (pass : Token) (setup : Setup) → IsContract request.contract → IsRoute request.route → Each (IsHopOf links) request.route → MayStep table owners links pass → HasNone request.chan pass.own → setup.request ≡ request → SetupStands setup [] → SettingUp table owners links request pass pass setup
+pub setting-first : (table : TableId) (owners : List ActorNo) (links : List Link) (request : Request) (pass : Token) (setup : Setup)
+    → IsContract request.contract → IsRoute request.route → Each (IsHopOf links) request.route → MayStep table owners links pass
+    → HasNone request.chan pass.own → setup.request ≡ request → SetupStands setup [] → SettingUp table owners links request pass pass setup
 unfolding Follows
 setting-first table owners links request pass setup contract route hops may none request_is stands =
     let at_first : progress_in setup ≡ Reserving [] 0 = stands ∙ ap (λ (r : Request). progress_of r []) request_is ∙ progress-none request route.least in
@@ -153,15 +166,18 @@ setting-first table owners links request pass setup contract route hops may none
 -- ---- one step
 
 -- each ask of a setup names its channel
-owns-asked : (owners : List ActorNo) (a : ActorNo) (request : Request) (p : Progress) (to : LinkNo) (ask : Ask) → IsOwner owners a request.chan → asked request p ≡ Some (to, ask) → OwnsAsk owners a ask
+owns-asked : (owners : List ActorNo) (a : ActorNo) (request : Request) (p : Progress) (to : LinkNo) (ask : Ask)
+    → IsOwner owners a request.chan → asked request p ≡ Some (to, ask) → OwnsAsk owners a ask
 owns-asked owners a request p to ask owner same = of-setup (OwnsAsk owners a) request p to ask (λ offers reach. owner) owner (λ levels place. owner) same
 
 -- and each reserve a next link of the network
-next-found : (links : List Link) (route : List Hop) (i : ℕ) (found : Option Hop) → Each (IsHopOf links) route → slice_get route i ≡ found → IsBelow (length links) (option_map hop_link found)
+next-found : (links : List Link) (route : List Hop) (i : ℕ) (found : Option Hop) → Each (IsHopOf links) route → slice_get route i ≡ found
+    → IsBelow (length links) (option_map hop_link found)
 next-found links route i None hops is = tt
 next-found links route i (Some hop) hops is = (let at = Each-at (IsHopOf links) route i hop hops is in slice_get_within links (link_number hop.link) at.link at.linked)
 
-next-asked : (links : List Link) (request : Request) (p : Progress) (to : LinkNo) (ask : Ask) → Each (IsHopOf links) request.route → asked request p ≡ Some (to, ask) → NextBelow (length links) ask
+next-asked : (links : List Link) (request : Request) (p : Progress) (to : LinkNo) (ask : Ask) → Each (IsHopOf links) request.route
+    → asked request p ≡ Some (to, ask) → NextBelow (length links) ask
 next-asked links request p to ask hops same =
     of-setup (NextBelow (length links)) request p to ask (λ offers reach. next-found links request.route (suc (length offers)) (slice_get request.route (suc (length offers))) hops refl) tt (λ levels place. tt) same
 
@@ -241,7 +257,9 @@ settled-is (Settled own) outcome is = ap Settled (same_Some own outcome (sym is)
 settled-is _ outcome is = absurd (let clash : Some outcome ≡ None = is in cc)
 
 -- each reserve of the channel names the request's contract
-setup-reserves : (table : TableId) (owners : List ActorNo) (links : List Link) (request : Request) (pass0 pass : Token) (setup : Setup) → HasNone request.chan pass0.own → SettingUp table owners links request pass0 pass setup → Each (λ (e : OwnEntry). ReservesOn (channel_number request.chan) request.contract e.ask) pass.own
+setup-reserves : (table : TableId) (owners : List ActorNo) (links : List Link) (request : Request) (pass0 pass : Token) (setup : Setup)
+    → HasNone request.chan pass0.own → SettingUp table owners links request pass0 pass setup
+    → Each (λ (e : OwnEntry). ReservesOn (channel_number request.chan) request.contract e.ask) pass.own
 setup-reserves table owners links request pass0 pass setup none so =
     let c : ℕ = channel_number request.chan in
     let P : Ask → Type 0 = ReservesOn c request.contract in
@@ -250,7 +268,9 @@ setup-reserves table owners links request pass0 pass setup none so =
     (each-follows P (next_ask request) [] so.entries (λ rs to ask same. of-setup P request (progress_of request rs) to ask (λ offers reach same. refl) tt (λ levels place. tt) same) so.follows))
 
 -- an accepted channel is established
-pub setup-established : (table : TableId) (owners : List ActorNo) (links : List Link) (request : Request) (pass0 pass : Token) (setup : Setup) (outcome : Outcome) → HasNone request.chan pass0.own → SettingUp table owners links request pass0 pass setup → Some outcome ≡ settled_in (progress_in setup) → is_accepted outcome ≡ true → IsEstablished request pass.own
+pub setup-established : (table : TableId) (owners : List ActorNo) (links : List Link) (request : Request) (pass0 pass : Token) (setup : Setup) (outcome : Outcome)
+    → HasNone request.chan pass0.own → SettingUp table owners links request pass0 pass setup → Some outcome ≡ settled_in (progress_in setup)
+    → is_accepted outcome ≡ true → IsEstablished request pass.own
 setup-established table owners links request pass0 pass setup (Denies deny) none so is accepted = absurd (let clash : false ≡ true = accepted in cc)
 setup-established table owners links request pass0 pass setup (Accepts levels delay) none so is accepted = λ i hop found.
     (let at_end : progress_of request (map reply_in so.entries) ≡ Settled (Accepts levels delay) = ap (λ (r : Request). progress_of r (map reply_in so.entries)) (sym so.request_is) ∙ sym so.stands ∙ settled-is (progress_in setup) (Accepts levels delay) is in
@@ -275,7 +295,9 @@ on-ok (Err x) ok p = absurd (let clash : false ≡ true = ok in cc)
 
 -- ---- how many stamps are drawn
 
-pub drew-some : (table : TableId) (owners : List ActorNo) (links : List Link) (pass pass' : Token) (entries : List OwnEntry) (n : ℕ) → MayStep table owners links pass → MayStep table owners links pass' → pass'.own ≡ pass.own ++ entries → length entries ≤ n → length pass'.view.drawn ≤ length pass.view.drawn + n
+pub drew-some : (table : TableId) (owners : List ActorNo) (links : List Link) (pass pass' : Token) (entries : List OwnEntry) (n : ℕ)
+    → MayStep table owners links pass → MayStep table owners links pass' → pass'.own ≡ pass.own ++ entries → length entries ≤ n
+    → length pass'.view.drawn ≤ length pass.view.drawn + n
 drew-some table owners links pass pass' entries n may may' own few =
     let before = drawn-own table owners links pass may in
     let after = drawn-own table owners links pass' may' in

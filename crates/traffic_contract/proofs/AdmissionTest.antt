@@ -51,7 +51,8 @@ unfolding work_up_to
 work_up_to-above rate m w row h = rw (lt-leb row.level m h) refl
 
 -- a row of the same contract at a level that is no smaller adds no more
-pub work_up_to-le : (rate m w : ℕ) (row other : Admitted) → other.contract ≡ row.contract → row.level ≤ other.level → work_up_to rate m w other ≤ work_up_to rate m w row
+pub work_up_to-le : (rate m w : ℕ) (row other : Admitted) → other.contract ≡ row.contract → row.level ≤ other.level
+    → work_up_to rate m w other ≤ work_up_to rate m w row
 work_up_to-le rate m w row other same larger =
     ⊎_elim (λ (above : m < other.level). (let e = work_up_to-above rate m w other above in omega (arith, e)))
     (λ (within : other.level ≤ m).
@@ -62,7 +63,8 @@ work_up_to-le rate m w row other same larger =
     (cases_lt m other.level)
 
 -- the load with a new row is the load before and what the row adds
-pub load-with_row : (server : Server) (rows : List Admitted) (contract : Traffic) (level m w : ℕ) → load server (with_row rows contract level) m w ≡ load server rows m w + work_up_to server.rate m w (record { contract = contract; level = level })
+pub load-with_row : (server : Server) (rows : List Admitted) (contract : Traffic) (level m w : ℕ)
+    → load server (with_row rows contract level) m w ≡ load server rows m w + work_up_to server.rate m w (record { contract = contract; level = level })
 unfolding load
 load-with_row server rows contract level m w =
     let e = total-push (work_up_to server.rate m w) rows (record { contract = contract; level = level }) in omega (arith, e)
@@ -79,7 +81,8 @@ Decides-some_upto test (suc n) =
       λ found. ⊎_elim (λ (last : found.0 ≡ suc n). or_left (test (suc n)) (some_upto test n) (subst (λ w. test w ≡ true) last found.3)) (λ (other : found.0 ≡ suc n → ⊥). or_right (test (suc n)) (some_upto test n) (below.1 (found.0, found.1, omega (arith, other, found.2), found.3))) (cases_eq found.0 (suc n)),
     )
 
-Decides-some_counts : (kind : Test) (test : ℕ → Bool) (d : ℕ) → Decides (some_counts kind test d) ((w : ℕ) × WindowCounts kind d w × (test w ≡ true))
+Decides-some_counts : (kind : Test) (test : ℕ → Bool) (d : ℕ)
+    → Decides (some_counts kind test d) ((w : ℕ) × WindowCounts kind d w × (test w ≡ true))
 Decides-some_counts Whole test d = (λ e. (d, refl, e), λ found. subst (λ w. test w ≡ true) found.1 found.2)
 Decides-some_counts Least test d =
     Decides-like _ (λ found. (found.0, (found.1, found.2), found.3)) (λ found. (found.0, found.1.0, found.1.1, found.2)) (Decides-some_upto test d)
@@ -95,7 +98,8 @@ pub window-of : (server : Server) (rows : List Admitted) (m : ℕ) → PassesAt 
 window-of server rows m = (Decides-passes_at server rows m).0
 
 -- a level passes whose load is no larger than one that passes
-pub PassesAt-le : (server : Server) (rows others : List Admitted) (m : ℕ) → ((w : ℕ) → load server others m w ≤ load server rows m w) → PassesAt server rows m → PassesAt server others m
+pub PassesAt-le : (server : Server) (rows others : List Admitted) (m : ℕ) → ((w : ℕ) → load server others m w ≤ load server rows m w)
+    → PassesAt server rows m → PassesAt server others m
 PassesAt-le server rows others m less passed =
     let found = window-of server rows m passed in
     (Decides-passes_at server others m).1 (record {
@@ -115,16 +119,20 @@ counts-whole Whole d some = refl
 counts-whole Least d some = (some, omega arith)
 
 -- so a level passes whose load in its whole bound fits
-pub PassesAt-whole : (server : Server) (rows : List Admitted) (m : ℕ) → 1 ≤ bound_at server.bounds m → level_sum server rows m ≤ bound_at server.bounds m → PassesAt server rows m
+pub PassesAt-whole : (server : Server) (rows : List Admitted) (m : ℕ) → 1 ≤ bound_at server.bounds m
+    → level_sum server rows m ≤ bound_at server.bounds m → PassesAt server rows m
 PassesAt-whole server rows m some fits =
     (Decides-passes_at server rows m).1 (record { window = bound_at server.bounds m; counts = counts-whole server.test (bound_at server.bounds m) some; fits = fits })
 
 -- rows pass whose loads are no larger than those of rows that pass
-pub Passes-le : (server : Server) (rows others : List Admitted) → ((m w : ℕ) → load server others m w ≤ load server rows m w) → Passes server rows → Passes server others
+pub Passes-le : (server : Server) (rows others : List Admitted) → ((m w : ℕ) → load server others m w ≤ load server rows m w)
+    → Passes server rows → Passes server others
 Passes-le server rows others less passed = record { each = λ m from upto. PassesAt-le server rows others m (less m) (passed.each m from upto) }
 
 -- rows that pass still pass when one moves to a larger level
-pub Passes-raised : (server : Server) (rows : List Admitted) (row raised : Admitted) (later : List Admitted) → raised.contract ≡ row.contract → row.level ≤ raised.level → Passes server (rows ++ row ∷ later) → Passes server (rows ++ raised ∷ later)
+pub Passes-raised : (server : Server) (rows : List Admitted) (row raised : Admitted) (later : List Admitted)
+    → raised.contract ≡ row.contract → row.level ≤ raised.level → Passes server (rows ++ row ∷ later)
+    → Passes server (rows ++ raised ∷ later)
 unfolding load
 Passes-raised server rows row raised later same larger =
     Passes-le server (rows ++ row ∷ later) (rows ++ raised ∷ later) (λ m w.
@@ -134,7 +142,8 @@ Passes-raised server rows row raised later same larger =
     omega (arith, e, f, g))
 
 -- f gives the row of an item: the rows that pass still do when items are taken out
-pub Passes-kept : {X : Type 0} (server : Server) (f : X → Admitted) (test : X → Bool) (xs : List X) → Passes server (map f xs) → Passes server (map f (filter test xs))
+pub Passes-kept : {X : Type 0} (server : Server) (f : X → Admitted) (test : X → Bool) (xs : List X) → Passes server (map f xs)
+    → Passes server (map f (filter test xs))
 unfolding load
 Passes-kept server f test xs =
     Passes-le server (map f xs) (map f (filter test xs)) (λ m w.
@@ -144,7 +153,9 @@ Passes-kept server f test xs =
     omega (arith, e, h, less))
 
 -- and so do those of items that changed to no smaller levels
-pub Passes-changed : {X : Type 0} (server : Server) (f : X → Admitted) (change : X → X) (xs : List X) → All (λ x. ((f (change x)).contract ≡ (f x).contract) × ((f x).level ≤ (f (change x)).level)) xs → Passes server (map f xs) → Passes server (map f (map change xs))
+pub Passes-changed : {X : Type 0} (server : Server) (f : X → Admitted) (change : X → X) (xs : List X)
+    → All (λ x. ((f (change x)).contract ≡ (f x).contract) × ((f x).level ≤ (f (change x)).level)) xs → Passes server (map f xs)
+    → Passes server (map f (map change xs))
 unfolding load
 Passes-changed server f change xs raised =
     Passes-le server (map f xs) (map f (map change xs)) (λ m w.
@@ -155,17 +166,20 @@ Passes-changed server f change xs raised =
     omega (arith, e, h, i, less))
 
 -- a row that passes at a level passes at every larger level
-pub Passes-larger : (server : Server) (rows : List Admitted) (contract : Traffic) (m larger : ℕ) → m ≤ larger → Passes server (with_row rows contract m) → Passes server (with_row rows contract larger)
+pub Passes-larger : (server : Server) (rows : List Admitted) (contract : Traffic) (m larger : ℕ) → m ≤ larger
+    → Passes server (with_row rows contract m) → Passes server (with_row rows contract larger)
 Passes-larger server rows contract m larger h =
     Passes-raised server rows (record { contract = contract; level = m }) (record { contract = contract; level = larger }) [] refl h
 
 -- the empty list of rows passes where the blocking, of a tick or more, fits every bound
-pub Passes-nil : (server : Server) → 1 ≤ server.blocking → ((m : ℕ) → 1 ≤ m → m ≤ length server.bounds → server.blocking ≤ bound_at server.bounds m) → Passes server []
+pub Passes-nil : (server : Server) → 1 ≤ server.blocking
+    → ((m : ℕ) → 1 ≤ m → m ≤ length server.bounds → server.blocking ≤ bound_at server.bounds m) → Passes server []
 unfolding load
 Passes-nil server some fits = record { each = λ m from upto. PassesAt-whole server [] m (omega (arith, some, fits m from upto)) (omega (arith, fits m from upto)) }
 
 -- whether rows pass up to a level
-Decides-passes_up_to : (server : Server) (rows : List Admitted) (n : ℕ) → Decides (passes_up_to server rows n) ((m : ℕ) → 1 ≤ m → m ≤ n → PassesAt server rows m)
+Decides-passes_up_to : (server : Server) (rows : List Admitted) (n : ℕ)
+    → Decides (passes_up_to server rows n) ((m : ℕ) → 1 ≤ m → m ≤ n → PassesAt server rows m)
 unfolding passes_up_to
 Decides-passes_up_to server rows zero = (λ _ m from upto. absurd (omega arith), λ _. refl)
 Decides-passes_up_to server rows (suc n) =
@@ -182,14 +196,16 @@ unfolding passes
 Decides-passes server rows =
     Decides-like _ (λ all. record { each = all }) (λ passed. passed.each) (Decides-passes_up_to server rows (length server.bounds))
 
-pub Decides-admits : (server : Server) (rows : List Admitted) (contract : Traffic) (m : ℕ) → Decides (admits server rows contract m) (Passes server (with_row rows contract m))
+pub Decides-admits : (server : Server) (rows : List Admitted) (contract : Traffic) (m : ℕ)
+    → Decides (admits server rows contract m) (Passes server (with_row rows contract m))
 unfolding admits
 Decides-admits server rows contract m = Decides-passes server (with_row rows contract m)
 
 -- ---- the best level
 
 -- a level that passes, while the ones before it don't, is found
-pub first_level-found : (test : ℕ → Bool) (m count found : ℕ) → m ≤ found → found < m + count → test found ≡ true → ((k : ℕ) → m ≤ k → k < found → test k ≡ false) → first_level test m count ≡ Some found
+pub first_level-found : (test : ℕ → Bool) (m count found : ℕ) → m ≤ found → found < m + count → test found ≡ true
+    → ((k : ℕ) → m ≤ k → k < found → test k ≡ false) → first_level test m count ≡ Some found
 unfolding first_level
 first_level-found test m zero found from upto holds before = absurd (omega arith)
 first_level-found test m (suc count) found from upto holds before =
@@ -199,14 +215,16 @@ first_level-found test m (suc count) found from upto holds before =
     (cases_eq m found)
 
 -- none is found where none passes
-pub first_level-none : (test : ℕ → Bool) (m count : ℕ) → ((k : ℕ) → m ≤ k → k < m + count → test k ≡ false) → first_level test m count ≡ None
+pub first_level-none : (test : ℕ → Bool) (m count : ℕ) → ((k : ℕ) → m ≤ k → k < m + count → test k ≡ false)
+    → first_level test m count ≡ None
 unfolding first_level
 first_level-none test m zero fails = refl
 first_level-none test m (suc count) fails =
     rw (fails m (omega arith) (omega arith)) (first_level-none test (m + 1) count (λ k from upto. fails k (omega arith) (omega arith)))
 
 -- what is found passes and comes first
-pub first_level-is : (test : ℕ → Bool) (m count found : ℕ) → first_level test m count ≡ Some found → (m ≤ found) × (found < m + count) × (test found ≡ true) × ((k : ℕ) → m ≤ k → k < found → test k ≡ false)
+pub first_level-is : (test : ℕ → Bool) (m count found : ℕ) → first_level test m count ≡ Some found
+    → (m ≤ found) × (found < m + count) × (test found ≡ true) × ((k : ℕ) → m ≤ k → k < found → test k ≡ false)
 unfolding first_level
 first_level-is test m zero found e = cc
 first_level-is test m (suc count) found e =
@@ -223,56 +241,59 @@ first_level-is test m (suc count) found e =
     ))
     (cases_Bool (test m))
 
--- the best level that the definition computes is the least that passes
-pub best_level-is : (server : Server) (rows : List Admitted) (contract : Traffic) (m : ℕ) → best_level server rows contract ≡ Some m → IsBest server rows contract m
-unfolding best_level
-best_level-is server rows contract m e =
-    let found = first_level-is (admits server rows contract) 1 (length server.bounds) m e in
-    record {
-      from = found.0;
-      upto = omega (arith, found.1);
-      passes = (Decides-admits server rows contract m).0 found.2;
-      least = λ lower from upto passed. ⊎_elim (λ (below : lower < m). absurd (true≢false (sym ((Decides-admits server rows contract lower).1 passed) ∙ found.3 lower from below))) (λ (above : m ≤ lower). above) (cases_lt lower m);
-    }
+module _ (server : Server) (rows : List Admitted) (contract : Traffic) where
+  -- the best level that the definition computes is the least that passes
+  pub best_level-is : (m : ℕ) → best_level server rows contract ≡ Some m → IsBest server rows contract m
+  unfolding best_level
+  best_level-is m e =
+      let found = first_level-is (admits server rows contract) 1 (length server.bounds) m e in
+      record {
+        from = found.0;
+        upto = omega (arith, found.1);
+        passes = (Decides-admits server rows contract m).0 found.2;
+        least = λ lower from upto passed. ⊎_elim (λ (below : lower < m). absurd (true≢false (sym ((Decides-admits server rows contract lower).1 passed) ∙ found.3 lower from below))) (λ (above : m ≤ lower). above) (cases_lt lower m);
+      }
 
-pub best_level-found : (server : Server) (rows : List Admitted) (contract : Traffic) (m : ℕ) → IsBest server rows contract m → best_level server rows contract ≡ Some m
-unfolding best_level
-best_level-found server rows contract m best =
-    first_level-found (admits server rows contract) 1 (length server.bounds) m best.from (omega (arith, best.upto)) ((Decides-admits server rows contract m).1 best.passes)
-    (λ k from below. false_from_ne_true _ (λ passed. absurd (omega (arith, best.least k from (omega (arith, best.upto)) ((Decides-admits server rows contract k).0 passed)))))
+  pub best_level-found : (m : ℕ) → IsBest server rows contract m → best_level server rows contract ≡ Some m
+  unfolding best_level
+  best_level-found m best =
+      first_level-found (admits server rows contract) 1 (length server.bounds) m best.from (omega (arith, best.upto)) ((Decides-admits server rows contract m).1 best.passes)
+      (λ k from below. false_from_ne_true _ (λ passed. absurd (omega (arith, best.least k from (omega (arith, best.upto)) ((Decides-admits server rows contract k).0 passed)))))
 
--- there is none exactly where no level passes
-pub best_level-none : (server : Server) (rows : List Admitted) (contract : Traffic) → IsRefused server rows contract → best_level server rows contract ≡ None
-unfolding best_level
-best_level-none server rows contract refused =
-    first_level-none (admits server rows contract) 1 (length server.bounds) (λ k from upto. false_from_ne_true _ (λ passed. refused.each k from (omega arith) ((Decides-admits server rows contract k).0 passed)))
+  -- there is none exactly where no level passes
+  pub best_level-none : IsRefused server rows contract → best_level server rows contract ≡ None
+  unfolding best_level
+  best_level-none refused =
+      first_level-none (admits server rows contract) 1 (length server.bounds) (λ k from upto. false_from_ne_true _ (λ passed. refused.each k from (omega arith) ((Decides-admits server rows contract k).0 passed)))
 
--- ---- room for a new row at each level
+  -- ---- room for a new row at each level
 
--- a new row adds nothing below its level
-pub load-below : (server : Server) (rows : List Admitted) (contract : Traffic) (m k w : ℕ) → k < m → load server (with_row rows contract m) k w ≡ load server rows k w
-load-below server rows contract m k w below =
-    let e = load-with_row server rows contract m k w in
-    let f = work_up_to-above server.rate k w (record { contract = contract; level = m }) below in
-    omega (arith, e, f)
+  -- a new row adds nothing below its level
+  pub load-below : (m k w : ℕ) → k < m → load server (with_row rows contract m) k w ≡ load server rows k w
+  load-below m k w below =
+      let e = load-with_row server rows contract m k w in
+      let f = work_up_to-above server.rate k w (record { contract = contract; level = m }) below in
+      omega (arith, e, f)
 
--- and its work at each level from its own on
-pub load-from : (server : Server) (rows : List Admitted) (contract : Traffic) (m k w : ℕ) → m ≤ k → load server (with_row rows contract m) k w ≡ load server rows k w + work_in server.rate contract w
-load-from server rows contract m k w within =
-    let e = load-with_row server rows contract m k w in
-    let f = work_up_to-within server.rate k w (record { contract = contract; level = m }) within in
-    omega (arith, e, f)
+  -- and its work at each level from its own on
+  pub load-from : (m k w : ℕ) → m ≤ k → load server (with_row rows contract m) k w ≡ load server rows k w + work_in server.rate contract w
+  load-from m k w within =
+      let e = load-with_row server rows contract m k w in
+      let f = work_up_to-within server.rate k w (record { contract = contract; level = m }) within in
+      omega (arith, e, f)
 
--- rows that pass still pass with a new one at m where every level from m on has room for it
-pub Passes-with_row : (server : Server) (rows : List Admitted) (contract : Traffic) (m : ℕ) → Passes server rows → ((k : ℕ) → m ≤ k → k ≤ length server.bounds → HasRoom server rows contract k) → Passes server (with_row rows contract m)
-Passes-with_row server rows contract m passed room = record {
-  each = λ k from upto.
-      ⊎_elim (λ (below : k < m). PassesAt-le server rows (with_row rows contract m) k (λ w. (let e = load-below server rows contract m k w below in omega (arith, e))) (passed.each k from upto))
-      (λ (above : m ≤ k). PassesAt-le server (with_row rows contract k) (with_row rows contract m) k (λ w. (let e = load-from server rows contract m k w above in let f = load-from server rows contract k k w (omega arith) in omega (arith, e, f))) (room k above upto))
-      (cases_lt k m);
-}
+  -- rows that pass still pass with a new one at m where every level from m on has room for it
+  pub Passes-with_row : (m : ℕ) → Passes server rows → ((k : ℕ) → m ≤ k → k ≤ length server.bounds → HasRoom server rows contract k)
+      → Passes server (with_row rows contract m)
+  Passes-with_row m passed room = record {
+    each = λ k from upto.
+        ⊎_elim (λ (below : k < m). PassesAt-le server rows (with_row rows contract m) k (λ w. (let e = load-below m k w below in omega (arith, e))) (passed.each k from upto))
+        (λ (above : m ≤ k). PassesAt-le server (with_row rows contract k) (with_row rows contract m) k (λ w. (let e = load-from m k w above in let f = load-from k k w (omega arith) in omega (arith, e, f))) (room k above upto))
+        (cases_lt k m);
+  }
 
--- where a level has no room, the new row passes at none of the levels up to it
-pub room-from-Passes : (server : Server) (rows : List Admitted) (contract : Traffic) (m k : ℕ) → 1 ≤ k → m ≤ k → k ≤ length server.bounds → Passes server (with_row rows contract m) → HasRoom server rows contract k
-room-from-Passes server rows contract m k from within upto passed =
-    PassesAt-le server (with_row rows contract m) (with_row rows contract k) k (λ w. (let e = load-from server rows contract m k w within in let f = load-from server rows contract k k w (omega arith) in omega (arith, e, f))) (passed.each k from upto)
+  -- where a level has no room, the new row passes at none of the levels up to it
+  pub room-from-Passes : (m k : ℕ) → 1 ≤ k → m ≤ k → k ≤ length server.bounds → Passes server (with_row rows contract m)
+      → HasRoom server rows contract k
+  room-from-Passes m k from within upto passed =
+      PassesAt-le server (with_row rows contract m) (with_row rows contract k) k (λ w. (let e = load-from m k w within in let f = load-from k k w (omega arith) in omega (arith, e, f))) (passed.each k from upto)
