@@ -1,7 +1,7 @@
 -- A plan of one link, one request and one caller, as tests have it: link 0 has levels of 10, 20 and 40 ticks, a propagation of 2, and
 -- no quotas, or some without load after its levels; channel 0 goes over it, and caller 0 opens that channel and no other. Or a plan of two
 -- requests: channel 1 goes over it too, and caller 0 opens both.
-use Rattle.std.specs.Prelude.{◌≡◌, ℕ, None, [], ◌∷◌, length}
+use Rattle.std.specs.Prelude.{◌≡◌, None, [], ◌∷◌, length}
 use Rattle.std.specs.List.{All}
 use Rattle.net_units.specs.Numbers.{link_number, actor_number, channel_number}
 use Rattle.hop_reservation.specs.declared.route.Hop.{Hop}

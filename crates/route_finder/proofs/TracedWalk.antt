@@ -1,5 +1,5 @@
 -- What is traced along the table is the first of the ways that have the least propagation and as few links as it needs.
-use Rattle.std.proofs.Common.{◌≡◌, ℕ, zero, suc, ◌+◌, ◌<◌, ◌≤◌, true, false, Option, Some, List, [], ◌∷◌, length, ◌⊎◌, inl, inr, ap, sym, subst, refl, ◌∙◌, arith}
+use Rattle.std.proofs.Common.{◌≡◌, ℕ, zero, suc, ◌+◌, ◌≤◌, true, false, Option, Some, List, [], ◌∷◌, length, ◌⊎◌, inl, inr, ap, sym, subst, refl, ◌∙◌, arith}
 use Rattle.std.proofs.lemmas.Option.{same_Some}
 use Rattle.std.proofs.lemmas.Bool.{cases_Bool}
 use Rattle.route_finder.specs.declared.edge.Edge.{Edge}

@@ -1,5 +1,5 @@
 -- Rows whose numbers are small enough that sums of a few of them are numbers of the machine.
-use Rattle.std.specs.Prelude.{ℕ, ◌<◌, ◌^◌, List}
+use Rattle.std.specs.Prelude.{◌<◌, ◌^◌, List}
 use Rattle.link_steps.specs.Lists.{Each}
 use Rattle.run_record.specs.declared.rows.HopRow.{HopRow}
 

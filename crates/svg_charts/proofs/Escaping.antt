@@ -1,6 +1,6 @@
 -- Each byte of a text is read back, and none is written that ends the text's place.
-use Rattle.std.proofs.Common.{◌≡◌, ◌++◌, [], ◌∷◌, ◌∙◌, ℕ, Bool, true, false, List, Some, None, inl, inr, ap, sym, subst, refl, rules, cond, nat_eq}
-use Rattle.std.specs.List.{All, flat_map}
+use Rattle.std.proofs.Common.{◌≡◌, ◌++◌, [], ◌∷◌, ◌∙◌, ℕ, false, List, Some, None, inl, inr, ap, sym, subst, refl, rules, cond, nat_eq}
+use Rattle.std.specs.List.{All}
 use Rattle.std.proofs.lemmas.Bool.{cases_Bool, cond-false, eqb-true}
 use Rattle.svg_charts.specs.Escapes.{is_mark, escaped_byte, escaped, before, read_on, text_read}
 

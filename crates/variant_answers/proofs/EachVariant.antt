@@ -1,5 +1,5 @@
 -- The outcome of a number is what stands in the place of that number.
-use Rattle.std.proofs.Common.{◌≡◌, ℕ, ◌<◌, List, Option, Some, Result, Ok, IfOk, length, map, sym, ap, ◌∙◌, subst, slice_get}
+use Rattle.std.proofs.Common.{◌≡◌, ℕ, ◌<◌, List, Some, Result, Ok, IfOk, length, map, sym, ap, ◌∙◌, subst, slice_get}
 use Rattle.std.proofs.lemmas.Option.{slice_get_within}
 use Rattle.link_steps.proofs.ListParts.{comes-from, mapped-at, stands-at}
 use Rattle.network_variants.specs.declared.variants.Variants.{Variants}

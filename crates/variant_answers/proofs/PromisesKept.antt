@@ -1,12 +1,12 @@
 -- Each request is promised what its setup has come to, and the reading of a text says which plan that is of.
-use Rattle.std.proofs.Common.{◌≡◌, ℕ, zero, suc, ◌+◌, ◌<◌, List, [], ◌∷◌, ◌++◌, Option, Some, take, length, map, refl, sym, ap, ◌∙◌, subst, slice_get, arith}
+use Rattle.std.proofs.Common.{◌≡◌, ℕ, zero, suc, ◌+◌, ◌<◌, List, [], ◌∷◌, ◌++◌, Option, Some, take, length, refl, sym, ap, ◌∙◌, subst, slice_get, arith}
 use Rattle.std.proofs.lemmas.List.{map-append}
 use Rattle.call_script.specs.Parts.{PlanParts}
 use Rattle.call_script.specs.declared.entries.RequestEntry.{RequestEntry}
 use Rattle.call_script.specs.declared.schedule.Schedule.{Schedule}
 use Rattle.plan_answers.specs.Trials.{outcome_in}
 use Rattle.run_record.specs.declared.done.Done.{Done}
-use Rattle.scenario_reader.specs.Reading.{Reading, PlanRead, BadLine, TooManyBytes, reading}
+use Rattle.scenario_reader.specs.Reading.{Reading, PlanRead, TooManyBytes, reading}
 use Rattle.scenario_reader.specs.ReadSteps.{RefusesLine, scenarios}
 use Rattle.scenario_reader.specs.declared.cause.Cause.{Cause}
 use Rattle.scenario_reader.specs.declared.reader.TheConstants.{MOST_BYTES}

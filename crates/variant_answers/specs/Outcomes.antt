@@ -1,7 +1,7 @@
 -- What a variant of a scenario comes to is said of its text alone, whatever the other variants are and in whatever order they are judged. The text
 -- is read as a scenario. Where a line is refused, the outcome has the number of that line. Where a plan is read, its requests alone, one after
 -- the other, have a run, and each request is promised the delay of its acceptance there, or none.
-use Rattle.std.specs.Prelude.{◌≡◌, ℕ, IfOk, Option, Some, None, List, map, Result}
+use Rattle.std.specs.Prelude.{◌≡◌, ℕ, IfOk, Option, Some, None, List, map}
 use Rattle.call_script.specs.Parts.{PlanParts}
 use Rattle.call_script.specs.declared.entries.RequestEntry.{RequestEntry}
 use Rattle.network_variants.specs.Variants.{text_in, word_at}

@@ -1,9 +1,9 @@
-use Rattle.std.proofs.Common.{reverse, sym, subst, ap, ◌∙◌}
+use Rattle.std.proofs.Common.{sym, subst, ap, ◌∙◌}
 use Rattle.std.proofs.lemmas.List.{reverse-reverse}
 use Rattle.call_script.specs.Tasks.{network_of}
 use Rattle.interleave_core.proofs.Channels.GuaranteeLaw.{plan-guaranteed}
 use Rattle.interleave_core.specs.channels.Laws.{IsGuaranteedRun}
-use Rattle.run_engine.specs.runs.Runs.{next_for, IsRun}
+use Rattle.run_engine.specs.runs.Runs.{next_for}
 use Rattle.run_engine.specs.schedules.Schedules.{IsPlayed}
 use Rattle.race_run.specs.Whole.{weave_of}
 use Rattle.tenet_app.proofs.racing.tallied.Goals as goal

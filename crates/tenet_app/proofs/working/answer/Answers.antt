@@ -1,5 +1,5 @@
 -- The report of the tally is that of the schedule's run.
-use Rattle.std.proofs.Common.{reverse, sym, subst, ◌∙◌}
+use Rattle.std.proofs.Common.{reverse, sym, subst}
 use Rattle.std.proofs.lemmas.List.{reverse-reverse}
 use Rattle.call_script.specs.Tasks.{network_of}
 use Rattle.channel_report.specs.Report.{report_of}

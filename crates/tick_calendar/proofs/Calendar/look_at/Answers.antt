@@ -1,5 +1,5 @@
 -- The wheel's first due entry is the calendar's.
-use Rattle.std.proofs.Common.{◌≡◌, ◌+◌, suc, length, refl, ap, sym, ◌∙◌, subst, arith}
+use Rattle.std.proofs.Common.{◌+◌, suc, length, refl, ap, sym, ◌∙◌, subst, arith}
 use Rattle.tick_calendar.specs.Calendar.{Timetable}
 use Rattle.tick_calendar.specs.Wheel.{AreAllFrom}
 use Rattle.tick_calendar.proofs.TakesWhatIsDue.{all-later, due-none, first-due, taken-not_ahead}

@@ -1,5 +1,5 @@
 -- Before the tick until which the calendar rests, nothing is due.
-use Rattle.std.proofs.Common.{ap, ◌∙◌, sym, subst}
+use Rattle.std.proofs.Common.{ap, sym, subst}
 use Rattle.tick_calendar.specs.Calendar.{Timetable}
 use Rattle.tick_calendar.specs.Wheel.{AreAllFrom}
 use Rattle.tick_calendar.proofs.TakesWhatIsDue.{due-none, none-until}

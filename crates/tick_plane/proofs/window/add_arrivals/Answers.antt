@@ -1,5 +1,5 @@
 -- Where the next flight is due later, none of the round is left.
-use Rattle.std.proofs.Common.{◌≡◌, drop}
+use Rattle.std.proofs.Common.{drop}
 use Rattle.tick_plane.specs.Coming.{arrivals_in}
 use Rattle.tick_plane.proofs.ComingInOrder.{later-drop, none-more}
 use Rattle.tick_plane.proofs.window.add_arrivals.Goals as goal

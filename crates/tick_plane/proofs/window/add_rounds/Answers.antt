@@ -1,5 +1,5 @@
 -- No round yet, and then one round more.
-use Rattle.std.proofs.Common.{◌≡◌, suc, ◌+◌, ◌≤◌, List, drop, subst, arith}
+use Rattle.std.proofs.Common.{◌≡◌, suc, ◌+◌, List, drop, subst, arith}
 use Rattle.tick_plane.specs.Coming.{AreLeft}
 use Rattle.tick_plane.specs.declared.flight.Flight.{Flight}
 use Rattle.tick_plane.proofs.ComingInOrder.{left-none, left-on, rounds-none, rounds-more}

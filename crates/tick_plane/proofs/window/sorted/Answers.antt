@@ -1,5 +1,5 @@
 -- A copy, sorted by the rounds.
-use Rattle.std.proofs.Common.{◌≡◌, ◌++◌, ◌∙◌, List, ap, subst, rules}
+use Rattle.std.proofs.Common.{◌++◌, ◌∙◌, List, ap, subst, rules}
 use Rattle.std.proofs.lemmas.List.Sorted.{answers_always}
 use Rattle.std.specs.Ordering.{nat_cmp}
 use Rattle.std.specs.List.Sorted.{IsStableByKey}

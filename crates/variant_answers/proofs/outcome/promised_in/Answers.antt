@@ -1,4 +1,4 @@
-use Rattle.std.proofs.Common.{ℕ, ◌<◌, List, length, option_map, subst}
+use Rattle.std.proofs.Common.{◌<◌, List, length, option_map, subst}
 use Rattle.call_script.specs.declared.entries.RequestEntry.{RequestEntry}
 use Rattle.plan_answers.specs.Trials.{run_in}
 use Rattle.setup_protocol.specs.State.{outcome_of}

@@ -1,5 +1,5 @@
 -- The step is a part of the operation, whose time it is.
-use Rattle.std.proofs.Common.{sym, ap, ◌∙◌, subst, arith}
+use Rattle.std.proofs.Common.{sym, ◌∙◌, subst, arith}
 use Rattle.run_engine.specs.schedules.Standing.{MakesStep}
 use Rattle.call_times.specs.Makings.{turns_made}
 use Rattle.call_times.proofs.RunsInTime.{caller-step}

@@ -1,5 +1,5 @@
 -- The round goes on, or another one begins.
-use Rattle.std.proofs.Common.{sym, ap, ◌∙◌}
+use Rattle.std.proofs.Common.{sym, ◌∙◌}
 use Rattle.call_times.proofs.making.Making.make_round.Goals as goal
 
 pub loop-init : goal.loop-init

@@ -1,8 +1,6 @@
 -- The plane makes one more step.
-use Rattle.std.proofs.Common.{◌++◌, ◌≤◌, length, sym, ap, ◌∙◌, subst, arith}
+use Rattle.std.proofs.Common.{◌++◌, sym, ap, ◌∙◌, subst, arith}
 use Rattle.net_units.specs.Numbers.{actor_number}
-use Rattle.call_script.specs.Tasks.{network_of}
-use Rattle.run_engine.specs.schedules.Quiet.{the_plane}
 use Rattle.run_engine.specs.schedules.Schedules.{repeated}
 use Rattle.run_engine.specs.schedules.Standing.{MakesStep}
 use Rattle.run_engine.proofs.Keeping.NextPlaneStep.{own-number}

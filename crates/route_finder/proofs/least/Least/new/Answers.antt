@@ -1,4 +1,4 @@
-use Rattle.std.proofs.Common.{◌≡◌, ℕ, ◌+◌, [], ◌∷◌, ◌++◌, sym, subst, ap, ◌∙◌}
+use Rattle.std.proofs.Common.{◌+◌, [], ◌∷◌, ◌++◌, sym, subst, ap, ◌∙◌}
 use Rattle.route_finder.proofs.TableRows.{HasTable, rows-first, rows-next}
 use Rattle.route_finder.proofs.least.Least.new.Goals as goal
 

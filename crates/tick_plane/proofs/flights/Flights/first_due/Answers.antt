@@ -1,5 +1,5 @@
 -- The key of the first flight that is due tells it.
-use Rattle.std.proofs.Common.{◌≡◌, Option, Some, sym, ap, ◌∙◌, subst}
+use Rattle.std.proofs.Common.{Option, Some, sym, ap, ◌∙◌, subst}
 use Rattle.std.specs.List.{find}
 use Rattle.tick_plane.specs.declared.flight.Flight.{Flight}
 use Rattle.tick_plane.specs.Planes.{is_due}

@@ -1,5 +1,5 @@
 -- The key of the first flight that is due is taken, and its flight with it.
-use Rattle.std.proofs.Common.{◌≡◌, ℕ, ◌+◌, ◌++◌, if◌then◌else◌, is_some, List, Option, sym, ap, ◌∙◌, subst, arith}
+use Rattle.std.proofs.Common.{◌≡◌, ℕ, ◌+◌, if◌then◌else◌, is_some, List, Option, sym, ap, ◌∙◌, subst, arith}
 use Rattle.std.specs.List.{find}
 use Rattle.std.specs.Prelude.{IsSome}
 use Rattle.link_steps.specs.Lists.{Each, without_first}
