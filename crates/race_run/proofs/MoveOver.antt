@@ -1,27 +1,24 @@
 -- A move, from what the network promises: its conditions hold, and the caller is at its next operation.
-use Rattle.std.proofs.Common.{◌≡◌, ◌≢◌, ℕ, ◌+◌, ◌≤◌, true, false, List, [], ◌∷◌, ◌++◌, map, length, Bool, ◌⊎◌, Option, Some, None, refl, sym, ap, ◌∙◌, subst, inl, inr, arith}
-use Rattle.std.proofs.lemmas.Bool.{eq-eqb, ne_eqb, cases_eq}
+use Rattle.std.proofs.Common.{◌≡◌, ◌≢◌, ℕ, ◌+◌, ◌≤◌, true, false, List, [], ◌∷◌, ◌++◌, map, length, ◌⊎◌, Option, Some, None, refl, sym, ap, ◌∙◌, subst, inl, inr, arith}
+use Rattle.std.proofs.lemmas.Bool.{eq-eqb, ne_eqb, cases_eq, and_right}
 use Rattle.std.proofs.lemmas.Option.{same_Some, slice_get-map}
 use Rattle.std.specs.List.{slice_get}
 use Rattle.std.specs.Prelude.{option_map, ◌&&◌}
 use Rattle.net_units.specs.Numbers.{channel_number}
 use Rattle.net_units.specs.declared.numbers.ActorNo.{ActorNo}
 use Rattle.net_units.specs.declared.numbers.ChanNo.{ChanNo}
-use Rattle.link_steps.specs.Lists.{Each}
 use Rattle.link_steps.specs.Split.{Link}
 use Rattle.link_steps.specs.declared.asks.Ask.{Ask}
-use Rattle.shared_network.specs.Shifts.{IsOpenOver, TakesSize, NoneSubmitted, WerePlanned, Shifts}
+use Rattle.shared_network.specs.Shifts.{MayShift, NoneSubmitted, WerePlanned, Shifts}
 use Rattle.channel_move.specs.Moving.{Move as Moving, first_told, next_of_move, at_end, told_by}
 use Rattle.channel_move.specs.declared.mover.Mover.{Mover}
 use Rattle.channel_move.specs.declared.shifted.Shifted.{Shifted}
 use Rattle.link_steps.specs.Legal.{SubmitFits}
 use Rattle.net_units.specs.declared.numbers.LinkNo.{LinkNo}
 use Rattle.setup_protocol.specs.declared.request.Request.{Request}
-use Rattle.link_ledger.specs.Owners.{IsOwner}
 use Rattle.link_ledger.specs.Tokens.{Token}
 use Rattle.link_ledger.specs.declared.entries.OwnEntry.{OwnEntry}
 use Rattle.shared_network.specs.Calls.{OthersStay, IsEstablished, Follows, reply_in}
-use Rattle.setup_protocol.specs.Hops.{IsHopOf}
 use Rattle.call_script.specs.Fits.{MoveFits}
 use Rattle.call_script.specs.Owners.{FullScript}
 use Rattle.call_script.specs.Parts.{PlanParts}
@@ -79,10 +76,6 @@ move-none-new parts chan onto none = ap (move_for (slice_get (requests_of parts)
   by None = refl
   by (Some old) = refl
 
-and-false : (a b : Bool) → b ≡ false → (a && b) ≡ false
-and-false true b off = off
-and-false false b off = refl
-
 -- or isn't established
 pub move-passed : (parts : PlanParts) (caller place : ℕ) (chan onto : ChanNo) (old new : RequestEntry) (pass : Token) (channels : List Channel) → CallerIsAt parts caller place pass channels → HasOp parts caller place (Move chan onto) → slice_get parts.requests (channel_number chan) ≡ Some old → slice_get parts.requests (channel_number onto) ≡ Some new
     → ((channel_in channels old.request.chan).established ≡ false) ⊎ ((channel_in channels new.request.chan).established ≡ false) → CallerIsAt parts caller (place + 1) pass channels
@@ -90,24 +83,11 @@ move-passed parts caller place chan onto old new pass channels at has found foun
     let h = move-at parts caller place chan onto old new pass channels at has found found_new in
     let passes : takes_step h.between.outcomes (Moves old.request new.request 1 1) ≡ false = elim off [
       | inl is ↦ (let told = established-told (network_of parts) h.front _ pass channels old.request.chan false h.between is in ap (λ b. b && is_established new.request.chan h.between.outcomes) told)
-      | inr is ↦ and-false (is_established old.request.chan h.between.outcomes) (is_established new.request.chan h.between.outcomes) (established-told (network_of parts) h.front _ pass channels new.request.chan false h.between is)
+      | inr is ↦ and_right (is_established old.request.chan h.between.outcomes) (is_established new.request.chan h.between.outcomes) (established-told (network_of parts) h.front _ pass channels new.request.chan false h.between is)
     ] in
     h.next pass channels refl refl (between-skipped (network_of parts) h.front (Moves old.request new.request 1 1) h.rest pass channels h.between passes (λ request same. moves-apart old.request new.request request 1 1 same))
 
 -- ---- where it makes its steps
-
--- what the network wants of a pass that moves packets
-pub record MayShift (owners : List ActorNo) (links : List Link) (pass : Token) (move : Moving) : Type 0 where
-  pub packets : SubmitFits 1 move.gap move.size
-  pub apart : channel_number move.joining ≢ channel_number move.leaving
-  pub owned_leaving : IsOwner owners pass.actor move.leaving
-  pub owned_joining : IsOwner owners pass.actor move.joining
-  pub hops_leaving : Each (IsHopOf links) move.leaving_route
-  pub hops_joining : Each (IsHopOf links) move.joining_route
-  pub leaving : IsOpenOver move.leaving move.leaving_route pass.own
-  pub joining : TakesSize move.joining move.joining_route move.size pass.own
-  pub unsent : NoneSubmitted move.joining pass.own
-  pub last : WerePlanned move.leaving move.gap move.size pass.own
 
 -- the move between two requests of the packets that were planned last on the first
 abbrev pub move_of_last : List Channel → Request → Request → Moving

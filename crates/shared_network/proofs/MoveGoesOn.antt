@@ -20,7 +20,7 @@ use Rattle.shared_network.specs.Calls.{Follows, IsCommitted, HoldsRoute, reply_i
 use Rattle.shared_network.specs.Holds.{hold_of, IsHeld}
 use Rattle.shared_network.specs.Ready.{MayStep, PassGoesOn}
 use Rattle.shared_network.proofs.CallsInTurn.{goes-none, goes-both, above-none, above-both, above-step}
-use Rattle.shared_network.specs.Shifts.{NoneSubmitted, Shifts, IsOpenOver, TakesSize}
+use Rattle.shared_network.specs.Shifts.{MayShift, NoneSubmitted, Shifts}
 use Rattle.shared_network.specs.Sight.{FitsAt}
 use Rattle.shared_network.proofs.SetupUnderWay.{follows-more}
 use Rattle.shared_network.proofs.HoldSteps.{AnswersOf, answers as answered, planned, cancels-few}
@@ -29,7 +29,7 @@ use Rattle.shared_network.proofs.SetupGoes.{hold-elsewhere}
 use Rattle.shared_network.proofs.StillHolds.{IsStill, committed-stays, route-stays}
 
 -- what doesn't change in a move
-pub record MayShift (links : List Link) (move : Move) (leaving_on joining_on : Traffic) : Type 0 where
+pub record FitsMove (links : List Link) (move : Move) (leaving_on joining_on : Traffic) : Type 0 where
   pub packets : SubmitFits 1 move.gap move.size
   pub apart : channel_number move.joining ≢ channel_number move.leaving
   pub hops_leaving : Each (IsHopOf links) move.leaving_route
@@ -39,7 +39,7 @@ pub record MayShift (links : List Link) (move : Move) (leaving_on joining_on : T
 pub record Shifting (table : TableId) (owners : List ActorNo) (links : List Link) (move : Move) (pass pass' : Token) (mover : Mover) : Type 0 where
   pub leaving_on : Traffic
   pub joining_on : Traffic
-  pub may : MayShift links move leaving_on joining_on
+  pub may : FitsMove links move leaving_on joining_on
   pub entries : List OwnEntry
   pub own : pass'.own ≡ pass.own ++ entries
   pub follows : Follows (next_of_move move) [] entries
@@ -53,21 +53,21 @@ pub record Shifting (table : TableId) (owners : List ActorNo) (links : List Link
   pub later : AddsAbove (last_seen pass) pass pass'
   pub same : IsSamePass pass pass'
 
-pub shifting-first : (table : TableId) (owners : List ActorNo) (links : List Link) (move : Move) (pass : Token) (mover : Mover) → move_of mover ≡ move → Moves mover [] → SubmitFits 1 move.gap move.size → channel_number move.joining ≢ channel_number move.leaving → Each (IsHopOf links) move.leaving_route → Each (IsHopOf links) move.joining_route
-    → IsOpenOver move.leaving move.leaving_route pass.own → TakesSize move.joining move.joining_route move.size pass.own → NoneSubmitted move.joining pass.own → MayStep table owners links pass → Shifting table owners links move pass pass mover
+pub shifting-first : (table : TableId) (owners : List ActorNo) (links : List Link) (move : Move) (pass : Token) (mover : Mover) → move_of mover ≡ move → Moves mover [] → MayShift owners links pass move → MayStep table owners links pass
+    → Shifting table owners links move pass pass mover
 unfolding Follows
-shifting-first table owners links move pass mover terms stands packets apart hops_leaving hops_joining leaving joining unsent may = record {
-  leaving_on = leaving.contract;
-  joining_on = joining.contract;
-  may = record { packets = packets; apart = apart; hops_leaving = hops_leaving; hops_joining = hops_joining; small = joining.small };
+shifting-first table owners links move pass mover terms stands shift may = record {
+  leaving_on = shift.leaving.contract;
+  joining_on = shift.joining.contract;
+  may = record { packets = shift.packets; apart = shift.apart; hops_leaving = shift.hops_leaving; hops_joining = shift.hops_joining; small = shift.joining.small };
   entries = [];
   own = sym (append-nil pass.own);
   follows = tt;
   terms = terms;
   stands = stands;
-  leaves = λ i hop found from. leaving.holds i hop found;
-  joins = joining.holds;
-  unsent = λ still. unsent;
+  leaves = λ i hop found from. shift.leaving.holds i hop found;
+  joins = shift.joining.holds;
+  unsent = λ still. shift.unsent;
   few = λ first rest is. absurd (let clash : [] ≡ first ∷ rest = is in cc);
   goes = goes-none table owners links pass may;
   later = above-none pass;

@@ -2,26 +2,34 @@
 -- entries are exactly the asks of the move, each after the replies of those before it. Both channels have to be established
 -- over the move's routes, nothing may have been submitted on the one that is joined, and the packets are those that were
 -- planned last on the one that is left.
-use Rattle.std.specs.Prelude.{◌≡◌, ◌==◌, ℕ, ◌≤◌, if◌then◌else◌, Option, Some, None, List, [], ◌∷◌, ◌++◌, map}
+use Rattle.std.specs.Prelude.{◌≡◌, ◌≢◌, ◌==◌, ℕ, ◌≤◌, if◌then◌else◌, Option, Some, None, List, [], ◌∷◌, ◌++◌, map}
 use Rattle.std.specs.List.{slice_get}
+use Rattle.atomic_table.specs.Seated.{TableId}
 use Rattle.net_units.specs.Numbers.{channel_number}
+use Rattle.net_units.specs.declared.numbers.ActorNo.{ActorNo}
 use Rattle.net_units.specs.declared.numbers.ChanNo.{ChanNo}
 use Rattle.net_units.specs.declared.numbers.LinkNo.{LinkNo}
 use Rattle.hop_reservation.specs.declared.route.Hop.{Hop}
 use Rattle.traffic_contract.specs.Contract.{Traffic}
+use Rattle.link_steps.specs.Legal.{SubmitFits}
 use Rattle.link_steps.specs.Lists.{Each}
+use Rattle.link_steps.specs.Split.{Link}
 use Rattle.link_steps.specs.declared.asks.Ask.{Ask}
 use Rattle.link_steps.specs.declared.asks.Ask.TheVariants.{Submit}
 use Rattle.link_steps.specs.declared.replies.Reply.{Reply}
 use Rattle.link_steps.specs.declared.replies.Reply.TheVariants.{Planned}
+use Rattle.setup_protocol.specs.Hops.{IsHopOf}
 use Rattle.channel_laws.specs.Unsent.{IsUnsent}
 use Rattle.channel_move.specs.Moving.{Move, next_of_move, shifted_of}
 use Rattle.channel_move.specs.Standing.{Moves}
 use Rattle.channel_move.specs.declared.mover.Mover.{Mover}
 use Rattle.channel_move.specs.declared.shifted.Shifted.{Shifted}
-use Rattle.link_ledger.specs.Tokens.{Token}
+use Rattle.link_ledger.specs.Owners.{IsOwner}
+use Rattle.link_ledger.specs.Tokens.{Token, last_seen}
 use Rattle.link_ledger.specs.declared.entries.OwnEntry.{OwnEntry}
-use Rattle.shared_network.specs.Calls.{Follows, HoldsRoute, reply_in}
+use Rattle.shared_network.specs.Added.{AddsAbove}
+use Rattle.shared_network.specs.Calls.{Follows, HoldsRoute, OthersStay, reply_in}
+use Rattle.shared_network.specs.Ready.{PassGoesOn}
 
 -- ---- when
 
@@ -68,6 +76,21 @@ last_planned chan own = planned_after (channel_number chan) None own
 abbrev pub WerePlanned : ChanNo → ℕ → ℕ → List OwnEntry → Type 0
 WerePlanned chan gap size own = (last : Packets) → last_planned chan own ≡ Some last → (gap ≡ last.gap) × (size ≡ last.size)
 
+-- a pass may make this move. The packets are in their ranges, the pass's actor owns both channels, which differ, and the routes are over
+-- links of the network. By the own entries both channels are established over these routes, the one that is joined on a contract that
+-- the packets keep, and nothing was submitted on it; and the packets are those that were planned last on the one that is left
+pub record MayShift (owners : List ActorNo) (links : List Link) (pass : Token) (move : Move) : Type 0 where
+  pub packets : SubmitFits 1 move.gap move.size
+  pub apart : channel_number move.joining ≢ channel_number move.leaving
+  pub owned_leaving : IsOwner owners pass.actor move.leaving
+  pub owned_joining : IsOwner owners pass.actor move.joining
+  pub hops_leaving : Each (IsHopOf links) move.leaving_route
+  pub hops_joining : Each (IsHopOf links) move.joining_route
+  pub leaving : IsOpenOver move.leaving move.leaving_route pass.own
+  pub joining : TakesSize move.joining move.joining_route move.size pass.own
+  pub unsent : NoneSubmitted move.joining pass.own
+  pub last : WerePlanned move.leaving move.gap move.size pass.own
+
 -- ---- what it adds
 
 -- a move has come to this, and the mover stands at its end
@@ -77,3 +100,11 @@ pub record Shifts (move : Move) (mover : Mover) (pass pass' : Token) (told : Shi
   pub follows : Follows (next_of_move move) [] entries
   pub told_is : shifted_of move (map reply_in entries) ≡ Some told
   pub stands : Moves mover (map reply_in entries)
+
+-- and the pass may go on: each of its channels but the one that is left is as it was, and its new entries have stamps above all that it
+-- had seen
+pub record HasShifted (table : TableId) (owners : List ActorNo) (links : List Link) (move : Move) (mover : Mover) (pass pass' : Token) (told : Shifted) : Type 0 where
+  pub shifts : Shifts move mover pass pass' told
+  pub others : OthersStay move.leaving pass.own pass'.own
+  pub later : AddsAbove (last_seen pass) pass pass'
+  pub ready : PassGoesOn table owners links pass pass'

@@ -1,17 +1,12 @@
 //! Moves of planned packets over a network.
-ghost use Rattle.std.specs.Prelude.{◌≡◌, ◌≢◌, ℕ, ◌^◌, ◌+◌, ◌<◌, ◌≤◌, ◌-◌, [], IfOk, OnOk, OnErr};
-ghost use Rattle.net_units.specs.Numbers.{channel_number};
-ghost use Rattle.link_steps.specs.Legal.{SubmitFits};
-ghost use Rattle.link_steps.specs.Lists.{Each};
-ghost use Rattle.setup_protocol.specs.Hops.{IsHopOf};
+ghost use Rattle.std.specs.Prelude.{◌≡◌, ℕ, ◌^◌, ◌+◌, ◌<◌, ◌≤◌, ◌-◌, [], IfOk, OnOk, OnErr};
 ghost use Rattle.channel_move.specs.Moving.{next_of_move};
 ghost use Rattle.channel_move.specs.Standing.{Moves, move_of};
-ghost use Rattle.link_ledger.specs.Owners.{IsOwner};
-ghost use Rattle.link_ledger.specs.Tokens.{last_seen, stamps_drawn};
-ghost use Rattle.shared_network.specs.Added.{AddsAbove, IsSamePass, IsLost};
-ghost use Rattle.shared_network.specs.Calls.{OthersStay, StepsStand};
-ghost use Rattle.shared_network.specs.Shifts.{IsOpenOver, TakesSize, NoneSubmitted, WerePlanned, Shifts};
-ghost use Rattle.shared_network.specs.Ready.{MayStep, PassGoesOn};
+ghost use Rattle.link_ledger.specs.Tokens.{stamps_drawn};
+ghost use Rattle.shared_network.specs.Added.{IsSamePass, IsLost};
+ghost use Rattle.shared_network.specs.Calls.{StepsStand};
+ghost use Rattle.shared_network.specs.Shifts.{HasShifted, MayShift};
+ghost use Rattle.shared_network.specs.Ready.{MayStep};
 
 use crate::network::Network;
 use channel_move::{Mover, Shifted};
@@ -22,15 +17,14 @@ use std::sync::Wait;
 
 impl<L: LinkStep + Send, H: Home> Network<L, H> {
     /// Moves the packets that are planned on one channel, and not taken by its first hop yet, to another channel: makes all asks of
-    /// the mover, and answers how many packets stay and how many go. The channel that is left is released at all hops of its route,
-    /// and can be neither torn down nor left again; each other channel of the pass stays as it was, and so does the one that is
-    /// joined. The stamps of the entries are above all that the pass had seen (`later`). The call may wait for each link.
+    /// the mover, and answers how many packets stay and how many go (`moved`). The channel that is left is released at all hops of its
+    /// route, and can be neither torn down nor left again; each other channel of the pass stays as it was, and so does the one that is
+    /// joined. The stamps of the entries are above all that the pass had seen. The call may wait for each link.
     ///
-    /// The mover has taken no reply (`start`). The two channels differ (`apart`), and the pass's actor owns both. This pass's
-    /// setups of both were accepted over the mover's routes, and it has neither torn them down nor moved packets off them
-    /// (`leaving`, `joining`). It has submitted nothing on the one that is joined (`unsent`), whose contract allows the mover's
-    /// size (`joining`). Where packets were planned on the one that is left, the mover's gap and size are those of the last
-    /// ones (`last`).
+    /// The mover has taken no reply (`start`), and the pass may make its move (`may`): the two channels differ, and the pass's actor owns
+    /// both. This pass's setups of both were accepted over the mover's routes, and it has neither torn them down nor moved packets off
+    /// them. It has submitted nothing on the one that is joined, whose contract allows the mover's size. Where packets were planned on
+    /// the one that is left, the mover's gap and size are those of the last ones.
     ///
     /// The pass has its seat, isn't spent (`pass`) and has drawn fewer than 2^40 - 64 stamps. After want of memory it is
     /// spent, the steps made so far stand in the journals and among its own entries (`stand`), and nothing further is claimed of
@@ -45,21 +39,9 @@ impl<L: LinkStep + Send, H: Home> Network<L, H> {
         requires pass { MayStep H.table H.owners H.links pass.old }
         requires few { stamps_drawn pass.old < 2 ^ 40 - 64 }
         requires start { Moves mover.old [] }
-        requires packets { SubmitFits 1 (move_of mover.old).gap (move_of mover.old).size }
-        requires apart { channel_number (move_of mover.old).joining ≢ channel_number (move_of mover.old).leaving }
-        requires owned_leaving { IsOwner H.owners pass.old.actor (move_of mover.old).leaving }
-        requires owned_joining { IsOwner H.owners pass.old.actor (move_of mover.old).joining }
-        requires hops_leaving { Each (IsHopOf H.links) (move_of mover.old).leaving_route }
-        requires hops_joining { Each (IsHopOf H.links) (move_of mover.old).joining_route }
-        requires leaving { IsOpenOver (move_of mover.old).leaving (move_of mover.old).leaving_route pass.old.own }
-        requires joining { TakesSize (move_of mover.old).joining (move_of mover.old).joining_route (move_of mover.old).size pass.old.own }
-        requires unsent { NoneSubmitted (move_of mover.old).joining pass.old.own }
-        requires last { WerePlanned (move_of mover.old).leaving (move_of mover.old).gap (move_of mover.old).size pass.old.own }
-        ensures moved { IfOk result (λ told. Shifts (move_of mover.old) mover.new pass.old pass.new told) }
-        ensures others { OnOk result (OthersStay (move_of mover.old).leaving pass.old.own pass.new.own) }
+        requires may { MayShift H.owners H.links pass.old (move_of mover.old) }
+        ensures moved { IfOk result (λ told. HasShifted H.table H.owners H.links (move_of mover.old) mover.new pass.old pass.new told) }
         ensures drew { OnOk result (stamps_drawn pass.new ≤ stamps_drawn pass.old + 17) }
-        ensures later { OnOk result (AddsAbove (last_seen pass.old) pass.old pass.new) }
-        ensures ready { OnOk result (PassGoesOn H.table H.owners H.links pass.old pass.new) }
         ensures lost { OnErr result (IsLost pass.new) }
         ensures stand { OnErr result (StepsStand (next_of_move (move_of mover.old)) pass.old pass.new) }
         ensures terms { move_of mover.new ≡ move_of mover.old }

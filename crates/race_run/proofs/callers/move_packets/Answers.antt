@@ -35,85 +35,12 @@ returns-then-not-of-clause-at g c =
     let found_new = there c.requests-2.result.now c.args.plan.now.requests c.get-3.result (channel_number c.args.chans.1) c.in-Some-get.joining.now c.in-Some-get.ensures.lookup.0 c.in-Some-get.ensures.lookup.1 c.requests-2.ensures.value c.get-3.ensures.value in
     move-passed c.args.plan.now c.args.at.0 c.args.at.1 c.args.chans.0 c.args.chans.1 c.in-Some.leaving.now c.in-Some-get.joining.now c.args.pass.now c.args.channels.now.by_number.items c.requires.at c.requires.op found found_new (inr (looked-off c.args.channels.now.by_number.items c.in-Some-get.joining.now.request.chan c.of.result c.of.ensures c.if-not-of.true))
 
-pub shift-requires-clause-packets : goal.shift-requires-clause-packets
-shift-requires-clause-packets g c κs within =
+pub shift-requires-clause-may : goal.shift-requires-clause-may
+shift-requires-clause-may g c κs within =
     let found = there c.requests.result.now c.args.plan.now.requests c.get.result (channel_number c.args.chans.0) c.in-Some.leaving.now c.in-Some.ensures.lookup.0 c.in-Some.ensures.lookup.1 c.requests.ensures.value c.get.ensures.value in
     let found_new = there c.requests-2.result.now c.args.plan.now.requests c.get-3.result (channel_number c.args.chans.1) c.in-Some-get.joining.now c.in-Some-get.ensures.lookup.0 c.in-Some-get.ensures.lookup.1 c.requests-2.ensures.value c.get-3.ensures.value in
-    let may = may-shift c.args.plan.now g.H.Home.links g.H.Home.owners c.args.at.0 c.args.at.1 c.args.chans.0 c.args.chans.1 c.in-Some.leaving.now c.in-Some-get.joining.now c.args.pass.now c.args.channels.now.by_number.items c.requests.ensures.valid c.requires.network c.requires.at c.requires.op found found_new
-    (looked-on c.args.channels.now.by_number.items c.in-Some.leaving.now.request.chan c.of-last.result c.of-last.ensures c.if-not-last.false) (looked-on c.args.channels.now.by_number.items c.in-Some-get.joining.now.request.chan c.of.result c.of.ensures c.if-not-of.false) (move_of c.new-mover.result) (c.new-mover.ensures.terms ∙ (λ i. move_between c.in-Some.leaving.now.request c.in-Some-get.joining.now.request (c.of-last.ensures i).gap (c.of-last.ensures i).size)) in
-    may.packets
-
-pub shift-requires-clause-apart : goal.shift-requires-clause-apart
-shift-requires-clause-apart g c κs within =
-    let found = there c.requests.result.now c.args.plan.now.requests c.get.result (channel_number c.args.chans.0) c.in-Some.leaving.now c.in-Some.ensures.lookup.0 c.in-Some.ensures.lookup.1 c.requests.ensures.value c.get.ensures.value in
-    let found_new = there c.requests-2.result.now c.args.plan.now.requests c.get-3.result (channel_number c.args.chans.1) c.in-Some-get.joining.now c.in-Some-get.ensures.lookup.0 c.in-Some-get.ensures.lookup.1 c.requests-2.ensures.value c.get-3.ensures.value in
-    let may = may-shift c.args.plan.now g.H.Home.links g.H.Home.owners c.args.at.0 c.args.at.1 c.args.chans.0 c.args.chans.1 c.in-Some.leaving.now c.in-Some-get.joining.now c.args.pass.now c.args.channels.now.by_number.items c.requests.ensures.valid c.requires.network c.requires.at c.requires.op found found_new
-    (looked-on c.args.channels.now.by_number.items c.in-Some.leaving.now.request.chan c.of-last.result c.of-last.ensures c.if-not-last.false) (looked-on c.args.channels.now.by_number.items c.in-Some-get.joining.now.request.chan c.of.result c.of.ensures c.if-not-of.false) (move_of c.new-mover.result) (c.new-mover.ensures.terms ∙ (λ i. move_between c.in-Some.leaving.now.request c.in-Some-get.joining.now.request (c.of-last.ensures i).gap (c.of-last.ensures i).size)) in
-    may.apart
-
-pub shift-requires-clause-owned_leaving : goal.shift-requires-clause-owned_leaving
-shift-requires-clause-owned_leaving g c κs within =
-    let found = there c.requests.result.now c.args.plan.now.requests c.get.result (channel_number c.args.chans.0) c.in-Some.leaving.now c.in-Some.ensures.lookup.0 c.in-Some.ensures.lookup.1 c.requests.ensures.value c.get.ensures.value in
-    let found_new = there c.requests-2.result.now c.args.plan.now.requests c.get-3.result (channel_number c.args.chans.1) c.in-Some-get.joining.now c.in-Some-get.ensures.lookup.0 c.in-Some-get.ensures.lookup.1 c.requests-2.ensures.value c.get-3.ensures.value in
-    let may = may-shift c.args.plan.now g.H.Home.links g.H.Home.owners c.args.at.0 c.args.at.1 c.args.chans.0 c.args.chans.1 c.in-Some.leaving.now c.in-Some-get.joining.now c.args.pass.now c.args.channels.now.by_number.items c.requests.ensures.valid c.requires.network c.requires.at c.requires.op found found_new
-    (looked-on c.args.channels.now.by_number.items c.in-Some.leaving.now.request.chan c.of-last.result c.of-last.ensures c.if-not-last.false) (looked-on c.args.channels.now.by_number.items c.in-Some-get.joining.now.request.chan c.of.result c.of.ensures c.if-not-of.false) (move_of c.new-mover.result) (c.new-mover.ensures.terms ∙ (λ i. move_between c.in-Some.leaving.now.request c.in-Some-get.joining.now.request (c.of-last.ensures i).gap (c.of-last.ensures i).size)) in
-    may.owned_leaving
-
-pub shift-requires-clause-owned_joining : goal.shift-requires-clause-owned_joining
-shift-requires-clause-owned_joining g c κs within =
-    let found = there c.requests.result.now c.args.plan.now.requests c.get.result (channel_number c.args.chans.0) c.in-Some.leaving.now c.in-Some.ensures.lookup.0 c.in-Some.ensures.lookup.1 c.requests.ensures.value c.get.ensures.value in
-    let found_new = there c.requests-2.result.now c.args.plan.now.requests c.get-3.result (channel_number c.args.chans.1) c.in-Some-get.joining.now c.in-Some-get.ensures.lookup.0 c.in-Some-get.ensures.lookup.1 c.requests-2.ensures.value c.get-3.ensures.value in
-    let may = may-shift c.args.plan.now g.H.Home.links g.H.Home.owners c.args.at.0 c.args.at.1 c.args.chans.0 c.args.chans.1 c.in-Some.leaving.now c.in-Some-get.joining.now c.args.pass.now c.args.channels.now.by_number.items c.requests.ensures.valid c.requires.network c.requires.at c.requires.op found found_new
-    (looked-on c.args.channels.now.by_number.items c.in-Some.leaving.now.request.chan c.of-last.result c.of-last.ensures c.if-not-last.false) (looked-on c.args.channels.now.by_number.items c.in-Some-get.joining.now.request.chan c.of.result c.of.ensures c.if-not-of.false) (move_of c.new-mover.result) (c.new-mover.ensures.terms ∙ (λ i. move_between c.in-Some.leaving.now.request c.in-Some-get.joining.now.request (c.of-last.ensures i).gap (c.of-last.ensures i).size)) in
-    may.owned_joining
-
-pub shift-requires-clause-hops_leaving : goal.shift-requires-clause-hops_leaving
-shift-requires-clause-hops_leaving g c κs within =
-    let found = there c.requests.result.now c.args.plan.now.requests c.get.result (channel_number c.args.chans.0) c.in-Some.leaving.now c.in-Some.ensures.lookup.0 c.in-Some.ensures.lookup.1 c.requests.ensures.value c.get.ensures.value in
-    let found_new = there c.requests-2.result.now c.args.plan.now.requests c.get-3.result (channel_number c.args.chans.1) c.in-Some-get.joining.now c.in-Some-get.ensures.lookup.0 c.in-Some-get.ensures.lookup.1 c.requests-2.ensures.value c.get-3.ensures.value in
-    let may = may-shift c.args.plan.now g.H.Home.links g.H.Home.owners c.args.at.0 c.args.at.1 c.args.chans.0 c.args.chans.1 c.in-Some.leaving.now c.in-Some-get.joining.now c.args.pass.now c.args.channels.now.by_number.items c.requests.ensures.valid c.requires.network c.requires.at c.requires.op found found_new
-    (looked-on c.args.channels.now.by_number.items c.in-Some.leaving.now.request.chan c.of-last.result c.of-last.ensures c.if-not-last.false) (looked-on c.args.channels.now.by_number.items c.in-Some-get.joining.now.request.chan c.of.result c.of.ensures c.if-not-of.false) (move_of c.new-mover.result) (c.new-mover.ensures.terms ∙ (λ i. move_between c.in-Some.leaving.now.request c.in-Some-get.joining.now.request (c.of-last.ensures i).gap (c.of-last.ensures i).size)) in
-    may.hops_leaving
-
-pub shift-requires-clause-hops_joining : goal.shift-requires-clause-hops_joining
-shift-requires-clause-hops_joining g c κs within =
-    let found = there c.requests.result.now c.args.plan.now.requests c.get.result (channel_number c.args.chans.0) c.in-Some.leaving.now c.in-Some.ensures.lookup.0 c.in-Some.ensures.lookup.1 c.requests.ensures.value c.get.ensures.value in
-    let found_new = there c.requests-2.result.now c.args.plan.now.requests c.get-3.result (channel_number c.args.chans.1) c.in-Some-get.joining.now c.in-Some-get.ensures.lookup.0 c.in-Some-get.ensures.lookup.1 c.requests-2.ensures.value c.get-3.ensures.value in
-    let may = may-shift c.args.plan.now g.H.Home.links g.H.Home.owners c.args.at.0 c.args.at.1 c.args.chans.0 c.args.chans.1 c.in-Some.leaving.now c.in-Some-get.joining.now c.args.pass.now c.args.channels.now.by_number.items c.requests.ensures.valid c.requires.network c.requires.at c.requires.op found found_new
-    (looked-on c.args.channels.now.by_number.items c.in-Some.leaving.now.request.chan c.of-last.result c.of-last.ensures c.if-not-last.false) (looked-on c.args.channels.now.by_number.items c.in-Some-get.joining.now.request.chan c.of.result c.of.ensures c.if-not-of.false) (move_of c.new-mover.result) (c.new-mover.ensures.terms ∙ (λ i. move_between c.in-Some.leaving.now.request c.in-Some-get.joining.now.request (c.of-last.ensures i).gap (c.of-last.ensures i).size)) in
-    may.hops_joining
-
-pub shift-requires-clause-leaving : goal.shift-requires-clause-leaving
-shift-requires-clause-leaving g c κs within =
-    let found = there c.requests.result.now c.args.plan.now.requests c.get.result (channel_number c.args.chans.0) c.in-Some.leaving.now c.in-Some.ensures.lookup.0 c.in-Some.ensures.lookup.1 c.requests.ensures.value c.get.ensures.value in
-    let found_new = there c.requests-2.result.now c.args.plan.now.requests c.get-3.result (channel_number c.args.chans.1) c.in-Some-get.joining.now c.in-Some-get.ensures.lookup.0 c.in-Some-get.ensures.lookup.1 c.requests-2.ensures.value c.get-3.ensures.value in
-    let may = may-shift c.args.plan.now g.H.Home.links g.H.Home.owners c.args.at.0 c.args.at.1 c.args.chans.0 c.args.chans.1 c.in-Some.leaving.now c.in-Some-get.joining.now c.args.pass.now c.args.channels.now.by_number.items c.requests.ensures.valid c.requires.network c.requires.at c.requires.op found found_new
-    (looked-on c.args.channels.now.by_number.items c.in-Some.leaving.now.request.chan c.of-last.result c.of-last.ensures c.if-not-last.false) (looked-on c.args.channels.now.by_number.items c.in-Some-get.joining.now.request.chan c.of.result c.of.ensures c.if-not-of.false) (move_of c.new-mover.result) (c.new-mover.ensures.terms ∙ (λ i. move_between c.in-Some.leaving.now.request c.in-Some-get.joining.now.request (c.of-last.ensures i).gap (c.of-last.ensures i).size)) in
-    may.leaving
-
-pub shift-requires-clause-joining : goal.shift-requires-clause-joining
-shift-requires-clause-joining g c κs within =
-    let found = there c.requests.result.now c.args.plan.now.requests c.get.result (channel_number c.args.chans.0) c.in-Some.leaving.now c.in-Some.ensures.lookup.0 c.in-Some.ensures.lookup.1 c.requests.ensures.value c.get.ensures.value in
-    let found_new = there c.requests-2.result.now c.args.plan.now.requests c.get-3.result (channel_number c.args.chans.1) c.in-Some-get.joining.now c.in-Some-get.ensures.lookup.0 c.in-Some-get.ensures.lookup.1 c.requests-2.ensures.value c.get-3.ensures.value in
-    let may = may-shift c.args.plan.now g.H.Home.links g.H.Home.owners c.args.at.0 c.args.at.1 c.args.chans.0 c.args.chans.1 c.in-Some.leaving.now c.in-Some-get.joining.now c.args.pass.now c.args.channels.now.by_number.items c.requests.ensures.valid c.requires.network c.requires.at c.requires.op found found_new
-    (looked-on c.args.channels.now.by_number.items c.in-Some.leaving.now.request.chan c.of-last.result c.of-last.ensures c.if-not-last.false) (looked-on c.args.channels.now.by_number.items c.in-Some-get.joining.now.request.chan c.of.result c.of.ensures c.if-not-of.false) (move_of c.new-mover.result) (c.new-mover.ensures.terms ∙ (λ i. move_between c.in-Some.leaving.now.request c.in-Some-get.joining.now.request (c.of-last.ensures i).gap (c.of-last.ensures i).size)) in
-    may.joining
-
-pub shift-requires-clause-unsent : goal.shift-requires-clause-unsent
-shift-requires-clause-unsent g c κs within =
-    let found = there c.requests.result.now c.args.plan.now.requests c.get.result (channel_number c.args.chans.0) c.in-Some.leaving.now c.in-Some.ensures.lookup.0 c.in-Some.ensures.lookup.1 c.requests.ensures.value c.get.ensures.value in
-    let found_new = there c.requests-2.result.now c.args.plan.now.requests c.get-3.result (channel_number c.args.chans.1) c.in-Some-get.joining.now c.in-Some-get.ensures.lookup.0 c.in-Some-get.ensures.lookup.1 c.requests-2.ensures.value c.get-3.ensures.value in
-    let may = may-shift c.args.plan.now g.H.Home.links g.H.Home.owners c.args.at.0 c.args.at.1 c.args.chans.0 c.args.chans.1 c.in-Some.leaving.now c.in-Some-get.joining.now c.args.pass.now c.args.channels.now.by_number.items c.requests.ensures.valid c.requires.network c.requires.at c.requires.op found found_new
-    (looked-on c.args.channels.now.by_number.items c.in-Some.leaving.now.request.chan c.of-last.result c.of-last.ensures c.if-not-last.false) (looked-on c.args.channels.now.by_number.items c.in-Some-get.joining.now.request.chan c.of.result c.of.ensures c.if-not-of.false) (move_of c.new-mover.result) (c.new-mover.ensures.terms ∙ (λ i. move_between c.in-Some.leaving.now.request c.in-Some-get.joining.now.request (c.of-last.ensures i).gap (c.of-last.ensures i).size)) in
-    may.unsent
-
-pub shift-requires-clause-last : goal.shift-requires-clause-last
-shift-requires-clause-last g c κs within =
-    let found = there c.requests.result.now c.args.plan.now.requests c.get.result (channel_number c.args.chans.0) c.in-Some.leaving.now c.in-Some.ensures.lookup.0 c.in-Some.ensures.lookup.1 c.requests.ensures.value c.get.ensures.value in
-    let found_new = there c.requests-2.result.now c.args.plan.now.requests c.get-3.result (channel_number c.args.chans.1) c.in-Some-get.joining.now c.in-Some-get.ensures.lookup.0 c.in-Some-get.ensures.lookup.1 c.requests-2.ensures.value c.get-3.ensures.value in
-    let may = may-shift c.args.plan.now g.H.Home.links g.H.Home.owners c.args.at.0 c.args.at.1 c.args.chans.0 c.args.chans.1 c.in-Some.leaving.now c.in-Some-get.joining.now c.args.pass.now c.args.channels.now.by_number.items c.requests.ensures.valid c.requires.network c.requires.at c.requires.op found found_new
-    (looked-on c.args.channels.now.by_number.items c.in-Some.leaving.now.request.chan c.of-last.result c.of-last.ensures c.if-not-last.false) (looked-on c.args.channels.now.by_number.items c.in-Some-get.joining.now.request.chan c.of.result c.of.ensures c.if-not-of.false) (move_of c.new-mover.result) (c.new-mover.ensures.terms ∙ (λ i. move_between c.in-Some.leaving.now.request c.in-Some-get.joining.now.request (c.of-last.ensures i).gap (c.of-last.ensures i).size)) in
-    may.last
+    may-shift c.args.plan.now g.H.Home.links g.H.Home.owners c.args.at.0 c.args.at.1 c.args.chans.0 c.args.chans.1 c.in-Some.leaving.now c.in-Some-get.joining.now c.args.pass.now c.args.channels.now.by_number.items c.requests.ensures.valid c.requires.network c.requires.at c.requires.op found found_new
+    (looked-on c.args.channels.now.by_number.items c.in-Some.leaving.now.request.chan c.of-last.result c.of-last.ensures c.if-not-last.false) (looked-on c.args.channels.now.by_number.items c.in-Some-get.joining.now.request.chan c.of.result c.of.ensures c.if-not-of.false) (move_of c.new-mover.result) (c.new-mover.ensures.terms ∙ (λ i. move_between c.in-Some.leaving.now.request c.in-Some-get.joining.now.request (c.of-last.ensures i).gap (c.of-last.ensures i).size))
 
 pub leave-requires-clause-old : goal.leave-requires-clause-old
 leave-requires-clause-old g c =
@@ -133,7 +60,7 @@ returns-clause-at g c =
     let learns = subst (λ (k : Channel). (outcomes : List Learnt) → AreTold c.args.channels.now.by_number.items outcomes → AreTold c.leave.new.self.by_number.items (MovedTo c.in-Some.leaving.now.request.chan c.in-Some-get.joining.now.request.chan c.in-Ok.told k.gap k.size ∷ outcomes)) c.of-last.ensures c.leave.ensures.told in
     move-over c.args.plan.now g.H.Home.links g.H.Home.owners c.args.at.0 c.args.at.1 c.args.chans.0 c.args.chans.1 c.in-Some.leaving.now c.in-Some-get.joining.now c.args.pass.now c.args.channels.now.by_number.items c.requests.ensures.valid c.requires.network c.requires.at c.requires.op found found_new
     (looked-on c.args.channels.now.by_number.items c.in-Some.leaving.now.request.chan c.of-last.result c.of-last.ensures c.if-not-last.false) (looked-on c.args.channels.now.by_number.items c.in-Some-get.joining.now.request.chan c.of.result c.of.ensures c.if-not-of.false) c.shift.new.pass c.leave.new.self.by_number.items c.shift.new.mover c.in-Ok.told c.shift.ensures.same.actor
-    (subst (λ (m : Moving). OthersStay m.leaving c.args.pass.now.own c.shift.new.pass.own) is c.in-Ok.ensures.others) c.leave.ensures.count learns (move_of c.new-mover.result) is c.in-Ok.ensures.moved
+    (subst (λ (m : Moving). OthersStay m.leaving c.args.pass.now.own c.shift.new.pass.own) is c.in-Ok.ensures.moved.others) c.leave.ensures.count learns (move_of c.new-mover.result) is c.in-Ok.ensures.moved.shifts
 
 pub returns-in_default-clause-ready : goal.returns-in_default-clause-ready
 returns-in_default-clause-ready g c = goes-none _ _ _ _ c.requires.pass
@@ -146,3 +73,6 @@ returns-then-not-last-clause-ready g c = goes-none _ _ _ _ c.requires.pass
 
 pub returns-then-not-of-clause-ready : goal.returns-then-not-of-clause-ready
 returns-then-not-of-clause-ready g c = goes-none _ _ _ _ c.requires.pass
+
+pub returns-clause-ready : goal.returns-clause-ready
+returns-clause-ready g c = c.in-Ok.ensures.moved.ready
