@@ -1,11 +1,12 @@
 -- With some more of each of several requests: how many requests the plan then has, which request a copy is like by its place, and how the first
 -- request that isn't accepted is found, one after another.
-use Rattle.std.proofs.Common.{◌≡◌, ℕ, suc, ◌+◌, ◌-◌, ◌*◌, ◌<◌, ◌≤◌, Bool, true, false, if◌then◌else◌, Option, Some, None, List, [], ◌∷◌, length, get_or, drop, take, reverse, refl, sym, ap, ◌∙◌, subst, arith}
+use Rattle.std.proofs.Common.{◌≡◌, ℕ, suc, ◌+◌, ◌-◌, ◌*◌, ◌<◌, ◌≤◌, true, false, if◌then◌else◌, Option, Some, None, List, [], ◌∷◌, length, get_or, drop, take, reverse, refl, sym, ap, ◌∙◌, subst, arith}
 use Rattle.std.proofs.Math.Nat.{suc-mul}
 use Rattle.std.proofs.Math.Seq.{drop-cons}
 use Rattle.std.proofs.lemmas.List.{drop_all, length-append, length-map, length-reverse, reverse-append, take_more}
 use Rattle.std.proofs.lemmas.Option.{slice_get_within, get_or_from_slice_get}
 use Rattle.std.specs.List.{slice_get}
+use Rattle.std.proofs.lemmas.Bool.{cond-true, cond-false}
 use Rattle.setup_protocol.specs.Setup.{Outcome}
 use Rattle.call_script.specs.Parts.{PlanParts}
 use Rattle.call_script.specs.declared.entries.RequestEntry.{RequestEntry}
@@ -40,14 +41,6 @@ requests-with-each parts made (number ∷ past) count is =
 
 -- ---- the first request that isn't accepted
 
-first-of : {X : Type 0} (test : Bool) (x y : X) → test ≡ true → (if test then x else y) ≡ x
-first-of true x y holds = refl
-first-of false x y holds = absurd (cc)
-
-second-of : {X : Type 0} (test : Bool) (x y : X) → test ≡ false → (if test then x else y) ≡ y
-second-of true x y fails = absurd (cc)
-second-of false x y fails = refl
-
 from-there : (entries : List RequestEntry) (n : ℕ) (entry : RequestEntry) → slice_get entries n ≡ Some entry → drop n entries ≡ entry ∷ drop (suc n) entries
 from-there entries n entry at =
     drop-cons entries n entry (slice_get_within entries n entry at) ∙ ap (λ (e : RequestEntry). e ∷ drop (suc n) entries) (get_or_from_slice_get entries n entry entry at)
@@ -61,14 +54,14 @@ pub accepted-here : (run : List Done) (entries : List RequestEntry) (first n : �
     → first_refused run first entries ≡ first_refused run n entries → first_refused run first entries ≡ first_refused run (n + 1) entries
 accepted-here run entries first n entry at accepted so_far =
     so_far ∙ ap (refused_at run n) (from-there entries n entry at) ∙ one-looked-at run n entry (drop (suc n) entries)
-    ∙ first-of (is_acceptance (outcome_in run entry.request)) (refused_at run (suc n) (drop (suc n) entries)) (Some (n, outcome_in run entry.request)) accepted
+    ∙ cond-true (is_acceptance (outcome_in run entry.request)) (refused_at run (suc n) (drop (suc n) entries)) (Some (n, outcome_in run entry.request)) accepted
     ∙ ap (λ k. first_refused run k entries) (let same : suc n ≡ n + 1 = omega arith in same)
 
 pub refused-here : (run : List Done) (entries : List RequestEntry) (first n : ℕ) (entry : RequestEntry) → slice_get entries n ≡ Some entry → is_acceptance (outcome_in run entry.request) ≡ false
     → first_refused run first entries ≡ first_refused run n entries → first_refused run first entries ≡ Some (n, outcome_in run entry.request)
 refused-here run entries first n entry at refused so_far =
     so_far ∙ ap (refused_at run n) (from-there entries n entry at) ∙ one-looked-at run n entry (drop (suc n) entries)
-    ∙ second-of (is_acceptance (outcome_in run entry.request)) (refused_at run (suc n) (drop (suc n) entries)) (Some (n, outcome_in run entry.request)) refused
+    ∙ cond-false (is_acceptance (outcome_in run entry.request)) (refused_at run (suc n) (drop (suc n) entries)) (Some (n, outcome_in run entry.request)) refused
 
 pub none-refused : (run : List Done) (entries : List RequestEntry) (first n : ℕ) → length entries ≤ n → first_refused run first entries ≡ first_refused run n entries → first_refused run first entries ≡ None
 unfolding refused_at

@@ -8,6 +8,7 @@ use Rattle.link_steps.proofs.LegalAdmissible.{whole-fits}
 use Rattle.link_steps.specs.Room.{all_from}
 use Rattle.link_steps.specs.Shape.{blocking_of}
 use Rattle.link_steps.specs.declared.shape.LinkShape.{LinkShape}
+use Rattle.link_steps.proofs.TestsInTurn.{all_from-by}
 use Rattle.call_script.specs.Groups.{are_of_version, quotas_have_version, group_has_version, groups_have_version, have_own_groups, groups_have_names, quota_is_there, group_is_there, groups_are_there, quota_in_range, quotas_are_in_range, groups_are_few, level_fits, quotas_fit, quotas_are_fit, KeepGroups}
 use Rattle.call_script.specs.Growing.{add_op, new_caller}
 use Rattle.call_script.specs.Parts.{PlanParts, LeavesUnused}
@@ -70,13 +71,6 @@ get-here (x ∷ xs) (suc i) d e inside = get-here xs i d e (omega (arith, inside
 
 -- ---- levels one after another
 
--- a test that holds at each level
-pub all-levels : (test : ℕ → Bool) (m count : ℕ) → ((k : ℕ) → m ≤ k → k < m + count → test k ≡ true) → all_from test m count ≡ true
-unfolding all_from
-all-levels test m zero each = refl
-all-levels test m (suc count) each =
-    and_from (test m) (all_from test (suc m) count) (each m (omega arith) (omega arith)) (all-levels test (suc m) count (λ k from upto. each k (omega (arith, from)) (omega (arith, upto))))
-
 -- where the level at hand passes those that are left decide, and where it doesn't all is decided
 next-level : (n i : ℕ) → i < n → n - i ≡ suc (n - (i + 1))
 next-level n i within = omega (arith, within)
@@ -121,7 +115,7 @@ none-unused entry none = subst (All (LeavesUnused entry.shape.bounds)) (sym none
 none-fit : (shape : LinkShape) → quotas_fit shape [] ≡ true
 none-fit shape =
     and_from (all_from (level_fits shape []) 1 (length shape.bounds)) (nat_le 0 shape.buffer)
-    (all-levels (level_fits shape []) 1 (length shape.bounds) (λ k from upto. le-leb (blocking_of shape + 0) (bound_at shape.bounds k) ((whole-fits shape).levels k from (omega (arith, upto)))))
+    (all_from-by (level_fits shape []) 1 (length shape.bounds) (λ k from upto. le-leb (blocking_of shape + 0) (bound_at shape.bounds k) ((whole-fits shape).levels k from (omega (arith, upto)))))
     (le-leb 0 shape.buffer (omega arith))
 
 -- a link without quotas more

@@ -1,6 +1,6 @@
 -- Parts that grow a line at a time keep the rules, whichever way they grow.
 use Rattle.std.proofs.Common.{◌≡◌, ℕ, suc, ◌+◌, ◌<◌, ◌≤◌, Bool, true, false, not, Option, Some, None, List, [], ◌∷◌, ◌++◌, length, map, refl, sym, ap, ◌∙◌, subst, inl, inr, append_assoc, option_map, arith}
-use Rattle.std.proofs.lemmas.Bool.{and_from, and_parts, le-leb, leb-true}
+use Rattle.std.proofs.lemmas.Bool.{and_from, and_parts, le-leb, leb-true, not_from_false}
 use Rattle.std.proofs.lemmas.List.{length-append, map-append}
 use Rattle.std.proofs.lemmas.Option.{slice_get_within}
 use Rattle.std.specs.List.{All, list_all, list_any}
@@ -269,10 +269,6 @@ op-keeps parts op keep may =
       terms = keep.terms;
     }
 
-not-hit : (b : Bool) → b ≡ false → not b ≡ true
-not-hit true fails = cc
-not-hit false holds = refl
-
 not-missed : (b : Bool) → b ≡ true → not (not b) ≡ true
 not-missed true holds = refl
 not-missed false fails = cc
@@ -285,8 +281,8 @@ send-keeps parts chan count gap size keep may = op-keeps parts (Send chan count 
   opened = not-missed (list_any (is_in role.Opens (channel_number chan)) (last_ops parts.callers)) may.channel.opened;
   onto_opened = refl;
   range = may.range;
-  unclosed = not-hit (list_any (is_in role.Closes (channel_number chan)) (last_ops parts.callers)) may.channel.unclosed;
-  unleft = not-hit (list_any (is_in role.Leaves (channel_number chan)) (last_ops parts.callers)) may.unleft;
+  unclosed = not_from_false (list_any (is_in role.Closes (channel_number chan)) (last_ops parts.callers)) may.channel.unclosed;
+  unleft = not_from_false (list_any (is_in role.Leaves (channel_number chan)) (last_ops parts.callers)) may.unleft;
   fit = refl;
   unused = refl;
   unjoined = refl;
@@ -302,7 +298,7 @@ close-keeps parts chan keep may = op-keeps parts (Close chan) keep (record {
   opened = not-missed (list_any (is_in role.Opens (channel_number chan)) (last_ops parts.callers)) may.opened;
   onto_opened = refl;
   range = refl;
-  unclosed = not-hit (list_any (is_in role.Closes (channel_number chan)) (last_ops parts.callers)) may.unclosed;
+  unclosed = not_from_false (list_any (is_in role.Closes (channel_number chan)) (last_ops parts.callers)) may.unclosed;
   unleft = refl;
   fit = refl;
   unused = refl;
@@ -337,11 +333,11 @@ move-keeps parts old new keep may = op-keeps parts (Move old new) keep (record {
   opened = not-missed (list_any (is_in role.Opens (channel_number old)) (last_ops parts.callers)) may.channel.opened;
   onto_opened = not-missed (list_any (is_in role.Opens (channel_number new)) (last_ops parts.callers)) may.joined;
   range = refl;
-  unclosed = not-hit (list_any (is_in role.Closes (channel_number old)) (last_ops parts.callers)) may.channel.unclosed;
-  unleft = not-hit (list_any (is_in role.Leaves (channel_number old)) (last_ops parts.callers)) may.unleft;
+  unclosed = not_from_false (list_any (is_in role.Closes (channel_number old)) (last_ops parts.callers)) may.channel.unclosed;
+  unleft = not_from_false (list_any (is_in role.Leaves (channel_number old)) (last_ops parts.callers)) may.unleft;
   fit = may.fit;
-  unused = not-hit (list_any (is_in role.Uses (channel_number new)) (last_ops parts.callers)) may.unused;
-  unjoined = not-hit (list_any (is_in role.Joins (channel_number new)) (last_ops parts.callers)) may.unjoined;
+  unused = not_from_false (list_any (is_in role.Uses (channel_number new)) (last_ops parts.callers)) may.unused;
+  unjoined = not_from_false (list_any (is_in role.Joins (channel_number new)) (last_ops parts.callers)) may.unjoined;
   load = may.load;
   taken = refl;
   opens_none = refl;

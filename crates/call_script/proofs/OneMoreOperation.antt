@@ -87,10 +87,18 @@ added-length op (caller ∷ next ∷ callers) = ap suc (added-length op (next �
 
 -- ---- what is opened
 
-opens-more : (n : ℕ) (ops : List Op) (op : Op) → openings_in n (ops ++ op ∷ []) ≡ openings_in n ops ++ opened_by n op
+pub opens-more : (n : ℕ) (ops : List Op) (op : Op) → openings_in n (ops ++ op ∷ []) ≡ openings_in n ops ++ opened_by n op
 unfolding openings_in
 opens-more n [] op = append-nil (opened_by n op)
 opens-more n (o ∷ ops) op = ap (λ (rest : List Opening). opened_by n o ++ rest) (opens-more n ops op) ∙ sym (append_assoc (opened_by n o) (openings_in n ops) (opened_by n op))
+
+-- and one more caller
+pub callers-more : (n : ℕ) (callers : List CallerEntry) (caller : CallerEntry) → openings_of n (callers ++ caller ∷ []) ≡ openings_of n callers ++ openings_in (n + length callers) caller.ops
+unfolding openings_of
+callers-more n [] caller = append-nil (openings_in n caller.ops) ∙ ap (λ k. openings_in k caller.ops) (omega arith)
+callers-more n (first ∷ callers) caller =
+    ap (λ (rest : List Opening). openings_in n first.ops ++ rest) (callers-more (suc n) callers caller ∙ ap (λ k. openings_of (suc n) callers ++ openings_in k caller.ops) (omega arith))
+    ∙ sym (append_assoc (openings_in n first.ops) (openings_of (suc n) callers) (openings_in (n + suc (length callers)) caller.ops))
 
 pub added-openings : (n at : ℕ) (op : Op) (caller : CallerEntry) (callers : List CallerEntry) → at ≡ n + length callers → openings_of n (add_op op (caller ∷ callers)) ≡ openings_of n (caller ∷ callers) ++ opened_by at op
 unfolding openings_of

@@ -1,7 +1,7 @@
 -- Each channel of a plan has one owner: one caller opens its request, may move packets onto it, sends on it, and then may close
 -- it or move packets from it; and no other caller names it.
 use Rattle.std.proofs.Common.{◌≡◌, ◌≢◌, ℕ, suc, ◌<◌, ◌⊎◌, Bool, true, false, not, Option, Some, None, List, [], ◌∷◌, ◌++◌, map, refl, sym, ap, ◌∙◌, subst, inl, inr, nat_eq, option_map, arith}
-use Rattle.std.proofs.lemmas.Bool.{eqb-false, eq-eqb, ne_eqb}
+use Rattle.std.proofs.lemmas.Bool.{eqb-false, eq-eqb, ne_eqb, and_parts}
 use Rattle.std.proofs.lemmas.List.{append_assoc, length-map}
 use Rattle.std.proofs.lemmas.List.Folds.{list_any-append}
 use Rattle.std.proofs.lemmas.Option.{slice_get-map, same_Some}
@@ -9,6 +9,7 @@ use Rattle.std.specs.List.{list_all, list_any, slice_get}
 use Rattle.std.specs.Prelude.{◌||◌}
 use Rattle.net_units.specs.Numbers.{actor_number, channel_number}
 use Rattle.net_units.specs.declared.numbers.ChanNo.{ChanNo}
+use Rattle.net_units.proofs.ByCases.{no-both}
 use Rattle.hop_reservation.specs.declared.route.Hop.{Hop}
 use Rattle.link_steps.specs.Lists.{Each}
 use Rattle.setup_protocol.specs.declared.request.Request.{Request}
@@ -30,7 +31,7 @@ use Rattle.link_steps.proofs.ListParts.{Each-at, comes-from}
 use Rattle.call_script.proofs.PlansFit.{request-fits}
 use Rattle.call_script.proofs.OperationTable.{ChannelIf, TaskIf, with-task, AreInOrder, OpOff, task-off, AreApart, IsApartMove, IsTo, OpIs, IsOff, Opening, Sending, Closing, Leaving, Joining, op-is}
 use Rattle.call_script.proofs.OpeningsInOrder.{OpeningsAreNumbered, caller-numbered, IsOpenedBy, opened-has, owner-inside}
-use Rattle.call_script.proofs.RulesAreKept.{both, not-true, each-of, keeps-rules, used-in, unclosed-in, moves-in}
+use Rattle.call_script.proofs.RulesAreKept.{not-true, each-of, keeps-rules, used-in, unclosed-in, moves-in}
 use Rattle.std.proofs.Math.Bool.{or-true}
 
 -- ---- weaker scripts
@@ -76,7 +77,7 @@ any-here test above op rest holds = list_any-append test above (op ∷ rest) ∙
 in-own : (role : Role) (c : ℕ) (op : Op) → named role op ≡ Some c → is_in role c op ≡ true
 in-own role c op is = rw is (eq-eqb c c refl)
 
-now-has : (role : Role) (c : ℕ) (above : List Op) (op : Op) → named role op ≡ Some c → list_any (is_in role c) (above ++ op ∷ []) ≡ true
+pub now-has : (role : Role) (c : ℕ) (above : List Op) (op : Op) → named role op ≡ Some c → list_any (is_in role c) (above ++ op ∷ []) ≡ true
 now-has role c above op is = any-here (is_in role c) above op [] (in-own role c op is)
 
 -- ---- what a script keeps
@@ -105,7 +106,7 @@ record KeepsOrder (above ops : List Op) : Type 0 where
 each-first : (test : List Op → Op → Bool) (above : List Op) (op : Op) (ops : List Op) → each_after test above (op ∷ ops) ≡ true
     → (test above op ≡ true) × (each_after test (above ++ op ∷ []) ops ≡ true)
 unfolding each_after
-each-first test above op ops each = both (test above op) (each_after test (above ++ op ∷ []) ops) each
+each-first test above op ops each = and_parts (test above op) (each_after test (above ++ op ∷ []) ops) each
 
 order-first : (above : List Op) (op : Op) (ops : List Op) → KeepsOrder above (op ∷ ops) → OpKeeps above op
 order-first above op ops keeps = record {
@@ -128,10 +129,6 @@ order-rest above op ops keeps = record {
   unjoined = (each-first (is_apart role.Joins role.Joins) above op ops keeps.unjoined).1;
   apart = keeps.apart.1;
 }
-
--- true isn't false
-clash : (b : Bool) → b ≡ true → b ≡ false → ⊥
-clash b holds fails = (let same : true ≡ false = sym holds ∙ fails in cc)
 
 -- ---- other callers
 
@@ -242,7 +239,7 @@ closed-off c requests above (op ∷ ops) ordered unopened closed used keeps =
       first = order-first above op ops keeps
 
       uses-not : IsTo role.Uses c op → ⊥
-      uses-not is = clash (list_any (is_in role.Closes c) above) closed (apart-none role.Uses role.Closes above op c is first.unclosed)
+      uses-not is = no-both (list_any (is_in role.Closes c) above) closed (apart-none role.Uses role.Closes above op c is first.unclosed)
 
       off : OpIs c op → OpOff c op
       off (IsOff other) = other
@@ -250,7 +247,7 @@ closed-off c requests above (op ∷ ops) ordered unopened closed used keeps =
       off (Sending count gap size uses kept task) = absurd (uses-not uses)
       off (Closing uses closes task) = absurd (uses-not uses)
       off (Leaving n other uses kept leaves task) = absurd (uses-not uses)
-      off (Joining o other joins task) = absurd (clash (list_any (is_in role.Uses c) above) used (apart-none role.Joins role.Uses above op c joins first.unused))
+      off (Joining o other joins task) = absurd (no-both (list_any (is_in role.Uses c) above) used (apart-none role.Joins role.Uses above op c joins first.unused))
 
 -- a closing of the request, after which no operation names it
 own-close : (requests : List Request) (request : Request) (above ops : List Op) (op : Op) → IsAt requests request
@@ -278,7 +275,7 @@ left-closes requests request above (op ∷ ops) at unopened left used keeps =
       first = order-first above op ops keeps
 
       keeps-not : IsTo role.Keeps (number_of request) op → ⊥
-      keeps-not is = clash (list_any (is_in role.Leaves (number_of request)) above) left (apart-none role.Keeps role.Leaves above op (number_of request) is first.unleft)
+      keeps-not is = no-both (list_any (is_in role.Leaves (number_of request)) above) left (apart-none role.Keeps role.Leaves above op (number_of request) is first.unleft)
 
       by : ClosesOnce request (tasks_of requests ops) → OpIs (number_of request) op → ClosesOnce request (with_task (task_of requests op) (tasks_of requests ops))
       by rest (IsOff other) = with-task (TaskOff (number_of request)) (ClosesOnce request) (task_of requests op) (tasks_of requests ops) (task-off (number_of request) requests op at.ordered other) (λ own off. inl (off, rest)) rest
@@ -286,7 +283,7 @@ left-closes requests request above (op ∷ ops) at unopened left used keeps =
       by rest (Sending count gap size uses kept task) = absurd (keeps-not kept)
       by rest (Closing uses closes task) = subst (λ t. ClosesOnce request (with_task t (tasks_of requests ops))) (sym (close-task requests request op at (task requests))) (inr (refl, own-close requests request above ops op at unopened.1 uses closes (order-rest above op ops keeps)))
       by rest (Leaving n other uses kept leaves task) = absurd (keeps-not kept)
-      by rest (Joining o other joins task) = absurd (clash (list_any (is_in role.Uses (number_of request)) above) used (apart-none role.Joins role.Uses above op (number_of request) joins first.unused))
+      by rest (Joining o other joins task) = absurd (no-both (list_any (is_in role.Uses (number_of request)) above) used (apart-none role.Joins role.Uses above op (number_of request) joins first.unused))
 
 -- a move from the request, after which it may be closed alone
 own-left : (requests : List Request) (request : Request) (above ops : List Op) (op : Op) → IsAt requests request
@@ -315,8 +312,8 @@ used-sends requests request above (op ∷ ops) at unopened used keeps =
       first = order-first above op ops keeps
 
       joins-not : IsTo role.Joins (number_of request) op → (list_any (is_in role.Uses (number_of request)) above ≡ true) ⊎ (list_any (is_in role.Joins (number_of request)) above ≡ true) → ⊥
-      joins-not is (inl any) = clash (list_any (is_in role.Uses (number_of request)) above) any (apart-none role.Joins role.Uses above op (number_of request) is first.unused)
-      joins-not is (inr any) = clash (list_any (is_in role.Joins (number_of request)) above) any (apart-none role.Joins role.Joins above op (number_of request) is first.unjoined)
+      joins-not is (inl any) = no-both (list_any (is_in role.Uses (number_of request)) above) any (apart-none role.Joins role.Uses above op (number_of request) is first.unused)
+      joins-not is (inr any) = no-both (list_any (is_in role.Joins (number_of request)) above) any (apart-none role.Joins role.Joins above op (number_of request) is first.unjoined)
 
       by : SendsOnce request (tasks_of requests ops) → OpIs (number_of request) op → SendsOnce request (with_task (task_of requests op) (tasks_of requests ops))
       by rest (IsOff other) = with-task (TaskOff (number_of request)) (SendsOnce request) (task_of requests op) (tasks_of requests ops) (task-off (number_of request) requests op at.ordered other) (λ own off. inl (off, rest)) rest
@@ -396,7 +393,7 @@ early-full n m requests request above (op ∷ ops) at are none keeps =
       first = order-first above op ops keeps
 
       unopened : list_any (is_in role.Opens (number_of request)) above ≡ true → ⊥
-      unopened any = clash (list_any (is_in role.Opens (number_of request)) above) any none
+      unopened any = no-both (list_any (is_in role.Opens (number_of request)) above) any none
 
       uses-not : IsTo role.Uses (number_of request) op → ⊥
       uses-not is = unopened (after-has role.Uses role.Opens above op (number_of request) is first.opened)
@@ -429,11 +426,11 @@ fit-apart : (links : List LinkEntry) (requests : List RequestEntry) (ops : List 
     → Each IsApartMove ops
 fit-apart links requests [] all = tt
 fit-apart links requests (op ∷ ops) all =
-    (let split = both (move_is_fit links requests op) (list_all (move_is_fit links requests) ops) all in (between (attributes_of op).leaves (attributes_of op).joins split.0, fit-apart links requests ops split.1)) where
+    (let split = and_parts (move_is_fit links requests op) (list_all (move_is_fit links requests) ops) all in (between (attributes_of op).leaves (attributes_of op).joins split.0, fit-apart links requests ops split.1)) where
       between : (leaves joins : Option ChanNo) → fits_between links requests leaves joins ≡ true → AreApart leaves joins
       between None joins fit = tt
       between (Some old) None fit = tt
-      between (Some old) (Some new) fit = eqb-false (channel_number old) (channel_number new) (not-true (nat_eq (channel_number old) (channel_number new)) (both (may_move links (slice_get requests (channel_number old)) (slice_get requests (channel_number new))) _ fit).1)
+      between (Some old) (Some new) fit = eqb-false (channel_number old) (channel_number new) (not-true (nat_eq (channel_number old) (channel_number new)) (and_parts (may_move links (slice_get requests (channel_number old)) (slice_get requests (channel_number new))) _ fit).1)
 
 -- the script of a caller keeps the rules on its operations
 keeps-order : (parts : PlanParts) (n : ℕ) (caller : CallerEntry) → IsPlan parts → slice_get parts.callers n ≡ Some caller
@@ -490,7 +487,7 @@ pub all-owned : (parts : PlanParts) → IsPlan parts → AllOwned (network_of pa
 unfolding network_of
 all-owned parts plan c = by (slice_get parts.requests c) refl where
   by : (found : Option RequestEntry) → slice_get parts.requests c ≡ found → IsOwned (network_of parts) c ⊎ IsUnnamed (network_of parts) c
-  by None none = inr (λ actor tasks at. caller-off parts c actor tasks plan (λ opened. (let clash : None ≡ Some opened.entry = sym none ∙ opened.found in cc)) at)
+  by None none = inr (λ actor tasks at. caller-off parts c actor tasks plan (λ opened. (let no-both : None ≡ Some opened.entry = sym none ∙ opened.found in cc)) at)
   by (Some entry) some = inl (record {
     request = entry.request;
     owner = actor_number entry.caller;

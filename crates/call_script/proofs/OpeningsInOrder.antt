@@ -15,7 +15,7 @@ use Rattle.call_script.specs.declared.entries.CallerEntry.{CallerEntry}
 use Rattle.call_script.specs.declared.entries.RequestEntry.{RequestEntry}
 use Rattle.call_script.specs.declared.operations.Op.{Op}
 use Rattle.call_script.specs.declared.roles.Role.TheVariants as role
-use Rattle.link_steps.proofs.ListParts.{Among-left, Among-right}
+use Rattle.link_steps.proofs.ListParts.{Among-left, Among-right, Among-parts}
 
 -- ---- openings with numbers one after the other
 
@@ -115,19 +115,10 @@ own-caller n (op ∷ ops) opening among = by (attributes_of op).opens among (own
   by (Some chan) (inl same) rest = ap (λ (o : Opening). o.caller) same
   by (Some chan) (inr own) rest = rest own
 
--- an opening among two lists is among the first or the second
-parted : {X : Type 0} (x : X) (xs ys : List X) → Among x (xs ++ ys) → Among x xs ⊎ Among x ys
-parted x [] ys among = inr among
-parted x (y ∷ xs) ys (inl same) = inl (inl same)
-parted x (y ∷ xs) ys (inr rest) = later (parted x xs ys rest) where
-  later : Among x xs ⊎ Among x ys → Among x (y ∷ xs) ⊎ Among x ys
-  later (inl own) = inl (inr own)
-  later (inr other) = inr other
-
 openings-inside : (first : ℕ) (callers : List CallerEntry) (opening : Opening) → Among opening (openings_of first callers) → opening.caller < first + length callers
 unfolding openings_of
 openings-inside first [] opening among = absurd among
-openings-inside first (c ∷ callers) opening among = by (parted opening (openings_in first c.ops) (openings_of (suc first) callers) among) (openings-inside (suc first) callers opening) where
+openings-inside first (c ∷ callers) opening among = by (Among-parts opening (openings_in first c.ops) (openings_of (suc first) callers) among) (openings-inside (suc first) callers opening) where
   by : Among opening (openings_in first c.ops) ⊎ Among opening (openings_of (suc first) callers) → (Among opening (openings_of (suc first) callers) → opening.caller < suc first + length callers) → opening.caller < first + length (c ∷ callers)
   by (inl own) later = (let same : opening.caller ≡ first = own-caller first c.ops opening own in omega arith)
   by (inr rest) later = (let below : opening.caller < suc first + length callers = later rest in omega arith)

@@ -1,6 +1,6 @@
 -- The network of every plan fits.
-use Rattle.std.proofs.Common.{◌≡◌, ◌≢◌, ℕ, ◌<◌, ◌≤◌, true, Option, Some, None, List, [], ◌∷◌, length, map, refl, sym, ap, ◌∙◌, subst, inl, inr, option_map, IsTrue, arith}
-use Rattle.std.proofs.lemmas.Bool.{eqb-true, eqb-false, leb-true, ltb-true}
+use Rattle.std.proofs.Common.{◌≡◌, ◌≢◌, ℕ, ◌+◌, ◌<◌, ◌≤◌, true, Option, Some, None, List, [], ◌∷◌, length, map, refl, sym, ap, ◌∙◌, subst, inl, inr, option_map, IsTrue, arith}
+use Rattle.std.proofs.lemmas.Bool.{eqb-true, eqb-false, leb-true, ltb-true, and_parts}
 use Rattle.std.proofs.lemmas.List.{length-map}
 use Rattle.std.proofs.lemmas.Option.{slice_get-map, slice_get_cases}
 use Rattle.std.specs.List.{list_all, slice_get}
@@ -31,7 +31,7 @@ use Rattle.call_script.specs.declared.operations.Op.{Op}
 use Rattle.call_script.specs.declared.operations.Op.TheVariants.{Open, Send, Close, Move}
 use Rattle.call_script.specs.declared.tasks.Task.{Task}
 use Rattle.call_script.specs.declared.tasks.Task.TheVariants.{Sends}
-use Rattle.call_script.proofs.RulesAreKept.{both, not-true, each-of, packets-fit, keeps-rules, used-in, moves-in}
+use Rattle.call_script.proofs.RulesAreKept.{not-true, each-of, packets-fit, keeps-rules, used-in, moves-in}
 use Rattle.call_script.proofs.SplitFits.{entry-fits}
 use Rattle.link_steps.proofs.ListParts.{Each-at, comes-from}
 
@@ -54,7 +54,7 @@ hops-there : (groups : List ℕ) (links : List LinkEntry) (route : List Hop) →
     → Each (FollowsLink links) route → Each (IsHopOf (map (entry_link groups) links)) route
 hops-there groups links [] there follows = tt
 hops-there groups links (hop ∷ route) there follows =
-    let split = both (has_link links hop.link) (list_all (λ (h : Hop). has_link links h.link) route) there in
+    let split = and_parts (has_link links hop.link) (list_all (λ (h : Hop). has_link links h.link) route) there in
     (hop-there groups links hop split.0 follows.0, hops-there groups links route split.1 follows.1)
 
 -- a hop has the bounds of its link, which are a link's bounds
@@ -63,7 +63,7 @@ hops-bounds : (links : List LinkEntry) (route : List Hop) → list_all (λ (hop 
 unfolding HaveBounds
 hops-bounds links [] there follows = tt
 hops-bounds links (hop ∷ route) there follows =
-    let split = both (has_link links hop.link) (list_all (λ (h : Hop). has_link links h.link) route) there in
+    let split = and_parts (has_link links hop.link) (list_all (λ (h : Hop). has_link links h.link) route) there in
     elim (slice_get_cases links (link_number hop.link)).1 [
       | inl at ↦ (subst (λ bs. IsTrue (are_bounds bs)) (sym (follows.0.bounds at.0 at.2)) at.0.shape.bounds_rise, hops-bounds links route split.1 follows.1)
       | inr past ↦ (let within : link_number hop.link < length links = ltb-true (link_number hop.link) (length links) split.0 in absurd (omega (arith, past.0)))
@@ -134,9 +134,9 @@ best-fits groups links link count gap size taken range = by (slice_get links (li
 -- contracts with the same numbers are one
 contract-same : (a b : Traffic) → same_contract a b ≡ true → a ≡ b
 contract-same a b same =
-    let first = both (nat_eq a.xmin b.xmin && nat_eq a.xave b.xave && nat_eq a.interval b.interval) (nat_eq a.smax b.smax) same in
-    let second = both (nat_eq a.xmin b.xmin && nat_eq a.xave b.xave) (nat_eq a.interval b.interval) first.0 in
-    let third = both (nat_eq a.xmin b.xmin) (nat_eq a.xave b.xave) second.0 in
+    let first = and_parts (nat_eq a.xmin b.xmin && nat_eq a.xave b.xave && nat_eq a.interval b.interval) (nat_eq a.smax b.smax) same in
+    let second = and_parts (nat_eq a.xmin b.xmin && nat_eq a.xave b.xave) (nat_eq a.interval b.interval) first.0 in
+    let third = and_parts (nat_eq a.xmin b.xmin) (nat_eq a.xave b.xave) second.0 in
     let xmin = eqb-true a.xmin b.xmin third.0 in
     let xave = eqb-true a.xave b.xave third.1 in
     let interval = eqb-true a.interval b.interval second.1 in
@@ -155,7 +155,7 @@ move-fits parts o n plan apart (Some old) None from to fit = cc
 move-fits parts o n plan apart (Some old) (Some new) from to fit = record {
   of_old = request-fits parts o old plan from;
   of_new = request-fits parts n new plan to;
-  same = contract-same old.request.contract new.request.contract (both (same_contract old.request.contract new.request.contract) (same_ends parts.links old.request.route new.request.route) fit).0;
+  same = contract-same old.request.contract new.request.contract (and_parts (same_contract old.request.contract new.request.contract) (same_ends parts.links old.request.route new.request.route) fit).0;
   apart = λ same. apart (sym (plan.planned.requests o old from) ∙ same ∙ plan.planned.requests n new to);
   packets = one-packet;
 }
@@ -167,7 +167,7 @@ op-fits parts (Open chan) plan range taken fit = of-request parts _ (channel_num
 op-fits parts (Send chan count gap size) plan range taken fit = sends-fit parts (channel_number chan) count gap size chan plan range (slice_get (map request_of parts.requests) (channel_number chan)) refl
 op-fits parts (Close chan) plan range taken fit = of-request parts _ (channel_number chan) plan (λ request fits. fits) (slice_get (map request_of parts.requests) (channel_number chan)) refl
 op-fits parts (Move old new) plan range taken fit =
-    let split = both (may_move parts.links (slice_get parts.requests (channel_number old)) (slice_get parts.requests (channel_number new))) (not (nat_eq (channel_number old) (channel_number new))) fit in
+    let split = and_parts (may_move parts.links (slice_get parts.requests (channel_number old)) (slice_get parts.requests (channel_number new))) (not (nat_eq (channel_number old) (channel_number new))) fit in
     subst (λ f. TaskFitsIf (map (entry_link (groups_in parts)) parts.links) (move_for f (slice_get (map request_of parts.requests) (channel_number new)))) (sym (slice_get-map request_of parts.requests (channel_number old)))
     (subst (λ f. TaskFitsIf (map (entry_link (groups_in parts)) parts.links) (move_for (option_map request_of (slice_get parts.requests (channel_number old))) f)) (sym (slice_get-map request_of parts.requests (channel_number new)))
     (move-fits parts (channel_number old) (channel_number new) plan (eqb-false (channel_number old) (channel_number new) (not-true (nat_eq (channel_number old) (channel_number new)) split.1)) (slice_get parts.requests (channel_number old)) (slice_get parts.requests (channel_number new)) refl refl split.0))
@@ -179,9 +179,9 @@ ops-fit : (parts : PlanParts) (ops : List Op) → IsPlan parts → list_all op_i
 unfolding tasks_of
 ops-fit parts [] plan range taken fit = tt
 ops-fit parts (op ∷ ops) plan range taken fit =
-    let ranges = both (op_in_range op) (list_all op_in_range ops) range in
-    let takes = both (pour_is_taken parts.links op) (list_all (pour_is_taken parts.links) ops) taken in
-    let fits = both (move_is_fit parts.links parts.requests op) (list_all (move_is_fit parts.links parts.requests) ops) fit in
+    let ranges = and_parts (op_in_range op) (list_all op_in_range ops) range in
+    let takes = and_parts (pour_is_taken parts.links op) (list_all (pour_is_taken parts.links) ops) taken in
+    let fits = and_parts (move_is_fit parts.links parts.requests op) (list_all (move_is_fit parts.links parts.requests) ops) fit in
     with-fits (map (entry_link (groups_in parts)) parts.links) (task_of (map request_of parts.requests) op) (tasks_of (map request_of parts.requests) ops) (op-fits parts op plan ranges.0 takes.0 fits.0) (ops-fit parts ops plan ranges.1 takes.1 fits.1)
 
 callers-fit : (parts : PlanParts) (callers : List CallerEntry) → IsPlan parts
@@ -191,9 +191,9 @@ callers-fit : (parts : PlanParts) (callers : List CallerEntry) → IsPlan parts
     → Each (Each (TaskFits (map (entry_link (groups_in parts)) parts.links))) (map (script_of (map request_of parts.requests)) callers)
 callers-fit parts [] plan range taken fit = tt
 callers-fit parts (caller ∷ callers) plan range taken fit =
-    let ranges = both (list_all op_in_range caller.ops) (list_all (λ (c : CallerEntry). list_all op_in_range c.ops) callers) range in
-    let takes = both (list_all (pour_is_taken parts.links) caller.ops) (list_all (λ (c : CallerEntry). list_all (pour_is_taken parts.links) c.ops) callers) taken in
-    let fits = both (list_all (move_is_fit parts.links parts.requests) caller.ops) (list_all (λ (c : CallerEntry). list_all (move_is_fit parts.links parts.requests) c.ops) callers) fit in
+    let ranges = and_parts (list_all op_in_range caller.ops) (list_all (λ (c : CallerEntry). list_all op_in_range c.ops) callers) range in
+    let takes = and_parts (list_all (pour_is_taken parts.links) caller.ops) (list_all (λ (c : CallerEntry). list_all (pour_is_taken parts.links) c.ops) callers) taken in
+    let fits = and_parts (list_all (move_is_fit parts.links parts.requests) caller.ops) (list_all (λ (c : CallerEntry). list_all (move_is_fit parts.links parts.requests) c.ops) callers) fit in
     (ops-fit parts caller.ops plan ranges.0 takes.0 fits.0, callers-fit parts callers plan ranges.1 takes.1 fits.1)
 
 -- ---- the network
@@ -205,20 +205,20 @@ links-fit parts keep = by parts.links keep.own keep.quotas_there keep.fit where
       → list_all (λ (entry : LinkEntry). quotas_fit entry.shape entry.quotas) links ≡ true → Each SplitFits (map (entry_link (groups_in parts)) links)
   by [] own there fit = tt
   by (entry ∷ links) own there fit =
-      let owns = both (have_own_groups entry.quotas) (list_all (λ (e : LinkEntry). have_own_groups e.quotas) links) own in
-      let theres = both (list_all (quota_is_there parts.groups) entry.quotas) (list_all (λ (e : LinkEntry). list_all (quota_is_there parts.groups) e.quotas) links) there in
-      let fits = both (quotas_fit entry.shape entry.quotas) (list_all (λ (e : LinkEntry). quotas_fit e.shape e.quotas) links) fit in
+      let owns = and_parts (have_own_groups entry.quotas) (list_all (λ (e : LinkEntry). have_own_groups e.quotas) links) own in
+      let theres = and_parts (list_all (quota_is_there parts.groups) entry.quotas) (list_all (λ (e : LinkEntry). list_all (quota_is_there parts.groups) e.quotas) links) there in
+      let fits = and_parts (quotas_fit entry.shape entry.quotas) (list_all (λ (e : LinkEntry). quotas_fit e.shape e.quotas) links) fit in
       (entry-fits parts.groups (groups_in parts) entry keep.few owns.0 theres.0 fits.0, by links owns.1 theres.1 fits.1)
 
 pub plan-fits : (parts : PlanParts) → IsPlan parts → NetworkFits (network_of parts)
 unfolding network_of have_links are_few are_in_range pours_are_taken
 plan-fits parts plan =
     let rules = keeps-rules parts plan.kept in
-    let counts = both (nat_le (length parts.links) 32 && nat_le (length parts.callers) 64) (nat_le (length parts.requests) 1024) rules.few in
-    let links = both (nat_le (length parts.links) 32) (nat_le (length parts.callers) 64) counts.0 in
-    let ranges = both (list_all request_in_range parts.requests && list_all (λ (caller : CallerEntry). list_all op_in_range caller.ops) parts.callers) (rounds_in_range parts.rounds parts.tail) rules.range in
-    let ops = both (list_all request_in_range parts.requests) (list_all (λ (caller : CallerEntry). list_all op_in_range caller.ops) parts.callers) ranges.0 in
-    let rounds = both (nat_le parts.rounds 524288) (nat_le parts.tail 524288) ranges.1 in
+    let counts = and_parts (nat_le (length parts.links) 32 && nat_le (length parts.callers) 64) (nat_le (length parts.requests) 1024) rules.few in
+    let links = and_parts (nat_le (length parts.links) 32) (nat_le (length parts.callers) 64) counts.0 in
+    let ranges = and_parts (list_all request_in_range parts.requests && list_all (λ (caller : CallerEntry). list_all op_in_range caller.ops) parts.callers) (rounds_in_range parts.rounds parts.tail) rules.range in
+    let ops = and_parts (list_all request_in_range parts.requests) (list_all (λ (caller : CallerEntry). list_all op_in_range caller.ops) parts.callers) ranges.0 in
+    let rounds = and_parts (nat_le parts.rounds 524288) (nat_le parts.tail 524288) ranges.1 in
     let least : 1 ≤ length parts.links = leb-true 1 (length parts.links) rules.links in
     let most : length parts.links ≤ 32 = leb-true (length parts.links) 32 links.0 in
     let r : parts.rounds ≤ 524288 = leb-true parts.rounds 524288 rounds.0 in
@@ -230,3 +230,20 @@ plan-fits parts plan =
       tasks = callers-fit parts parts.callers plan ops.1 rules.pours (moves-in parts rules.moves).fit;
       rounds = omega arith;
     }
+
+-- a request's route has a hop
+pub route-least : (parts : PlanParts) (number : ℕ) (entry : RequestEntry) → IsPlan parts → slice_get parts.requests number ≡ Some entry
+    → 1 ≤ length entry.request.route
+route-least parts number entry plan found = (request-fits parts number entry plan found).route.least
+
+-- the network of a plan has its links, which are few, and its rounds
+pub links-are : (parts : PlanParts) → length (network_of parts).links ≡ length parts.links
+unfolding network_of
+links-are parts = length-map parts.links (entry_link (groups_in parts))
+
+pub links-few : (parts : PlanParts) → IsPlan parts → length parts.links ≤ 32
+links-few parts plan = (let few = (plan-fits parts plan).few in let same = links-are parts in omega (arith, few, same))
+
+pub rounds-are : (parts : PlanParts) → (network_of parts).rounds ≡ parts.rounds + parts.tail
+unfolding network_of
+rounds-are parts = refl

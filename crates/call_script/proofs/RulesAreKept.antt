@@ -1,6 +1,6 @@
 -- A plan that breaks no rule keeps each: what the tests say of its parts.
 use Rattle.std.proofs.Common.{◌≡◌, ℕ, ◌≤◌, Bool, true, false, not, Option, None, List, [], ◌∷◌, refl, arith}
-use Rattle.std.proofs.lemmas.Bool.{and_from, leb-true}
+use Rattle.std.proofs.lemmas.Bool.{and_from, leb-true, and_parts}
 use Rattle.std.specs.List.{list_all}
 use Rattle.std.specs.Prelude.{nat_le, ◌&&◌}
 use Rattle.net_units.specs.Limits.{is_within}
@@ -18,25 +18,21 @@ use Rattle.call_script.proofs.GroupRulesStay.{groups-in}
 
 -- ---- tests
 
-pub both : (a b : Bool) → (a && b) ≡ true → (a ≡ true) × (b ≡ true)
-both true b holds = (refl, holds)
-both false b holds = cc
-
 pub not-true : (a : Bool) → not a ≡ true → a ≡ false
 not-true true fails = cc
 not-true false fails = refl
 
 pub each-of : {X : Type 0} (test : X → Bool) (xs : List X) → list_all test xs ≡ true → Each (λ x. test x ≡ true) xs
 each-of test [] all = tt
-each-of test (x ∷ xs) all = (let split = both (test x) (list_all test xs) all in (split.0, each-of test xs split.1))
+each-of test (x ∷ xs) all = (let split = and_parts (test x) (list_all test xs) all in (split.0, each-of test xs split.1))
 
 pub from-low : (low high x : ℕ) → is_within low high x ≡ true → (low ≤ x) × (x ≤ high)
-from-low low high x inside = (let split = both (nat_le low x) (nat_le x high) inside in (leb-true low x split.0, leb-true x high split.1))
+from-low low high x inside = (let split = and_parts (nat_le low x) (nat_le x high) inside in (leb-true low x split.0, leb-true x high split.1))
 
 pub packets-fit : (count gap size : ℕ) → packets_in_range count gap size ≡ true → SubmitFits count gap size
 packets-fit count gap size inside =
-    let first = both (is_within 1 262144 count && is_within 1 1048576 gap) (is_within 1 65536 size) inside in
-    let second = both (is_within 1 262144 count) (is_within 1 1048576 gap) first.0 in
+    let first = and_parts (is_within 1 262144 count && is_within 1 1048576 gap) (is_within 1 65536 size) inside in
+    let second = and_parts (is_within 1 262144 count) (is_within 1 1048576 gap) first.0 in
     let counts = from-low 1 262144 count second.0 in
     let gaps = from-low 1 1048576 gap second.1 in
     let sizes = from-low 1 65536 size first.1 in
@@ -108,9 +104,9 @@ pub record HasUsed (parts : PlanParts) : Type 0 where
 pub used-in : (parts : PlanParts) → are_there parts ≡ true → HasUsed parts
 unfolding are_there
 used-in parts there =
-    let first = both (list_all (route_is_there parts.links) parts.requests && list_all (λ (c : CallerEntry). list_all (pour_is_there parts.links) c.ops) parts.callers) (are_opened parts.callers) there in
-    let second = both (list_all (route_is_there parts.links) parts.requests) (list_all (λ (c : CallerEntry). list_all (pour_is_there parts.links) c.ops) parts.callers) first.0 in
-    let opened = both (all_after role.Uses role.Opens parts.callers) (all_after role.Joins role.Opens parts.callers) first.1 in
+    let first = and_parts (list_all (route_is_there parts.links) parts.requests && list_all (λ (c : CallerEntry). list_all (pour_is_there parts.links) c.ops) parts.callers) (are_opened parts.callers) there in
+    let second = and_parts (list_all (route_is_there parts.links) parts.requests) (list_all (λ (c : CallerEntry). list_all (pour_is_there parts.links) c.ops) parts.callers) first.0 in
+    let opened = and_parts (all_after role.Uses role.Opens parts.callers) (all_after role.Joins role.Opens parts.callers) first.1 in
     record { routes = second.0; pours = second.1; opened = opened.0; onto_opened = opened.1 }
 
 pub used-from : (parts : PlanParts) → HasUsed parts → are_there parts ≡ true
@@ -127,7 +123,7 @@ pub record AreUnclosed (parts : PlanParts) : Type 0 where
 
 pub unclosed-in : (parts : PlanParts) → are_unclosed parts ≡ true → AreUnclosed parts
 unfolding are_unclosed
-unclosed-in parts kept = (let split = both (all_apart role.Uses role.Closes parts.callers) (all_apart role.Keeps role.Leaves parts.callers) kept in record { closed = split.0; left = split.1 })
+unclosed-in parts kept = (let split = and_parts (all_apart role.Uses role.Closes parts.callers) (all_apart role.Keeps role.Leaves parts.callers) kept in record { closed = split.0; left = split.1 })
 
 pub unclosed-from : (parts : PlanParts) → AreUnclosed parts → are_unclosed parts ≡ true
 unfolding are_unclosed
@@ -142,8 +138,8 @@ pub record AreMoved (parts : PlanParts) : Type 0 where
 pub moves-in : (parts : PlanParts) → moves_are_fit parts ≡ true → AreMoved parts
 unfolding moves_are_fit
 moves-in parts kept =
-    let first = both (list_all (λ (c : CallerEntry). list_all (move_is_fit parts.links parts.requests) c.ops) parts.callers && all_apart role.Joins role.Uses parts.callers) (all_apart role.Joins role.Joins parts.callers) kept in
-    let second = both (list_all (λ (c : CallerEntry). list_all (move_is_fit parts.links parts.requests) c.ops) parts.callers) (all_apart role.Joins role.Uses parts.callers) first.0 in
+    let first = and_parts (list_all (λ (c : CallerEntry). list_all (move_is_fit parts.links parts.requests) c.ops) parts.callers && all_apart role.Joins role.Uses parts.callers) (all_apart role.Joins role.Joins parts.callers) kept in
+    let second = and_parts (list_all (λ (c : CallerEntry). list_all (move_is_fit parts.links parts.requests) c.ops) parts.callers) (all_apart role.Joins role.Uses parts.callers) first.0 in
     record { fit = second.0; unused = second.1; unjoined = first.1 }
 
 pub moves-from : (parts : PlanParts) → AreMoved parts → moves_are_fit parts ≡ true

@@ -1,14 +1,15 @@
 -- The splits of a plan's links fit them.
-use Rattle.std.proofs.Common.{◌≡◌, ℕ, zero, suc, ◌+◌, ◌<◌, ◌≤◌, ⊎_elim, Bool, true, false, Some, List, [], ◌∷◌, ◌++◌, length, take, get_or, refl, sym, ap, ◌∙◌, subst, append_assoc, nat_eq, arith}
-use Rattle.std.proofs.lemmas.Bool.{cases_lt, leb-true, and_parts, eqb-false, not-true}
+use Rattle.std.proofs.Common.{◌≡◌, ℕ, zero, suc, ◌<◌, ◌≤◌, Bool, true, false, Some, List, [], ◌∷◌, ◌++◌, length, take, get_or, refl, sym, ap, ◌∙◌, append_assoc, nat_eq, arith}
+use Rattle.std.proofs.lemmas.Bool.{leb-true, and_parts, eqb-false, not-true}
 use Rattle.std.proofs.lemmas.List.{append-nil}
-use Rattle.std.specs.Prelude.{nat_le, ◌||◌, Result, Ok, Err, IfOk}
+use Rattle.std.specs.Prelude.{nat_le, ◌||◌}
 use Rattle.std.specs.List.{All, AllPairs, list_all, list_any, slice_get}
 use Rattle.link_steps.proofs.LegalAdmissible.{whole-fits}
 use Rattle.link_steps.specs.Room.{all_from}
 use Rattle.link_steps.proofs.ListParts.{Each-at}
 use Rattle.link_steps.specs.Split.{SplitFits, IsOfGroup, AreOfOtherGroups, AreQuotas, buffer_part}
 use Rattle.link_steps.specs.declared.quota.Quota.{Quota}
+use Rattle.link_steps.proofs.TestsInTurn.{all_from-each}
 use Rattle.traffic_contract.specs.Admission.{total}
 use Rattle.call_script.specs.Groups.{is_of_new_group, have_own_groups, quota_is_there, level_fits, quotas_fit}
 use Rattle.call_script.specs.Parts.{PlanParts}
@@ -67,13 +68,6 @@ of-groups groups quotas few there k d inside =
 
 -- ---- levels
 
-level-at : (test : ℕ → Bool) (m count k : ℕ) → all_from test m count ≡ true → m ≤ k → k < m + count → test k ≡ true
-unfolding all_from
-level-at test m zero k all from upto = absurd (omega (arith, from, upto))
-level-at test m (suc count) k all from upto =
-    let both = and_parts (test m) (all_from test (suc m) count) all in
-    ⊎_elim (λ (first : k < suc m). subst (λ n. test n ≡ true) (let e : m ≡ k = omega (arith, first, from) in e) both.0) (λ (later : suc m ≤ k). level-at test (suc m) count k both.1 later (omega (arith, upto))) (cases_lt k (suc m))
-
 -- ---- the quotas of a link of a plan
 
 pub entry-quotas : (parts : PlanParts) (n : ℕ) (entry : LinkEntry) → IsPlan parts → slice_get parts.links n ≡ Some entry → AreQuotas entry.shape.bounds entry.quotas
@@ -81,11 +75,6 @@ entry-quotas parts n entry plan found =
     let keep = (keeps-rules parts plan.kept).groups in
     let own = Each-at (λ (e : LinkEntry). have_own_groups e.quotas ≡ true) parts.links n entry (each-of (λ (e : LinkEntry). have_own_groups e.quotas) parts.links keep.own) found in
     record { apart = own-apart entry.quotas own; unused = plan.planned.unused n entry found }
-
--- what an answer that isn't an error has
-pub ok-has : {X E : Type 0} {P Q : X → Type 0} (r : Result X E) → ((x : X) → P x → Q x) → IfOk r P → IfOk r Q
-ok-has (Ok x) more has = more x has
-ok-has (Err e) more has = tt
 
 -- ---- the split of a link
 
@@ -98,6 +87,6 @@ entry-fits names groups entry few own there fit = by entry.quotas own there fit 
       record {
         groups = of-groups names (quota ∷ quotas) few there;
         apart = own-apart (quota ∷ quotas) own;
-        levels = λ m from upto. leb-true _ _ (level-at (level_fits entry.shape (quota ∷ quotas)) 1 (length entry.shape.bounds) m parts.0 from (omega (arith, upto)));
+        levels = λ m from upto. leb-true _ _ (all_from-each (level_fits entry.shape (quota ∷ quotas)) 1 (length entry.shape.bounds) parts.0 m from (omega (arith, upto)));
         buffer = leb-true _ _ parts.1;
       }

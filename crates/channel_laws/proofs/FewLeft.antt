@@ -1,5 +1,5 @@
 -- No row ever has more packets left than one submit may plan, so a release cancels no more.
-use Rattle.std.proofs.Common.{◌≡◌, ℕ, zero, suc, ◌+◌, ◌≤◌, Bool, true, false, List, [], ◌∷◌, ◌++◌, length, Option, Some, None, refl, sym, ap, ◌∙◌, subst, inl, inr, arith}
+use Rattle.std.proofs.Common.{◌≡◌, ℕ, suc, ◌≤◌, Bool, true, false, List, [], ◌∷◌, ◌++◌, length, Option, Some, None, refl, sym, ap, ◌∙◌, subst, inl, inr, arith}
 use Rattle.std.proofs.lemmas.Bool.{cases_lt, lt-leb, le-leb}
 use Rattle.std.specs.Prelude.{find}
 use Rattle.net_units.specs.Limits.{most_packets}
@@ -22,6 +22,7 @@ use Rattle.std.proofs.lemmas.List.{nil_from_length}
 use Rattle.link_steps.proofs.AccountOfRows.{left-planned, left-cancelled}
 use Rattle.link_steps.proofs.SearchAndFilter.{Each-find}
 use Rattle.link_steps.proofs.ReservationFound.{submit-tells}
+use Rattle.link_steps.proofs.PlanRises.{planned-count}
 use Rattle.channel_laws.specs.Unsent.{FewCancelled}
 use Rattle.channel_laws.proofs.PlanLaw.{On, IsPlanLaw, SubmitKeeps, after-keeps}
 
@@ -36,11 +37,6 @@ left-shrinks t (p ∷ plan) =
         | inr more ↦ rw (le-leb t p.tick left, le-leb (suc t) p.tick more) (omega (arith, rest))
       ]
     ]
-
-pub planned-count : (u gap size count : ℕ) → length (planned_from u gap size count) ≡ count
-unfolding planned_from
-planned-count u gap size zero = refl
-planned-count u gap size (suc count) = ap suc (planned-count (u + gap) gap size count)
 
 abbrev FewLeft : ℕ → ℕ → Bool → List SourcePacket → Type 0
 FewLeft t own b plan = length (left_at t plan) ≤ most_packets

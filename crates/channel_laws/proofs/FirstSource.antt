@@ -25,6 +25,7 @@ use Rattle.link_steps.specs.Belonging.{own_packets}
 use Rattle.link_steps.specs.Effects.{Effect, Adds, Changes, Removes, Takes, Ticks, changed_row, is_changed, with_effect}
 use Rattle.link_steps.proofs.EntryEffects.{EffectFits, by-fit, new_in}
 use Rattle.link_steps.proofs.SourceHistory.{source-guarantee, legal-served}
+use Rattle.link_steps.proofs.SlotsHeld.{filter-fewer}
 use Rattle.channel_laws.specs.Channels.{HopTerms, is_of_channel, channel_packets, channel_of, offers_with, offers_to, AllOfferTerms, RowTells, IsElsewhere, IsOnly, ChannelStands}
 use Rattle.channel_laws.specs.Sources.{SourceIsKept, SourceIsServed}
 use Rattle.channel_laws.proofs.ChannelRows.{own-count, legal-stands, packets-off, sources-elsewhere, tick-packets, offers_new, offers-new}
@@ -114,7 +115,7 @@ effect-gone shape terms c offers t scan Ticks fits once stands all =
     (expired-tells shape terms c offers t scan once stands))
 effect-gone shape terms c offers t scan _ fits once stands all = gone-more terms c offers offers scan _ (λ some. some) (λ row each. (refl, each)) scan.gone all
 
-offers-before : (c n : ℕ) (ask : Ask) (reply : Reply) → offers_with c n ask reply ≤ 1 → n ≤ 1
+pub offers-before : (c n : ℕ) (ask : Ask) (reply : Reply) → offers_with c n ask reply ≤ 1 → n ≤ 1
 offers-before c n (Reserve chan contract kind delay up_reach first next) (Is.Offer level reach) once =
     elim (cases_Bool (nat_eq (channel_number chan) c)) [
       | inl on ↦ (let most : suc n ≤ 1 = rw on at once in omega (arith, most))
@@ -135,16 +136,6 @@ legal-gone shape terms c (e ∷ past) legal names once =
 
 -- ---- a packet of the channel has the row's lead
 
-filter-count : (a b : Arrival → Bool) (xs : List Arrival) → Each (λ x. a x ≡ true → b x ≡ true) xs
-    → length (filter a xs) ≤ length (filter b xs)
-filter-count a b [] each = omega arith
-filter-count a b (x ∷ xs) each = go (a x) (b x) refl refl (filter-count a b xs each.1) where
-  go : (ax bx : Bool) → a x ≡ ax → b x ≡ bx → length (filter a xs) ≤ length (filter b xs) → length (filter a (x ∷ xs)) ≤ length (filter b (x ∷ xs))
-  go true true ea eb less = rw (ea, eb) (omega (arith, less))
-  go true false ea eb less = absurd (let clash : false ≡ true = sym eb ∙ each.0 ea in cc)
-  go false true ea eb less = rw (ea, eb) (omega (arith, less))
-  go false false ea eb less = rw (ea, eb) less
-
 -- where one test passes as many as a weaker one, they pass the same
 filter-whole : (a b : Arrival → Bool) (xs : List Arrival) → Each (λ x. a x ≡ true → b x ≡ true) xs
     → length (filter b xs) ≤ length (filter a xs) → Each (λ x. b x ≡ true → a x ≡ true) xs
@@ -153,7 +144,7 @@ filter-whole a b (x ∷ xs) each same = go (λ h. filter-whole a b xs each.1 h) 
   go : (length (filter b xs) ≤ length (filter a xs) → Each (λ y. b y ≡ true → a y ≡ true) xs) → (ax bx : Bool) → a x ≡ ax → b x ≡ bx → Each (λ y. b y ≡ true → a y ≡ true) (x ∷ xs)
   go rest true true ea eb = ((λ passes. ea), rest (let h : suc (length (filter b xs)) ≤ suc (length (filter a xs)) = rw (ea, eb) at same in omega (arith, h)))
   go rest true false ea eb = absurd (let clash : false ≡ true = sym eb ∙ each.0 ea in cc)
-  go rest false true ea eb = absurd (let h : suc (length (filter b xs)) ≤ length (filter a xs) = rw (ea, eb) at same in let less = filter-count a b xs each.1 in omega (arith, h, less))
+  go rest false true ea eb = absurd (let h : suc (length (filter b xs)) ≤ length (filter a xs) = rw (ea, eb) at same in let less = filter-fewer b a xs each.1 in omega (arith, h, less))
   go rest false false ea eb = ((λ passes. absurd (let clash : false ≡ true = sym eb ∙ passes in cc)), rest (let h : length (filter b xs) ≤ length (filter a xs) = rw (ea, eb) at same in h))
 
 own-passes : (row : Row) (packets : List Arrival) → OwnChannel row (own_packets row packets)

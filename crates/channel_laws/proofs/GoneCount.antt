@@ -1,5 +1,5 @@
 -- How many packets of a channel have departed from a link.
-use Rattle.std.proofs.Common.{◌≡◌, ℕ, suc, ◌≤◌, Bool, true, false, List, [], ◌∷◌, ◌++◌, length, refl, sym, ap, ◌∙◌, subst, inl, inr, arith, append-nil}
+use Rattle.std.proofs.Common.{◌≡◌, ℕ, suc, ◌≤◌, true, false, List, [], ◌∷◌, ◌++◌, length, refl, sym, ap, ◌∙◌, subst, inl, inr, arith, append-nil}
 use Rattle.std.proofs.lemmas.Bool.{cases_Bool, cases_lt, eqb-true, false_from_ne_true}
 use Rattle.std.proofs.lemmas.List.Elements.{filter-append}
 use Rattle.std.specs.Prelude.{filter}
@@ -15,6 +15,7 @@ use Rattle.link_steps.specs.Belonging.{AreNumberedFrom as ArePlaced}
 use Rattle.link_steps.proofs.NewPackets.{same-number}
 use Rattle.channel_laws.specs.Departing.{gone_count}
 use Rattle.channel_laws.proofs.SentOrder.{SentHead, departed-start, start-departed, start-before, works-start}
+use Rattle.net_units.proofs.ByCases.{no-both}
 
 -- a packet that is eligible from t on has not departed by t
 fresh-at : (rate t : ℕ) (packets : List Arrival) (p : Arrival) → ArePlaced 0 packets → Each (λ q. 1 ≤ work_of rate q) packets → Among p packets → t ≤ p.eligible → has_departed rate (starts_below rate packets t) t p ≡ false
@@ -61,11 +62,6 @@ head-from rate t packets p works departed fresh =
       in-list [] is x among own leaves follow begun = absurd among
       in-list (s ∷ earlier) is x (inl same) own leaves follow begun = (record { start = s; earlier = earlier; is = is; leaves = ap (leaves_at rate) (sym same) ∙ leaves }, subst (λ y. is_start_of p y ≡ true) same own)
       in-list (s ∷ earlier) is x (inr among) own leaves follow begun = absurd (let left = Each-among (λ y. leaves_at rate y ≤ s.tick) x earlier follow.0 among in let early = begun.0 in omega (arith, left, leaves, early))
-
-no-both : (b : Bool) → b ≡ true → b ≡ false → ⊥
-no-both b one two = (let e : true ≡ false = sym one ∙ two in no-true e) where
-  no-true : true ≡ false → ⊥
-  no-true e = cc
 
 pub gone-still : (shape : LinkShape) (c t : ℕ) (packets : List Arrival) → ArePlaced 0 packets → Each (λ q. 1 ≤ work_of shape.rate q) packets → ((head : SentHead shape.rate t packets) → is_of_channel c head.start.packet ≡ true → ⊥) → gone_count shape c packets (suc t) ≡ gone_count shape c packets t
 gone-still shape c t packets placed works other =

@@ -1,4 +1,5 @@
--- Where a channel's reservation is committed and nothing was submitted on it, a submit of packets within its contract is planned.
+-- Where a channel's reservation is committed and nothing was submitted on it, a submit of packets within its contract is planned. An
+-- ask of another channel submits nothing on it.
 use Rattle.std.proofs.Common.{◌≡◌, ℕ, ◌≤◌, true, List, [], length, Some, sym, ap, ◌∙◌, subst, arith}
 use Rattle.std.proofs.lemmas.Bool.{eq-eqb, le-leb}
 use Rattle.std.specs.Prelude.{find}
@@ -8,9 +9,17 @@ use Rattle.link_steps.specs.Replies.{submit_reply, submit_to}
 use Rattle.link_steps.specs.Reservation.{Reservation}
 use Rattle.link_steps.specs.Rows.{Row, left_at}
 use Rattle.link_steps.specs.Scan.{is_row_at_hop}
+use Rattle.link_steps.specs.declared.asks.Ask.{Ask}
+use Rattle.link_steps.specs.declared.asks.Ask.TheVariants.{Submit}
 use Rattle.channel_laws.specs.Reservations.{held_by}
-use Rattle.channel_laws.specs.Unsent.{IsPlanned}
+use Rattle.channel_laws.specs.Unsent.{IsPlanned, IsUnsent}
 use Rattle.channel_laws.proofs.SendReplies.{found-at-hop}
+use Rattle.channel_laws.specs.Asks.{IsOff}
+
+-- an ask that names another channel, or none, submits nothing on it
+pub off-unsent : (c : ℕ) (ask : Ask) → IsOff c ask → IsUnsent c ask
+off-unsent c (Submit chan count gap size) off = off
+off-unsent c _ off = tt
 
 submit-planned : (t size : ℕ) (terms : Reservation) (left : ℕ) → terms.phase ≡ Committed → left ≡ 0 → size ≤ terms.contract.smax → IsPlanned (submit_reply t size terms left)
 unfolding submit_reply

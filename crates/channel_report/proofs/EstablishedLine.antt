@@ -11,6 +11,7 @@ use Rattle.link_steps.specs.Lists.{Each}
 use Rattle.link_steps.specs.Scan.{clock_of}
 use Rattle.link_steps.specs.Split.{Link}
 use Rattle.call_script.proofs.PlansFit.{request-fits}
+pub use Rattle.call_script.proofs.PlansFit.{route-least as route-some}
 use Rattle.setup_protocol.specs.Hops.{IsHopOf}
 use Rattle.call_script.specs.Parts.{PlanParts}
 use Rattle.call_script.specs.Plans.{IsPlan}
@@ -37,10 +38,6 @@ use Rattle.link_steps.proofs.ClockAdvances.{clock_of-most}
 first-hop : (links : List Link) (route : List Hop) → 1 ≤ length route → Each (IsHopOf links) route → first_link route < length links
 first-hop links [] some each = absurd (omega arith)
 first-hop links (hop ∷ hops) some each = slice_get_within links (link_number hop.link) each.0.link each.0.linked
-
--- its route has a hop
-pub route-some : (parts : PlanParts) (number : ℕ) (entry : RequestEntry) → IsPlan parts → slice_get parts.requests number ≡ Some entry → 1 ≤ length entry.request.route
-route-some parts number entry plan found = (request-fits parts number entry plan found).route.least
 
 pub first-within : (parts : PlanParts) (number : ℕ) (entry : RequestEntry) → IsPlan parts → slice_get parts.requests number ≡ Some entry → 1 ≤ length entry.request.route → first_link entry.request.route < length parts.links
 first-within parts number entry plan found some =

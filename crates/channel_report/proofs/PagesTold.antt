@@ -1,19 +1,12 @@
 -- The pages of a list's items, told one after another behind a head, are the head and the items' lines.
-use Rattle.std.proofs.Common.{◌≡◌, ℕ, ◌+◌, ◌<◌, Option, Result, Ok, Err, List, [], ◌∷◌, ◌++◌, length, get_or, take, sym, ap, ◌∙◌, subst, append_assoc, append-nil}
+use Rattle.std.proofs.Common.{◌≡◌, ℕ, Option, Result, Ok, Err, List, [], ◌++◌, sym, ap, ◌∙◌, subst, append_assoc, append-nil}
 use Rattle.std.proofs.lemmas.Grind.{flat_map-append}
-use Rattle.std.proofs.lemmas.List.{take_more}
 use Rattle.std.specs.List.{flat_map}
 use Rattle.std.specs.Result.{IsErrAnd}
 use Rattle.byte_ends.specs.Gathering.{WritesPart}
 use Rattle.text_writer.proofs.TextsTold.{both-told, first-failed}
 use Rattle.text_writer.specs.Telling.{IsWhy, Tells, Told}
 use Rattle.text_writer.specs.declared.fault.ReportFault.{ReportFault}
-
--- the line of one item more
-pub line-more : {X : Type 0} (line : X → List ℕ) (xs : List X) (i : ℕ) (x : X) → i < length xs → x ≡ get_or xs i x → flat_map line (take (i + 1) xs) ≡ flat_map line (take i xs) ++ line x
-line-more line xs i x inside is =
-    ap (flat_map line) (take_more xs i x inside ∙ ap (λ y. take i xs ++ y ∷ []) (sym is)) ∙ flat_map-append line (take i xs) (x ∷ [])
-    ∙ ap (λ rest. flat_map line (take i xs) ++ rest) (append-nil (line x))
 
 -- the head, and the lines of all items before those left, were told
 pub record ToldUpTo {X : Type 0} (line : X → List ℕ) (head : List ℕ) (xs left : List X) (a b : Option (List ℕ)) (g g' : List ℕ) (f f' : ℕ) : Type 0 where

@@ -1,7 +1,7 @@
 -- The links, the requests and the callers of a design may be planned.
-use Rattle.std.proofs.Common.{◌≡◌, ℕ, zero, suc, ◌<◌, List, [], ◌∷◌, length, get_or, map, arith}
+use Rattle.std.proofs.Common.{◌≡◌, ℕ, List, [], ◌∷◌, map}
 use Rattle.std.specs.List.{AllZip}
-use Rattle.link_steps.proofs.ListParts.{Each-at}
+use Rattle.link_steps.proofs.ListParts.{Each-at, Each-at_index}
 use Rattle.link_steps.specs.Lists.{Each}
 use Rattle.link_steps.specs.declared.quota.Quota.{Quota}
 use Rattle.call_script.specs.Parts.{parts_with, openings_of, opening_of, FollowsLink, LeavesUnused, ArePlanned}
@@ -15,12 +15,6 @@ use Rattle.design_text.specs.declared.design.DesignStream.{DesignStream}
 use Rattle.design_file.specs.Rounded.{IsLinkOf, IsQuotaOf}
 use Rattle.design_file.specs.Planned.{AreInOrder, AreLinksOf, AreRequestsOf}
 use Rattle.design_file.proofs.RequestsOneByOne.{routes-follow}
-
--- what holds of each element holds at each place
-all-in : {X : Type 0} (P : X → Type 0) (xs : List X) → Each P xs → (k : ℕ) (d : X) → k < length xs → P (get_or xs k d)
-all-in P [] each k d inside = absurd (omega (arith, inside))
-all-in P (x ∷ xs) each zero d inside = each.0
-all-in P (x ∷ xs) each (suc k) d inside = all-in P xs each.1 k d (omega (arith, inside))
 
 -- a link's quotas have no load after its last level
 each-unused : (tick unit : ℕ) (bounds : List ℕ) (shares : List DesignQuota) (quotas : List Quota) → AllZip (IsQuotaOf tick unit bounds) shares quotas → Each (LeavesUnused bounds) quotas
@@ -44,5 +38,5 @@ may-be-planned tick unit version designed streams links requests groups callers 
   requests = ask.numbered;
   openings = opens;
   hops = λ n entry found. Each-at (λ (e : RequestEntry). Each (FollowsLink links) e.request.route) requests n entry (routes-follow tick unit links streams requests ask.each) found;
-  unused = λ n entry found. all-in (LeavesUnused entry.shape.bounds) entry.quotas (Each-at (λ (e : LinkEntry). Each (LeavesUnused e.shape.bounds) e.quotas) links n entry (split-unused tick unit designed links are.each) found);
+  unused = λ n entry found. Each-at_index (LeavesUnused entry.shape.bounds) entry.quotas (Each-at (λ (e : LinkEntry). Each (LeavesUnused e.shape.bounds) e.quotas) links n entry (split-unused tick unit designed links are.each) found);
 }

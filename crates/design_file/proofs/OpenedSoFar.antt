@@ -1,5 +1,5 @@
 -- What callers open, an operation and a caller at a time.
-use Rattle.std.proofs.Common.{◌≡◌, ℕ, suc, ◌+◌, List, [], ◌∷◌, ◌++◌, length, refl, sym, ap, ◌∙◌, arith}
+use Rattle.std.proofs.Common.{◌≡◌, ℕ, ◌+◌, List, [], ◌∷◌, ◌++◌, length, refl, sym, ap, ◌∙◌, arith}
 use Rattle.std.proofs.lemmas.List.{append-nil, append_assoc}
 use Rattle.net_units.specs.Numbers.{actor_number}
 use Rattle.call_script.specs.Parts.{Opening, opened_by, openings_in, openings_of, opening_of}
@@ -7,30 +7,13 @@ use Rattle.call_script.specs.declared.entries.CallerEntry.{CallerEntry}
 use Rattle.call_script.specs.declared.entries.RequestEntry.{RequestEntry}
 use Rattle.call_script.specs.declared.operations.Op.{Op}
 use Rattle.call_script.specs.declared.operations.Op.TheVariants.{Open}
+use Rattle.call_script.proofs.OneMoreOperation.{opens-more, callers-more}
 use Rattle.design_file.specs.Opened.{opened_so_far}
-
--- one more operation
-ops-more : (n : ℕ) (ops : List Op) (op : Op) → openings_in n (ops ++ op ∷ []) ≡ openings_in n ops ++ opened_by n op
-unfolding openings_in
-ops-more n [] op = append-nil (opened_by n op)
-ops-more n (first ∷ ops) op = ap (λ (rest : List Opening). opened_by n first ++ rest) (ops-more n ops op) ∙ sym (append_assoc (opened_by n first) (openings_in n ops) (opened_by n op))
-
--- one more caller
-callers-more : (n : ℕ) (callers : List CallerEntry) (caller : CallerEntry) → openings_of n (callers ++ caller ∷ []) ≡ openings_of n callers ++ openings_in (n + length callers) caller.ops
-unfolding openings_of
-callers-more n [] caller =
-    let same : n ≡ n + 0 = omega arith in
-    append-nil (openings_in n caller.ops) ∙ ap (λ (k : ℕ). openings_in k caller.ops) same
-callers-more n (first ∷ callers) caller =
-    let same : suc n + length callers ≡ n + suc (length callers) = omega arith in
-    ap (λ (rest : List Opening). openings_in n first.ops ++ rest) (callers-more (suc n) callers caller)
-    ∙ sym (append_assoc (openings_in n first.ops) (openings_of (suc n) callers) (openings_in (suc n + length callers) caller.ops))
-    ∙ ap (λ (k : ℕ). (openings_in n first.ops ++ openings_of (suc n) callers) ++ openings_in k caller.ops) same
 
 pub one-more-op : (callers : List CallerEntry) (ops : List Op) (op : Op) → opened_so_far callers (ops ++ op ∷ []) ≡ opened_so_far callers ops ++ opened_by (length callers) op
 unfolding opened_so_far
 one-more-op callers ops op =
-    ap (λ (rest : List Opening). openings_of 0 callers ++ rest) (ops-more (length callers) ops op)
+    ap (λ (rest : List Opening). openings_of 0 callers ++ rest) (opens-more (length callers) ops op)
     ∙ sym (append_assoc (openings_of 0 callers) (openings_in (length callers) ops) (opened_by (length callers) op))
 
 -- one that opens nothing

@@ -1,27 +1,10 @@
 -- The numbers that a stream's contract is made of are within the limits of a contract.
-use Rattle.std.proofs.Common.{◌≡◌, ℕ, ◌*◌, ◌/◌, ◌≤◌, None, refl, ap, ◌∙◌, arith}
-use Rattle.std.proofs.lemmas.Bool.{le-leb}
+use Rattle.std.proofs.Common.{◌≡◌, ℕ, ◌*◌, ◌/◌, ◌≤◌, ap, ◌∙◌, arith}
 use Rattle.std.proofs.Math.Nat.{mul_comm, mul-div_cancel, mul-le-mul_right, div-mul-le_self}
 use Rattle.net_units.specs.Limits.{most_burst, most_gap, most_interval, most_size}
-use Rattle.traffic_contract.specs.Contract.{Traffic, IsContract, burst_of, terms_of}
-use Rattle.traffic_contract.specs.Refusal.{first_bad}
+use Rattle.traffic_contract.specs.Contract.{IsContract, terms_of}
 use Rattle.field_units.specs.Rounding.{most_mean}
 use Rattle.field_units.specs.Scales.{IsFrom}
-
--- a contract has no number that fails
-pub no-number-fails : (terms : Traffic) → IsContract terms → first_bad terms ≡ None
-no-number-fails terms c =
-    rw (
-      le-leb 1 terms.xmin c.xmin_least,
-      le-leb terms.xmin 1048576 (omega (arith, c.xave_least, c.xave_most)),
-      le-leb terms.xmin terms.xave c.xave_least,
-      le-leb terms.xave 1048576 c.xave_most,
-      le-leb terms.xave terms.interval c.interval_least,
-      le-leb terms.interval 16777216 c.interval_most,
-      le-leb (burst_of terms) 256 c.burst_most,
-      le-leb 1 terms.smax c.smax_least,
-      le-leb terms.smax 65536 c.smax_most,
-    ) refl
 
 -- as many mean gaps as packets are an interval, and hold as many
 pub mean_is_contract : (gap mean packets size : ℕ) → IsFrom 1 most_gap gap → gap ≤ mean → mean ≤ most_mean packets → IsFrom 1 most_burst packets → IsFrom 1 most_size size

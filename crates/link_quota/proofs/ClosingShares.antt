@@ -1,6 +1,6 @@
 -- The shares as the rows that are gone are taken off them, one after the other.
 use Rattle.std.proofs.Common.{◌≡◌, ℕ, suc, ◌+◌, true, false, List, [], take, Some, refl, sym, ap, ◌∙◌, arith}
-use Rattle.std.proofs.lemmas.Option.{same_Some}
+use Rattle.std.proofs.lemmas.Option.{same_Some, slice_get_within}
 use Rattle.std.specs.Prelude.{slice_get}
 use Rattle.std.specs.List.{slice_index}
 use Rattle.traffic_contract.specs.Admission.{total}
@@ -14,7 +14,6 @@ use Rattle.link_quota.specs.Shares.{row_work}
 use Rattle.link_quota.specs.declared.share.Share.{Share}
 use Rattle.link_quota.proofs.SharesRowByRow.{total-take, total-take-le}
 use Rattle.link_quota.proofs.SharesThroughChange.{changed-back}
-use Rattle.link_quota.proofs.QuotaPlaces.{inside-at}
 
 -- none is gone yet
 pub lowered-none : (link : Link) (held : List Reservation) (shares : List Share) → AreLowered link held [] shares shares
@@ -39,7 +38,7 @@ lowered-more link held rows i row old mid new here gone before raised =
     record {
       long = back.long ∙ before.long;
       each = λ k quota share share' at was is.
-          let inside = inside-at new k share' is in
+          let inside = slice_get_within new k share' is in
           let long = back.long in
           let middle = stands-at mid k (omega (arith, inside, long)) in
           let one = before.each k quota share middle.0 at was middle.1 in
@@ -65,7 +64,7 @@ lowered-same link held rows i row old mid here stays before = record {
 -- a row that is gone still has its part
 pub part-gone : (link : Link) (held : List Reservation) (rows : List HeldRow) (i : ℕ) (row : HeldRow) (old mid : List Share) → slice_get rows i ≡ Some row → is_held link.shape.bounds held row ≡ false → HaveGone link held rows old → AreLowered link held (take i rows) old mid → HavePart link row mid
 part-gone link held rows i row old mid here gone have before = λ k quota share at is own.
-    let inside = inside-at mid k share is in
+    let inside = slice_get_within mid k share is in
     let long = before.long in
     let first = stands-at old k (omega (arith, inside, long)) in
     let most = have k quota first.0 at first.1 in

@@ -1,7 +1,7 @@
 -- The list of the closing rows follows each step, and the shares follow the tick in which some expire.
 use Rattle.std.proofs.Common.{◌≡◌, ℕ, ◌+◌, ◌≤◌, inl, inr, Bool, true, false, List, [], ◌∷◌, ◌++◌, map, length, Option, Some, None, refl, sym, ap, ◌∙◌, subst, arith}
 use Rattle.std.proofs.lemmas.Bool.{cases_Bool}
-use Rattle.std.proofs.lemmas.Option.{same_Some}
+use Rattle.std.proofs.lemmas.Option.{same_Some, slice_get_within}
 use Rattle.std.specs.Prelude.{IfOk, OnErr, IsOk, Result, Ok, Err, filter, find}
 use Rattle.std.specs.Option.{option_map}
 use Rattle.net_units.specs.declared.numbers.ChanNo.{ChanNo}
@@ -40,10 +40,10 @@ use Rattle.link_quota.specs.Steps.{GoesOn, IsCarrying, IsReserve, IsSettling}
 use Rattle.link_quota.specs.Stood.{IsLegallyStood}
 use Rattle.link_quota.specs.declared.share.Share.{Share}
 use Rattle.link_quota.proofs.ExpiringRows.{gone-total, left-total, total-filtered, expires-closing}
-use Rattle.link_quota.proofs.QuotaPlaces.{inside-at}
 use Rattle.link_quota.proofs.OwnRows.{hop-of}
 use Rattle.link_quota.proofs.SomeLegalHistory.{held_in, sure-equal, same-total, setup-total}
-use Rattle.link_quota.proofs.RowChanges.{IsSetupOf, OffersNew, none-of, find-none, narrower, terms-carried, terms-ticked}
+use Rattle.link_quota.proofs.RowChanges.{none-of, find-none, narrower, terms-carried, terms-ticked}
+use Rattle.link_quota.proofs.SplitSteps.{settling-setup, settling-new}
 
 -- ---- where no sum changes
 
@@ -177,16 +177,6 @@ closing-stays link t scan ask reply chan is differ legal bounds closes =
 
 -- ---- the channel's row changes
 
-setup-of : (chan : ChanNo) (ask : Ask) → IsSettling chan ask → IsSetupOf chan ask
-setup-of chan (Relax chan' level up_bound) is = is
-setup-of chan (Deny chan') is = is
-setup-of chan (Release chan' upstream) is = is
-setup-of chan _ is = absurd is
-
-no-offer : (chan : ChanNo) (ask : Ask) (reply : Reply) (rows : List Row) → IsSettling chan ask → OffersNew ask reply rows
-no-offer chan (Reserve chan' contract kind delay up_reach first next) reply rows is = absurd is
-no-offer chan _ reply rows is = tt
-
 pub value-part : (bounds : List ℕ) (f : HeldRow → ℕ) (found : Option Reservation)
     → value_of (if_closing f) (option_map (seen bounds) found) ≡ value_of (closing_part bounds f) found
 value-part bounds f None = refl
@@ -213,7 +203,7 @@ closing-settled link k k' ask reply chan rows rows' fits goes is stood fresh old
           (subst (λ held. is_closing (seen_of link.shape.bounds held chan) ≡ true) then_is was))
           ∙ sym then_is))
       | inr apart ↦
-          let sum = setup-total link k k' ask reply chan (closing_part link.shape.bounds f) fits goes (setup-of chan ask is) (λ h stands. no-offer chan ask reply _ is) stood in
+          let sum = setup-total link k k' ask reply chan (closing_part link.shape.bounds f) fits goes (settling-setup chan ask is) (λ h stands. settling-new chan ask reply _ is) stood in
           let one = value-part link.shape.bounds f (find (is_of chan) (held_in k)) in
           let two = value-part link.shape.bounds f (find (is_of chan) (held_in k')) in
           let zero_is = value-open f (seen_of link.shape.bounds (held_in k) chan) apart in
@@ -292,7 +282,7 @@ pub shares-lowered : {E : Type 0} (link : Link) (k k' : Account) (r : Result Rep
 shares-lowered link k k' (Ok reply) rows shares shares' fits ok goes stood splits listed are lowered = record {
   long = lowered.long ∙ are.long;
   each = λ n quota share' at is.
-      let inside = inside-at shares' n share' is in
+      let inside = slice_get_within shares' n share' is in
       let long = lowered.long in
       let was = stands-at shares n (omega (arith, inside, long)) in
       let less = lowered.each n quota was.0 share' at was.1 is in

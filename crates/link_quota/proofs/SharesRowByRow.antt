@@ -2,7 +2,7 @@
 use Rattle.std.proofs.Common.{◌≡◌, ℕ, zero, suc, ◌+◌, ◌-◌, ◌^◌, ◌<◌, ◌≤◌, ⊎_elim, ◌⊎◌, inl, inr, true, false, cond, List, [], ◌∷◌, ◌++◌, length, take, replicate, set, map, Option, Some, None, refl, sym, ap, ◌∙◌, subst, arith}
 use Rattle.std.proofs.lemmas.Bool.{cases_Bool, cases_eq, cases_lt, eq-eqb}
 use Rattle.std.proofs.lemmas.List.{get_or-replicate, length-set, get_or-set_same, get_or-set_other}
-use Rattle.std.proofs.lemmas.Option.{same_Some, slice_get-map, get_or_from_slice_get}
+use Rattle.std.proofs.lemmas.Option.{same_Some, slice_get-map, get_or_from_slice_get, slice_get_within}
 use Rattle.std.specs.Prelude.{nat_eq, slice_get}
 use Rattle.std.specs.List.{slice_index}
 use Rattle.std.specs.Option.{option_map}
@@ -18,7 +18,6 @@ use Rattle.link_server.specs.declared.held_row.HeldRow.{HeldRow}
 use Rattle.link_quota.specs.Places.{HaveRoomFor, IsSmall, AreSmall, IsRaisedFor, AreRaisedBy, AreFew}
 use Rattle.link_quota.specs.Shares.{IsShare, AreShares}
 use Rattle.link_quota.specs.declared.share.Share.{Share}
-use Rattle.link_quota.proofs.QuotaPlaces.{inside-at}
 
 -- ---- sums of a beginning
 
@@ -33,12 +32,6 @@ total-take-le f [] (suc i) = omega arith
 total-take-le f (x ∷ xs) zero = omega arith
 total-take-le f (x ∷ xs) (suc i) = (let rest = total-take-le f xs i in omega (arith, rest))
 
-pub take-all : {X : Type 0} (xs : List X) (i : ℕ) → length xs ≤ i → take i xs ≡ xs
-take-all [] zero most = refl
-take-all [] (suc i) most = refl
-take-all (x ∷ xs) zero most = absurd (omega (arith, most))
-take-all (x ∷ xs) (suc i) most = ap (λ ys. x ∷ ys) (take-all xs i (omega (arith, most)))
-
 -- ---- no rows
 
 -- the first shares are none
@@ -51,7 +44,7 @@ none-set shares i new inside loads units none = λ k share below found.
     let is : new ≡ share = sym (get_or-set_same shares i new new inside) ∙ get_or_from_slice_get (set shares i new) i share new (subst (λ n. slice_get (set shares i new) n ≡ Some share) here found) in
     (ap (λ (s : Share). s.loads) (sym is) ∙ loads, ap (λ (s : Share). s.units) (sym is) ∙ units))
     (λ (other : k ≡ i → ⊥).
-    let in_set = inside-at (set shares i new) k share found in
+    let in_set = slice_get_within (set shares i new) k share found in
     let long = length-set shares i new in
     let was = stands-at shares k (omega (arith, in_set, long)) in
     let same : share ≡ was.0 = sym (get_or_from_slice_get (set shares i new) k share new found) ∙ get_or-set_other shares i k new new other ∙ get_or_from_slice_get shares k was.0 new was.1 in
@@ -63,7 +56,7 @@ pub shares-none : (link : Link) (shares : List Share) (i : ℕ) → length share
 shares-none link shares i all long none = record {
   long = long;
   each = λ k quota share at is.
-      let inside = inside-at shares k share is in
+      let inside = slice_get_within shares k share is in
       let zero_is = none k share (omega (arith, inside, all)) is in
       let most = (bounds-parts link.shape.bounds link.shape.bounds_rise).most in
       record {
@@ -137,7 +130,7 @@ shares-more link held i row shares shares' found are raised =
     record {
       long = raised.long ∙ are.long;
       each = λ k quota share' at is.
-          let inside = inside-at shares' k share' is in
+          let inside = slice_get_within shares' k share' is in
           let long = raised.long in
           let was = stands-at shares k (omega (arith, inside, long)) in
           one quota was.0 share' there.0 there.1.0 there.1.1 (are.each k quota was.0 at was.1) (raised.each k quota was.0 share' at was.1 is) (cases_Bool (is_in link.split quota.group there.0.chan));

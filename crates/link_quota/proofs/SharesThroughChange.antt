@@ -1,7 +1,7 @@
 -- The shares as the row of a channel changes: it is given back, and held anew.
 use Rattle.std.proofs.Common.{◌≡◌, ◌+◌, ◌^◌, ◌<◌, ◌⊎◌, inl, inr, true, false, List, Option, Some, None, refl, sym, ap, ◌∙◌, arith}
 use Rattle.std.proofs.lemmas.Bool.{cases_Bool}
-use Rattle.std.proofs.lemmas.Option.{same_Some}
+use Rattle.std.proofs.lemmas.Option.{same_Some, slice_get_within}
 use Rattle.link_steps.specs.declared.quota.Quota.{Quota}
 use Rattle.link_steps.specs.Split.{Link, is_in}
 use Rattle.link_steps.proofs.ListParts.{stands-at}
@@ -9,7 +9,6 @@ use Rattle.std.specs.List.{slice_index}
 use Rattle.link_server.specs.declared.held_row.HeldRow.{HeldRow}
 use Rattle.link_quota.specs.Places.{IsRaisedFor, AreRaisedBy, IsChangedFor, AreChangedBy, HaveRoomFor, AreSmall}
 use Rattle.link_quota.specs.declared.share.Share.{Share}
-use Rattle.link_quota.proofs.QuotaPlaces.{inside-at}
 
 -- nothing changes
 pub changed-none : (link : Link) (shares : List Share) → AreChangedBy link None None shares shares
@@ -39,7 +38,7 @@ pub changed-held : (link : Link) (before : Option HeldRow) (row : HeldRow) (old 
 changed-held link before row old mid new back raised = record {
   long = raised.long ∙ back.long;
   each = λ k quota share share' at was is.
-      let inside = inside-at old k share was in
+      let inside = slice_get_within old k share was in
       let long = back.long in
       let middle = stands-at mid k (omega (arith, inside, long)) in
       one quota share middle.0 share' (back.each k quota share middle.0 at was middle.1) (raised.each k quota middle.0 share' at middle.1 is) (cases_Bool (is_in link.split quota.group row.chan));
@@ -61,7 +60,7 @@ changed-held link before row old mid new back raised = record {
 -- what is left when a row is given back has room for another
 pub room-between : (link : Link) (before : Option HeldRow) (row : HeldRow) (old mid : List Share) → AreChangedBy link before None old mid → AreSmall link old → row.kept < 2 ^ 61 → HaveRoomFor link row mid
 room-between link before row old mid back small kept = λ k quota between at is.
-    let inside = inside-at mid k between is in
+    let inside = slice_get_within mid k between is in
     let long = back.long in
     let was = stands-at old k (omega (arith, inside, long)) in
     let few = small k quota was.0 at was.1 in

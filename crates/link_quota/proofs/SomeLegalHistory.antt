@@ -1,7 +1,7 @@
 -- A state of a split link stands for some legal history. So its groups are within their quotas, and its shares follow each step.
 use Rattle.std.proofs.Common.{◌≡◌, ℕ, ◌+◌, ◌^◌, ◌<◌, ◌≤◌, ⊎_elim, inl, inr, Bool, true, false, cond, List, [], ◌∷◌, map, length, Option, Some, None, refl, sym, ap, ◌∙◌, subst, arith}
 use Rattle.std.proofs.lemmas.Bool.{cases_Bool, cases_eq, cases_lt, eq-eqb, eqb-true}
-use Rattle.std.proofs.lemmas.Option.{same_Some}
+use Rattle.std.proofs.lemmas.Option.{same_Some, slice_get_within}
 use Rattle.link_quota.proofs.SharesRowByRow.{buffer-small}
 use Rattle.link_quota.proofs.GroupRoom.{seen-found}
 use Rattle.std.specs.Prelude.{find, nat_eq}
@@ -48,7 +48,6 @@ use Rattle.link_quota.specs.Shares.{row_work, AreShares}
 use Rattle.link_quota.specs.Steps.{GoesOn, IsCarrying}
 use Rattle.link_quota.specs.Stood.{IsLegallyStood}
 use Rattle.link_quota.specs.declared.share.Share.{Share}
-use Rattle.link_quota.proofs.QuotaPlaces.{inside-at}
 use Rattle.link_quota.proofs.RowChanges.{IsSetupOf, OffersNew, sum-setup, terms-carried, terms-ticked}
 use Rattle.link_steps.proofs.ListParts.{stands-at}
 
@@ -161,7 +160,7 @@ pub shares-setup : (link : Link) (k k' : Account) (ask : Ask) (reply : Reply) (c
 shares-setup link k k' ask reply chan shares shares' fits goes is new stood before changed = record {
   long = changed.long ∙ before.long;
   each = λ n quota share' at after.
-      let inside = inside-at shares' n share' after in
+      let inside = slice_get_within shares' n share' after in
       let long = changed.long in
       let was = stands-at shares n (omega (arith, inside, long)) in
       let change = changed.each n quota was.0 share' at was.1 after in
@@ -282,7 +281,7 @@ pub shares-unsplit : (link : Link) (held held' : List Reservation) (shares : Lis
 shares-unsplit link held held' shares unsplit before = record {
   long = before.long;
   each = λ k quota share at is.
-      let inside = inside-at link.split.quotas k quota at in
+      let inside = slice_get_within link.split.quotas k quota at in
       let none = no-quotas link.split.quotas unsplit in
       absurd (omega (arith, inside, none));
 } where

@@ -134,10 +134,6 @@ small-shares link k shares fits splits stood are = shares-small link (held_in k)
 pub tick-other : (ask : Ask) → ask ≡ Tick → IsNoReserve ask
 tick-other ask is = subst IsNoReserve (sym is) tt
 
-pub on-err : {E X : Type 0} (P : Type 0) (r : Result X E) → P → OnErr r P
-on-err P (Ok x) p = tt
-on-err P (Err e) p = p
-
 -- ---- the clauses of a step
 
 pub entered-all : {E : Type 0} (link : Link) (k k' : Account) (ask : Ask) (shape : LinkShape) (r : Result Reply E) → shape ≡ link.shape → IfOk r (GoesOn link k k' ask) → IfOk r (λ reply. (h : List Entry) → StandsFor link.shape k h → StandsFor shape k' (record { ask = ask; reply = reply } ∷ h))

@@ -13,6 +13,7 @@ pub mod WorkedQuotas
 pub mod LevelByNumber
 pub mod SearchAndFilter
 pub mod ListParts
+pub mod TestsInTurn
 pub mod ClockAdvances
 pub mod RulesPassed
 pub mod RuleCases

@@ -1,9 +1,11 @@
--- Facts on lists: what holds of each element of a list's parts, of the list turned round and at each place; what stands at a
--- place of a list seen through a map; and what stands in two lists put together, in a list turned round and at a place.
-use Rattle.std.proofs.Common.{◌≡◌, ℕ, zero, suc, ◌<◌, length, arith, List, [], ◌∷◌, ◌++◌, map, reverse, Some, None, inl, inr, ⊎_elim, refl, sym, ap, ◌∙◌, subst}
+-- Facts on lists: what holds of each element of a list's parts, of the list turned round, at each place and in another order; what
+-- stands at a place of a list seen through a map; and what stands in two lists put together, in a list turned round and at a place.
+use Rattle.std.proofs.Common.{◌≡◌, ◌⊎◌, ℕ, zero, suc, ◌<◌, length, get_or, arith, List, [], ◌∷◌, ◌++◌, map, reverse, Some, None, inl, inr, ⊎_elim, refl, sym, ap, ◌∙◌, subst}
 use Rattle.std.proofs.lemmas.List.{reverse-append, reverse-reverse}
+use Rattle.std.proofs.lemmas.List.Sorted.{All-permutation}
 use Rattle.std.proofs.lemmas.Option.{same_Some, slice_get-map}
-use Rattle.std.specs.List.{slice_get}
+use Rattle.std.specs.List.{All, slice_get}
+use Rattle.std.specs.List.Sorted.{IsPermutation}
 use Rattle.std.specs.Option.{option_map}
 use Rattle.link_steps.specs.Lists.{Each, Among}
 use Rattle.link_steps.proofs.SearchAndFilter.{Each-append}
@@ -14,6 +16,10 @@ use Rattle.link_steps.proofs.SearchAndFilter.{Each-append}
 pub Each-parts : {X : Type 0} (P : X → Type 0) (xs ys : List X) → Each P (xs ++ ys) → Each P xs × Each P ys
 Each-parts P [] ys each = (tt, each)
 Each-parts P (x ∷ xs) ys each = (let rest = Each-parts P xs ys each.1 in ((each.0, rest.0), rest.1))
+
+-- of an element more
+pub Each-push : {X : Type 0} (P : X → Type 0) (xs : List X) (x : X) → Each P xs → P x → Each P (xs ++ x ∷ [])
+Each-push P xs x each one = Each-append P xs (x ∷ []) each (one, tt)
 
 pub Each-reverse : {X : Type 0} (P : X → Type 0) (xs : List X) → Each P xs → Each P (reverse xs)
 Each-reverse P [] each = tt
@@ -34,6 +40,29 @@ pub stands-at : {X : Type 0} (xs : List X) (i : ℕ) → i < length xs → (x : 
 stands-at [] i inside = absurd (omega arith)
 stands-at (x ∷ xs) zero inside = (x, refl)
 stands-at (x ∷ xs) (suc i) inside = stands-at xs i (omega arith)
+
+-- ---- the element at an index, where one that is past the end is made up
+
+pub Each-at_index : {X : Type 0} (P : X → Type 0) (xs : List X) → Each P xs → (k : ℕ) (d : X) → k < length xs → P (get_or xs k d)
+Each-at_index P [] each k d inside = absurd (omega (arith, inside))
+Each-at_index P (x ∷ xs) each zero d inside = each.0
+Each-at_index P (x ∷ xs) each (suc k) d inside = Each-at_index P xs each.1 k d (omega (arith, inside))
+
+pub Each-by_index : {X : Type 0} (P : X → Type 0) (xs : List X) → ((k : ℕ) (d : X) → k < length xs → P (get_or xs k d)) → Each P xs
+Each-by_index P [] all = tt
+Each-by_index P (x ∷ xs) all = (all 0 x (omega arith), Each-by_index P xs (λ k d inside. all (suc k) d (omega (arith, inside))))
+
+-- so it is another way to say `All`
+pub Each-from_All : {X : Type 0} (P : X → Type 0) (xs : List X) → All P xs → Each P xs
+Each-from_All P xs all = Each-by_index P xs (λ k d inside. all k d inside)
+
+pub All-from_Each : {X : Type 0} (P : X → Type 0) (xs : List X) → Each P xs → All P xs
+All-from_Each P xs each = Each-at_index P xs each
+
+-- ---- the same elements in another order
+
+pub Each-permuted : {X : Type 0} (P : X → Type 0) (xs ys : List X) → IsPermutation xs ys → Each P xs → Each P ys
+Each-permuted P xs ys moved each = Each-from_All P ys (All-permutation P xs ys moved (All-from_Each P xs each))
 
 -- ---- a list seen through a map
 
@@ -63,6 +92,12 @@ Among-left x (y ∷ xs) ys (inr among) = inr (Among-left x xs ys among)
 pub Among-right : {X : Type 0} (x : X) (xs ys : List X) → Among x ys → Among x (xs ++ ys)
 Among-right x [] ys among = among
 Among-right x (y ∷ xs) ys among = inr (Among-right x xs ys among)
+
+-- and one of the whole is one of a part
+pub Among-parts : {X : Type 0} (x : X) (xs ys : List X) → Among x (xs ++ ys) → Among x xs ⊎ Among x ys
+Among-parts x [] ys among = inr among
+Among-parts x (y ∷ xs) ys (inl same) = inl (inl same)
+Among-parts x (y ∷ xs) ys (inr among) = elim (Among-parts x xs ys among) [ inl there ↦ inl (inr there) | inr there ↦ inr there ]
 
 pub Among-map : {X Y : Type 0} (f : X → Y) (x : X) (xs : List X) → Among x xs → Among (f x) (map f xs)
 Among-map f x [] among = absurd among

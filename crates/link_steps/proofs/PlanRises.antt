@@ -1,6 +1,6 @@
 -- The plan of a row rises: no two of its packets are planned for one tick, and they are in order of time. So each tick that
 -- is made adds at most itself to what the source has offered, and a submit or a release adds nothing and takes nothing away.
-use Rattle.std.proofs.Common.{◌≡◌, ◌≢◌, ℕ, zero, suc, ◌+◌, ◌<◌, ◌≤◌, Bool, true, false, List, [], ◌∷◌, ◌++◌, length, map, Some, None, inl, inr, sym, ap, ◌∙◌, arith, append-nil}
+use Rattle.std.proofs.Common.{◌≡◌, ◌≢◌, ℕ, zero, suc, ◌+◌, ◌<◌, ◌≤◌, Bool, true, false, List, [], ◌∷◌, ◌++◌, length, map, Some, None, inl, inr, refl, sym, ap, ◌∙◌, arith, append-nil}
 use Rattle.std.proofs.lemmas.Bool.{cases_Bool, cases_lt, eqb-true, eqb-false, lt-ltb, le-ltb, ltb-true, lt-leb, le-leb, cond_both}
 use Rattle.std.proofs.lemmas.List.{nil_from_length}
 use Rattle.std.proofs.lemmas.Option.{none-some}
@@ -20,6 +20,12 @@ IsAfter t p = t < p.tick
 abbrev pub Rises : List SourcePacket → Type 0
 Rises [] = Unit {0}
 Rises (p ∷ plan) = Each (IsAfter p.tick) plan × Rises plan
+
+-- as many packets are planned as are counted
+pub planned-count : (u gap size count : ℕ) → length (planned_from u gap size count) ≡ count
+unfolding planned_from
+planned-count u gap size zero = refl
+planned-count u gap size (suc count) = ap suc (planned-count (u + gap) gap size count)
 
 -- ---- tests
 

@@ -23,12 +23,12 @@ use Rattle.link_steps.specs.Quiet.{IsPlannedFrom, IsEligibleFrom, RowRests, Serv
 -- ---- plans
 
 -- none is planned for a tick before, and all are left after it
-none-planned : (until t : ℕ) (left : List SourcePacket) → Each (IsPlannedFrom until) left → t < until → find (is_for t) left ≡ None
+pub none-planned : (until t : ℕ) (left : List SourcePacket) → Each (IsPlannedFrom until) left → t < until → find (is_for t) left ≡ None
 none-planned until t [] plans before = refl
 none-planned until t (p ∷ left) plans before =
     rw (ne_eqb p.tick t (λ same. (let from = plans.0 in omega (arith, from, before, same)))) (none-planned until t left plans.1 before)
 
-all-left : (until t : ℕ) (left : List SourcePacket) → Each (IsPlannedFrom until) left → t < until → left_at (suc t) left ≡ left
+pub all-left : (until t : ℕ) (left : List SourcePacket) → Each (IsPlannedFrom until) left → t < until → left_at (suc t) left ≡ left
 all-left until t [] plans before = refl
 all-left until t (p ∷ left) plans before =
     let from = plans.0 in
@@ -190,3 +190,8 @@ quiet-ticks link until n k h each stands rests within = record {
   replied = λ m few. quiet-replied link until m k h each stands rests (omega (arith, within, few));
   legal = quiet-legal link until n k h each stands rests within;
 }
+
+-- one quiet tick more
+pub more-quiet : (t n : ℕ) (h : List Entry) → record { ask = Tick; reply = quiet_reply (t + n) } ∷ quiet_ticks n t h ≡ quiet_ticks (suc n) t h
+unfolding quiet_ticks
+more-quiet t n h = refl

@@ -1,7 +1,7 @@
 -- On a link whose split fits it, held reservations of which each group is within its quota pass the admission test and fit
 -- the buffer; and an offer by the room of its group keeps that group within it.
-use Rattle.std.proofs.Common.{◌≡◌, ℕ, zero, suc, ◌+◌, ◌-◌, ◌<◌, ◌≤◌, Bool, true, false, cond, List, [], ◌∷◌, ◌++◌, length, map, Option, Some, None, inl, inr, ⊎_elim, refl, sym, ap, ◌∙◌, subst, arith}
-use Rattle.std.proofs.lemmas.Bool.{cases_Bool, cases_lt, leb-true, and_parts, eqb-true}
+use Rattle.std.proofs.Common.{◌≡◌, ℕ, suc, ◌+◌, ◌-◌, ◌<◌, ◌≤◌, Bool, true, false, cond, List, [], ◌∷◌, ◌++◌, length, map, Option, Some, None, inl, inr, ⊎_elim, refl, sym, ap, ◌∙◌, subst, arith}
+use Rattle.std.proofs.lemmas.Bool.{cases_Bool, cases_lt, leb-true, eqb-true}
 use Rattle.std.proofs.lemmas.List.{map-append}
 use Rattle.std.specs.Prelude.{nat_eq}
 use Rattle.net_units.proofs.BoundsInOrder.{bound-least}
@@ -22,7 +22,7 @@ use Rattle.link_steps.specs.Admissible.{MayOffer, MayAnswer}
 use Rattle.link_steps.specs.Buffer.{held_units, need_of, free_units}
 use Rattle.link_steps.specs.Replies.{reserve_reply_in, reserve_reply, reply_at}
 use Rattle.link_steps.specs.Reservation.{Reservation, admitted, tentative, committed, closing}
-use Rattle.link_steps.specs.Room.{group_work, group_units, group_sum, level_quota, buffer_quota, within_quota, all_from, group_admits, group_room, room_of}
+use Rattle.link_steps.specs.Room.{group_work, group_units, group_sum, level_quota, buffer_quota, within_quota, group_admits, group_room, room_of}
 use Rattle.link_steps.specs.Lists.{Each}
 use Rattle.link_steps.specs.Rows.{Row, row_terms, new_row}
 use Rattle.link_steps.specs.Scan.{Scan, after}
@@ -37,6 +37,7 @@ use Rattle.link_steps.proofs.RulesAsMeant.{need-kept}
 use Rattle.link_steps.proofs.Shares.{Share, amount_of, in_group, within-together}
 use Rattle.link_steps.proofs.SumAfter.{OnlyNewRaise, added_by, sum-effect}
 use Rattle.link_steps.proofs.UnitsHeld.{units-raise}
+use Rattle.link_steps.proofs.TestsInTurn.{all_from-each}
 
 -- each group is within its quotas
 pub record AreWithin (link : Link) (held : List Reservation) : Type 0 where
@@ -80,16 +81,6 @@ within-passes link held fits within = record {
 }
 
 -- ---- an offer keeps each group within its quotas
-
--- each of `count` numbers from m on passes the test
-all_from-each : (test : ℕ → Bool) (m count : ℕ) → all_from test m count ≡ true → (k : ℕ) → m ≤ k → k < m + count → test k ≡ true
-unfolding all_from
-all_from-each test m zero all k from upto = absurd (omega (arith, from, upto))
-all_from-each test m (suc count) all k from upto =
-    let both = and_parts (test m) (all_from test (suc m) count) all in
-    ⊎_elim (λ (first : k < suc m). subst (λ n. test n ≡ true) (omega (arith, first, from)) both.0)
-    (λ (later : suc m ≤ k). all_from-each test (suc m) count both.1 k later (omega (arith, upto)))
-    (cases_lt k (suc m))
 
 -- what the best level of a group is
 best-group : (link : Link) (held : List Reservation) (group : ℕ) (contract : Traffic) (m : ℕ) → (group_room link held group contract).best ≡ Some m → (1 ≤ m) × (m ≤ length link.shape.bounds) × ((k : ℕ) → m ≤ k → k ≤ length link.shape.bounds → group_sum link held group contract m k ≤ level_quota link group k)

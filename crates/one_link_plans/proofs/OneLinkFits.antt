@@ -1,11 +1,12 @@
 -- The parts of one link, one request or two, and one caller may be planned; and the one request may be accepted at the first level.
-use Rattle.std.proofs.Common.{◌≡◌, ℕ, zero, suc, ◌+◌, ◌≤◌, Some, List, [], ◌∷◌, ◌++◌, length, slice_index, refl, sym, ap, ◌∙◌, subst, arith}
+use Rattle.std.proofs.Common.{◌≡◌, ℕ, zero, suc, ◌≤◌, Some, List, [], ◌∷◌, ◌++◌, length, slice_index, refl, sym, ap, ◌∙◌, subst, arith}
 use Rattle.std.proofs.lemmas.Option.{same_Some}
 use Rattle.std.specs.List.{All, slice_get}
 use Rattle.net_units.specs.Allotted.{levels_of}
 use Rattle.net_units.specs.LevelBounds.{bound_at}
 use Rattle.net_units.specs.Numbers.{link_number, channel_number, actor_number}
 use Rattle.net_units.specs.declared.levels.Levels.{Levels}
+use Rattle.net_units.proofs.ListPlaces.{both-of}
 use Rattle.hop_reservation.specs.Offers.{AreLevels, delay_over}
 use Rattle.hop_reservation.specs.declared.route.Hop.{Hop}
 use Rattle.setup_protocol.specs.Laws.{KeepsRequest}
@@ -25,12 +26,6 @@ use Rattle.call_script.specs.declared.version.Version.{Version}
 only : {X : Type 0} (P : ℕ → X → Type 0) (x : X) → P 0 x → (n : ℕ) (y : X) → slice_get (x ∷ []) n ≡ Some y → P n y
 only P x own zero y found = subst (P 0) (same_Some x y found) own
 only P x own (suc n) y found = cc
-
--- and what each of two elements has
-both-of : {X : Type 0} (P : ℕ → X → Type 0) (x y : X) → P 0 x → P 1 y → (n : ℕ) (z : X) → slice_get (x ∷ y ∷ []) n ≡ Some z → P n z
-both-of P x y own other zero z found = subst (P 0) (same_Some x z found) own
-both-of P x y own other (suc zero) z found = subst (P 1) (same_Some y z found) other
-both-of P x y own other (suc (suc n)) z found = cc
 
 follows : (link : LinkEntry) (hop : Hop) → IsThatLink link → IsOverIt hop → FollowsLink (link ∷ []) hop
 follows link hop is over = record {

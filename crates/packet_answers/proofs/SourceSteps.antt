@@ -1,12 +1,11 @@
 -- What is kept of a source after one more entry of its first link, and with which packet it breaks its contract.
-use Rattle.std.proofs.Common.{◌≡◌, Bool, ℕ, suc, ◌+◌, ◌-◌, ◌<◌, ◌≤◌, ◌^◌, true, false, List, [], ◌∷◌, ◌++◌, length, take, reverse, get_or, refl, sym, ap, ◌∙◌, inl, inr, arith}
-use Rattle.std.specs.Prelude.{Some, drop, filter, nat_le, ◌&&◌}
+use Rattle.std.proofs.Common.{◌≡◌, ℕ, ◌+◌, ◌-◌, ◌<◌, ◌≤◌, ◌^◌, true, false, List, [], ◌∷◌, ◌++◌, length, take, reverse, get_or, refl, sym, ap, ◌∙◌, inl, inr, arith}
+use Rattle.std.specs.Prelude.{Some, filter}
 use Rattle.std.proofs.lemmas.Bool.{cases_Bool}
-use Rattle.std.proofs.Math.Seq.{drop-cons}
-use Rattle.std.proofs.lemmas.List.{get_or-reverse, length-reverse, take_more, reverse-append}
+use Rattle.std.proofs.lemmas.List.{take_more, reverse-append}
 use Rattle.std.proofs.lemmas.List.Elements.{filter-append}
-use Rattle.traffic_contract.specs.Contract.{Traffic, burst_of}
-use Rattle.traffic_contract.specs.Keeping.{keeps_newest_first, may_follow, starts_before}
+use Rattle.traffic_contract.specs.Contract.{Traffic}
+use Rattle.traffic_contract.specs.Keeping.{keeps_newest_first, may_follow}
 use Rattle.link_steps.specs.Scan.{clock_of, clock_with}
 use Rattle.link_steps.specs.declared.asks.Ask.{Ask}
 use Rattle.link_steps.specs.declared.asks.Ask.TheVariants.{Submit, Release}
@@ -82,32 +81,3 @@ broken-at contract ticks n i same inside not keeps =
     let with_it : n + 1 ≡ i + 1 = omega (arith, same) in
     let breaks : keeps_newest_first contract (reverse (take (i + 1) ticks)) ≡ false = rw (ticks-more ticks i inside, here) refl in
     (ap (λ k. keeps_newest_first contract (reverse (take k ticks))) before ∙ keeps, ap (λ k. keeps_newest_first contract (reverse (take k ticks))) with_it ∙ breaks)
-
--- ---- the tick that stands so many places from the end
-
-pub places-back : (ticks : List ℕ) (back least sent : ℕ) → 1 ≤ back → back ≤ length ticks → nat_le (get_or ticks (length ticks - back) 0 + least) sent ≡ starts_before sent least (drop (back - 1) (reverse ticks))
-places-back ticks back least sent some inside =
-    let long = length-reverse ticks in
-    let there : back - 1 < length (reverse ticks) = omega (arith, long, some, inside) in
-    let place : length ticks - 1 - (back - 1) ≡ length ticks - back = omega (arith, some, inside) in
-    ap (starts_before sent least)
-    (sym (drop-cons (reverse ticks) (back - 1) 0 there
-    ∙ ap (λ t. t ∷ drop (suc (back - 1)) (reverse ticks)) (get_or-reverse ticks (back - 1) 0 (omega (arith, some, inside)) ∙ ap (λ k. get_or ticks k 0) place)))
-
--- ---- whether a packet may follow
-
-far-enough : (contract : Traffic) (past : List ℕ) (sent xmin : ℕ) (b : Bool) → xmin ≡ contract.xmin → starts_before sent xmin past ≡ b → starts_before sent contract.xmin past ≡ b
-far-enough contract past sent xmin b same is = ap (λ x. starts_before sent x past) (sym same) ∙ is
-
-pub follow-then : (contract : Traffic) (past : List ℕ) (sent xmin interval burst : ℕ) → xmin ≡ contract.xmin → interval ≡ contract.interval → burst ≡ burst_of contract → starts_before sent xmin past ≡ true
-    → starts_before sent interval (drop (burst - 1) past) ≡ may_follow contract past sent
-unfolding may_follow
-follow-then contract past sent xmin interval burst first second third holds =
-    ap (λ i. starts_before sent i (drop (burst - 1) past)) second
-    ∙ ap (λ b. starts_before sent contract.interval (drop (b - 1) past)) third
-    ∙ sym (ap (λ h. h && starts_before sent contract.interval (drop (burst_of contract - 1) past)) (far-enough contract past sent xmin true first holds))
-
-pub follow-else : (contract : Traffic) (past : List ℕ) (sent xmin : ℕ) → xmin ≡ contract.xmin → starts_before sent xmin past ≡ false → false ≡ may_follow contract past sent
-unfolding may_follow
-follow-else contract past sent xmin first fails =
-    sym (ap (λ h. h && starts_before sent contract.interval (drop (burst_of contract - 1) past)) (far-enough contract past sent xmin false first fails))

@@ -1,11 +1,11 @@
 -- The rows of a table one after another: what is found of them, and the rows of each channel so far.
-use Rattle.std.proofs.Common.{◌≡◌, ◌≢◌, ◌⊎◌, ℕ, zero, suc, ◌+◌, ◌<◌, ◌≤◌, Bool, true, false, Option, Some, None, List, [], ◌∷◌, ◌++◌, length, drop, take, get_or, set, reverse, refl, sym, ap, ◌∙◌, subst, inl, inr, arith}
+use Rattle.std.proofs.Common.{◌≡◌, ◌≢◌, ◌⊎◌, ℕ, zero, suc, ◌+◌, ◌<◌, ◌≤◌, true, false, Option, Some, None, List, [], ◌∷◌, ◌++◌, length, drop, take, get_or, set, reverse, refl, sym, ap, ◌∙◌, subst, inl, inr, arith}
 use Rattle.std.proofs.Math.Seq.{drop-cons}
-use Rattle.std.proofs.lemmas.Bool.{cases_Bool, eqb-true, eqb-false, le-ltb, leb-true, lt-ltb}
+use Rattle.std.proofs.lemmas.Bool.{cases_Bool, eqb-true, eqb-false, le-ltb, leb-true, lt-ltb, and_right}
 use Rattle.std.proofs.lemmas.List.{append_assoc, append-nil, drop_all, length-set, reverse-append, take_more}
 use Rattle.std.proofs.lemmas.Option.{same_Some, slice_get_cases, slice_get_within}
 use Rattle.std.specs.List.{slice_get}
-use Rattle.std.specs.Prelude.{Result, Ok, Err, OnOk, nat_eq, nat_le, ◌&&◌}
+use Rattle.std.specs.Prelude.{Result, Ok, Err, OnOk, nat_eq, nat_le}
 use Rattle.packet_audit.specs.Promises.{is_of, rows_of, delay_fault_after, delay_fault_of, found_at, found_from, found_in, jitter_fault_after, jitter_fault_of, listed}
 use Rattle.packet_audit.specs.declared.rows.Fault.TheVariants.{BeforeSent}
 use Rattle.packet_audit.specs.Trails.{TrailStands, TrailsStand}
@@ -13,6 +13,7 @@ use Rattle.packet_audit.specs.declared.rows.Found.{Found}
 use Rattle.packet_audit.specs.declared.rows.Promise.{Promise}
 use Rattle.packet_audit.specs.declared.rows.Row.{Row}
 use Rattle.packet_audit.specs.declared.trail.Trail.{Trail}
+use Rattle.net_units.proofs.ListPlaces.{get-set-same, get-set-other}
 
 -- ---- what is found
 
@@ -85,15 +86,11 @@ rows-more channel row above on = rw on refl
 other-off : (channel : ℕ) (row : Row) → nat_eq row.channel channel ≡ false → is_of channel row ≡ false
 other-off channel row other = rw other refl
 
-both-off : (one other : Bool) → other ≡ false → one && other ≡ false
-both-off true other off = off
-both-off false other off = refl
-
 early-off : (channel : ℕ) (row : Row) → row.arrived < row.sent → is_of channel row ≡ false
 early-off channel row early =
     elim (cases_Bool (nat_le row.sent row.arrived)) [
       | inl late ↦ absurd (let low = leb-true row.sent row.arrived late in omega (arith, low, early))
-      | inr over ↦ both-off (nat_eq row.channel channel) (nat_le row.sent row.arrived) over
+      | inr over ↦ and_right (nat_eq row.channel channel) (nat_le row.sent row.arrived) over
     ]
 
 unknown-off : (promises : List Promise) (channel : ℕ) (row : Row) → slice_get promises row.channel ≡ None → channel < length promises → is_of channel row ≡ false
@@ -153,18 +150,6 @@ unknown-left promises trails row above none stand = left-alone promises trails r
 pub early-left : (promises : List Promise) (trails : List Trail) (row : Row) (above : List Row) → row.arrived < row.sent → TrailsStand promises trails above → TrailsStand promises trails (row ∷ above)
 early-left promises trails row above early stand = left-alone promises trails row above (λ channel inside. early-off channel row early) stand
 
-set-same : {X : Type 0} (xs : List X) (i : ℕ) (x y : X) → slice_get (set xs i x) i ≡ Some y → y ≡ x
-set-same [] i x y is = cc
-set-same (z ∷ zs) zero x y is = sym (same_Some x y is)
-set-same (z ∷ zs) (suc i) x y is = set-same zs i x y is
-
-set-other : {X : Type 0} (xs : List X) (i n : ℕ) (x : X) → n ≢ i → slice_get (set xs i x) n ≡ slice_get xs n
-set-other [] i n x other = refl
-set-other (z ∷ zs) zero zero x other = absurd (other refl)
-set-other (z ∷ zs) zero (suc n) x other = refl
-set-other (z ∷ zs) (suc i) zero x other = refl
-set-other (z ∷ zs) (suc i) (suc n) x other = set-other zs i n x (λ same. other (ap suc same))
-
 own-on : (row : Row) → row.sent ≤ row.arrived → is_of row.channel row ≡ true
 own-on row sane = grind (arith, sane)
 
@@ -181,7 +166,7 @@ taken promises trails trails' trail trail' promise row above promised here is sa
 } where
   same-channel : (channel : ℕ) (one : Promise) (own : Trail) → slice_get promises channel ≡ Some one → slice_get trails' channel ≡ Some own → row.channel ≡ channel → TrailStands one own (rows_of channel (row ∷ above))
   same-channel channel one own at there same =
-      let made : own ≡ trail' = set-same trails channel trail' own (ap (λ n. slice_get (set trails n trail') channel) (sym same) ∙ ap (λ ts. slice_get ts channel) (sym is) ∙ there) in
+      let made : own ≡ trail' = get-set-same trails channel trail' own (ap (λ n. slice_get (set trails n trail') channel) (sym same) ∙ ap (λ ts. slice_get ts channel) (sym is) ∙ there) in
       let asked : promise ≡ one = same_Some promise one (sym promised ∙ ap (slice_get promises) same ∙ at) in
       let stands = takes (stand.each row.channel promise trail promised here) in
       let rows : row ∷ rows_of row.channel above ≡ rows_of channel (row ∷ above) = sym (rows-more row.channel row above (own-on row sane)) ∙ ap (λ n. rows_of n (row ∷ above)) same in
@@ -189,7 +174,7 @@ taken promises trails trails' trail trail' promise row above promised here is sa
 
   other-channel : (channel : ℕ) (one : Promise) (own : Trail) → slice_get promises channel ≡ Some one → slice_get trails' channel ≡ Some own → nat_eq row.channel channel ≡ false → row.channel ≢ channel → TrailStands one own (rows_of channel (row ∷ above))
   other-channel channel one own at there off other =
-      let before : slice_get trails channel ≡ Some own = sym (set-other trails row.channel channel trail' (λ same. other (sym same))) ∙ ap (λ ts. slice_get ts channel) (sym is) ∙ there in
+      let before : slice_get trails channel ≡ Some own = sym (get-set-other trails row.channel channel trail' (λ same. other (sym same))) ∙ ap (λ ts. slice_get ts channel) (sym is) ∙ there in
       subst (TrailStands one own) (sym (rows-same channel row above (other-off channel row off))) (stand.each channel one own at before)
 
 -- ---- answers
@@ -197,7 +182,3 @@ taken promises trails trails' trail trail' promise row above promised here is sa
 pub ok-any : {X E Q : Type 0} (result : Result X E) → Q → OnOk result Q
 ok-any (Ok x) holds = holds
 ok-any (Err e) holds = tt
-
-pub on-ok : {X E P Q : Type 0} (result : Result X E) → (P → Q) → OnOk result P → OnOk result Q
-on-ok (Ok x) turn holds = turn holds
-on-ok (Err e) turn holds = tt

@@ -1,21 +1,14 @@
 -- The first request that isn't accepted in a run, from a number on, is found one request after another.
-use Rattle.std.proofs.Common.{◌≡◌, ℕ, suc, ◌+◌, ◌≤◌, Bool, true, false, if◌then◌else◌, Some, None, List, ◌∷◌, length, drop, refl, ap, ◌∙◌, arith}
+use Rattle.std.proofs.Common.{◌≡◌, ℕ, suc, ◌+◌, ◌≤◌, true, false, if◌then◌else◌, Some, None, List, ◌∷◌, length, drop, refl, ap, ◌∙◌, arith}
 use Rattle.std.proofs.Math.Seq.{drop-cons}
 use Rattle.std.proofs.lemmas.List.{drop_all}
 use Rattle.std.proofs.lemmas.Option.{slice_get_within, get_or_from_slice_get}
 use Rattle.std.specs.List.{slice_get}
+use Rattle.std.proofs.lemmas.Bool.{cond-true, cond-false}
 use Rattle.call_script.specs.declared.entries.RequestEntry.{RequestEntry}
 use Rattle.run_record.specs.declared.done.Done.{Done}
 use Rattle.plan_answers.specs.Rooms.{refused_among, refused_from}
 use Rattle.plan_answers.specs.Trials.{outcome_in, is_acceptance}
-
-first-of : {X : Type 0} (test : Bool) (x y : X) → test ≡ true → (if test then x else y) ≡ x
-first-of true x y holds = refl
-first-of false x y holds = absurd (cc)
-
-second-of : {X : Type 0} (test : Bool) (x y : X) → test ≡ false → (if test then x else y) ≡ y
-second-of true x y fails = absurd (cc)
-second-of false x y fails = refl
 
 from-there : (entries : List RequestEntry) (n : ℕ) (entry : RequestEntry) → slice_get entries n ≡ Some entry → drop n entries ≡ entry ∷ drop (n + 1) entries
 from-there entries n entry at =
@@ -32,13 +25,13 @@ pub accepted-here : (run : List Done) (entries : List RequestEntry) (first n : �
     → refused_from run first entries ≡ refused_from run n entries → refused_from run first entries ≡ refused_from run (n + 1) entries
 accepted-here run entries first n entry at accepted so_far =
     so_far ∙ ap (refused_among run) (from-there entries n entry at) ∙ one-looked-at run entry (drop (n + 1) entries)
-    ∙ first-of (is_acceptance (outcome_in run entry.request)) (refused_among run (drop (n + 1) entries)) (Some (outcome_in run entry.request)) accepted
+    ∙ cond-true (is_acceptance (outcome_in run entry.request)) (refused_among run (drop (n + 1) entries)) (Some (outcome_in run entry.request)) accepted
 
 pub refused-here : (run : List Done) (entries : List RequestEntry) (first n : ℕ) (entry : RequestEntry) → slice_get entries n ≡ Some entry → is_acceptance (outcome_in run entry.request) ≡ false
     → refused_from run first entries ≡ refused_from run n entries → refused_from run first entries ≡ Some (outcome_in run entry.request)
 refused-here run entries first n entry at refused so_far =
     so_far ∙ ap (refused_among run) (from-there entries n entry at) ∙ one-looked-at run entry (drop (n + 1) entries)
-    ∙ second-of (is_acceptance (outcome_in run entry.request)) (refused_among run (drop (n + 1) entries)) (Some (outcome_in run entry.request)) refused
+    ∙ cond-false (is_acceptance (outcome_in run entry.request)) (refused_among run (drop (n + 1) entries)) (Some (outcome_in run entry.request)) refused
 
 pub none-refused : (run : List Done) (entries : List RequestEntry) (first n : ℕ) → length entries ≤ n → refused_from run first entries ≡ refused_from run n entries → refused_from run first entries ≡ None
 unfolding refused_among

@@ -1,18 +1,12 @@
 -- Two links, without requests and callers, are the parts of a plan.
-use Rattle.std.proofs.Common.{◌≡◌, ℕ, zero, suc, List, [], ◌∷◌, Some, refl, sym, subst, arith}
-use Rattle.std.proofs.lemmas.Option.{same_Some}
-use Rattle.std.specs.List.{All, slice_get}
+use Rattle.std.proofs.Common.{◌≡◌, ℕ, List, [], ◌∷◌, refl, sym, subst, arith}
+use Rattle.std.specs.List.{All}
 use Rattle.net_units.specs.Numbers.{link_number}
+use Rattle.net_units.proofs.ListPlaces.{both-of}
 use Rattle.link_steps.specs.declared.quota.Quota.{Quota}
 use Rattle.call_script.specs.Parts.{ArePlanned, LeavesUnused, openings_of, parts_with}
 use Rattle.call_script.specs.declared.entries.LinkEntry.{LinkEntry}
 use Rattle.call_script.specs.declared.version.Version.{Version}
-
--- what each of two elements has
-both-of : {X : Type 0} (P : ℕ → X → Type 0) (x y : X) → P 0 x → P 1 y → (n : ℕ) (z : X) → slice_get (x ∷ y ∷ []) n ≡ Some z → P n z
-both-of P x y own other zero z found = subst (P 0) (same_Some x z found) own
-both-of P x y own other (suc zero) z found = subst (P 1) (same_Some y z found) other
-both-of P x y own other (suc (suc n)) z found = cc
 
 -- no quotas leave all unused
 none-leaves : (bounds : List ℕ) (quotas : List Quota) → quotas ≡ [] → All (LeavesUnused bounds) quotas

@@ -6,6 +6,7 @@ use Rattle.std.specs.List.{slice_get}
 use Rattle.net_units.specs.Numbers.{channel_number}
 use Rattle.net_units.specs.declared.numbers.ChanNo.{ChanNo}
 use Rattle.link_steps.specs.Lists.{Each}
+use Rattle.link_steps.proofs.ListParts.{Each-push}
 use Rattle.call_script.specs.Parts.{PlanParts, parts_with, Opening, openings_in, openings_of, opening_of, FollowsLink, ArePlanned}
 use Rattle.call_script.specs.declared.entries.CallerEntry.{CallerEntry}
 use Rattle.call_script.specs.declared.entries.LinkEntry.{LinkEntry}
@@ -14,16 +15,13 @@ use Rattle.call_script.specs.declared.operations.Op.{Op}
 use Rattle.call_script.specs.declared.operations.Op.TheVariants.{Open}
 use Rattle.call_script.specs.declared.version.Version.{Version}
 use Rattle.call_script.specs.Plans.{IsPlan}
+use Rattle.call_script.proofs.OneMoreOperation.{callers-more}
 use Rattle.question_plans.specs.Alone.{changed, opens_of}
 use Rattle.question_plans.specs.declared.change.Change.TheVariants.{Nothing}
 use Rattle.question_plans.specs.More.{IsCopy, open_of, AreChannelsFrom, AddsCopy, AddsOpener, HasCopies, IsWithMore, IsWithMoreAfter}
 use Rattle.question_plans.proofs.RequestsAlone.{callers-open-the-same}
 
 -- ---- one copy more
-
-each-more : {X : Type 0} (P : X → Type 0) (xs : List X) (x : X) → Each P xs → P x → Each P (xs ++ x ∷ [])
-each-more P [] x each one = (one, tt)
-each-more P (first ∷ xs) x each one = (each.0, each-more P xs x each.1 one)
 
 numbered-more : (n : ℕ) (entries : List RequestEntry) (entry : RequestEntry) → AreChannelsFrom n entries → channel_number entry.request.chan ≡ n + length entries → AreChannelsFrom n (entries ++ entry ∷ [])
 unfolding AreChannelsFrom
@@ -47,19 +45,12 @@ copies-more like caller old so_far new count before after chan has adds opens = 
   copies = has.copies ++ adds.copy ∷ [];
   added = adds.added ∙ ap (λ xs. xs ++ adds.copy ∷ []) has.added ∙ append_assoc old has.copies (adds.copy ∷ []);
   many = omega (arith, length-append has.copies (adds.copy ∷ []), has.many);
-  are = each-more (IsCopy like caller) has.copies adds.copy has.are adds.is;
+  are = Each-push (IsCopy like caller) has.copies adds.copy has.are adds.is;
   numbered = numbered-more (length old) has.copies adds.copy has.numbered (omega (arith, adds.number, ap length has.added, length-append old has.copies));
   opened = opens ∙ ap (λ ops. ops ++ Open chan ∷ []) has.opened ∙ ap (λ c. map open_of has.copies ++ Open c ∷ []) (sym adds.chan_is) ∙ sym (map-append open_of has.copies (adds.copy ∷ []));
 }
 
 -- ---- what the callers open
-
-callers-and-one : (n : ℕ) (callers : List CallerEntry) (caller : CallerEntry) → openings_of n (callers ++ caller ∷ []) ≡ openings_of n callers ++ openings_in (n + length callers) caller.ops
-unfolding openings_of
-callers-and-one n [] caller = append-nil (openings_in n caller.ops) ∙ ap (λ k. openings_in k caller.ops) (omega arith)
-callers-and-one n (first ∷ callers) caller =
-    ap (λ (rest : List Opening). openings_in n first.ops ++ rest) (callers-and-one (suc n) callers caller ∙ ap (λ k. openings_of (suc n) callers ++ openings_in k caller.ops) (omega arith))
-    ∙ sym (append_assoc (openings_in n first.ops) (openings_of (suc n) callers) (openings_in (n + suc (length callers)) caller.ops))
 
 copies-opened : (like : RequestEntry) (n : ℕ) (copies : List RequestEntry) → Each (IsCopy like n) copies → openings_in n (map open_of copies) ≡ map opening_of copies
 unfolding openings_in
@@ -75,7 +66,7 @@ length-mapped f (x ∷ xs) = omega (arith, length-mapped f xs)
 openings-with : (requests : List RequestEntry) (before : List CallerEntry) (like : RequestEntry) (copies : List RequestEntry) (caller : CallerEntry) → openings_of 0 before ≡ map opening_of requests → Each (IsCopy like (length before)) copies → caller.ops ≡ map open_of copies
     → openings_of 0 (before ++ caller ∷ []) ≡ map opening_of (requests ++ copies)
 openings-with requests before like copies caller opened are ops =
-    callers-and-one 0 before caller
+    callers-more 0 before caller
     ∙ ap (λ (k : ℕ). openings_of 0 before ++ openings_in k caller.ops) (let same : 0 + length before ≡ length before = omega arith in same)
     ∙ ap (λ ops. openings_of 0 before ++ openings_in (length before) ops) ops
     ∙ ap (λ (last : List Opening). openings_of 0 before ++ last) (copies-opened like (length before) copies are)

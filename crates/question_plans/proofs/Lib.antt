@@ -1,4 +1,3 @@
-mod ListsMade
 mod OpensMade
 mod RequestsAlone
 mod Copies

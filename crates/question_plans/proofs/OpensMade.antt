@@ -7,7 +7,7 @@ use Rattle.call_script.specs.declared.entries.CallerEntry.{CallerEntry}
 use Rattle.call_script.specs.declared.entries.LinkEntry.{LinkEntry}
 use Rattle.call_script.specs.declared.operations.Op.{Op}
 use Rattle.question_plans.specs.Alone.{is_open, opens_in, opens_of}
-use Rattle.question_plans.proofs.ListsMade.{taken-more}
+use Rattle.net_units.proofs.ListSteps.{taken-more}
 
 opens-one-more : (ops : List Op) (op : Op) → opens_in (ops ++ op ∷ []) ≡ opens_in ops ++ opens_in (op ∷ [])
 unfolding opens_in

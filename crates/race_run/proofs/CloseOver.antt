@@ -26,7 +26,8 @@ use Rattle.race_run.proofs.BetweenOperations.{between-skipped, between-made}
 use Rattle.race_run.proofs.ChannelsInScript.{AClose, ByClose, each-front, has-front, used-live}
 use Rattle.call_script.specs.Channels.{channel_in}
 use Rattle.call_script.specs.declared.channels.Channel.{Channel}
-use Rattle.race_run.proofs.OperationAtPlace.{HereAt, here-with, request-at, full-script, owner-at, route-least, established-told}
+use Rattle.call_script.proofs.PlansFit.{route-least}
+use Rattle.race_run.proofs.OperationAtPlace.{HereAt, here-with, request-at, full-script, owner-at, established-told}
 use Rattle.race_run.proofs.PacketsLearnt.{packets-stay}
 use Rattle.shared_network.proofs.SubmitsOfCalls.{teardown-unsent}
 

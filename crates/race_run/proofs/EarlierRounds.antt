@@ -5,6 +5,7 @@ use Rattle.std.proofs.lemmas.List.{append-nil}
 use Rattle.link_steps.specs.Lists.{Each}
 use Rattle.link_ledger.specs.declared.entries.OwnEntry.{OwnEntry}
 use Rattle.race_run.specs.Rounds.{AreAskedBefore, round_after}
+use Rattle.net_units.proofs.ListPlaces.{head-same, tail-same}
 
 -- ---- a place in two lists, one after the other
 
@@ -13,20 +14,14 @@ pub data Cut (X : Type 0) (first last before after : List X) (x : X) : Type 0 wh
   In : (rest : List X) → first ≡ before ++ x ∷ rest → Cut X first last before after x
   Past : (front : List X) → last ≡ front ++ x ∷ after → before ≡ first ++ front → Cut X first last before after x
 
-same-head : {X : Type 0} (x y : X) (xs ys : List X) → x ∷ xs ≡ y ∷ ys → x ≡ y
-same-head x y xs ys is = cc
-
-same-tail : {X : Type 0} (x y : X) (xs ys : List X) → x ∷ xs ≡ y ∷ ys → xs ≡ ys
-same-tail x y xs ys is = cc
-
 cut-more : {X : Type 0} (y b : X) (first last before after : List X) (x : X) → y ≡ b → Cut X first last before after x → Cut X (y ∷ first) last (b ∷ before) after x
 cut-more y b first last before after x same (In rest is) = In rest (λ i. same i ∷ is i)
 cut-more y b first last before after x same (Past front is all) = Past front is (λ i. sym same i ∷ all i)
 
 pub cut-at : {X : Type 0} (first last before after : List X) (x : X) → first ++ last ≡ before ++ x ∷ after → Cut X first last before after x
 cut-at [] last before after x is = Past before is refl
-cut-at (y ∷ first) last [] after x is = In first (ap (λ z. z ∷ first) (same-head y x (first ++ last) after is))
-cut-at (y ∷ first) last (b ∷ before) after x is = cut-more y b first last before after x (same-head y b (first ++ last) (before ++ x ∷ after) is) (cut-at first last before after x (same-tail y b (first ++ last) (before ++ x ∷ after) is))
+cut-at (y ∷ first) last [] after x is = In first (ap (λ z. z ∷ first) (head-same y (first ++ last) x after is))
+cut-at (y ∷ first) last (b ∷ before) after x is = cut-more y b first last before after x (head-same y (first ++ last) b (before ++ x ∷ after) is) (cut-at first last before after x (tail-same y (first ++ last) b (before ++ x ∷ after) is))
 
 pub each-middle : {X : Type 0} (P : X → Type 0) (before after : List X) (x : X) → Each P (before ++ x ∷ after) → P x
 each-middle P [] after x each = each.0
@@ -47,7 +42,7 @@ asked-later links round later own le early before after e is = (let soon = early
 one-more : (links round : ℕ) (own before after : List OwnEntry) (one e : OwnEntry) → AreAskedBefore links round own → round_after links own < round → Cut OwnEntry own (one ∷ []) before after e → round_after links before < round
 one-more links round own before after one e early now (In rest is) = early before rest e is
 one-more links round own before after one e early now (Past [] is all) = subst (λ b. round_after links b < round) (sym (all ∙ append-nil own)) now
-one-more links round own before after one e early now (Past (f ∷ front) is all) = absurd (no-middle front after e (same-tail one f [] (front ++ e ∷ after) is))
+one-more links round own before after one e early now (Past (f ∷ front) is all) = absurd (no-middle front after e (tail-same one [] f (front ++ e ∷ after) is))
 
 pub asked-one : (links round : ℕ) (own own' : List OwnEntry) (one : OwnEntry) → AreAskedBefore links round own → round_after links own < round → own' ≡ own ++ one ∷ [] → AreAskedBefore links round own'
 asked-one links round own own' one early now are before after e is = one-more links round own before after one e early now (cut-at own (one ∷ []) before after e (sym are ∙ is))

@@ -1,6 +1,5 @@
 -- Facts on lists: what stands in a list that is reversed or mapped, and what a look-up by number answers.
-use Rattle.std.proofs.Common.{◌≡◌, ℕ, suc, List, [], ◌∷◌, ◌++◌, map, reverse, Some, None, refl, sym, ap, ◌∙◌, inl, inr, true, false, get_or, length}
-use Rattle.std.proofs.lemmas.List.{map-append, reverse-append}
+use Rattle.std.proofs.Common.{◌≡◌, ℕ, suc, List, [], ◌∷◌, map, reverse, Some, None, refl, sym, ap, ◌∙◌, inl, inr, true, false, get_or, length}
 use Rattle.std.proofs.lemmas.Bool.{ltb-true, ltb-false}
 use Rattle.std.proofs.lemmas.Option.{slice_get_read, slice_get_past}
 use Rattle.std.specs.Prelude.{nat_lt}
@@ -9,11 +8,6 @@ use Rattle.link_steps.specs.Lists.{Among}
 use Rattle.link_steps.proofs.ListParts.{Among-turned, Among-reverse, Among-at, mapped-at}
 
 -- ---- a list turned round
-
-pub turned-map : {X Y : Type 0} (f : X → Y) (xs : List X) → map f (reverse xs) ≡ reverse (map f xs)
-turned-map f [] = refl
-turned-map f (x ∷ xs) =
-    ap (map f) (reverse-append (x ∷ []) xs) ∙ map-append f (reverse xs) (x ∷ []) ∙ ap (λ ys. ys ++ f x ∷ []) (turned-map f xs) ∙ sym (reverse-append (f x ∷ []) (map f xs))
 
 -- ---- through a map
 

@@ -29,7 +29,8 @@ use Rattle.race_run.proofs.ChannelsInScript.{AnOpen, each-front, opened-once}
 use Rattle.setup_protocol.proofs.SetupAdvances.{none-settled}
 use Rattle.call_script.specs.Channels.{AreTold}
 use Rattle.call_script.specs.declared.channels.Channel.{Channel}
-use Rattle.race_run.proofs.OperationAtPlace.{HereAt, here-with, request-at, full-script, owner-at, route-least}
+use Rattle.call_script.proofs.PlansFit.{route-least}
+use Rattle.race_run.proofs.OperationAtPlace.{HereAt, here-with, request-at, full-script, owner-at}
 use Rattle.race_run.proofs.PacketsLearnt.{packets-stay, settled-packets}
 use Rattle.shared_network.proofs.SubmitsOfCalls.{setup-unsent}
 

@@ -1,5 +1,5 @@
 -- An operation of a caller, where it stands in the script: its task, whose its channel is, and what is kept of it.
-use Rattle.std.proofs.Common.{◌≡◌, ℕ, ◌+◌, ◌<◌, ◌≤◌, true, false, List, [], ◌∷◌, ◌++◌, map, length, Bool, Option, Some, None, refl, sym, ap, ◌∙◌, subst, inl, inr, arith}
+use Rattle.std.proofs.Common.{◌≡◌, ℕ, ◌+◌, ◌<◌, true, false, List, [], ◌∷◌, ◌++◌, map, length, Bool, Option, Some, None, refl, sym, ap, ◌∙◌, subst, inl, inr, arith}
 use Rattle.std.proofs.lemmas.Bool.{cases_eq}
 use Rattle.std.proofs.lemmas.Option.{same_Some, slice_get-map, slice_get_within}
 use Rattle.std.specs.List.{slice_get}
@@ -114,9 +114,6 @@ hops-of parts links owners c entry plan network found =
 pub owner-at : (parts : PlanParts) (links : List Link) (owners : List ActorNo) (caller place c : ℕ) (entry : RequestEntry) (task : Task) (pass : Token) (channels : List Channel) → IsPlan parts → IsNetworkOf parts links owners → HereAt parts caller place task pass channels → slice_get parts.requests c ≡ Some entry → Names entry.request task → IsOwner owners pass.actor entry.request.chan
 owner-at parts links owners caller place c entry task pass channels plan network h found names =
     is-owner parts links owners c entry pass.actor plan network found (owner-is parts c entry pass.actor h.front task h.rest plan found h.tasks names)
-
-pub route-least : (parts : PlanParts) (c : ℕ) (entry : RequestEntry) → IsPlan parts → slice_get parts.requests c ≡ Some entry → 1 ≤ length entry.request.route
-route-least parts c entry plan found = (request-fits parts c entry plan found).route.least
 
 -- ---- what fits
 

@@ -1,6 +1,6 @@
 -- What a plan tells of its race: how many links, actors and rounds there are, and that the plane's rounds are those beside the
 -- callers and those after them.
-use Rattle.std.proofs.Common.{◌≡◌, ℕ, suc, ◌+◌, ◌≤◌, List, [], length, map, refl, sym, ap, ◌∙◌, subst, arith}
+use Rattle.std.proofs.Common.{◌≡◌, ℕ, suc, ◌+◌, ◌≤◌, List, [], length, map, sym, ap, ◌∙◌, subst, arith}
 use Rattle.std.proofs.lemmas.List.{length-map}
 use Rattle.atomic_table.specs.Seated.{TableId}
 use Rattle.net_units.specs.Numbers.{actor_number}
@@ -18,7 +18,7 @@ use Rattle.shared_network.specs.Ready.{IsNew}
 use Rattle.shared_network.proofs.LinkNumbers.{numbered-length}
 use Rattle.tick_plane.specs.PlaneAccount.{PlaneAccount}
 use Rattle.tick_plane.specs.Planes.{plane_start}
-use Rattle.call_script.proofs.PlansFit.{plan-fits}
+use Rattle.call_script.proofs.PlansFit.{plan-fits, rounds-are}
 use Rattle.call_script.specs.Parts.{PlanParts}
 use Rattle.call_script.specs.Plans.{IsPlan}
 use Rattle.call_script.specs.Splits.{entry_link, groups_in}
@@ -32,27 +32,23 @@ use Rattle.race_run.proofs.PlaneWithPass.{plane-begins, plane-over}
 
 -- ---- the plane
 
-plane-rounds : (parts : PlanParts) → (network_of parts).rounds ≡ parts.rounds + parts.tail
-unfolding network_of
-plane-rounds parts = refl
-
 -- the rounds beside the callers are left to a plane that has made none
 pub rounds-left : (parts : PlanParts) (plane : PlaneAccount) (pass : Token) (rounds : ℕ) → IsAtRound parts 0 plane pass → rounds ≡ parts.rounds → (plane.at.round ≤ rounds) × (rounds ≤ plane.rounds)
 rounds-left parts plane pass rounds at is =
-    let all = at.at.on.rounds ∙ plane-rounds parts in
+    let all = at.at.on.rounds ∙ rounds-are parts in
     let none = at.round_is in
     (omega (arith, none), omega (arith, all, is))
 
 -- and after these the others
 pub tail-left : (parts : PlanParts) (plane : PlaneAccount) (pass : Token) (rounds tail : ℕ) → IsAtRound parts parts.rounds plane pass → rounds ≡ parts.rounds → tail ≡ parts.tail → (plane.at.round ≤ rounds + tail) × (rounds + tail ≤ plane.rounds)
 tail-left parts plane pass rounds tail at is rest =
-    let all = at.at.on.rounds ∙ plane-rounds parts in
+    let all = at.at.on.rounds ∙ rounds-are parts in
     let made = at.round_is in
     (omega (arith, made, is), omega (arith, all, is, rest))
 
 pub tail-made : (parts : PlanParts) (plane : PlaneAccount) (pass : Token) (rounds tail : ℕ) → PlaneIsAt (network_of parts) plane pass → plane.at.round ≡ rounds + tail → rounds ≡ parts.rounds → tail ≡ parts.tail → HasMadeAll (network_of parts) pass
 tail-made parts plane pass rounds tail at made is rest =
-    plane-over (network_of parts) plane pass at (made ∙ (λ i. is i + rest i) ∙ sym (plane-rounds parts))
+    plane-over (network_of parts) plane pass at (made ∙ (λ i. is i + rest i) ∙ sym (rounds-are parts))
 
 pub plane-new : (parts : PlanParts) (plane : PlaneAccount) (pass : Token) → plane ≡ record { links = length parts.links; rounds = parts.rounds + parts.tail; at = plane_start; spare = 0 } → pass.own ≡ [] → actor_number pass.actor ≡ plane_no (network_of parts) → IsAtRound parts 0 plane pass
 unfolding network_of

@@ -4,6 +4,7 @@ use Rattle.std.proofs.lemmas.List.{reverse-append, reverse-reverse}
 use Rattle.std.specs.Prelude.{IsSome}
 use Rattle.net_units.specs.Numbers.{actor_number}
 use Rattle.net_units.specs.declared.numbers.ActorNo.{ActorNo}
+use Rattle.net_units.proofs.ListPlaces.{map-reverse}
 use Rattle.link_steps.specs.Lists.{Each}
 use Rattle.link_steps.proofs.SearchAndFilter.{Each-map}
 use Rattle.call_script.specs.Parts.{PlanParts}
@@ -17,7 +18,6 @@ use Rattle.run_engine.proofs.Runs.RunLength.{asked-below}
 use Rattle.run_engine.proofs.Runs.RunOf.{step-is}
 use Rattle.run_engine.proofs.Schedules.ScheduleOutcome.{follows-none, follows-more, follows-one, turns-append, turns-one}
 use Rattle.race_run.specs.Turns.{AreMaximalRuns, IsUnwritten, actors_of}
-use Rattle.race_run.proofs.Lists.{turned-map}
 use Rattle.link_steps.proofs.ListParts.{Each-reverse}
 use Rattle.run_engine.proofs.Keeping.KeptActors.{plane-number}
 
@@ -37,7 +37,7 @@ follows-itself network (done ∷ past) is =
     (follows-one network past (done ∷ past) done.actor (some-of (next_for network (actor_number done.actor) past) (done.link, done.ask) is.1.asked) (sym (step-is network past done is.1))))
 
 pub turned-actors : (entries : List Done) → reverse (map actor_of (reverse entries)) ≡ actors_of entries
-turned-actors entries = ap reverse (turned-map actor_of entries) ∙ reverse-reverse (map actor_of entries)
+turned-actors entries = ap reverse (map-reverse actor_of entries) ∙ reverse-reverse (map actor_of entries)
 
 pub run-follows : (network : Network) (entries : List Done) (items : List Do) → AreMaximalRuns (actors_of entries) items → IsRun network (reverse entries) → FollowsTurns network [] (turns_of items) (reverse entries)
 run-follows network entries items runs is = subst (λ actors. FollowsTurns network [] actors (reverse entries)) (turned-actors entries ∙ sym runs.spelled) (follows-itself network (reverse entries) is)

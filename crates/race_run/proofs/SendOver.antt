@@ -39,7 +39,8 @@ use Rattle.race_run.proofs.ChannelsInScript.{ASend, BySend, each-front, has-fron
 use Rattle.link_steps.proofs.ListParts.{Each-at}
 use Rattle.call_script.specs.Channels.{AreTold, channel_in}
 use Rattle.call_script.specs.declared.channels.Channel.{Channel}
-use Rattle.race_run.proofs.OperationAtPlace.{HereAt, here-with, full-script, owner-at, hops-of, route-least, task-fits, established-told, ordered, there-at, one-follows, one-some, one-reply}
+use Rattle.call_script.proofs.PlansFit.{route-least}
+use Rattle.race_run.proofs.OperationAtPlace.{HereAt, here-with, full-script, owner-at, hops-of, task-fits, established-told, ordered, there-at, one-follows, one-some, one-reply}
 use Rattle.race_run.proofs.PacketsLearnt.{packets-stay, packets-sent}
 use Rattle.shared_network.proofs.SubmitsOfCalls.{one-unsent}
 

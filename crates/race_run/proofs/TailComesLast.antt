@@ -1,7 +1,7 @@
 -- The plane's last rounds: a pass's stamps rise above what it has seen, it has seen those of all callers, and so the stamps of
 -- what it asks then are above all of these.
 use Rattle.std.proofs.Common.{◌≡◌, ℕ, ◌+◌, ◌<◌, ◌≤◌, List, [], ◌∷◌, ◌++◌, length, map, take, get_or, refl, sym, ap, ◌∙◌, subst, add-one, arith}
-use Rattle.std.proofs.lemmas.List.{length-map, map-append}
+use Rattle.std.proofs.lemmas.List.{map-append}
 use Rattle.std.proofs.Math.Seq.{take-suc}
 use Rattle.link_steps.specs.Lists.{Each}
 use Rattle.link_steps.proofs.SearchAndFilter.{Each-if, Each-append}
@@ -13,8 +13,8 @@ use Rattle.shared_network.specs.Closing.{KeptPass, kept_pass, HaveGivenUp}
 use Rattle.shared_network.specs.Planes.{IsPlanes, rounds_in}
 use Rattle.tick_plane.specs.PlaneAccount.{PlaneAccount}
 use Rattle.call_script.specs.Parts.{PlanParts}
-use Rattle.call_script.specs.Splits.{entry_link, groups_in}
 use Rattle.call_script.specs.Tasks.{network_of}
+use Rattle.call_script.proofs.PlansFit.{links-are}
 use Rattle.race_run.specs.Pieces.{IsAtRound}
 use Rattle.race_run.specs.Rounds.{AreAskedBefore, round_after}
 use Rattle.race_run.specs.Tail.{own_in, AreUpTo, IsAboveAll, GoesLast, TailIsLast}
@@ -72,10 +72,6 @@ at-same parts round plane pass pass' actor own at =
       round_is = at.round_is;
     }
 
-links-same : (parts : PlanParts) → length (network_of parts).links ≡ length parts.links
-unfolding network_of
-links-same parts = length-map parts.links (entry_link (groups_in parts))
-
 -- an entry of the plane is one of its rounds beside the callers, or comes after them
 late-above : (links rounds : ℕ) (callers : List (List OwnEntry)) (first last before after : List OwnEntry) (e : OwnEntry) → AreAskedBefore links rounds first → Each (IsAboveAll callers) last → Cut OwnEntry first last before after e → rounds ≤ round_after links before → IsAboveAll callers e
 late-above links rounds callers first last before after e early above (In rest is) late = (let soon = early before rest e is in absurd (omega (arith, soon, late)))
@@ -84,7 +80,7 @@ late-above links rounds callers first last before after e early above (Past fron
 -- the callers, and the plane with the rounds that it has made after them
 pub tail-last : (parts : PlanParts) (callers all : List Token) (plane : PlaneAccount) (pass pass' : Token) → IsAtRound parts parts.rounds plane pass → GoesLast (map own_in callers) pass pass' → all ≡ callers ++ pass' ∷ [] → TailIsLast parts (map own_in all)
 tail-last parts callers all plane pass pass' at goes are =
-    let early : AreAskedBefore (length parts.links) parts.rounds pass.own = subst (λ (x : ℕ × ℕ). AreAskedBefore x.0 x.1 pass.own) (λ i. (links-same parts i, at.round_is i)) at.at.early in
+    let early : AreAskedBefore (length parts.links) parts.rounds pass.own = subst (λ (x : ℕ × ℕ). AreAskedBefore x.0 x.1 pass.own) (λ i. (links-are parts i, at.round_is i)) at.at.early in
     record {
       callers = map own_in callers;
       plane = pass'.own;

@@ -6,6 +6,7 @@ use Rattle.std.specs.List.{slice_get}
 use Rattle.std.specs.Prelude.{nat_eq}
 use Rattle.net_units.specs.Numbers.{actor_number}
 use Rattle.net_units.specs.declared.numbers.ActorNo.{ActorNo}
+use Rattle.net_units.proofs.ListPlaces.{map-reverse}
 use Rattle.link_steps.specs.declared.replies.Reply.{Reply}
 use Rattle.link_ledger.specs.declared.entries.OwnEntry.{OwnEntry}
 use Rattle.shared_network.specs.Calls.{Follows, reply_in}
@@ -15,7 +16,6 @@ use Rattle.call_script.specs.declared.tasks.Task.{Task}
 use Rattle.run_engine.specs.runs.Parts.{IsAsked, next_after, reply_of}
 use Rattle.run_engine.specs.runs.Runs.{plane_no}
 use Rattle.race_run.specs.Whole.{own_done}
-use Rattle.race_run.proofs.Lists.{turned-map}
 
 -- ---- own entries, newest first
 
@@ -27,7 +27,7 @@ own-replies actor [] = refl
 own-replies actor (e ∷ own) = ap (λ rs. e.reply ∷ rs) (own-replies actor own)
 
 pub done-replies : (actor : ActorNo) (own : List OwnEntry) → map reply_of (reverse (map (own_done actor) own)) ≡ reverse (map reply_in own)
-done-replies actor own = turned-map reply_of (map (own_done actor) own) ∙ ap reverse (own-replies actor own)
+done-replies actor own = map-reverse reply_of (map (own_done actor) own) ∙ ap reverse (own-replies actor own)
 
 -- an entry more that the actor asks next
 pub asked-more : (network : Network) (actor : ActorNo) (own : List OwnEntry) (e : OwnEntry) → IsAsked network (actor_number actor) (reverse (map (own_done actor) own)) → next_after network (actor_number actor) (reverse (map reply_in own)) ≡ Some (e.link, e.ask)

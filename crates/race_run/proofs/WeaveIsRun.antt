@@ -31,10 +31,11 @@ use Rattle.run_engine.specs.runs.Runs.{plane_no, IsRun, next_for}
 use Rattle.run_engine.specs.runs.Weave.{Stamped, IsUnder, Falls, IsUnlike, AreStampedApart, PairsApart, AreOf, AreJournals, AreAsked, InOne, StandsIn, done_of, entry_in}
 use Rattle.run_engine.proofs.Runs.WeaveLaw.{journals-weave}
 use Rattle.race_run.specs.Whole.{IsWhole, HasMadeAll, own_done, stamped_on, stamped_in, weave_of}
-use Rattle.race_run.proofs.Lists.{turned-map, among-turned_map, turned_map-among}
+use Rattle.race_run.proofs.Lists.{among-turned_map, turned_map-among}
 use Rattle.link_steps.proofs.ListParts.{Each-reverse, comes-from, mapped-at, Each-at, Each-by_place}
 use Rattle.step_stamp.proofs.ListMembers.{get-has, has-get}
 use Rattle.net_units.proofs.KnownByNumber.{same-link}
+use Rattle.net_units.proofs.ListPlaces.{map-reverse}
 
 -- ---- stamps that rise, turned round
 
@@ -97,7 +98,7 @@ whole-journals network passes journals whole = record {
       λ same. whole.closed.apart k l one other from.from to.from ne here there (get-has one.entries from.place from.from from.found) (get-has other.entries to.place to.from to.found) (sym (ap (λ (s : Stamped). s.stamp) from.is) ∙ same ∙ ap (λ (s : Stamped). s.stamp) to.is))));
   legal = λ n link journal linked found.
       (let it = comes-from stamped_in journals n journal found in
-      let told : map entry_in (stamped_in it.from) ≡ reverse (map done_in it.from.entries) = turned-map entry_in (map (stamped_on it.from.link) it.from.entries) ∙ ap reverse (entries-told it.from.link it.from.entries) in
+      let told : map entry_in (stamped_in it.from) ≡ reverse (map done_in it.from.entries) = map-reverse entry_in (map (stamped_on it.from.link) it.from.entries) ∙ ap reverse (entries-told it.from.link it.from.entries) in
       subst (λ (j : List Stamped). IsLegal link (map entry_in j)) it.is (subst (IsLegal link) (sym told) ((journals-are-histories link (map done_in it.from.entries)).0 (whole.closed.legal n link it.from linked it.found))));
 }
 
@@ -162,7 +163,7 @@ own-asked : (network : Network) (passes : List Token) (journals : List Journal) 
 own-asked network passes journals actor None whole is = tt
 own-asked network passes journals actor (Some pass) whole is =
     let made = Each-at (HasMadeAll network) passes actor pass whole.made_all is in
-    let told : map done_of (own_in (Some pass)) ≡ reverse (map (own_done pass.actor) pass.own) = turned-map done_of (map (own_stamped pass.actor) pass.own) ∙ ap reverse (own-done pass.actor pass.own) in
+    let told : map done_of (own_in (Some pass)) ≡ reverse (map (own_done pass.actor) pass.own) = map-reverse done_of (map (own_stamped pass.actor) pass.own) ∙ ap reverse (own-done pass.actor pass.own) in
     subst (λ n. IsAsked network n (map done_of (own_in (Some pass)))) (pass-number network passes journals actor pass whole is) (subst (IsAsked network (actor_number pass.actor)) (sym told) made.asked)
 
 pub whole-asked : (network : Network) (passes : List Token) (journals : List Journal) → IsWhole network passes journals → AreAsked network (owns_of passes) (map stamped_in journals)
@@ -194,7 +195,7 @@ own-over network passes journals actor None whole is =
       past-end (x ∷ xs) (suc k) (suc n) long none = (let more = past-end xs k n (omega (arith, long)) none in omega (arith, more))
 own-over network passes journals actor (Some pass) whole is =
     let made = Each-at (HasMadeAll network) passes actor pass whole.made_all is in
-    let told : map reply_of (map done_of (own_in (Some pass))) ≡ reverse (map reply_in pass.own) = ap (map reply_of) (turned-map done_of (map (own_stamped pass.actor) pass.own)) ∙ turned-map reply_of (map done_of (map (own_stamped pass.actor) pass.own)) ∙ ap reverse (own-replies pass.actor pass.own) in
+    let told : map reply_of (map done_of (own_in (Some pass))) ≡ reverse (map reply_in pass.own) = ap (map reply_of) (map-reverse done_of (map (own_stamped pass.actor) pass.own)) ∙ map-reverse reply_of (map done_of (map (own_stamped pass.actor) pass.own)) ∙ ap reverse (own-replies pass.actor pass.own) in
     ap (next_after network actor) told ∙ ap (λ n. next_after network n (reverse (map reply_in pass.own))) (sym (pass-number network passes journals actor pass whole is)) ∙ made.over
 
 pub whole-over : (network : Network) (passes : List Token) (journals : List Journal) (actor : ℕ) → IsWhole network passes journals → next_for network actor (weave_of journals) ≡ None

@@ -1,3 +1,3 @@
 mod HopAllotment
-mod SlackShares
+pub mod SlackShares
 pub mod RouteAllotment

@@ -45,6 +45,12 @@ bound_at_end-at (first ∷ hops) (offer ∷ next ∷ offers) hop some found =
     let after : slice_get hops (length (next ∷ offers) - 1) ≡ Some hop = subst (λ i. slice_get (first ∷ hops) i ≡ Some hop) e found in
     bound_at_end-at hops (next ∷ offers) hop (omega arith) after ∙ ap (λ i. bound_at hop.bounds (get_or (offer ∷ next ∷ offers) i 0)) (sym e)
 
+-- which is the last hop's
+pub bound_at_end-last : (hops : List Hop) (levels : List ℕ) (i : ℕ) (hop : Hop) → length levels ≡ suc i → slice_get hops i ≡ Some hop → bound_at_end hops levels ≡ bound_at hop.bounds (get_or levels i 0)
+bound_at_end-last hops levels i hop count found =
+    let place : length levels - 1 ≡ i = omega (arith, count) in
+    bound_at_end-at hops levels hop (omega (arith, count)) (subst (λ k. slice_get hops k ≡ Some hop) (sym place) found) ∙ ap (λ k. bound_at hop.bounds (get_or levels k 0)) place
+
 -- ---- the limit
 
 -- after the last hop the limit is that of the jitter

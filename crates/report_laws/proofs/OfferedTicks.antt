@@ -31,7 +31,7 @@ use Rattle.link_steps.proofs.SearchAndFilter.{Each-append, Each-filter, Each-fin
 use Rattle.link_steps.proofs.RulesPassed.{answers-reply}
 use Rattle.channel_laws.specs.Channels.{HopTerms, channel_of, offers_with, offers_to, AllOfferTerms, IsElsewhere, ChannelStands}
 use Rattle.channel_laws.proofs.ChannelRows.{find-passes, row-at-hop, others-elsewhere, legal-stands}
-use Rattle.channel_laws.proofs.FirstSource.{GoneTells, AllGone, legal-gone}
+use Rattle.channel_laws.proofs.FirstSource.{GoneTells, AllGone, legal-gone, offers-before}
 use Rattle.report_laws.specs.Offered.{HasOffered, ReportsShowWhatSourcesOffer}
 use Rattle.channel_report.specs.Sources.{act_of, ticks_from, is_made, planned_after, planned_in, offered_in}
 
@@ -222,19 +222,11 @@ after-told shape terms c offers t planned scan _ _ may once differ stands all to
 
 -- ---- every admissible history
 
-before-once : (c n : ℕ) (ask : Ask) (reply : Reply) → offers_with c n ask reply ≤ 1 → n ≤ 1
-before-once c n (Reserve chan contract kind delay up_reach first next) (Is.Offer level reach) once =
-    elim (cases_Bool (nat_eq (channel_number chan) c)) [
-      | inl on ↦ (let most : suc n ≤ 1 = rw on at once in omega (arith, most))
-      | inr off ↦ (let most : n ≤ 1 = rw off at once in most)
-    ]
-before-once c n _ _ once = once
-
 pub plans-told : (shape : LinkShape) (terms : HopTerms) (c : ℕ) (h : List Entry) → IsAdmissible shape h → AllOfferTerms terms c h → offers_to c h ≤ 1 → PlansTold c (offers_to c h) (planned_in c h) (scan_of shape h)
 unfolding IsAdmissible scan_of offers_to planned_in
 plans-told shape terms c [] legal names once = record { held = tt; gone = tt; none = λ n. refl }
 plans-told shape terms c (e ∷ past) legal names once =
-    let before = before-once c (offers_to c past) e.ask e.reply once in
+    let before = offers-before c (offers_to c past) e.ask e.reply once in
     after-told shape terms c (offers_to c past) (clock_of past) (planned_in c past) (scan_of shape past) e.ask e.reply legal.1.answered once
     (legal-channels shape past legal.0) (legal-stands shape terms c past legal.0 names.1) (legal-gone shape terms c past legal.0 names.1 before) (plans-told shape terms c past legal.0 names.1 before)
 

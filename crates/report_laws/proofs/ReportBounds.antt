@@ -1,14 +1,13 @@
 -- The delays that the report of a run tells of an accepted channel are those that the whole guarantee speaks of, so they are within
 -- its bounds where the report says that the source keeps its contract.
-use Rattle.std.proofs.Common.{◌≡◌, ℕ, zero, suc, ◌-◌, true, List, [], ◌∷◌, length, get_or, Some, None, refl, sym, ap, ◌∙◌, subst, arith}
-use Rattle.std.proofs.lemmas.Option.{same_Some}
+use Rattle.std.proofs.Common.{◌≡◌, ℕ, suc, ◌-◌, true, List, length, get_or, Some, refl, sym, ap, ◌∙◌, subst, arith}
 use Rattle.std.specs.List.{slice_get}
 use Rattle.std.specs.Prelude.{reverse}
 use Rattle.net_units.specs.LevelBounds.{bound_at}
 use Rattle.net_units.specs.Numbers.{link_number, actor_number, channel_number}
 use Rattle.traffic_contract.specs.Keeping.{keeps}
-use Rattle.hop_reservation.specs.declared.route.Hop.{Hop}
 use Rattle.relaxation.specs.Allotment.{bound_at_end}
+use Rattle.relaxation.proofs.SlackShares.{bound_at_end-last}
 use Rattle.link_steps.specs.Lists.{Among}
 use Rattle.link_steps.proofs.SearchAndFilter.{Each-among}
 use Rattle.link_steps.proofs.ListParts.{stands-at}
@@ -30,27 +29,13 @@ use Rattle.run_engine.proofs.Replies.RunGoes.{owned-asked}
 use Rattle.run_engine.proofs.Runs.RunLegal.{part-admissible}
 use Rattle.run_engine.proofs.Replies.VerdictHolds.{verdicts-follow}
 use Rattle.audit_laws.proofs.PacketOf.{fits-network}
-use Rattle.channel_report.specs.Sources.{first_link, offered_in}
+use Rattle.channel_report.specs.Sources.{offered_in}
 use Rattle.report_laws.specs.Bounds.{delays_told, ReportsKeepTheirBounds}
 use Rattle.report_laws.proofs.DelayRows.{ToldDelay, delay-is}
 use Rattle.report_laws.proofs.KeptSource.{source-kept}
 use Rattle.report_laws.proofs.RowPacket.{all-offered}
 use Rattle.channel_report.proofs.ToldDelays.{DelayOf, delays-are, least-among, worst-among}
-
--- the first link of the route
-first-of : (hops : List Hop) (hop : Hop) → slice_get hops 0 ≡ Some hop → first_link hops ≡ link_number hop.link
-first-of [] hop is = cc
-first-of (first ∷ hops) hop is = ap (λ (x : Hop). link_number x.link) (same_Some first hop is)
-
--- the bound of the last hop
-last-bound : (hops : List Hop) (levels : List ℕ) (i : ℕ) (hop : Hop) → length levels ≡ suc i → slice_get hops i ≡ Some hop → bound_at_end hops levels ≡ bound_at hop.bounds (get_or levels i 0)
-unfolding bound_at_end
-last-bound [] levels i hop count found = absurd (let clash : None ≡ Some hop = found in cc)
-last-bound (first ∷ hops) [] i hop count found = absurd (omega (arith, count))
-last-bound (first ∷ hops) (level ∷ []) zero hop count found = ap (λ (h : Hop). bound_at h.bounds level) (same_Some first hop found)
-last-bound (first ∷ hops) (level ∷ []) (suc i) hop count found = absurd (omega (arith, count))
-last-bound (first ∷ hops) (level ∷ next ∷ levels) zero hop count found = absurd (omega (arith, count))
-last-bound (first ∷ hops) (level ∷ next ∷ levels) (suc i) hop count found = last-bound hops (next ∷ levels) i hop (omega (arith, count)) found
+use Rattle.channel_report.proofs.ChannelTallies.{first-at}
 
 -- ---- the law
 
@@ -69,7 +54,7 @@ bounds-kept plan run c entry levels delay is run_is requested accepted says = re
       let a = d.1.is.is in
       let b = e.1.is.is in
       let bound : bound_at_end entry.request.route levels ≡ bound_of last levels =
-      last-bound entry.request.route levels (length entry.request.route - 1) last.hop (kept.keeps.have_levels.whole ∙ sym end) last.stands ∙ ap (λ bs. bound_at bs (get_or levels (length entry.request.route - 1) 0)) last.bounds in
+      bound_at_end-last entry.request.route levels (length entry.request.route - 1) last.hop (kept.keeps.have_levels.whole ∙ sym end) last.stands ∙ ap (λ bs. bound_at bs (get_or levels (length entry.request.route - 1) 0)) last.bounds in
       omega (arith, by, a, b, bound));
 } where
   sound : RequestFits (network_of plan).links entry.request
@@ -101,7 +86,7 @@ bounds-kept plan run c entry levels delay is run_is requested accepted says = re
   source number d told =
       source-kept first.link.shape (terms_at entry.request 0) (channel_number entry.request.chan) (part_of (link_number first.hop.link) run) told.packet (part-admissible (network_of plan) run (link_number first.hop.link) first.link (plan-fits plan is) run_is first.linked)
       (asked.names 0 first.hop first.stands) (asked.once (link_number first.hop.link)) refl told.taken told.own
-      (subst (λ n. keeps entry.request.contract (offered_in (channel_number entry.request.chan) (part_of n run)) ≡ true) (first-of entry.request.route first.hop first.stands) says)
+      (subst (λ n. keeps entry.request.contract (offered_in (channel_number entry.request.chan) (part_of n run)) ≡ true) (first-at entry.request.route first.hop first.stands) says)
 
   told : (delay : ℕ) → Among delay (delays_told run entry) → (number : ℕ) × ToldDelay (network_of plan) entry.request first (length entry.request.route - 1) last run number delay
   told d among =

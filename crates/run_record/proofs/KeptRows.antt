@@ -48,10 +48,6 @@ links-more c (done ∷ run) later = elim (cases_Bool (is_to c (offer_by done.ask
   | inr none ↦ rw none (links-more c run later)
 ]
 
-no-place : (p : ℕ) → next_place p ≡ 0 → p ≡ 0
-no-place zero is = refl
-no-place (suc p) is = absurd (omega (arith, is))
-
 place-stays : (n : ℕ) (ns more : List ℕ) → (place_in n ns ≡ 0 → ⊥) → place_in n (ns ++ more) ≡ place_in n ns
 unfolding place_in
 place-stays n [] more there = absurd (there refl)

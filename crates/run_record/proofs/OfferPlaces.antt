@@ -10,7 +10,7 @@ use Rattle.run_record.specs.Rows.{next_place, place_in, hop_among, is_to, offer_
 use Rattle.run_record.specs.declared.done.Done.{Done}
 use Rattle.run_record.specs.declared.hops.Hops.{Hops}
 
-no-place : (p : ℕ) → next_place p ≡ 0 → p ≡ 0
+pub no-place : (p : ℕ) → next_place p ≡ 0 → p ≡ 0
 no-place zero none = refl
 no-place (suc p) none = absurd (cc)
 

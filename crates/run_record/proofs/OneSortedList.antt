@@ -1,6 +1,6 @@
 -- Elements put in order: two lists in order are one list where, for each element, they have the same ones that tie with it, in
 -- the same order. An ordered insertion makes such a list, and so does a stable sort.
-use Rattle.std.proofs.Common.{◌≡◌, ℕ, suc, ◌+◌, ◌<◌, Bool, true, false, List, [], ◌∷◌, length, get_or, refl, sym, subst, ◌∙◌, inl, inr, arith}
+use Rattle.std.proofs.Common.{◌≡◌, suc, ◌+◌, Bool, true, false, List, [], ◌∷◌, refl, sym, subst, ◌∙◌, inl, inr, arith}
 use Rattle.std.proofs.lemmas.Bool.{cases_Bool}
 use Rattle.std.proofs.lemmas.Cmp.{nat_cmp_total, on_total, then_total}
 use Rattle.std.proofs.lemmas.List.Sorted.{ranks_by, sorted_far}
@@ -8,7 +8,9 @@ use Rattle.std.specs.Prelude.{filter}
 use Rattle.std.specs.Cmp.{IsStrictWeakOrder}
 use Rattle.std.specs.List.Sorted.{IsSortedBy, IsStableBy, ties}
 use Rattle.net_units.specs.Numbers.{channel_number}
+use Rattle.net_units.proofs.ListPlaces.{head-same}
 use Rattle.link_steps.specs.Lists.{Each}
+use Rattle.link_steps.proofs.ListParts.{Each-by_index}
 use Rattle.run_record.specs.Rows.{comes_before, put_row, in_order}
 use Rattle.run_record.specs.declared.rows.HopRow.{HopRow}
 
@@ -22,15 +24,11 @@ abbrev pub Ascends : {X : Type 0} → (X → X → Bool) → List X → Type 0
 Ascends lt [] = Unit {0}
 Ascends lt (x ∷ xs) = NoneBelow lt x xs × Ascends lt xs
 
-each-at : {X : Type 0} (P : X → Type 0) (xs : List X) → ((k : ℕ) (d : X) → k < length xs → P (get_or xs k d)) → Each P xs
-each-at P [] at = tt
-each-at P (x ∷ xs) at = (at 0 x (omega arith), each-at P xs (λ k d below. at (suc k) d (omega arith)))
-
 ascends-sorted : {X : Type 0} (lt : X → X → Bool) (o : IsStrictWeakOrder lt) (xs : List X) → IsSortedBy lt xs → Ascends lt xs
 ascends-sorted lt o [] up = tt
 ascends-sorted {X} lt o (x ∷ xs) up =
     let rest : IsSortedBy lt xs = λ k d low below. (let one : suc k + 1 ≡ suc (k + 1) = omega arith in rw one at (up (suc k) d (omega arith) (omega arith))) in
-    (each-at (λ y. lt y x ≡ false) xs (λ k d below. sorted_far lt o (x ∷ xs) up 0 (suc k) d (omega arith) (omega arith)), ascends-sorted lt o xs rest)
+    (Each-by_index (λ y. lt y x ≡ false) xs (λ k d below. sorted_far lt o (x ∷ xs) up 0 (suc k) d (omega arith) (omega arith)), ascends-sorted lt o xs rest)
 
 -- ---- one list
 
@@ -73,9 +71,6 @@ same-rest lt x ys zs same = λ w. elim (cases_Bool (ties lt w x)) [
   | inr apart ↦ rw (apart) at (same w)
 ]
 
-pub head-of : {X : Type 0} (x y : X) (xs ys : List X) → x ∷ xs ≡ y ∷ ys → x ≡ y
-head-of x y xs ys same = cc
-
 pub one-order : {X : Type 0} (lt : X → X → Bool) (o : IsStrictWeakOrder lt) (ys zs : List X) → Ascends lt ys → Ascends lt zs → SameTies lt ys zs → ys ≡ zs
 one-order lt o [] [] up down same = refl
 one-order lt o [] (z ∷ zs) up down same = absurd (no-cons z _ (sym (has-ties lt o z zs) ∙ sym (same z)))
@@ -88,7 +83,7 @@ one-order lt o (y ∷ ys) (z ∷ zs) up down same =
         | inr low ↦
             let tie : ties lt y z ≡ true = rw (high, low) refl in
             let second : filter (ties lt y) (z ∷ zs) ≡ z ∷ filter (ties lt y) zs = rw (tie) refl in
-            let is : y ≡ z = head-of y z _ _ (sym (has-ties lt o y ys) ∙ (same y ∙ second)) in
+            let is : y ≡ z = head-same y _ z _ (sym (has-ties lt o y ys) ∙ (same y ∙ second)) in
             let rest : ys ≡ zs = one-order lt o ys zs up.1 down.1 (same-rest lt y ys zs (subst (λ w. SameTies lt (y ∷ ys) (w ∷ zs)) (sym is) same)) in
             rw (is, rest) refl
       ]
@@ -96,7 +91,7 @@ one-order lt o (y ∷ ys) (z ∷ zs) up down same =
 
 -- ---- the ordered insertion
 
-each-put : (P : HopRow → Type 0) (row : HopRow) (rows : List HopRow) → P row → Each P rows → Each P (put_row row rows)
+pub each-put : (P : HopRow → Type 0) (row : HopRow) (rows : List HopRow) → P row → Each P rows → Each P (put_row row rows)
 unfolding put_row
 each-put P row [] here all = (here, tt)
 each-put P row (other ∷ rows) here all = elim (cases_Bool (comes_before other row)) [

@@ -1,5 +1,5 @@
 -- What is kept of an audit's input keeps its rules as it is read: what a line tells of a request's levels keeps what the request asks for.
-use Rattle.std.proofs.Common.{◌≡◌, ℕ, zero, suc, ◌<◌, ◌≤◌, Bool, true, false, ◌&&◌, ◌⊎◌, List, [], ◌∷◌, Option, Some, None, drop, is_none, length, map, option_map, IfSome, nat_eq, nat_le, nat_lt, replicate, set, refl, sym, ◌∙◌, ap, arith, inl, inr}
+use Rattle.std.proofs.Common.{◌≡◌, ℕ, zero, suc, ◌≤◌, Bool, true, false, ◌&&◌, ◌⊎◌, List, [], ◌∷◌, Option, Some, None, drop, is_none, length, map, option_map, IfSome, nat_eq, nat_le, nat_lt, replicate, set, refl, sym, ◌∙◌, ap, arith, inl, inr}
 use Rattle.std.proofs.lemmas.Bool.{and_parts, cases_Bool, leb-true, ltb-false}
 use Rattle.std.proofs.lemmas.List.{length-map, length-set}
 use Rattle.std.proofs.lemmas.List.Folds.{find_at}
@@ -103,12 +103,6 @@ request-stands parts name (Some entry) planned is =
     let there : slice_get parts.requests n ≡ Some entry = sym (find_at (λ (r : RequestEntry). is_named name r.name) parts.requests)
     ∙ sym is in
     ap (slice_get parts.requests) (planned.requests n entry there) ∙ there
-
--- a place that is there is within
-pub place-within : {X : Type 0} (xs : List X) (n : ℕ) (x : X) → slice_get xs n ≡ Some x → n < length xs
-place-within [] n x there = cc
-place-within (y ∷ xs) zero x there = omega arith
-place-within (y ∷ xs) (suc n) x there = (let rest = place-within xs n x there in omega (arith, rest))
 
 -- ---- what is kept
 

@@ -1,16 +1,12 @@
 -- A request that is read between two nodes gets the least route from the one to the other.
-use Rattle.std.proofs.Common.{ℕ, ◌≤◌, Option, Some, None, List, [], ◌∷◌, length, sym, ◌∙◌, subst, arith}
+use Rattle.std.proofs.Common.{ℕ, ◌≤◌, Option, Some, None, List, [], ◌∷◌, length, sym, ◌∙◌, subst}
 use Rattle.std.proofs.lemmas.Bool.{true≢false}
-use Rattle.std.proofs.lemmas.List.{length-map}
 use Rattle.hop_reservation.specs.declared.route.Hop.{Hop}
 use Rattle.link_steps.specs.Lists.{Each}
-use Rattle.call_script.specs.Parts.{PlanParts}
-use Rattle.call_script.specs.Plans.{HasTerms, IsPlan}
-use Rattle.call_script.specs.Splits.{entry_link, groups_in}
-use Rattle.call_script.specs.Tasks.{network_of}
+use Rattle.call_script.specs.Plans.{HasTerms}
 use Rattle.call_script.specs.declared.entries.LinkEntry.{LinkEntry}
 use Rattle.call_script.specs.declared.entries.RequestEntry.{RequestEntry}
-use Rattle.call_script.proofs.PlansFit.{plan-fits}
+use Rattle.call_script.proofs.PlansFit.{links-few}
 use Rattle.scenario_reader.specs.BothWays.{IsFoundRoute}
 use Rattle.scenario_reader.specs.FoundRoutes.{IsLeastRoute}
 use Rattle.scenario_reader.specs.Nodes.{LinksAreNumbered}
@@ -19,10 +15,6 @@ use Rattle.scenario_reader.proofs.FoundNodes.{found-nodes}
 use Rattle.scenario_reader.proofs.LeastRoutes.{finds-least-routes}
 use Rattle.scenario_reader.proofs.NodesByNumber.{named-equal}
 use Rattle.scenario_reader.proofs.ReadNames.{what-is-readable}
-
-few-links : (parts : PlanParts) → IsPlan parts → length parts.links ≤ 32
-unfolding network_of
-few-links parts plan = (let few = (plan-fits parts plan).few in omega (arith, few, length-map parts.links (entry_link (groups_in parts))))
 
 least-route : (links : List LinkEntry) (route : List Hop) (found : Option (List ℕ × List ℕ)) → LinksAreNumbered links → length links ≤ 32 → 1 ≤ length route → IsFoundRoute links route found → GoesByLeastWalk links route found
 least-route links route None numbered few some is = tt
@@ -43,4 +35,4 @@ least-routes links (entry ∷ requests) numbered few terms found =
 pub requests-get_least_routes : RequestsGetTheLeastRoutes
 requests-get_least_routes most bytes parts schedule e =
     let is = what-is-readable most bytes parts schedule e in
-    least-routes parts.links parts.requests (record { number = is.plan.planned.links }) (few-links parts is.plan) is.plan.terms is.found
+    least-routes parts.links parts.requests (record { number = is.plan.planned.links }) (links-few parts is.plan) is.plan.terms is.found

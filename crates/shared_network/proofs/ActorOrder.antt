@@ -2,9 +2,10 @@
 use Rattle.std.proofs.Common.{◌≡◌, ℕ, zero, suc, ◌<◌, List, [], ◌∷◌, map, Some, None, refl, sym, ap, ◌∙◌, subst, inl, inr, arith}
 use Rattle.shared_network.proofs.Words.{slice_get, IsPermutation, map-id, IsPermutation-refl, IsPermutation-sym, same_Some, Each, Has, Differ, up_to}
 use Rattle.link_steps.proofs.SearchAndFilter.{Each-append, Each-if}
+use Rattle.link_steps.proofs.ListParts.{Each-permuted}
 use Rattle.step_stamp.proofs.ListMembers.{differ-both, each-has, has-each}
 use Rattle.shared_network.proofs.SeatsJoined.{up_to-has}
-use Rattle.shared_network.proofs.PermutedLists.{differ-permuted, each-permuted}
+use Rattle.shared_network.proofs.PermutedLists.{differ-permuted}
 
 -- ---- numbers from 0 on
 
@@ -28,7 +29,7 @@ actors-in_order n ns is = subst (IsPermutation (up_to n)) (sym is) (IsPermutatio
 
 pub actors-there : (n a : ℕ) (ns : List ℕ) → IsPermutation (up_to n) ns → a < n → Has a ns
 actors-there n a ns moved below =
-    each-has (λ k. Has k ns) a (up_to n) (each-permuted (λ k. Has k ns) ns (up_to n) (IsPermutation-sym (up_to n) ns moved) (has-each (λ k. Has k ns) ns (λ k has. has))) (up_to-has n a below)
+    each-has (λ k. Has k ns) a (up_to n) (Each-permuted (λ k. Has k ns) ns (up_to n) (IsPermutation-sym (up_to n) ns moved) (has-each (λ k. Has k ns) ns (λ k has. has))) (up_to-has n a below)
 
 pub actors-differ : (n : ℕ) (ns : List ℕ) → IsPermutation (up_to n) ns → Differ ns
 actors-differ n ns moved = subst Differ (map-id ns) (differ-permuted (λ k. k) (up_to n) ns moved (subst Differ (sym (map-id (up_to n))) (up_to-differ n)))

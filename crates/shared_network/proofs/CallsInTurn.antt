@@ -2,16 +2,12 @@
 -- it is where nothing was called.
 use Rattle.std.proofs.Common.{ℕ, ◌<◌, List, ◌++◌, [], ◌∷◌, refl, sym, ap, ◌∙◌, arith}
 use Rattle.shared_network.proofs.Words.{append_assoc, append-nil, TableId, ActorNo, Link, Ask, Reply, known_of, Token, Steps, last_seen, OwnEntry}
-use mathlib.Core.List.{IsPrefix}
 use Rattle.link_steps.proofs.SearchAndFilter.{Each-if, Each-append}
-use Rattle.step_stamp.proofs.ListMembers.{begins-itself}
+use Rattle.step_stamp.proofs.ListMembers.{begins-itself, begins-then}
 use Rattle.shared_network.specs.Added.{AddsAbove}
 use Rattle.shared_network.specs.Ready.{MayStep, PassGoesOn}
 
 -- ---- going on
-
-begins-both : {X : Type 0} (xs ys zs : List X) → IsPrefix xs ys → IsPrefix ys zs → IsPrefix xs zs
-begins-both xs ys zs one other = (one.0 ++ other.0, sym (append_assoc xs one.0 other.0) ∙ ap (λ w. w ++ other.0) one.1 ∙ other.1)
 
 module _ (table : TableId) (owners : List ActorNo) (links : List Link) where
   pub goes-none : (pass : Token) → MayStep table owners links pass → PassGoesOn table owners links pass pass
@@ -21,7 +17,7 @@ module _ (table : TableId) (owners : List ActorNo) (links : List Link) where
   goes-both pass between pass' one other = record {
     may_step = other.may_step;
     among = other.among ∙ one.among;
-    knew = λ l. begins-both (known_of l pass.view) (known_of l between.view) (known_of l pass'.view) (one.knew l) (other.knew l);
+    knew = λ l. begins-then (known_of l pass.view) (known_of l between.view) (known_of l pass'.view) (one.knew l) (other.knew l);
   }
 
 -- ---- stamps above what was seen

@@ -1,12 +1,13 @@
 -- A step of a move releases the next hop of the channel that is left, or submits on the other channel, which happens once at
 -- most; and each step leaves fewer asks.
-use Rattle.std.proofs.Common.{◌≡◌, ℕ, suc, ◌+◌, ◌-◌, ◌<◌, ◌≤◌, false, Option, Some, None, List, [], ◌∷◌, ◌++◌, length, refl, sym, ap, ◌∙◌, subst, inl, inr, arith}
-use Rattle.shared_network.proofs.Words.{cases_Bool, cond_both, ne_eqb, eqb-false, length_push, nat_eq, LinkNo, Ask, Release, Submit, Reply, names_first_hop, Move, shifted_in, told_by, next_of_move}
-use Rattle.channel_move.specs.Stages.{stage_after, joining_after}
+use Rattle.std.proofs.Common.{◌≡◌, ℕ, suc, ◌+◌, ◌-◌, ◌<◌, ◌≤◌, false, Option, Some, None, List, [], ◌∷◌, ◌++◌, refl, sym, ap, subst, arith}
+use Rattle.shared_network.proofs.Words.{cond_both, ne_eqb, eqb-false, nat_eq, LinkNo, Ask, Release, Submit, Reply, names_first_hop, Move, shifted_in, told_by, next_of_move}
+use Rattle.channel_move.specs.Stages.{stage_after}
 use Rattle.channel_move.specs.declared.mover.Stage.{Stage}
 use Rattle.channel_move.specs.declared.mover.Stage.TheVariants.{Leaving, Joining, Releasing}
 use Rattle.channel_move.specs.declared.shifted.Shifted.{Shifted}
 use Rattle.channel_move.proofs.AskByStage.{HopAsked, MoveAsks, AsksFirst, AsksSubmit, AsksRest, move-asks, rest-length}
+use Rattle.channel_move.proofs.StageGrows.{releasing-grows}
 
 -- ---- stages
 
@@ -27,31 +28,6 @@ abbrev pub MaySubmit : Stage → Type 0
 MaySubmit Leaving = Unit {0}
 MaySubmit (Joining told) = Unit {0}
 MaySubmit (Releasing told made) = ⊥
-
--- ---- one reply more
-
-abbrev grown : Stage → Stage
-grown Leaving = Leaving
-grown (Joining told) = Releasing told 1
-grown (Releasing told made) = Releasing told (suc made)
-
-pushed : (replies : List Reply) (reply : Reply) → length (replies ++ reply ∷ []) ≡ suc (length replies)
-pushed replies reply = (let one = length_push replies reply in omega (arith, one))
-
-joining-grows : (told : Shifted) (replies : List Reply) (reply : Reply) → joining_after told (replies ++ reply ∷ []) ≡ grown (joining_after told replies)
-joining-grows told [] reply = refl
-joining-grows told (planned ∷ replies) reply = ap (λ n. Releasing told (suc n)) (pushed replies reply)
-
-stage-grows : (first : Reply) (replies : List Reply) (reply : Reply) → stage_after (first ∷ replies ++ reply ∷ []) ≡ grown (stage_after (first ∷ replies))
-stage-grows first replies reply =
-    elim (cases_Bool (nat_eq (shifted_in first) 0)) [
-      | inl none ↦ rw none (ap (λ n. Releasing (told_by first) (suc n)) (pushed replies reply))
-      | inr some ↦ rw some (joining-grows (told_by first) replies reply)
-    ]
-
-releasing-grows : (replies : List Reply) (reply : Reply) (told : Shifted) (made : ℕ) → stage_after replies ≡ Releasing told made → stage_after (replies ++ reply ∷ []) ≡ Releasing told (suc made)
-releasing-grows [] reply told made is = absurd (let clash : Leaving ≡ Releasing told made = is in cc)
-releasing-grows (first ∷ replies) reply told made is = stage-grows first replies reply ∙ ap grown is
 
 -- ---- one step
 

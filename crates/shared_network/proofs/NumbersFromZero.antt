@@ -2,6 +2,7 @@
 use Rattle.std.proofs.Common.{◌≡◌, ℕ, zero, suc, ◌<◌, Some, List, [], ◌∷◌, ◌++◌, length, refl, sym, ap, ◌∙◌, inl, inr, arith}
 use Rattle.shared_network.proofs.Words.{cases_lt, length-append, length-map, same_Some, slice_get, into_iter_items, into_iter_len, TableId, ActorNo, Link, up_to, own_drawn, Token, stamps_drawn}
 use Rattle.std.specs.declared.vec.IntoIter.{IntoIter}
+use Rattle.std.proofs.lemmas.List.{nil_from_length}
 use Rattle.link_ledger.proofs.OwnStaysExact.{get-left, get-last}
 use Rattle.shared_network.specs.Ready.{MayStep}
 
@@ -32,13 +33,9 @@ up_to-next n xs ys y is =
     let parts = length-append xs (y ∷ ys) in
     sym (same_Some (length xs) y (sym (up_to-get n (length xs) (omega (arith, long, parts))) ∙ ap (λ ns. slice_get ns (length xs)) (sym is) ∙ get-after xs ys y))
 
-empty : {X : Type 0} (xs : List X) → length xs ≡ 0 → xs ≡ []
-empty [] none = refl
-empty (x ∷ xs) none = absurd (omega (arith, none))
-
 -- an iterator over a vector that has no element left
 pub none-left : {X Z : Type 0} (it : IntoIter X Z) → into_iter_len it ≡ 0 → into_iter_items it ≡ []
-none-left it none = let rest = it.rest in empty (into_iter_items it) (omega (arith, none, rest))
+none-left it none = let rest = it.rest in nil_from_length (into_iter_items it) (omega (arith, none, rest))
 
 -- a pass that may step has drawn a stamp for each of its own entries, and no other
 pub drawn-count : (table : TableId) (owners : List ActorNo) (links : List Link) (pass : Token) → MayStep table owners links pass → stamps_drawn pass ≡ length pass.own

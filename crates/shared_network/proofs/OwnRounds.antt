@@ -1,7 +1,7 @@
 -- Each own entry of a pass stands in the journal that the pass knows of its link, so its reply is the legal one after a history of
 -- that link. So the packets that the replies to a plane's ticks set on their way fly to links of the network.
 use Rattle.std.proofs.Common.{◌≡◌, ℕ, zero, suc, ◌*◌, ◌^◌, ◌<◌, ◌≤◌, true, eqb, List, [], ◌∷◌, length, map, refl, sym, ap, subst, inl, inr, arith}
-use Rattle.shared_network.proofs.Words.{eq-eqb, length-map, length-reverse, reverse-append, reverse, TableId, link_number, ActorNo, IsLegal, Each, reply_to, clock_of, Link, SplitFits, Reply, Has, known_of, Mark, flight_in, mark_in, done_in, history_entry_of, marks_in, history_in, journal_of, told_after, own_at, own_entry, NextBelow, Token, IsLink, Entry, OwnEntry}
+use Rattle.shared_network.proofs.Words.{eq-eqb, length-map, length-reverse, reverse-append, reverse, TableId, link_number, ActorNo, IsLegal, Each, reply_to, clock_of, Link, SplitFits, Reply, Has, known_of, Mark, flight_in, mark_in, done_in, marks_in, history_in, journal_of, own_at, own_entry, NextBelow, Token, IsLink, Entry, OwnEntry}
 use Rattle.link_steps.specs.declared.replies.Entry.{Entry as Done}
 use Rattle.link_steps.proofs.FoundElements.{Each-passes}
 use Rattle.link_steps.proofs.SearchAndFilter.{Each-both, Each-filter, Each-if, Each-map, Each-mapped}
@@ -10,7 +10,7 @@ use Rattle.step_stamp.proofs.ListMembers.{each-has, has-left, has-right, has-eac
 use Rattle.shared_network.specs.Calls.{reply_in}
 use Rattle.shared_network.specs.Planes.{is_round, rounds_in}
 use Rattle.shared_network.specs.Ready.{KnowsLink, MayStep}
-use Rattle.shared_network.proofs.ToldAtClosing.{map-has}
+use Rattle.shared_network.proofs.ToldAtClosing.{map-has, told-marks}
 use Rattle.shared_network.proofs.RoundReplies.{AsksBelow, MayFly, round-flies}
 use Rattle.link_steps.proofs.ListParts.{Each-reverse}
 use Rattle.link_steps.proofs.ClockAdvances.{clock_of-most}
@@ -29,12 +29,6 @@ link-at : (links : List Link) (l : ℕ) → l < length links → (link : Link) �
 link-at [] l within = absurd (omega (arith, within))
 link-at (link ∷ links) zero within = (link, refl)
 link-at (link ∷ links) (suc l) within = link-at links l (omega (arith, within))
-
--- the marks of the journal that marks tell are these
-marks-told : (link : Link) (ms : List Mark) (past : List Done) → marks_in (told_after link past ms) ≡ ms
-unfolding told_after
-marks-told link [] past = refl
-marks-told link (m ∷ ms) past = ap (λ rest. m ∷ rest) (marks-told link ms (history_entry_of m (reply_to link past m.ask) ∷ past))
 
 -- an entry of a legal history, and the history before it
 record Answers (link : Link) (n : ℕ) (d : Done) : Type 0 where
@@ -65,7 +59,7 @@ module _ (table : TableId) (owners : List ActorNo) (links : List Link) (pass : T
     knew = may.knows l link is
 
     marks-are : marks_in journal ≡ known_of l pass.view
-    marks-are = marks-told link (known_of l pass.view) []
+    marks-are = told-marks link [] (known_of l pass.view)
 
     asks-below : Each (AsksBelow (length links)) (history_in journal)
     asks-below =

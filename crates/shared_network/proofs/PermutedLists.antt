@@ -1,19 +1,7 @@
--- What holds of each element, and numbers that all differ, through a change of the order.
+-- Numbers that all differ, through a change of the order.
 use Rattle.std.proofs.Common.{◌≡◌, ℕ, eqb, false, List, [], ◌∷◌, map, sym, ◌∙◌, inl, inr, ⊎_elim, ne_eqb}
-use Rattle.shared_network.proofs.Words.{All, IsDistinct, AllByRecursion, IsPermutation, cases_eq, eq-eqb, All-nil, All-cons, All-head, All-tail, All-permutation, IsPermutation-map, Each, Has, Differ}
+use Rattle.shared_network.proofs.Words.{IsDistinct, AllByRecursion, IsPermutation, cases_eq, eq-eqb, IsPermutation-map, Has, Differ}
 use Rattle.std.proofs.lemmas.Map.Keys.{IsDistinct-IsPermutation}
-
--- two ways to say what holds of each element
-pub each-all : {X : Type 0} (P : X → Type 0) (xs : List X) → Each P xs → All P xs
-each-all P [] each = All-nil P
-each-all P (x ∷ xs) each = All-cons P x xs each.0 (each-all P xs each.1)
-
-pub all-each : {X : Type 0} (P : X → Type 0) (xs : List X) → All P xs → Each P xs
-all-each P [] all = tt
-all-each P (x ∷ xs) all = (All-head P x xs all, all-each P xs (All-tail P x xs all))
-
-pub each-permuted : {X : Type 0} (P : X → Type 0) (xs ys : List X) → IsPermutation xs ys → Each P xs → Each P ys
-each-permuted P xs ys moved each = all-each P ys (All-permutation P xs ys moved (each-all P xs each))
 
 -- two ways to say that numbers differ
 apart-each : (n : ℕ) (ns : List ℕ) → (Has n ns → ⊥) → AllByRecursion (λ m. eqb n m ≡ false) ns

@@ -6,7 +6,7 @@ use Rattle.link_steps.specs.Journals.{IsLegalJournal}
 use Rattle.link_steps.proofs.SearchAndFilter.{Each-if, Each-append}
 use Rattle.step_stamp.specs.Seats.{Settled}
 use Rattle.step_stamp.specs.declared.marks.Drawn.{Drawn}
-use Rattle.step_stamp.proofs.ListMembers.{each-has, has-left, has-right}
+use Rattle.step_stamp.proofs.ListMembers.{each-has, has-left, has-right, begins-then, begins-itself}
 use Rattle.step_stamp.proofs.RisingStamps.{longer-whole, longer-second}
 use Rattle.shared_network.specs.Closing.{kept_pass, number_of, HaveGivenUp}
 use Rattle.shared_network.specs.Gathering.{token_actor, all_drawn, IsPartOf, AreGathered, IsSettled}
@@ -14,16 +14,10 @@ use Rattle.shared_network.specs.Ready.{MayStep}
 
 -- ---- prefixes
 
-pub prefix-same : {X : Type 0} (xs : List X) → IsPrefix xs xs
-prefix-same xs = ([], append-nil xs)
-
-pub prefix-then : {X : Type 0} (xs ys zs : List X) → IsPrefix xs ys → IsPrefix ys zs → IsPrefix xs zs
-prefix-then xs ys zs one other = (one.0 ++ other.0, sym (append_assoc xs one.0 other.0) ∙ ap (λ ws. ws ++ other.0) one.1 ∙ other.1)
-
 -- each of two lists in line begins the longer one
 longer-both : (xs ys : List Mark) → IsPrefix xs ys ⊎ IsPrefix ys xs → IsPrefix xs (longer xs ys) × IsPrefix ys (longer xs ys)
-longer-both xs ys (inl first) = (subst (IsPrefix xs) (sym (longer-second xs ys first)) first, subst (IsPrefix ys) (sym (longer-second xs ys first)) (prefix-same ys))
-longer-both xs ys (inr second) = (subst (IsPrefix xs) (sym (longer-whole xs xs ys refl second)) (prefix-same xs), subst (IsPrefix ys) (sym (longer-whole xs xs ys refl second)) second)
+longer-both xs ys (inl first) = (subst (IsPrefix xs) (sym (longer-second xs ys first)) first, subst (IsPrefix ys) (sym (longer-second xs ys first)) (begins-itself ys))
+longer-both xs ys (inr second) = (subst (IsPrefix xs) (sym (longer-whole xs xs ys refl second)) (begins-itself xs), subst (IsPrefix ys) (sym (longer-whole xs xs ys refl second)) second)
 
 -- ---- one pass after the other
 
@@ -50,7 +44,7 @@ gathered-first table owners links n pass v may among is =
       once = subst NoTwice (sym may.exact.drawn) (once-rises 0 pass.actor pass.own may.rises);
       actors_are = may.acts;
       among = among;
-      parts = ((λ l. prefix-same (known_of l pass.view)), tt);
+      parts = ((λ l. begins-itself (known_of l pass.view)), tt);
     })
 
 -- and one more
@@ -60,7 +54,7 @@ gathered-next table owners links n passes pass v w v' may is so joined = record 
   once = joined.once;
   actors_are = joined.actors ∙ (λ i. so.actors_are i ++ (is i).actors) ∙ ap (λ ns. map token_actor passes ++ ns) may.acts ∙ sym (map-append token_actor passes (pass ∷ []));
   among = joined.among ∙ so.among;
-  parts = Each-append (IsPartOf v') passes (pass ∷ []) (Each-if (IsPartOf v) (IsPartOf v') passes (λ p part l. prefix-then (known_of l p.view) (known_of l v) (known_of l v') (part l) (both l).0) so.parts)
+  parts = Each-append (IsPartOf v') passes (pass ∷ []) (Each-if (IsPartOf v) (IsPartOf v') passes (λ p part l. begins-then (known_of l p.view) (known_of l v) (known_of l v') (part l) (both l).0) so.parts)
       ((λ l. subst (λ (x : View). IsPrefix (known_of l x) (known_of l v')) is (both l).1), tt);
 } where
   both : (l : ℕ) → IsPrefix (known_of l v) (known_of l v') × IsPrefix (known_of l w) (known_of l v')

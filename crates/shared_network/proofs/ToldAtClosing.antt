@@ -7,14 +7,13 @@ use Rattle.link_steps.specs.declared.replies.Entry.{Entry as Done}
 use Rattle.link_steps.proofs.LegalJournals.{journals-are-histories}
 use Rattle.link_steps.proofs.SearchAndFilter.{Each-if}
 use Rattle.step_stamp.specs.declared.marks.Drawn.{Drawn}
-use Rattle.step_stamp.proofs.ListMembers.{each-has, has-each, has-split, has-kept, has-passed, get-has, has-get}
+use Rattle.step_stamp.proofs.ListMembers.{each-has, has-each, has-split, has-kept, has-passed, get-has, has-get, begins-then}
 use Rattle.link_ledger.proofs.JournalGrowth.{journal-told, told-append, past_after}
 use Rattle.link_ledger.proofs.OwnStaysExact.{get-left}
 use Rattle.shared_network.specs.Closing.{number_of, StandsIn, IsOfOne, IsClosed}
 use Rattle.shared_network.specs.Gathering.{token_actor, all_drawn, IsPartOf, AreAll, AreGathered, IsSettled, AreSettled}
 use Rattle.shared_network.proofs.ActorOrder.{actors-differ, one-place}
 use Rattle.shared_network.specs.Ready.{MayStep}
-use Rattle.shared_network.proofs.SeatsJoined.{prefix-then}
 use Rattle.shared_network.proofs.LinkNumbers.{numbered-at, numbered-length}
 use Rattle.link_steps.proofs.ListParts.{mapped-at, Each-at, comes-from, stands-at}
 
@@ -81,7 +80,7 @@ journal-begins : (link : Link) (known : List Mark) (entries : List Entry) → Is
 journal-begins link known entries legal begins = (told_after link (past_after link [] known) begins.0, sym (told-append link [] known begins.0) ∙ ap (journal_of link) begins.1 ∙ journal-told link entries legal)
 
 -- a journal that marks tell has these marks
-told-marks : (link : Link) (past : List Done) (ms : List Mark) → marks_in (told_after link past ms) ≡ ms
+pub told-marks : (link : Link) (past : List Done) (ms : List Mark) → marks_in (told_after link past ms) ≡ ms
 unfolding told_after
 told-marks link past [] = refl
 told-marks link past (m ∷ ms) = ap (λ xs. m ∷ xs) (told-marks link (history_entry_of m (reply_to link past m.ask) ∷ past) ms)
@@ -111,7 +110,7 @@ module _ (table : TableId) (owners : List ActorNo) (links : List Link) (passes :
       let placed = each-has (IsAtPlace pass.actor pass.view) e pass.own may.exact.placed has in
       let part = Each-at (IsPartOf v) passes i pass so.parts found in
       let legal : IsLegal link (history_in entries) = (journals-are-histories link (map done_in entries)).0 (there.0.legal link (ap (λ k. slice_get links k) there.1 ∙ at_link.1)) in
-      let begins : IsPrefix (known_of l pass.view) (marks_in entries) = prefix-then (known_of l pass.view) (known_of l v) (marks_in entries) (part l) (subst (λ k. IsPrefix (known_of k v) (marks_in entries)) there.1 there.0.begins) in
+      let begins : IsPrefix (known_of l pass.view) (marks_in entries) = begins-then (known_of l pass.view) (known_of l v) (marks_in entries) (part l) (subst (λ k. IsPrefix (known_of k v) (marks_in entries)) there.1 there.0.begins) in
       let told = journal-begins link (known_of l pass.view) entries legal begins in
       let at_mark = comes-from mark_in (journal_of link (known_of l pass.view)) (e.place - 1) (own_mark pass.actor e) (ap (λ ms. slice_get ms (e.place - 1)) (told-marks link [] (known_of l pass.view)) ∙ placed.here) in
       let x : Entry = at_mark.from in

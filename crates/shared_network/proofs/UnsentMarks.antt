@@ -1,18 +1,14 @@
 -- Marks in which nothing is submitted on a channel: those of its owner tell it, since nobody else asks for the channel.
 use Rattle.std.proofs.Common.{◌≡◌, ℕ, eqb, true, false, cond, List, [], ◌∷◌, map, refl}
-use Rattle.shared_network.proofs.Words.{eqb-false, actor_number, channel_number, ActorNo, ChanNo, Each, Ask, Submit, marks_of, Mark, IsOff, IsUnsent, NoneSent, mark_in, done_in, marks_in, history_in, OwnsAsk, IsOwner, Entry}
+use Rattle.shared_network.proofs.Words.{eqb-false, actor_number, channel_number, ActorNo, ChanNo, Each, marks_of, Mark, IsOff, IsUnsent, NoneSent, mark_in, done_in, marks_in, history_in, OwnsAsk, IsOwner, Entry}
 use Rattle.link_steps.specs.declared.replies.Entry.{Entry as Done}
 use Rattle.link_steps.proofs.SearchAndFilter.{Each-if, Each-map, Each-mapped}
 use Rattle.link_steps.proofs.ListParts.{Each-reverse}
 use Rattle.shared_network.proofs.HoldsByOwner.{off-ask, off-marks}
+use Rattle.channel_laws.proofs.UnsentSubmits.{off-unsent}
 
 abbrev pub AreUnsent : ℕ → List Mark → Type 0
 AreUnsent c ms = Each (λ (m : Mark). IsUnsent c m.ask) ms
-
--- an ask that names another channel, or none, submits nothing on it
-pub off-unsent : (c : ℕ) (ask : Ask) → IsOff c ask → IsUnsent c ask
-off-unsent c (Submit chan count gap size) off = off
-off-unsent c _ off = tt
 
 pub owner-unsent : (owners : List ActorNo) (a : ActorNo) (chan : ChanNo) (ms : List Mark) → IsOwner owners a chan → Each (λ (m : Mark). OwnsAsk owners m.actor m.ask) ms → AreUnsent (channel_number chan) (marks_of (actor_number a) ms) → AreUnsent (channel_number chan) ms
 owner-unsent owners a chan [] owner owned each = tt

@@ -9,6 +9,7 @@ use mathlib.Core.Option.{some}
 use lib.ListN.{get_elem?}
 use Rattle.atomic_table.specs.Table.{Me, Act, Valid, carried_after, keeps, Allows}
 use Rattle.net_units.specs.Numbers.{actor_number}
+use Rattle.net_units.proofs.ListPlaces.{length-passed}
 use Rattle.link_steps.specs.Lists.{Each}
 use Rattle.link_steps.proofs.SearchAndFilter.{Each-if, Each-append}
 use Rattle.step_stamp.specs.declared.marks.Drawn.{Drawn}
@@ -20,7 +21,7 @@ use Rattle.step_stamp.specs.Marks.{by_actor, of_actor, drawn_for}
 use Rattle.step_stamp.specs.Placing.{hand_at}
 use Rattle.step_stamp.specs.Rule.{Tally, HasSeen, Fits, HoldsList, HoldsActor, KeepsRule}
 use Rattle.step_stamp.specs.Views.{known_of, drew}
-use Rattle.step_stamp.proofs.ListMembers.{has-left, has-right, each-has, length-passed}
+use Rattle.step_stamp.proofs.ListMembers.{has-left, has-right, each-has}
 use Rattle.step_stamp.proofs.RisingStamps.{numbered-append, no-twice-more, most-drawn}
 use Rattle.step_stamp.proofs.MarkPlaces.{hand-here, hand-was, hand-else, placed-drawn, numbered-most}
 use Rattle.step_stamp.proofs.ViewsRemain.{stands-set}

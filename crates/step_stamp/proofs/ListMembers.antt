@@ -44,17 +44,14 @@ module _ {X : Type 0} where
       (λ _ h. ⊎_elim (λ (e : y ≡ x). inl e) (λ t. inr (has-kept p x xs t)) h)
       (λ _ h. inr (has-kept p x xs h))
 
-  pub length-passed : (p : X → Bool) (xs : List X) → length (filter p xs) ≤ length xs
-  length-passed p [] = omega arith
-  length-passed p (x ∷ xs) =
-      let rest = length-passed p xs in
-      cond_both (p x) (x ∷ filter p xs) (filter p xs) (λ l. length l ≤ suc (length xs)) (λ _. omega (arith, rest)) (λ _. omega (arith, rest))
-
   pub begins-nothing : (xs : List X) → IsPrefix [] xs
   begins-nothing xs = (xs, refl)
 
   pub begins-itself : (xs : List X) → IsPrefix xs xs
   begins-itself xs = ([], append-nil xs)
+
+  pub begins-then : (xs ys zs : List X) → IsPrefix xs ys → IsPrefix ys zs → IsPrefix xs zs
+  begins-then xs ys zs one other = (one.0 ++ other.0, sym (append_assoc xs one.0 other.0) ∙ ap (λ w. w ++ other.0) one.1 ∙ other.1)
 
   pub begins-longer : (xs ys zs : List X) → IsPrefix xs ys → IsPrefix xs (ys ++ zs)
   begins-longer xs ys zs p = (p.0 ++ zs, sym (append_assoc xs p.0 zs) ∙ ap (λ w. w ++ zs) p.1)

@@ -51,7 +51,7 @@ both-told (Err why) a b c g g' g'' f f' f'' text more first second = (gathers-th
 -- ---- the items of a list
 
 -- one item more
-flat-more : {X : Type 0} (line : X → List ℕ) (xs : List X) (i : ℕ) (x : X) → i < length xs → x ≡ get_or xs i x → flat_map line (take (i + 1) xs) ≡ flat_map line (take i xs) ++ line x
+pub flat-more : {X : Type 0} (line : X → List ℕ) (xs : List X) (i : ℕ) (x : X) → i < length xs → x ≡ get_or xs i x → flat_map line (take (i + 1) xs) ≡ flat_map line (take i xs) ++ line x
 flat-more line xs i x inside is =
     ap (flat_map line) (take_more xs i x inside ∙ ap (λ y. take i xs ++ y ∷ []) (sym is)) ∙ flat_map-append line (take i xs) (x ∷ [])
     ∙ ap (λ rest. flat_map line (take i xs) ++ rest) (append-nil (line x))

@@ -26,6 +26,7 @@ use Rattle.call_script.specs.declared.tasks.Task.{Task}
 use Rattle.run_record.specs.Rows.{offer_by, is_to, links_of, place_in, hop_among}
 use Rattle.run_record.specs.Runs.{replies_to}
 use Rattle.run_record.specs.declared.done.Done.{Done}
+use Rattle.run_record.proofs.KeptRows.{links-more}
 use Rattle.run_engine.specs.replies.Answers.{IsReplyOf}
 use Rattle.run_engine.specs.runs.Runs.{IsNext, IsRun}
 use Rattle.run_engine.specs.replies.Verdicts.{is_setup_ask, setup_replies}
@@ -78,24 +79,17 @@ offer-asked network request owner tasks past done full found is next offer =
 
 -- ---- the links that have made offers
 
-links-append : (c : ℕ) (xs ys : List Done) → links_of c (xs ++ ys) ≡ links_of c xs ++ links_of c ys
-unfolding links_of
-links-append c [] ys = refl
-links-append c (done ∷ xs) ys =
-    let rest = links-append c xs ys in
-    elim (cases_Bool (is_to c (offer_by done.ask done.reply))) [ inl on ↦ rw (on, rest) refl | inr off ↦ rw (off, rest) refl ]
-
 links-one : (c : ℕ) (past : List Done) (done : Done) → is_to c (offer_by done.ask done.reply) ≡ true → links_of c (reverse (done ∷ past)) ≡ links_of c (reverse past) ++ link_number done.link ∷ []
 unfolding links_of
 links-one c past done on =
     let one : links_of c (done ∷ []) ≡ link_number done.link ∷ [] = rw on refl in
-    ap (links_of c) (reverse-append (done ∷ []) past) ∙ links-append c (reverse past) (done ∷ []) ∙ ap (λ ls. links_of c (reverse past) ++ ls) one
+    ap (links_of c) (reverse-append (done ∷ []) past) ∙ links-more c (reverse past) (done ∷ []) ∙ ap (λ ls. links_of c (reverse past) ++ ls) one
 
 links-kept : (c : ℕ) (past : List Done) (done : Done) → is_to c (offer_by done.ask done.reply) ≡ false → links_of c (reverse (done ∷ past)) ≡ links_of c (reverse past)
 unfolding links_of
 links-kept c past done off =
     let none : links_of c (done ∷ []) ≡ [] = rw off refl in
-    ap (links_of c) (reverse-append (done ∷ []) past) ∙ links-append c (reverse past) (done ∷ []) ∙ ap (λ ls. links_of c (reverse past) ++ ls) none ∙ append-nil _
+    ap (links_of c) (reverse-append (done ∷ []) past) ∙ links-more c (reverse past) (done ∷ []) ∙ ap (λ ls. links_of c (reverse past) ++ ls) none ∙ append-nil _
 
 -- ---- the replies to the setup
 

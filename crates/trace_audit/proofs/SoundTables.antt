@@ -1,8 +1,8 @@
 -- What a sound table tells of its packets.
-use Rattle.std.proofs.Common.{◌≡◌, ℕ, zero, suc, ◌+◌, ◌<◌, ◌≤◌, true, List, [], ◌∷◌, length, get_or, map, take, Option, Some, None, refl, sym, ap, ◌∙◌, subst, inl, inr, arith}
+use Rattle.std.proofs.Common.{◌≡◌, ℕ, suc, ◌+◌, ◌<◌, ◌≤◌, true, List, [], ◌∷◌, length, get_or, map, take, Option, Some, refl, sym, ap, ◌∙◌, subst, inl, inr, arith}
 use Rattle.std.proofs.lemmas.Bool.{eq-eqb, and_from}
 use Rattle.std.proofs.lemmas.List.{take_all, reverse-reverse}
-use Rattle.std.proofs.lemmas.Option.{same_Some, slice_get_within}
+use Rattle.std.proofs.lemmas.Option.{slice_get_within}
 use Rattle.std.specs.List.{slice_get}
 use Rattle.std.specs.Prelude.{nat_eq, reverse}
 use Rattle.net_units.specs.Allotted.{levels_of}
@@ -20,6 +20,7 @@ use Rattle.link_steps.proofs.ListParts.{Each-at, stands-at, comes-from, Among-re
 use Rattle.link_steps.proofs.FoundElements.{Each-from_among}
 use Rattle.link_steps.proofs.PacketRows.{Among-passes}
 use Rattle.relaxation.specs.Allotment.{bound_at_end, IsWithin}
+use Rattle.relaxation.proofs.SlackShares.{bound_at_end-last}
 use Rattle.setup_protocol.specs.Hops.{IsHopOf}
 use Rattle.setup_protocol.specs.Requests.{kind_of, jitter_of}
 use Rattle.call_script.specs.Parts.{PlanParts}
@@ -181,16 +182,6 @@ row-kept plan levels table row plan_is accepted all in_table =
       at_once = λ kept. first-at_once plan levels table row first.0 all (channel_number row.chan) is (omega (arith, within)) refl first.1 kept;
     }
 
--- the bound of the last hop
-pub end-bound : (hops : List Hop) (levels : List ℕ) (i : ℕ) (hop : Hop) → length levels ≡ suc i → slice_get hops i ≡ Some hop → bound_at_end hops levels ≡ bound_at hop.bounds (get_or levels i 0)
-unfolding bound_at_end
-end-bound [] levels i hop count found = absurd (let clash : None ≡ Some hop = found in cc)
-end-bound (first ∷ hops) [] i hop count found = absurd (omega (arith, count))
-end-bound (first ∷ hops) (level ∷ []) zero hop count found = ap (λ h. bound_at h.bounds level) (same_Some first hop found)
-end-bound (first ∷ hops) (level ∷ []) (suc i) hop count found = absurd (omega (arith, count))
-end-bound (first ∷ hops) (level ∷ next ∷ levels) zero hop count found = absurd (omega (arith, count))
-end-bound (first ∷ hops) (level ∷ next ∷ levels) (suc i) hop count found = end-bound hops (next ∷ levels) i hop (omega (arith, count)) found
-
 rows-close : (plan : PlanParts) (levels : List (Option Levels)) (table : List HopRow) → IsPlan plan → AreAccepted plan levels → IsSound plan levels table
     → (one other first_one first_other : HopRow) (at : RowHop plan levels one) → Among one table → Among other table → channel_number other.chan ≡ channel_number one.chan → other.hop ≡ one.hop → IsLastHop plan levels one at
     → IsFirstOf table one first_one → IsFirstOf table other first_other → kind_of at.entry.request.control ≡ Jitter → SourceKept at.entry.request (channel_number one.chan) table → AreClose plan levels one other first_one first_other at
@@ -214,7 +205,7 @@ rows-close plan levels table plan_is accepted all one other first_one first_othe
     let keeps = accepted.keep (channel_number one.chan) at.entry at.given at.requested at.accepted in
     let whole = is.whole in
     let bound : bound_at_end at.entry.request.route (levels_of at.given) ≡ bound_at at.hop.bounds (get_or (levels_of at.given) at.index 0) =
-    end-bound at.entry.request.route (levels_of at.given) at.index at.hop (omega (arith, whole, last)) at.stands in
+    bound_at_end-last at.entry.request.route (levels_of at.given) at.index at.hop (omega (arith, whole, last)) at.stands in
     record {
       close = omega (arith, under, over, one_first, other_first, one_once, other_once, most, least, one_tick, other_tick);
       bound = subst (IsWithin (jitter_of at.entry.request.control)) bound keeps.in_jitter;

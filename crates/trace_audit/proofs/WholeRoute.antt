@@ -6,6 +6,7 @@ use Rattle.std.proofs.lemmas.Option.{get_or_from_slice_get}
 use Rattle.std.proofs.Math.Seq.{take-suc}
 use Rattle.std.specs.List.{slice_get}
 use Rattle.std.specs.Prelude.{reverse, filter}
+pub use Rattle.std.proofs.lemmas.List.Elements.{filter-append}
 use Rattle.net_units.specs.Allotted.{levels_of}
 use Rattle.net_units.specs.LevelBounds.{bound_at}
 use Rattle.net_units.specs.declared.Kind.TheVariants.{Jitter}
@@ -36,12 +37,6 @@ use Rattle.trace_audit.proofs.TableInOrder.{RowsAreNumbered, none-before, at-par
 use Rattle.trace_audit.proofs.RowTerms.{IsGiven}
 
 -- ---- lists
-
-pub filter-append : {X : Type 0} (test : X → Bool) (xs ys : List X) → filter test (xs ++ ys) ≡ filter test xs ++ filter test ys
-filter-append test [] ys = refl
-filter-append test (x ∷ xs) ys =
-    let rest = filter-append test xs ys in
-    elim (cases_Bool (test x)) [ inl passed ↦ rw (passed, rest) refl | inr failed ↦ rw (failed, rest) refl ]
 
 pub filter-reverse : {X : Type 0} (test : X → Bool) (xs : List X) → filter test (reverse xs) ≡ reverse (filter test xs)
 filter-reverse test [] = refl

@@ -6,4 +6,6 @@ pub mod WindowsAreBounded
 pub mod LongerWindows
 pub mod AdmissionTest
 pub mod LoadLimits
+pub mod NoNumberFails
+pub mod TicksInOrder
 mod Worked

@@ -9,10 +9,10 @@ use Rattle.link_steps.proofs.LegalOrder.{legal-order}
 use Rattle.link_steps.proofs.RowsInOrder.{IsInOrder}
 use Rattle.link_steps.proofs.SearchAndFilter.{Each-find, find-map}
 use Rattle.link_steps.proofs.ReservationFound.{deny-tells}
+use Rattle.link_steps.proofs.PlanRises.{planned-count}
 use Rattle.channel_laws.proofs.ChannelRows.{find-passes}
 use Rattle.channel_laws.proofs.PlanLaw.{On}
 use Rattle.channel_laws.proofs.UnsentPlans.{LaterEmpty, later-empty}
-use Rattle.channel_laws.proofs.FewLeft.{planned-count}
 
 -- the whole plan of a row, if it is of the channel
 plan_of : ℕ → Row → ℕ

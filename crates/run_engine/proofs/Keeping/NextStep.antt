@@ -1,9 +1,10 @@
 -- The next step of a run is made: what is asked meets the conditions of the link, the entry is the next of the run, and what is kept
 -- stands for the run with it.
 use Rattle.std.proofs.Common.{◌≡◌, ◌≢◌, ℕ, suc, ◌+◌, ◌<◌, ◌≤◌, Some, List, [], ◌∷◌, ◌++◌, length, take, get_or, reverse, refl, sym, ap, ◌∙◌, subst, nat_le, ◌&&◌, arith}
+use Rattle.std.proofs.lemmas.Bool.{and_parts}
 use Rattle.run_engine.proofs.Words.{leb-true, length-map, reverse-append, slice_get_within, slice_get, link_number, actor_number, ActorNo, LinkNo, any_rules, AnyStands, AnyLink, AskFits, reply_to, Ask, Entry, Reply, PlanParts, IsPlan, entry_link, groups_in, network_of, next_for, IsNext, IsRun, entry_of, part_of, replies_to, Done}
 use Rattle.call_script.proofs.PlansFit.{plan-fits}
-use Rattle.call_script.proofs.RulesAreKept.{both, keeps-rules}
+use Rattle.call_script.proofs.RulesAreKept.{keeps-rules}
 use Rattle.call_script.proofs.Walks.{before-at}
 use Rattle.call_script.specs.Rules.{are_few}
 use Rattle.run_engine.specs.runs.Linked.{IsLinkThere}
@@ -19,8 +20,8 @@ pub callers-few : (parts : PlanParts) → IsPlan parts → length parts.callers 
 unfolding are_few
 callers-few parts plan =
     let rules = keeps-rules parts plan.kept in
-    let counts = both (nat_le (length parts.links) 32 && nat_le (length parts.callers) 64) (nat_le (length parts.requests) 1024) rules.few in
-    let callers = both (nat_le (length parts.links) 32) (nat_le (length parts.callers) 64) counts.0 in
+    let counts = and_parts (nat_le (length parts.links) 32 && nat_le (length parts.callers) 64) (nat_le (length parts.requests) 1024) rules.few in
+    let callers = and_parts (nat_le (length parts.links) 32) (nat_le (length parts.callers) 64) counts.0 in
     leb-true (length parts.callers) 64 callers.1
 
 -- how many links and rounds a plan has

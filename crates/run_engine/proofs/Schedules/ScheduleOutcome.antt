@@ -6,8 +6,8 @@ use Rattle.run_engine.specs.schedules.Schedules.{Turn, actor_in, turn_of, repeat
 use Rattle.run_engine.specs.runs.Turns.{most_left}
 use Rattle.run_engine.proofs.Runs.RunOf.{step-run, none-run, from-run}
 use Rattle.run_engine.proofs.Tasks.StepsRunOut.{makes-one}
-use Rattle.run_record.proofs.OneSortedList.{head-of}
 use Rattle.run_engine.proofs.Keeping.Lookups.{tail-same}
+use Rattle.net_units.proofs.ListPlaces.{head-same}
 
 -- ---- turns one after the other
 
@@ -158,13 +158,13 @@ module _ (network : Network) where
   same-stop : (past : List Done) (before other : List Turn) (turn turn_other : Turn) (after after_other : List Turn) → before ++ turn ∷ after ≡ other ++ turn_other ∷ after_other → HaveSteps network past (map actor_in before) → HaveSteps network past (map actor_in other)
       → next_for network (actor_number turn.actor) (run_from network past (map actor_in before)) ≡ None → next_for network (actor_number turn_other.actor) (run_from network past (map actor_in other)) ≡ None → SameStop before other turn turn_other
   unfolding HaveSteps run_from
-  same-stop past [] [] turn turn_other after after_other same have have_other over over_other = record { befores = refl; turns = head-of turn turn_other after after_other same }
+  same-stop past [] [] turn turn_other after after_other same have have_other over over_other = record { befores = refl; turns = head-same turn after turn_other after_other same }
   same-stop past [] (first ∷ other) turn turn_other after after_other same have have_other over over_other =
-      absurd (not-left _ over (subst (λ (t : Turn). IsSome (next_for network (actor_number t.actor) past)) (sym (head-of turn first after (other ++ turn_other ∷ after_other) same)) have_other.0))
+      absurd (not-left _ over (subst (λ (t : Turn). IsSome (next_for network (actor_number t.actor) past)) (sym (head-same turn after first (other ++ turn_other ∷ after_other) same)) have_other.0))
   same-stop past (first ∷ before) [] turn turn_other after after_other same have have_other over over_other =
-      absurd (not-left _ over_other (subst (λ (t : Turn). IsSome (next_for network (actor_number t.actor) past)) (head-of first turn_other (before ++ turn ∷ after) after_other same) have.0))
+      absurd (not-left _ over_other (subst (λ (t : Turn). IsSome (next_for network (actor_number t.actor) past)) (head-same first (before ++ turn ∷ after) turn_other after_other same) have.0))
   same-stop past (first ∷ before) (second ∷ other) turn turn_other after after_other same have have_other over over_other =
-      let head : second ≡ first = sym (head-of first second (before ++ turn ∷ after) (other ++ turn_other ∷ after_other) same) in
+      let head : second ≡ first = sym (head-same first (before ++ turn ∷ after) second (other ++ turn_other ∷ after_other) same) in
       let mine : HaveSteps network (step network first.actor past) (map actor_in other) = subst (λ (t : Turn). HaveSteps network (step network t.actor past) (map actor_in other)) head have_other.1 in
       let ends : next_for network (actor_number turn_other.actor) (run_from network (step network first.actor past) (map actor_in other)) ≡ None = subst (λ (t : Turn). next_for network (actor_number turn_other.actor) (run_from network (step network t.actor past) (map actor_in other)) ≡ None) head over_other in
       let rest = same-stop (step network first.actor past) before other turn turn_other after after_other (tail-same first (before ++ turn ∷ after) second (other ++ turn_other ∷ after_other) same) have.1 mine over ends in

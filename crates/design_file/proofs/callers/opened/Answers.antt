@@ -1,7 +1,7 @@
 use Rattle.std.proofs.Common.{◌∙◌, refl}
 use Rattle.call_script.specs.Parts.{opening_of}
-use Rattle.design_file.proofs.ListSteps.{mapped-more, mapped-all}
 use Rattle.design_file.proofs.callers.opened.Goals as goal
+use Rattle.net_units.proofs.ListSteps.{mapped-more, mapped-all}
 
 pub loop-entry-preserved : goal.loop-entry-preserved
 loop-entry-preserved c =

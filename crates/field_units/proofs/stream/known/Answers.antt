@@ -1,6 +1,6 @@
 use Rattle.std.proofs.Common.{arith}
 use Rattle.traffic_contract.specs.Contract.{terms_of}
-use Rattle.field_units.proofs.TermsWithinLimits.{no-number-fails}
+use Rattle.traffic_contract.proofs.NoNumberFails.{no-number-fails}
 use Rattle.field_units.proofs.stream.known.Goals as goal
 
 pub unreachable-requires : goal.unreachable-requires

@@ -2,10 +2,10 @@
 use Rattle.std.proofs.Common.{◌≡◌, suc, ◌+◌, take, false, Some, sym, ap, ◌∙◌, subst, arith}
 use Rattle.std.proofs.lemmas.Option.{slice_get-get_or}
 use Rattle.std.specs.Prelude.{not, is_some, slice_get}
+use Rattle.std.proofs.lemmas.List.{take_all}
 use Rattle.link_server.specs.Held.{reservations_held, seen_of}
 use Rattle.link_quota.specs.Closing.{AreLowered}
 use Rattle.link_quota.specs.Places.{HavePart, AreRaisedBy}
-use Rattle.link_quota.proofs.SharesRowByRow.{take-all}
 use Rattle.link_quota.proofs.ClosingShares.{lowered-none, lowered-more, lowered-same, part-gone}
 use Rattle.link_quota.proofs.closing.give_back_expired.Goals as goal
 use Rattle.link_quota.proofs.closing.give_back_expired.Goals.{then-is_none, else-is_none}
@@ -39,5 +39,5 @@ loop-place-preserved c =
 pub returns : goal.returns
 returns c =
     subst (λ rows. AreLowered (record { shape = c.args.link.now.shape; split = c.args.split.now }) (reservations_held c.args.link.now) rows c.args.shares.now c.loop-place.shares)
-    (take-all c.args.rows.now c.loop-place.place c.loop-place-test.false)
+    (take_all c.loop-place.place c.args.rows.now c.loop-place-test.false)
     c.loop-place.invariant

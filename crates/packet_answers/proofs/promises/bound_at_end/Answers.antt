@@ -2,8 +2,9 @@ use Rattle.std.proofs.Common.{◌≡◌, ◌-◌, Some, length, get_or, subst, s
 use Rattle.std.specs.List.{slice_get}
 use Rattle.net_units.specs.Allotted.{levels_of}
 use Rattle.net_units.specs.LevelBounds.{bound_at}
-use Rattle.packet_answers.proofs.PromiseSteps.{bound_at_end-at, long-at_end, none-at_end}
+use Rattle.packet_answers.proofs.PromiseSteps.{long-at_end, none-at_end}
 use Rattle.packet_answers.proofs.promises.bound_at_end.Goals as goal
+use Rattle.relaxation.proofs.SlackShares.{bound_at_end-at}
 
 pub returns-then-count-eq0 : goal.returns-then-count-eq0
 returns-then-count-eq0 c = none-at_end c.args.route.now (levels_of c.args.levels.now) (sym c.len-count.ensures.value ∙ c.if-count-eq0.true)

@@ -1,6 +1,6 @@
 use Rattle.std.proofs.Common.{reverse, sym, ◌∙◌}
-use Rattle.packet_audit.proofs.TrailsOfRows.{follow-then, follow-else}
 use Rattle.packet_audit.proofs.trail.follows.Goals as goal
+use Rattle.traffic_contract.proofs.TicksInOrder.{follow-then, follow-else}
 
 pub returns-then-is_after : goal.returns-then-is_after
 returns-then-is_after c =

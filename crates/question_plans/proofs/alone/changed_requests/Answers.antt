@@ -1,7 +1,7 @@
 use Rattle.std.proofs.Common.{refl, ◌∙◌}
 use Rattle.question_plans.specs.Alone.{changed}
-use Rattle.question_plans.proofs.ListsMade.{mapped-more, mapped-all}
 use Rattle.question_plans.proofs.alone.changed_requests.Goals as goal
+use Rattle.net_units.proofs.ListSteps.{mapped-more, mapped-all}
 
 pub loop-entry-preserved : goal.loop-entry-preserved
 loop-entry-preserved c =

@@ -1,7 +1,7 @@
 use Rattle.std.proofs.Common.{◌∙◌}
-use Rattle.question_plans.proofs.ListsMade.{copied-more, copied-all}
 use Rattle.question_plans.proofs.OpensMade.{put-quotas, with-quotas}
 use Rattle.question_plans.proofs.alone.links_of.Goals as goal
+use Rattle.net_units.proofs.ListSteps.{copied-more, copied-all}
 
 pub loop-link-preserved : goal.loop-link-preserved
 loop-link-preserved c =

@@ -1,8 +1,8 @@
 use Rattle.std.proofs.Common.{ap, ◌∙◌}
 use Rattle.question_plans.specs.Alone.{opens_in, opens_of}
-use Rattle.question_plans.proofs.ListsMade.{mapped-more, mapped-all}
 use Rattle.question_plans.proofs.OpensMade.{put-ops, with-ops}
 use Rattle.question_plans.proofs.alone.opening_callers.Goals as goal
+use Rattle.net_units.proofs.ListSteps.{mapped-more, mapped-all}
 
 pub loop-caller-preserved : goal.loop-caller-preserved
 loop-caller-preserved c =

@@ -1,7 +1,7 @@
 use Rattle.std.proofs.Common.{◌∙◌}
-use Rattle.question_plans.proofs.ListsMade.{copied-more, copied-all}
 use Rattle.question_plans.proofs.OpensMade.{put-ops, with-same-ops}
 use Rattle.question_plans.proofs.kept.callers_of.Goals as goal
+use Rattle.net_units.proofs.ListSteps.{copied-more, copied-all}
 
 pub loop-caller-preserved : goal.loop-caller-preserved
 loop-caller-preserved c =

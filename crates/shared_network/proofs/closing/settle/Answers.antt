@@ -1,8 +1,8 @@
 use Rattle.std.proofs.Common.{◌≡◌, List, ◌++◌, length, take, drop, sym, ap, ◌∙◌, subst, arith}
 use Rattle.shared_network.proofs.Words.{append-nil, drop_all, take_all, length_permutation, Each, up_to, pass_view, Journal}
 use Rattle.shared_network.specs.Gathering.{IsBelow, IsSettled, AreSettled}
-use Rattle.shared_network.proofs.PermutedLists.{each-permuted}
 use Rattle.shared_network.proofs.closing.settle.Goals as goal
+use Rattle.link_steps.proofs.ListParts.{Each-permuted}
 
 pub put_in_order-requires-clause-below : goal.put_in_order-requires-clause-below
 put_in_order-requires-clause-below g c =
@@ -27,5 +27,5 @@ returns g c =
     subst (AreSettled g.H.Home.links (pass_view c.args.seat)) (sym whole)
     (record {
       numbers = c.put_in_order.ensures.order ∙ ap up_to (same ∙ told.all ∙ c.requires.all);
-      settled = each-permuted (IsSettled g.H.Home.links (pass_view c.args.seat)) before after c.put_in_order.ensures.same (subst (Each (IsSettled g.H.Home.links (pass_view c.args.seat))) (sym value) told.settled);
+      settled = Each-permuted (IsSettled g.H.Home.links (pass_view c.args.seat)) before after c.put_in_order.ensures.same (subst (Each (IsSettled g.H.Home.links (pass_view c.args.seat))) (sym value) told.settled);
     })

@@ -1,6 +1,6 @@
-use Rattle.std.proofs.Common.{◌≡◌, length, sym, ap, ◌∙◌, subst, IfOk}
-use Rattle.std.specs.Prelude.{Result, Ok, Err}
+use Rattle.std.proofs.Common.{◌≡◌, length, sym, ap, ◌∙◌, subst}
 use Rattle.std.specs.Sync.Mutex.{mutex_guard_value}
+use Rattle.std.proofs.lemmas.Result.{IfOk-weaker}
 use Rattle.net_units.specs.Numbers.{link_number}
 use Rattle.step_stamp.specs.Seats.{pass_view}
 use Rattle.step_stamp.specs.Views.{known_of}
@@ -9,17 +9,13 @@ use Rattle.link_ledger.specs.Own.{Acted}
 use Rattle.link_ledger.specs.Tokens.{IsLink}
 use Rattle.link_ledger.proofs.locked.LockedLink.acted.Goals as goal
 
-if-ok : {T E : Type 0} (P Q : T → Type 0) (r : Result T E) → ((x : T) → P x → Q x) → IfOk r P → IfOk r Q
-if-ok P Q (Ok x) follows holds = follows x holds
-if-ok P Q (Err e) follows holds = holds
-
 pub returns-clause-acted : goal.returns-clause-acted
 returns-clause-acted g c =
     let held : HeldLink = c.deref_mut.result.now in
     let took = c.taken-held.ensures in
     let same : held ≡ mutex_guard_value c.taken-held.result = c.deref_mut.ensures.value in
     let number : held.number ≡ link_number c.args.self.now.link = ap (λ (h : HeldLink). h.number) same ∙ took.number in
-    if-ok _ _ c.act.result
+    IfOk-weaker c.act.result _ _
     (λ e acted. record {
       link = held.rules;
       is_link = subst (λ (h : HeldLink). IsLink g.H.Home.links (link_number c.args.self.now.link) h.rules) (sym same) took.rules;
@@ -33,4 +29,4 @@ returns-clause-order g c =
     let held : HeldLink = c.deref_mut.result.now in
     let same : held ≡ mutex_guard_value c.taken-held.result = c.deref_mut.ensures.value in
     let number : held.number ≡ link_number c.args.self.now.link = ap (λ (h : HeldLink). h.number) same ∙ c.taken-held.ensures.number in
-    if-ok _ _ c.act.result (λ e order. subst (λ n. AreInOrder g.H.Home.owners (length g.H.Home.links) (known_of n (pass_view c.act.new.pass))) number order) c.act.ensures.order
+    IfOk-weaker c.act.result _ _ (λ e order. subst (λ n. AreInOrder g.H.Home.owners (length g.H.Home.links) (known_of n (pass_view c.act.new.pass))) number order) c.act.ensures.order

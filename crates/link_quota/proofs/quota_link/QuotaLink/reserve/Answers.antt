@@ -3,6 +3,7 @@ use Rattle.std.proofs.Common.{◌≡◌, List, ◌∷◌, None, refl, sym, ap, �
 use Rattle.std.specs.Vec.{vec_capacity}
 use Rattle.net_units.specs.Numbers.{level_number}
 use Rattle.net_units.specs.LevelBounds.{reach_of}
+use Rattle.net_units.proofs.ByCases.{on-err}
 use Rattle.link_steps.specs.declared.replies.Entry.{Entry}
 use Rattle.link_steps.specs.declared.replies.Reply.TheVariants.{Offer, Refused}
 use Rattle.link_steps.specs.Account.{StandsFor}
@@ -24,7 +25,7 @@ use Rattle.link_quota.specs.declared.share.Share.{Share}
 use Rattle.link_quota.proofs.SomeLegalHistory.{stood-goes, stood-same, shares-kept, shares-setup, reserve-legal, refused-enters, offer-may-be, offers-new, offered-none}
 use Rattle.link_quota.proofs.ClosingRoom.{room-more, room-reserved, room-same}
 use Rattle.link_quota.proofs.ClosingSteps.{closing-kept, closing-reserved}
-use Rattle.link_quota.proofs.SplitSteps.{on-err, instead-offered, written-back, small-after, small-shares}
+use Rattle.link_quota.proofs.SplitSteps.{instead-offered, written-back, small-after, small-shares}
 use Rattle.link_server.proofs.LinkRests.{due-now}
 use Rattle.link_quota.proofs.quota_link.QuotaLink.reserve.Goals as goal
 use Rattle.link_quota.proofs.quota_link.QuotaLink.reserve.Goals.{In_ok-reply-in-Ok, In_err-reply-in-Ok}
@@ -46,16 +47,16 @@ returns-in-Err-clause-goes c = record {
 
 pub returns-in_err-reserve-in-Ok-clause-instead : goal.returns-in_err-reserve-in-Ok-clause-instead
 returns-in_err-reserve-in-Ok-clause-instead c =
-    on-err _ c.from_residual.result
+    on-err c.from_residual.result
     (instead-offered (rules_of c.args.self.now) (account_in c.args.self.now.link) c.in-Reserve.chan c.in-Reserve.contract c.in-Reserve.kind c.in-Reserve.delay c.in-Reserve.up_reach c.in-Reserve.first c.in-Reserve.next c.args.ask.now c.in-Ok.level _ c.in-Reserve.is c.in-Ok.ensures.reply)
 
 pub returns-in_err-reply-in-Ok-clause-instead : goal.returns-in_err-reply-in-Ok-clause-instead
 returns-in_err-reply-in-Ok-clause-instead c =
-    on-err _ c.from_residual-in_err-reply-in-Ok.result
+    on-err c.from_residual-in_err-reply-in-Ok.result
     (instead-offered (rules_of c.args.self.now) (account_in c.args.self.now.link) c.in-Reserve.chan c.in-Reserve.contract c.in-Reserve.kind c.in-Reserve.delay c.in-Reserve.up_reach c.in-Reserve.first c.in-Reserve.next c.args.ask.now c.in-Ok.level _ c.in-Reserve.is c.in-Ok.ensures.reply)
 
 pub returns-in_err-reply-in-Ok-clause-memory : goal.returns-in_err-reply-in-Ok-clause-memory
-returns-in_err-reply-in-Ok-clause-memory c = on-err _ c.from_residual-in_err-reply-in-Ok.result (λ h stands. (goal.at.returns-in_err-reply-in-Ok-clause-memory c).In_err-reply-in-Ok.in_err-reply-in-Ok.ensures.memory h stands)
+returns-in_err-reply-in-Ok-clause-memory c = on-err c.from_residual-in_err-reply-in-Ok.result (λ h stands. (goal.at.returns-in_err-reply-in-Ok-clause-memory c).In_err-reply-in-Ok.in_err-reply-in-Ok.ensures.memory h stands)
 
 pub invariant_of-self-in-Break-branch-2 : goal.invariant_of-self-in-Break-branch-2
 invariant_of-self-in-Break-branch-2 c =

@@ -1,17 +1,17 @@
 use Rattle.std.proofs.Common.{◌≡◌, ◌∙◌, ap, arith, length, subst, sym}
-use Rattle.std.proofs.lemmas.Option.{same_Some}
+use Rattle.std.proofs.lemmas.Option.{same_Some, slice_get_within}
 use Rattle.std.specs.List.{slice_get}
 use Rattle.net_units.specs.Allotted.{levels_of}
 use Rattle.hop_reservation.specs.Offers.{delay_over}
 use Rattle.setup_protocol.specs.Laws.{KeepsRequest}
 use Rattle.call_script.specs.declared.entries.RequestEntry.{RequestEntry}
 use Rattle.scenario_reader.specs.AuditReading.{AuditSaid}
-use Rattle.scenario_reader.proofs.AuditKeeps.{place-within, report-count, within-keeps}
+use Rattle.scenario_reader.proofs.AuditKeeps.{report-count, within-keeps}
 use Rattle.scenario_reader.proofs.audit.draft.AuditDraft.acceptance.Goals as goal
 
 pub returns-then-are_within-clause-within : goal.returns-then-are_within-clause-within
 returns-then-are_within-clause-within c =
-    let there = place-within c.self.inside.draft.requests _ c.in_ok-entry.entry c.in_ok-entry.ensures.there in
+    let there = slice_get_within c.self.inside.draft.requests _ c.in_ok-entry.entry c.in_ok-entry.ensures.there in
     let count = report-count _ c.self.invariant (ap (λ (r : AuditSaid). r.place) c.self.view_is ∙ c.requires) in
     omega (arith, there, count, c.get-request.ensures.value, ap (λ (r : AuditSaid). length r.levels) c.self.view_is)
 
