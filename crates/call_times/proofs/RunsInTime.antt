@@ -4,31 +4,29 @@ use Rattle.std.proofs.Math.Nat.{min-eq_right}
 use Rattle.std.proofs.lemmas.Bool.{cases_eq, cases_lt, eq-eqb, ne_eqb}
 use Rattle.std.proofs.lemmas.List.{append_assoc, append-nil}
 use Rattle.std.proofs.lemmas.Option.{same_Some, slice_get_within}
-use Rattle.std.specs.List.{slice_get}
 use Rattle.std.specs.Option.{is_some}
-use Rattle.std.specs.Prelude.{nat_eq, if◌then◌else◌, Option}
+use Rattle.std.specs.Prelude.{Option}
 use Rattle.net_units.specs.Numbers.{actor_at, actor_number}
 use Rattle.net_units.specs.declared.numbers.ActorNo.{ActorNo}
 use Rattle.net_units.specs.declared.numbers.LinkNo.{LinkNo}
 use Rattle.link_steps.specs.declared.asks.Ask.{Ask}
 use Rattle.link_steps.specs.declared.replies.Reply.{Reply}
 use Rattle.call_script.specs.Parts.{PlanParts}
-use Rattle.call_script.specs.Plans.{IsPlan}
 use Rattle.call_script.specs.Tasks.{Network, network_of}
 use Rattle.call_script.specs.declared.operations.Op.{Op}
 use Rattle.call_script.specs.declared.schedule.Do.{Do}
 use Rattle.call_script.specs.declared.schedule.Schedule.{Schedule}
+use Rattle.call_script.proofs.PlansFit.{links-are}
 use Rattle.link_steps.specs.Lists.{Each}
-use Rattle.tick_plane.specs.Planes.{Plane, next_due, plane_after, plane_with, plane_of, tick_made, flight_in}
+use Rattle.tick_plane.specs.Planes.{Plane, next_due, plane_with, plane_of}
 use Rattle.tick_plane.specs.declared.flight.Flight.{Flight}
 use Rattle.run_record.specs.Runs.{replies_to}
 use Rattle.run_record.specs.declared.done.Done.{Done}
-use Rattle.run_engine.specs.runs.Runs.{plane_no, plane_at, next_for, IsNext, IsRun}
-use Rattle.run_engine.specs.schedules.Quiet.{quiet_round, quiet_rounds, quiet_step, rested, the_plane}
+use Rattle.run_engine.specs.runs.Runs.{plane_no, plane_at, next_for, IsNext}
+use Rattle.run_engine.specs.schedules.Quiet.{quiet_round, quiet_rounds, rested, the_plane}
 use Rattle.run_engine.specs.schedules.Resting.{MakesStride}
 use Rattle.run_engine.specs.schedules.Schedules.{FollowsTurns, IsActorOf, lined_turns, repeated, turns_of}
 use Rattle.run_engine.specs.schedules.Standing.{EngineStands, MakesStep, StepsTo}
-use Rattle.run_engine.specs.declared.engine.Engine.{Engine}
 use Rattle.run_engine.proofs.Keeping.KeptActors.{plane-number}
 use Rattle.run_engine.proofs.Keeping.NextStep.{callers-few}
 use Rattle.run_engine.proofs.Runs.RunLegal.{plane-off, plane-by}
@@ -36,10 +34,10 @@ use Rattle.run_engine.proofs.Runs.RunOf.{step-is}
 use Rattle.run_engine.proofs.Schedules.PlayedTurns.{step-follows, follows-start, follows-again, played-written}
 use Rattle.run_engine.proofs.Schedules.ScheduleOutcome.{follows-none, follows-more, turns-append, turns-one}
 use Rattle.run_engine.proofs.Watched.QuietRounds.{plane-is}
-use Rattle.run_engine.proofs.Watched.WatchedStrides.{links-are}
+use Rattle.run_engine.proofs.Watched.WatchedStrides.{repeated-sum}
 use Rattle.call_times.specs.Parts.{is_part}
 use Rattle.call_times.specs.OnTime.{AreInTime, IsDueAt, IsInTime, IsScheduleAt}
-use Rattle.call_times.specs.Makings.{HaveActors, HasRun, IsBetween, IsDue, IsInRound, IsMade, IsOperationAt, IsTimeFor, turns_made}
+use Rattle.call_times.specs.Makings.{HaveActors, HasRun, IsBetween, IsDue, IsInRound, IsOperationAt, IsTimeFor, turns_made}
 use Rattle.call_times.specs.declared.making.Making.{Making}
 use Rattle.call_times.specs.declared.scheduling.Due.{Due}
 use Rattle.call_times.specs.declared.times.Times.{Times}
@@ -191,12 +189,6 @@ rest-in-time parts times old new rounds steps between stride all turns actors =
 pub item-ended : (items : List Do) (item : Do) (actor : ActorNo) → turns_of (items ++ item ∷ []) ++ repeated 0 actor ≡ turns_of items ++ repeated item.count item.actor
 unfolding repeated
 item-ended items item actor = append-nil (turns_of (items ++ item ∷ [])) ∙ turns-append items (item ∷ []) ∙ ap (λ more. turns_of items ++ more) (turns-one item)
-
--- it has so many steps more
-repeated-sum : {X : Type 0} (m n : ℕ) (x : X) → repeated (m + n) x ≡ repeated m x ++ repeated n x
-unfolding repeated
-repeated-sum zero n x = (let none : 0 + n ≡ n = omega arith in ap (λ k. repeated k x) none)
-repeated-sum (suc m) n x = (let more : suc m + n ≡ suc (m + n) = omega arith in ap (λ k. repeated k x) more ∙ ap (λ xs. x ∷ xs) (repeated-sum m n x))
 
 pub item-longer : (items : List Do) (count steps : ℕ) (actor : ActorNo) → turns_of items ++ repeated (count + steps) actor ≡ (turns_of items ++ repeated count actor) ++ repeated steps actor
 item-longer items count steps actor = ap (λ more. turns_of items ++ more) (repeated-sum count steps actor) ∙ sym (append_assoc (turns_of items) (repeated count actor) (repeated steps actor))

@@ -6,7 +6,7 @@ use Rattle.net_units.specs.declared.numbers.ActorNo.{ActorNo}
 use Rattle.link_steps.specs.declared.asks.Ask.TheVariants.{Tick}
 use Rattle.link_steps.specs.declared.replies.Entry.{Entry}
 use Rattle.link_steps.specs.Quiet.{quiet_reply, quiet_ticks}
-use Rattle.call_script.proofs.PlansFit.{plan-fits}
+use Rattle.call_script.proofs.PlansFit.{plan-fits, links-are}
 use Rattle.call_script.specs.Parts.{PlanParts}
 use Rattle.call_script.specs.Tasks.{Network, network_of}
 use Rattle.call_script.specs.declared.entries.RequestEntry.{RequestEntry}
@@ -18,7 +18,6 @@ use Rattle.run_engine.proofs.Watched.QuietRounds.{plane-is, quiet-rounds}
 use Rattle.run_engine.proofs.Runs.RunLegal.{replies-by}
 use Rattle.run_engine.proofs.Runs.RunLength.{run-short}
 use Rattle.run_engine.proofs.Keeping.NextStep.{callers-few}
-use Rattle.run_engine.proofs.Watched.WatchedStrides.{links-are}
 use Rattle.run_record.specs.Hops.{AreHops, AreOffered, hops_at}
 use Rattle.run_record.specs.Rows.{departures_in, links_of}
 use Rattle.run_record.specs.Runs.{part_of, replies_to}

@@ -1,5 +1,5 @@
 -- An engine's links at desks; and where the plane has made all its rounds.
-use Rattle.std.proofs.Common.{◌≡◌, ◌≢◌, ℕ, ◌+◌, ◌<◌, ◌≤◌, List, [], ◌∷◌, length, map, None, Some, option_map, refl, sym, ap, ◌∙◌, subst, arith}
+use Rattle.std.proofs.Common.{◌≡◌, ◌≢◌, ℕ, ◌<◌, ◌≤◌, List, [], ◌∷◌, length, map, None, Some, option_map, refl, sym, ap, ◌∙◌, subst, arith}
 use Rattle.std.proofs.lemmas.Bool.{le-ltb, lt-ltb}
 use Rattle.std.proofs.lemmas.List.{length-map}
 use Rattle.std.proofs.lemmas.Option.{slice_get-map, slice_get_within, none-some}
@@ -73,10 +73,6 @@ plane-of-number parts actor plan by = same-actor actor (the_plane (network_of pa
 
 pub plane-of-callers : (parts : PlanParts) (count : ℕ) → count ≡ length parts.callers → actor_at count ≡ the_plane (network_of parts)
 plane-of-callers parts count is = ap actor_at (is ∙ sym (plane-number parts))
-
-pub rounds-of : (parts : PlanParts) → (network_of parts).rounds ≡ parts.rounds + parts.tail
-unfolding network_of
-rounds-of parts = refl
 
 pub plane-end : (parts : PlanParts) (plane : PlaneAccount) (run : List Done) (actor : ActorNo) → IsPlan parts → PlaneStands (network_of parts) plane run → actor ≡ the_plane (network_of parts) → (network_of parts).rounds ≤ plane.at.round → next_for (network_of parts) (actor_number actor) run ≡ None
 plane-end parts plane run actor plan stands is over = ap (λ n. next_for (network_of parts) n run) (plane-actor parts actor plan is ∙ sym (plane-number parts)) ∙ plane-over (network_of parts) plane run stands over

@@ -8,6 +8,7 @@ use Rattle.link_steps.specs.declared.asks.Ask.{Ask}
 use Rattle.link_steps.specs.declared.asks.Ask.TheVariants.{Tick}
 use Rattle.link_steps.specs.declared.replies.Entry.{Entry}
 use Rattle.link_steps.specs.declared.replies.Reply.{Reply}
+use Rattle.link_steps.proofs.QuietTicks.{more-quiet}
 use Rattle.plane_workers.specs.Answered.{answered, entry_after, replies_along}
 use Rattle.plane_workers.specs.Said.{quiets, said_in, ticks}
 use Rattle.plane_workers.specs.declared.lane.Said.{Said}
@@ -94,10 +95,6 @@ one-replied link h ask = refl
 none-quiet : (link : Link) (t : ℕ) (h : List Entry) → answered link h (ticks 0) ≡ quiet_ticks 0 t h
 unfolding answered ticks quiet_ticks
 none-quiet link t h = refl
-
-more-quiet : (t n : ℕ) (h : List Entry) → record { ask = Tick; reply = quiet_reply (t + n) } ∷ quiet_ticks n t h ≡ quiet_ticks (suc n) t h
-unfolding quiet_ticks
-more-quiet t n h = refl
 
 abbrev IsQuiet : Link → ℕ → ℕ → List Entry → Type 0
 IsQuiet link t n h = (m : ℕ) → m < n → quiet_reply (t + m) ≡ reply_to link (quiet_ticks m t h) Tick

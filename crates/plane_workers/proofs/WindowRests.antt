@@ -29,18 +29,13 @@ use Rattle.run_engine.specs.schedules.Watching.{IsRestSeen}
 use Rattle.run_engine.proofs.Keeping.KeptActors.{plane-number}
 use Rattle.run_engine.proofs.Keeping.Lookups.{held}
 use Rattle.run_engine.proofs.Keeping.NextStep.{callers-few}
-use Rattle.run_engine.proofs.Runs.RunLength.{follows-longer}
+use Rattle.run_engine.proofs.Runs.RunLength.{follows-longer, repeated-long}
 use Rattle.run_engine.proofs.Watched.QuietRounds.{plane-is, quiet-rounds}
 use Rattle.plane_workers.specs.Said.{quiets, ticks}
 use Rattle.plane_workers.specs.Windows.{GoesOnBy, IsInWindow, LinkIsAhead}
 use Rattle.plane_workers.proofs.QuietReplies.{no-quiets, no-ticks, quiet-front, quiets-first, ticks-first}
 use Rattle.plane_workers.proofs.QuietWindow.{window-quiet}
 use Rattle.plane_workers.proofs.RepliesAhead.{ahead-head, ahead-tail}
-
-repeated-long : {X : Type 0} (n : ℕ) (x : X) → length (repeated n x) ≡ n
-unfolding repeated
-repeated-long zero x = refl
-repeated-long (suc n) x = ap suc (repeated-long n x)
 
 -- ---- a link that has answered with quiet ticks
 

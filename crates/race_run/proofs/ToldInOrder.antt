@@ -36,6 +36,7 @@ use Rattle.run_engine.proofs.Keeping.KeptActors.{callers-same, plane-number}
 use Rattle.run_engine.proofs.Keeping.NextStep.{has-few}
 use Rattle.run_engine.proofs.Runs.Merge.{falls-filter}
 use Rattle.run_engine.proofs.Runs.WeaveLaw.{journals-weave}
+use Rattle.run_engine.proofs.Runs.RunFronts.{next-head}
 use Rattle.race_run.specs.Order.{AreBelow, HasOrder, IsOrder, has_stamp, journal_with}
 use Rattle.race_run.specs.Tail.{AreUpTo, own_in}
 use Rattle.race_run.specs.Telling.{HasTold, TellsNext, below, count_below, counts_below, done_on, is_below, weave_below}
@@ -99,10 +100,6 @@ below-under stamp (x ∷ xs) = elim (cases_lt x.stamp stamp) [
 run-past : (network : Network) (done : Done) (past : List Done) → IsRun network (done ∷ past) → IsRun network past
 unfolding IsRun
 run-past network done past run = run.0
-
-run-next : (network : Network) (done : Done) (past : List Done) → IsRun network (done ∷ past) → IsNext network past done
-unfolding IsRun
-run-next network done past run = run.1
 
 run-below : (network : Network) (stamp : ℕ) (xs : List Stamped) → Falls xs → IsRun network (map done_of xs)
     → IsRun network (map done_of (below stamp xs))
@@ -183,7 +180,7 @@ tells-at network passes journals place stamp journal whole found has =
       counts = ap (λ n. counts_below n journals) up ∙ more ∙ ap (set (counts_below stamp journals) place) (sym (add-one (count_below stamp journal.entries)));
       tells = ap (λ n. weave_below n journals) up ∙ ap (map done_of) one;
       run = run-below network stamp (weave journals) falls run;
-      next = run-next network x.done (weave_below stamp journals) (subst (λ ys. IsRun network (map done_of ys)) one (run-below network (suc stamp) (weave journals) falls run));
+      next = next-head network x.done (weave_below stamp journals) (subst (λ ys. IsRun network (map done_of ys)) one (run-below network (suc stamp) (weave journals) falls run));
     }
 
 pub next-told : (network : Network) (passes : List Token) (journals : List Journal) (place stamp : ℕ) → IsWhole network passes journals

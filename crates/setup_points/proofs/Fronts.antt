@@ -5,6 +5,7 @@ use Rattle.net_units.specs.declared.numbers.ActorNo.{ActorNo}
 use Rattle.call_script.specs.declared.schedule.Do.{Do}
 use Rattle.run_engine.specs.schedules.Schedules.{repeated, turns_of, lined_turns}
 use Rattle.run_engine.proofs.Schedules.ScheduleOutcome.{turns-append, turns-one}
+use Rattle.run_engine.proofs.Runs.RunLength.{repeated-long}
 use Rattle.setup_points.specs.Points.{with_count}
 
 -- ---- the front of a list
@@ -21,11 +22,6 @@ take-repeated zero zero x = refl
 take-repeated zero (suc k) x = ap (λ m. repeated m x) (let same : 0 ≡ min (suc k) 0 = omega arith in same)
 take-repeated (suc n) zero x = ap (λ m. repeated m x) (let same : 0 ≡ min 0 (suc n) = omega arith in same)
 take-repeated (suc n) (suc k) x = ap (λ xs. x ∷ xs) (take-repeated n k x) ∙ ap (λ m. repeated m x) (let same : suc (min k n) ≡ min (suc k) (suc n) = omega arith in same)
-
-repeated-length : {X : Type 0} (n : ℕ) (x : X) → length (repeated n x) ≡ n
-unfolding repeated
-repeated-length zero x = refl
-repeated-length (suc n) x = ap suc (repeated-length n x)
 
 -- ---- the items so far
 
@@ -56,7 +52,7 @@ front-more items steps i front more left rest item within is kept added lessened
     let put = with_count item (min item.count left) in
     record {
       turns = ap turns_of added ∙ turns-append front (put ∷ []) ∙ ap (λ (own : List ActorNo). own ++ turns_of (put ∷ [])) kept.turns ∙ ap (λ (own : List ActorNo). take steps before ++ own) (turns-one put) ∙ sym cut;
-      rest = lessened ∙ cut-by steps (length before) item.count left kept.rest ∙ ap (λ n. steps - n) (sym (ap length all ∙ length-append before (repeated item.count item.actor) ∙ ap (λ n. length before + n) (repeated-length item.count item.actor)));
+      rest = lessened ∙ cut-by steps (length before) item.count left kept.rest ∙ ap (λ n. steps - n) (sym (ap length all ∙ length-append before (repeated item.count item.actor) ∙ ap (λ n. length before + n) (repeated-long item.count item.actor)));
     } where
       cut-by : (steps before count left : ℕ) → left ≡ steps - before → left - min count left ≡ steps - (before + count)
       cut-by steps before count left is = omega (arith, is)

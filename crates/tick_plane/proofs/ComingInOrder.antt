@@ -7,16 +7,16 @@ use Rattle.std.proofs.lemmas.Cmp.{nat_cmp_total}
 use Rattle.std.proofs.lemmas.List.{append_assoc, append-nil, drop_more}
 use Rattle.std.proofs.lemmas.List.Sorted.{ranks_by, sorted_far}
 use Rattle.std.proofs.lemmas.List.Elements.{filter-append}
-use Rattle.std.proofs.lemmas.Option.{slice_get_cases, slice_get_within}
+use Rattle.std.proofs.lemmas.Option.{slice_get_within}
 use Rattle.std.specs.List.{slice_get}
-use Rattle.std.specs.Prelude.{nat_eq, nat_lt, None, Some, Option, Result, Ok, Err, IfOk, OnOk}
+use Rattle.std.specs.Prelude.{nat_eq, nat_lt, None, Some, Option}
 use Rattle.std.specs.Ordering.{is_lt, nat_cmp}
 use Rattle.std.specs.declared.cmp.Ordering.TheVariants.{Less, Equal, Greater}
 use Rattle.std.specs.List.Sorted.{IsSortedByKey, IsStableByKey}
 use Rattle.net_units.specs.Numbers.{link_number}
 use Rattle.link_steps.specs.Lists.{Each}
 use Rattle.link_steps.proofs.SearchAndFilter.{Each-filter, Each-from, Each-if, filter-filter, filter-map, filter-none}
-use Rattle.link_steps.proofs.ListParts.{Each-at}
+use Rattle.link_steps.proofs.ListParts.{Each-at, Each-by_index, stands-at}
 use Rattle.link_steps.specs.declared.asks.Ask.{Ask}
 use Rattle.link_steps.specs.declared.asks.Ask.TheVariants.{Arrive, Tick}
 use Rattle.tick_calendar.specs.Calendar.{Entry}
@@ -39,14 +39,10 @@ less-first false false = refl
 less-lt : (x y : ℕ) → is_lt (nat_cmp x y) ≡ nat_lt x y
 less-lt x y = less-first (nat_lt x y) (nat_eq x y)
 
-each-at : {X : Type 0} (P : X → Type 0) (xs : List X) → ((k : ℕ) (d : X) → k < length xs → P (get_or xs k d)) → Each P xs
-each-at P [] at = tt
-each-at P (x ∷ xs) at = (at 0 x (omega arith), each-at P xs (λ k d below. at (suc k) d (omega arith)))
-
 rise-sorted : (flights : List Flight) → IsSortedByKey round_of nat_cmp flights → Rise flights
 rise-sorted [] up = tt
 rise-sorted (f ∷ fs) up = (
-  each-at (IsDueFrom f.round) fs (λ k d below.
+  Each-by_index (IsDueFrom f.round) fs (λ k d below.
       let far = sorted_far _ (ranks_by nat_cmp_total round_of) (f ∷ fs) up 0 (suc k) d (omega arith) (omega arith) in
       ltb-false (get_or fs k d).round f.round (sym (less-lt (get_or fs k d).round f.round) ∙ far)),
   rise-sorted fs (λ k d low below. (let one : suc k + 1 ≡ suc (k + 1) = omega arith in rw one at (up (suc k) d (omega arith) (omega arith)))),
@@ -138,13 +134,6 @@ own-ahead items n until at lists own are found =
 pub none-listed : {X : Type 0} (items : X → List Flight) (lists : List X) → length lists ≡ 32 → Each (λ own. items own ≡ []) lists → AreByLink items [] lists
 none-listed items lists long empty = record { long = long; own = λ n x found. Each-at (λ own. items own ≡ []) lists n x empty found }
 
-had : {X : Type 0} (xs : List X) (n : ℕ) → n < length xs → (x : X) × (slice_get xs n ≡ Some x)
-had xs n within =
-    elim (slice_get_cases xs n).1 [
-      | inl at ↦ (at.0, at.2)
-      | inr past ↦ absurd (omega (arith, past.0, within))
-    ]
-
 -- one more is
 pub one-listed : {X : Type 0} (items : X → List Flight) (flights : List Flight) (f : Flight) (old new : List X) → AreByLink items flights old → length new ≡ length old
     → ((n : ℕ) → n ≢ link_number f.to → slice_get new n ≡ slice_get old n) → ((x y : X) → slice_get old (link_number f.to) ≡ Some x → slice_get new (link_number f.to) ≡ Some y → items y ≡ items x ++ f ∷ []) → AreByLink items (flights ++ f ∷ []) new
@@ -155,7 +144,7 @@ one-listed items flights f old new were long others own = record {
         | inl at ↦
             (let same = eqb-true (link_number f.to) n at in
             let within = slice_get_within new n y found in
-            let x = had old n (omega (arith, within, long)) in
+            let x = stands-at old n (omega (arith, within, long)) in
             own x.0 y (ap (slice_get old) same ∙ x.1) (ap (slice_get new) same ∙ found) ∙ ap (λ fs. fs ++ f ∷ []) (were.own n x.0 x.1)
             ∙ sym (filter-append (is_to n) flights (f ∷ []) ∙ ap (λ fs. filter (is_to n) flights ++ fs) (kept n at)))
         | inr off ↦
@@ -265,11 +254,3 @@ later-drop coming place round f within is rise ahead other =
 
 pub none-more : (round : ℕ) (old asks coming : List Ask) (left : List Flight) → Each (IsDueFrom (suc round)) left → asks ++ arrivals_in round left ≡ old ++ coming → asks ≡ old ++ coming
 none-more round old asks coming left later is = sym (append-nil asks) ∙ ap (λ more. asks ++ more) (sym (none-arrives round left later)) ∙ is
-
-pub if-ok : {T E : Type 0} {P Q : T → Type 0} (answer : Result T E) → ((x : T) → P x → Q x) → IfOk answer P → IfOk answer Q
-if-ok (Ok x) then-so is = then-so x is
-if-ok (Err e) then-so is = tt
-
-pub on-ok : {T E : Type 0} {P Q : Type 0} (answer : Result T E) → (P → Q) → OnOk answer P → OnOk answer Q
-on-ok (Ok x) then-so is = then-so is
-on-ok (Err e) then-so is = tt

@@ -8,12 +8,6 @@ use Rattle.link_steps.proofs.RulesPassed.{unless-none}
 use Rattle.link_steps.specs.Rows.{SourcePacket, planned_from, is_for, left_at}
 use Rattle.link_server.specs.Planned.{IsPlannedFrom, first_tick, size_of}
 
--- as many packets are planned as are counted
-pub planned-length : (u gap size count : ℕ) → length (planned_from u gap size count) ≡ count
-unfolding planned_from
-planned-length u gap size zero = refl
-planned-length u gap size (suc count) = ap suc (planned-length (u + gap) gap size count)
-
 -- what is planned after no packets is all that is planned
 pub after-none : (left more : List SourcePacket) → length left ≡ 0 → more ≡ left ++ more
 after-none [] more none = refl

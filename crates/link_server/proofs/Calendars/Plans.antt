@@ -1,6 +1,6 @@
 -- The calendar of plans goes with one row: as its next packet is put, as entries come, and as they are taken.
-use Rattle.std.proofs.Common.{◌≡◌, ℕ, zero, suc, ◌+◌, ◌<◌, ◌≤◌, Bool, true, false, ◌&&◌, inl, inr, List, [], ◌∷◌, ◌++◌, Some, None, get_or, refl, sym, ap, ◌∙◌, subst, All, arith}
-use Rattle.std.proofs.lemmas.Bool.{cases_lt, eq-eqb, ne_eqb}
+use Rattle.std.proofs.Common.{◌≡◌, ℕ, zero, suc, ◌+◌, ◌<◌, ◌≤◌, true, false, inl, inr, List, [], ◌∷◌, ◌++◌, Some, None, get_or, refl, sym, ap, ◌∙◌, subst, All, arith}
+use Rattle.std.proofs.lemmas.Bool.{cases_lt, eq-eqb, ne_eqb, and_right}
 use Rattle.std.proofs.lemmas.List.Folds.{list_any-append, list_any_none}
 use Rattle.std.proofs.lemmas.Option.{none-some, same_Some}
 use Rattle.link_server.proofs.Words.{list_any, nat_eq, find, channel_number, AccountRow, Each, Entry, row_in, ServedRow}
@@ -42,13 +42,8 @@ told-without before after entry row other told tick first =
     ∙ sym (list_any-append test before (entry ∷ after))
     ∙ told tick first
 
--- one of another channel isn't
-and-no : (a b : Bool) → b ≡ false → (a && b) ≡ false
-and-no true b is = is
-and-no false b is = refl
-
 pub other-entry : (at key tick channel : ℕ) → (channel ≡ key → ⊥) → is_entry_of tick channel (at, key) ≡ false
-other-entry at key tick channel apart = and-no (nat_eq at tick) (nat_eq key channel) (ne_eqb key channel (λ same. apart (sym same)))
+other-entry at key tick channel apart = and_right (nat_eq at tick) (nat_eq key channel) (ne_eqb key channel (λ same. apart (sym same)))
 
 -- nor is one that is due, where the row has no packet for the tick and none for an earlier one
 early-entry : (at key tick channel clock : ℕ) → at ≤ clock → clock ≤ tick → (clock ≡ tick → ⊥) → is_entry_of tick channel (at, key) ≡ false

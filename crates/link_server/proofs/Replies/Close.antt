@@ -22,7 +22,7 @@ unfolding account_reply
 release-absent shape k chan upstream absent = rw absent refl
 
 -- the reply is that of the row at the place
-release-found : (shape : LinkShape) (k : Account) (chan : ChanNo) (upstream : Option ℕ) (row : AccountRow) → find (is_account_at_hop chan (names_first_hop upstream)) k.rows ≡ Some row → account_reply (whole shape) k (Release chan upstream) ≡ release_reply upstream row.terms row.taken (length row.left)
+pub release-found : (shape : LinkShape) (k : Account) (chan : ChanNo) (upstream : Option ℕ) (row : AccountRow) → find (is_account_at_hop chan (names_first_hop upstream)) k.rows ≡ Some row → account_reply (whole shape) k (Release chan upstream) ≡ release_reply upstream row.terms row.taken (length row.left)
 unfolding account_reply
 release-found shape k chan upstream row found = ap (account_release upstream) found
 

@@ -39,10 +39,6 @@ pour-kept shape t queue rows count gap size clock left =
 
 -- ---- the step of the best-effort plan, where its packet fits or not
 
-pub best-rests : (fits : Bool) (found : Option SourcePacket) → None ≡ size_of found → source_step fits found ≡ Rests
-best-rests fits None none = refl
-best-rests fits (Some p) none = cc
-
 pub best-loses : (fits : Bool) (found : Option SourcePacket) (size : ℕ) → Some size ≡ size_of found → fits ≡ false → source_step fits found ≡ Drops
 best-loses fits None size some full = cc
 best-loses fits (Some p) size some full = rw full refl

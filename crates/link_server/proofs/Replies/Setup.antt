@@ -109,7 +109,7 @@ unfolding account_reply
 submit-absent shape k chan count gap size absent = rw absent refl
 
 -- the reply is that of the row at the place
-submit-found : (shape : LinkShape) (k : Account) (chan : ChanNo) (count gap size : ℕ) (row : AccountRow) → find (is_account_at_hop chan true) k.rows ≡ Some row → account_reply (whole shape) k (Submit chan count gap size) ≡ submit_reply k.clock size row.terms (length row.left)
+pub submit-found : (shape : LinkShape) (k : Account) (chan : ChanNo) (count gap size : ℕ) (row : AccountRow) → find (is_account_at_hop chan true) k.rows ≡ Some row → account_reply (whole shape) k (Submit chan count gap size) ≡ submit_reply k.clock size row.terms (length row.left)
 unfolding account_reply
 submit-found shape k chan count gap size row found = ap (account_submit k.clock size) found
 

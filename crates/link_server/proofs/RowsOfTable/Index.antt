@@ -3,7 +3,7 @@ use Rattle.std.proofs.Common.{◌≡◌, ◌≢◌, ℕ, zero, suc, ◌+◌, ◌
 use Rattle.std.proofs.Common.{◌⊎◌, inl, inr}
 use Rattle.std.proofs.Math.ListN.{get_or-append}
 use Rattle.std.proofs.Math.Seq.{get_or-append_seam, map-set_same}
-use Rattle.std.proofs.lemmas.Bool.{cases_Bool, cases_lt, eq-eqb, eqb-true, ne_eqb}
+use Rattle.std.proofs.lemmas.Bool.{cases_Bool, cases_lt, eq-eqb, eqb-true, ne_eqb, and_left, false_from_ne_true}
 use Rattle.std.proofs.lemmas.List.{length-set, get_or-set_same, get_or-set_other, length-map, length-append, get_or-map, get_or_default, map_push}
 use Rattle.std.proofs.lemmas.List.Edits.{length-remove, get_or-remove_below, get_or-remove_above}
 use Rattle.std.proofs.lemmas.Option.{slice_get-get_or, get_or_from_slice_get}
@@ -14,7 +14,6 @@ use Rattle.link_server.specs.KeyedList.{position, IsNoneOf}
 use Rattle.link_server.specs.Rows.{is_served_row_of, is_served_at_hop, summed, NoRowPasses, IsAbsent, IsPlaceOf}
 use Rattle.link_server.proofs.KeyedValues.{apart-last, apart-left}
 use Rattle.link_server.proofs.KeyPlaces.{position-is}
-use Rattle.link_server.proofs.RowsOfTable.Places.{and-false}
 
 -- ---- a channel has one row
 
@@ -96,14 +95,10 @@ found-place index keys chan rows key k d is found inside own =
     let led = subst (λ n. LeadsTo index n (get_or keys k 0)) (get_or-map channel_in rows k d 0 inside ∙ eqb-true (channel_in (get_or rows k d)) (channel_number chan) own) (is.leads k 0 within) in
     ap (position keys) (sym (get_or_from_slice_get index (channel_number chan) key 0 found) ∙ led.there) ∙ key-place index keys (channels_in rows) k is within
 
-not-true : (b : Bool) → (b ≡ true → ⊥) → b ≡ false
-not-true true not = absurd (not refl)
-not-true false not = refl
-
 -- it has no key, or one that is free, or another channel's
 pub absent-past : (index keys : List ℕ) (chan : ChanNo) (rows : List ServedRow) → IsIndex index keys (channels_in rows) → slice_get index (channel_number chan) ≡ None → IsAbsent chan rows
 absent-past index keys chan rows is past k d inside =
-    not-true (is_served_row_of chan (get_or rows k d))
+    false_from_ne_true (is_served_row_of chan (get_or rows k d))
     (λ own.
     (let long = length-map rows channel_in in
     let led = subst (λ n. LeadsTo index n (get_or keys k 0)) (get_or-map channel_in rows k d 0 inside ∙ eqb-true (channel_in (get_or rows k d)) (channel_number chan) own) (is.leads k 0 (omega (arith, long, inside))) in
@@ -111,11 +106,11 @@ absent-past index keys chan rows is past k d inside =
 
 pub absent-beyond : (index keys : List ℕ) (chan : ChanNo) (rows : List ServedRow) (key : ℕ) → IsIndex index keys (channels_in rows) → slice_get index (channel_number chan) ≡ Some key → length rows ≤ position keys key → IsAbsent chan rows
 absent-beyond index keys chan rows key is found past k d inside =
-    not-true (is_served_row_of chan (get_or rows k d)) (λ own. (let same = found-place index keys chan rows key k d is found inside own in omega (arith, same, past, inside)))
+    false_from_ne_true (is_served_row_of chan (get_or rows k d)) (λ own. (let same = found-place index keys chan rows key k d is found inside own in omega (arith, same, past, inside)))
 
 pub absent-other : (index keys : List ℕ) (chan : ChanNo) (rows : List ServedRow) (key : ℕ) (row : ServedRow) → IsIndex index keys (channels_in rows) → slice_get index (channel_number chan) ≡ Some key → row ≡ get_or rows (position keys key) row → channel_number row.chan ≢ channel_number chan → IsAbsent chan rows
 absent-other index keys chan rows key row is found at other k d inside =
-    not-true (is_served_row_of chan (get_or rows k d))
+    false_from_ne_true (is_served_row_of chan (get_or rows k d))
     (λ own.
     (let same = found-place index keys chan rows key k d is found inside own in
     let here : get_or rows k d ≡ row = get_or_default rows k d row inside ∙ ap (λ n. get_or rows n row) (sym same) ∙ sym at in
@@ -125,7 +120,7 @@ absent-other index keys chan rows key row is found at other k d inside =
 
 -- where the channel has no row, none is at it
 pub no-row-at-hop : (chan : ChanNo) (first : Bool) (rows : List ServedRow) → IsAbsent chan rows → NoRowPasses (is_served_at_hop chan first) rows
-no-row-at-hop chan first rows absent k d inside = and-false (is_served_row_of chan (get_or rows k d)) _ (absent k d inside)
+no-row-at-hop chan first rows absent k d inside = and_left (is_served_row_of chan (get_or rows k d)) _ (absent k d inside)
 
 -- where the channel's row isn't at it, no row is
 pub no-other-hop : (index keys : List ℕ) (chan : ChanNo) (first : Bool) (rows : List ServedRow) (i : ℕ) (row : ServedRow) → IsIndex index keys (channels_in rows) → IsPlaceOf chan rows i → row ≡ get_or rows i row → is_served_at_hop chan first row ≡ false → NoRowPasses (is_served_at_hop chan first) rows
@@ -134,7 +129,7 @@ no-other-hop index keys chan first rows i row is place at not k d inside =
       | inl own ↦
           (let same = one-place index keys rows i k row d is place.inside inside (eqb-true (channel_in (get_or rows i row)) (channel_number chan) (place.here row) ∙ sym (eqb-true (channel_in (get_or rows k d)) (channel_number chan) own)) in
           subst (λ r. is_served_at_hop chan first r ≡ false) (at ∙ ap (λ n. get_or rows n row) same ∙ get_or_default rows k row d inside) not)
-      | inr other ↦ and-false (is_served_row_of chan (get_or rows k d)) _ other
+      | inr other ↦ and_left (is_served_row_of chan (get_or rows k d)) _ other
     ]
 
 -- ---- rows that come, change and go

@@ -1,12 +1,12 @@
 -- The rows that a table keeps and those of the account go together: the row of a channel is found, changed and taken out where it
 -- stands.
 use Rattle.std.proofs.Common.{◌≡◌, ℕ, zero, suc, inl, inr, Bool, true, List, [], ◌∷◌, map, get_or, set, Some, refl, sym, ap, subst, arith}
-use Rattle.std.proofs.lemmas.Bool.{cases_Bool}
+use Rattle.std.proofs.lemmas.Bool.{cases_Bool, and_left}
 use Rattle.std.proofs.lemmas.Option.{same_Some}
 use Rattle.link_server.proofs.Words.{remove, find, ChanNo, AccountRow, is_account_of, is_account_at_hop, ServedRow, row_in, is_served_row_of, IsPlaceOf}
 use Rattle.link_steps.specs.Lists.{Each, change_first, without_first}
 use Rattle.link_server.specs.Changes.{IsRowAtHop}
-use Rattle.link_server.proofs.RowsOfTable.Places.{and-false, place-later}
+use Rattle.link_server.proofs.RowsOfTable.Places.{place-later}
 
 -- ---- in both
 
@@ -55,7 +55,7 @@ module _ (chan : ChanNo) (first : Bool) where
   hop-found (r ∷ rows) row is =
       elim (cases_Bool (is_account_of chan r)) [
         | inl own ↦ (let same = same_Some r row (rw own at is.found) in let here : is_account_at_hop chan first r ≡ true = subst (λ x. is_account_at_hop chan first x ≡ true) (sym same) is.at_hop in rw here (ap Some same))
-        | inr other ↦ (let found = rw other at is.found in rw (and-false (is_account_of chan r) _ other) (hop-found rows row (record { found = found; at_hop = is.at_hop })))
+        | inr other ↦ (let found = rw other at is.found in rw (and_left (is_account_of chan r) _ other) (hop-found rows row (record { found = found; at_hop = is.at_hop })))
       ]
 
   pub hop-changed : (change : AccountRow → AccountRow) (rows : List AccountRow) (row : AccountRow) → IsRowAtHop chan first rows row → change_first (is_account_of chan) change rows ≡ change_first (is_account_at_hop chan first) change rows

@@ -1,15 +1,11 @@
 -- Where the channel's row stands: what is found, changed and taken out is there.
-use Rattle.std.proofs.Common.{◌≡◌, Bool, true, false, ◌&&◌, ℕ, zero, suc, List, [], ◌∷◌, map, Option, Some, None, refl, sym, ap, ◌∙◌, arith}
+use Rattle.std.proofs.Common.{◌≡◌, Bool, true, false, ℕ, zero, suc, List, [], ◌∷◌, map, Option, Some, None, refl, sym, ap, ◌∙◌, arith}
 use Rattle.std.proofs.Common.{⊎_elim}
 use Rattle.std.proofs.lemmas.Bool.{cases_Bool}
 use Rattle.link_server.proofs.Words.{find, ChanNo, AccountRow, is_account_of, account_terms, is_of, ServedRow, reservation_in, row_in, is_served_row_of, NoRowPasses, IsFirstPlace, IsAbsent}
 use Rattle.std.specs.List.{All, remove}
 use Rattle.std.specs.Option.{option_map}
 use Rattle.link_steps.proofs.SearchAndFilter.{find-map}
-
-pub and-false : (a b : Bool) → a ≡ false → a && b ≡ false
-and-false true b is = absurd (let f : true ≡ false = is in cc)
-and-false false b is = refl
 
 -- a place past the first row is one of the others
 pub place-later : {X : Type 0} (test : X → Bool) (row : X) (rows : List X) (i : ℕ) → IsFirstPlace test (row ∷ rows) (suc i) → IsFirstPlace test rows i

@@ -4,10 +4,10 @@ use Rattle.std.proofs.lemmas.List.{length-append}
 use Rattle.link_server.proofs.Words.{filter, AccountRow, from_sources, held_rows, account_stays, TableAccount, account_in, LinkState}
 use Rattle.link_steps.proofs.SearchAndFilter.{Each-filter}
 use Rattle.link_server.specs.Sources.{IsReady, MayBring}
-use Rattle.link_server.proofs.RowsOfTable.Totals.{filter-fewer}
 use Rattle.link_server.proofs.Sound.Numbers.{sources-room, brought-small}
 use Rattle.link_server.proofs.Sound.Sources.{from_best}
 use Rattle.link_server.proofs.Sound.Stood.{all-ready, rows-few}
+use Rattle.net_units.proofs.ListPlaces.{length-passed}
 
 -- what is told by the bounds and the rows of the table, once rows have expired, is told by the shape and the rows that are held
 pub at-shape : {X : Type 0} (f : List ℕ → List AccountRow → X) (link : LinkState) (table : TableAccount) → table ≡ record link.table { rows = filter (account_stays link.table.server.bounds link.clock) link.table.rows; departed = table.departed; looked = link.clock }
@@ -22,7 +22,7 @@ may-bring link early =
     let k = account_in link in
     let stay = account_stays link.shape.bounds link.clock in
     let few = rows-few link in
-    let fewer = filter-fewer stay link.table.rows in
+    let fewer = length-passed stay link.table.rows in
     let small = brought-small link.shape link.queue.room k early link.few link.sound in
     let parts = length-append (from_sources link.shape k) (from_best link.shape k) in
     record {

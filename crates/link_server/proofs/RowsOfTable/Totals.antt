@@ -30,11 +30,3 @@ rows-left f test (row ∷ rows) = left (test row) (rows-left f test rows) where
   left : (b : Bool) → total f (filter test rows) ≤ total f rows → total f (if b then row ∷ filter test rows else filter test rows) ≤ total f (row ∷ rows)
   left true rest = omega (arith, rest)
   left false rest = omega (arith, rest)
-
--- no more stay than there were
-pub filter-fewer : {X : Type 0} (test : X → Bool) (xs : List X) → length (filter test xs) ≤ length xs
-filter-fewer test [] = omega arith
-filter-fewer test (x ∷ xs) = left (test x) (filter-fewer test xs) where
-  left : (b : Bool) → length (filter test xs) ≤ length xs → length (if b then x ∷ filter test xs else filter test xs) ≤ length (x ∷ xs)
-  left true rest = omega (arith, rest)
-  left false rest = omega (arith, rest)

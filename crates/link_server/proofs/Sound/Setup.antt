@@ -10,10 +10,10 @@ use Rattle.traffic_contract.proofs.AdmissionTest.{total-le}
 use Rattle.traffic_contract.proofs.LongerWindows.{most_in-mono}
 use Rattle.link_steps.specs.declared.replies.Reply.TheVariants as Is
 use Rattle.link_steps.specs.Buffer.{slots_of, stay_in, held_packets}
-use Rattle.link_steps.specs.Account.{Account, AccountRow, empty_account, with_account_rows, account_terms, is_account_of, is_account_at_hop, account_relaxed, account_planned, account_closed, new_account, account_submit, account_release, account_reply, account_after}
+use Rattle.link_steps.specs.Account.{Account, AccountRow, empty_account, with_account_rows, account_terms, is_account_of, is_account_at_hop, account_relaxed, account_planned, account_closed, new_account, account_reply, account_after}
 use Rattle.link_steps.specs.Legal.{ReserveFits, RelaxFits, SubmitFits}
 use Rattle.link_steps.specs.Lists.{change_first, without_first, Each}
-use Rattle.link_steps.specs.Replies.{relax_reply, submit_reply, release_reply}
+use Rattle.link_steps.specs.Replies.{relax_reply}
 use Rattle.link_steps.specs.Reservation.{Reservation, tentative, committed, is_of}
 use Rattle.link_steps.proofs.FoundElements.{Each-change_found}
 use Rattle.link_steps.proofs.SearchAndFilter.{Each-append, Each-find, Each-without_first, find-map, total-change_first-le, total-without_first-le}
@@ -21,6 +21,8 @@ use Rattle.link_steps.proofs.ReservationFound.{may-reach, FitsOffer, relax-tells
 use Rattle.link_server.specs.Sound.{of_channels, best_count, places_of, all_places_of, places, most_places, AreAhead, HaveOwnLeads, IsSoundRow, IsSound}
 use Rattle.link_server.proofs.Sound.Best.{both-count}
 use Rattle.link_server.proofs.Sound.Rows.{AreApart-without_first, AreApart-push, AreApart-changed, planned-ahead}
+use Rattle.link_server.proofs.Replies.Close.{release-found}
+use Rattle.link_server.proofs.Replies.Setup.{submit-found}
 use Rattle.link_steps.proofs.SlotsHeld.{slots-closed}
 
 -- ---- nothing, and more room
@@ -136,10 +138,6 @@ sound-relax shape room k chan level up_bound _ fits sound same = sound
 
 -- ---- a submit
 
-submit-found : (shape : LinkShape) (k : Account) (chan : ChanNo) (count gap size : ℕ) (row : AccountRow) → find (is_account_at_hop chan true) k.rows ≡ Some row → account_reply (whole shape) k (Submit chan count gap size) ≡ submit_reply k.clock size row.terms (length row.left)
-unfolding account_reply
-submit-found shape k chan count gap size row found = ap (account_submit k.clock size) found
-
 -- what a row plans of which nothing is left lies ahead
 submit-ahead : (t count gap size : ℕ) (left : List SourcePacket) → SubmitFits count gap size → length left ≡ 0 → AreAhead t (left ++ planned_from t gap size count)
 submit-ahead t count gap size [] fits none = planned-ahead t t gap size count (omega arith) fits.gap_least fits.size_least fits.size_most
@@ -180,10 +178,6 @@ sound-pour shape room k count gap size (Is.Planned clock) fits sound same = reco
 sound-pour shape room k count gap size _ fits sound same = sound
 
 -- ---- a release
-
-release-found : (shape : LinkShape) (k : Account) (chan : ChanNo) (upstream : Option ℕ) (row : AccountRow) → find (is_account_at_hop chan (names_first_hop upstream)) k.rows ≡ Some row → account_reply (whole shape) k (Release chan upstream) ≡ release_reply upstream row.terms row.taken (length row.left)
-unfolding account_reply
-release-found shape k chan upstream row found = ap (account_release upstream) found
 
 pub sound-release : (shape : LinkShape) (room : ℕ) (k : Account) (chan : ChanNo) (upstream : Option ℕ) (reply : Reply) → IsSound shape room k → reply ≡ account_reply (whole shape) k (Release chan upstream) → IsSound shape room (account_after shape k (Release chan upstream) reply)
 unfolding account_after

@@ -9,7 +9,7 @@ use Rattle.link_server.specs.Planned.{left_in, size_of}
 use Rattle.link_server.specs.Sources.{own_step, step_in}
 use Rattle.link_server.specs.Packets.{arrival_in}
 
-rests-where-none : (slot : Bool) (planned : Option SourcePacket) → None ≡ size_of planned → source_step slot planned ≡ Rests
+pub rests-where-none : (slot : Bool) (planned : Option SourcePacket) → None ≡ size_of planned → source_step slot planned ≡ Rests
 rests-where-none true None none = refl
 rests-where-none false None none = refl
 rests-where-none slot (Some p) none = absurd (none-some p.size none)

@@ -9,10 +9,10 @@ use Rattle.std.proofs.lemmas.List.Sorted.{sum_by-IsPermutation, IsPermutation-co
 use Rattle.std.specs.List.{sum_by}
 use Rattle.link_server.proofs.Words.{IsPermutation, filter, find, is_other, Each, Arrival, Start}
 use Rattle.link_steps.proofs.SearchAndFilter.{Each-append, Each-filter, Each-from, Each-if, filter-all, filter-none}
+use Rattle.link_steps.proofs.ListParts.{Each-permuted}
 use Rattle.link_server.specs.Arrived.{all_here, arrived, HaveOwnNumbers, IsNumbered, AreNumberedUpTo}
 use Rattle.link_server.specs.Sound.{AreNumberedWithin, has_arrival_number}
 use Rattle.link_server.proofs.Sound.Packets.{numbered-append}
-use Rattle.link_server.proofs.Waiting.Queues.{each-same}
 
 -- ---- those of one number
 
@@ -95,7 +95,7 @@ module _ (test : Arrival → Bool) (ps qs : List Arrival) (same : IsPermutation 
   sole-same [] (y ∷ ys) first second long few = absurd (omega (arith, long))
   sole-same (x ∷ []) [] first second long few = absurd (omega (arith, long))
   sole-same (x ∷ []) (y ∷ []) first second long few =
-      let is = Each-filter (λ p. test p ≡ true → p ≡ x) test qs (each-same (λ p. test p ≡ true → p ≡ x) ps qs same (sole-passes test x ps first)) in
+      let is = Each-filter (λ p. test p ≡ true → p ≡ x) test qs (Each-permuted (λ p. test p ≡ true → p ≡ x) ps qs same (sole-passes test x ps first)) in
       let passed = subst (Each (λ p. test p ≡ true)) second (passes test qs) in
       ap (λ p. p ∷ []) (sym ((subst (Each (λ p. test p ≡ true → p ≡ x)) second is).0 passed.0))
   sole-same (x ∷ []) (y ∷ z ∷ ys) first second long few = absurd (omega (arith, long))

@@ -9,8 +9,9 @@ use Rattle.link_server.specs.Keys.{packet_at, packets_at, queues_at, key_of, key
 use Rattle.link_server.specs.Line.{AreAfter, AreFrom}
 use Rattle.link_server.specs.Queues.{joined, pushed}
 use Rattle.link_server.proofs.Waiting.Keys.{keyed-moved, times-append, under-tick}
-use Rattle.link_server.proofs.Waiting.Queues.{Each-parts, each-of, moved-between, pushed-map}
+use Rattle.link_server.proofs.Waiting.Queues.{moved-between, pushed-map}
 use Rattle.link_server.proofs.Waiting.Order.{order-moved}
+use Rattle.link_steps.proofs.ListParts.{Each-from_All, Each-parts}
 
 -- ---- where none is due
 
@@ -20,10 +21,10 @@ none-due entries None none = refl
 none-due entries (Some place) none = absurd (cc)
 
 pub all-after : (slots : List (Option HeldPacket)) (entries : List Entry) (tick : ℕ) → Each (IsUnderTick slots) entries → All (λ entry. tick < entry.0) entries → AreAfter tick (packets_at slots (keys_of entries))
-all-after slots entries tick under after = under-tick slots (λ t. tick < t) entries under (each-of (λ entry. tick < entry.0) entries after)
+all-after slots entries tick under after = under-tick slots (λ t. tick < t) entries under (Each-from_All (λ entry. tick < entry.0) entries after)
 
 pub all-from-tick : (slots : List (Option HeldPacket)) (entries : List Entry) (tick : ℕ) → Each (IsUnderTick slots) entries → All (λ entry. tick ≤ entry.0) entries → AreFrom tick (packets_at slots (keys_of entries))
-all-from-tick slots entries tick under from = under-tick slots (λ t. tick ≤ t) entries under (each-of (λ entry. tick ≤ entry.0) entries from)
+all-from-tick slots entries tick under from = under-tick slots (λ t. tick ≤ t) entries under (Each-from_All (λ entry. tick ≤ entry.0) entries from)
 
 -- ---- where one is
 
@@ -82,8 +83,8 @@ module _ (slots : List (Option HeldPacket)) (old new : List Entry) (queues : Lis
       subst (λ later. AreInOrder later (queues_at slots (pushed queues (packet.level - 1) key)) until) (sym packets-are)
       (subst (λ ready. AreInOrder (before ++ after) ready until) (sym (queues-are (packet.level - 1)))
       (order-moved before after (queues_at slots queues) until packet order-were
-      (subst (λ tick. Each (λ s. tick < s.eligible) before) own (under-tick slots (λ t. taken.tick < t) taken.before under.0 (each-of (λ entry. taken.tick < entry.0) taken.before taken.earliest)))
-      (subst (λ tick. Each (λ s. tick ≤ s.eligible) after) own (under-tick slots (λ t. taken.tick ≤ t) taken.after under.1.1 (each-of (λ entry. taken.tick ≤ entry.0) taken.after taken.least)))
+      (subst (λ tick. Each (λ s. tick < s.eligible) before) own (under-tick slots (λ t. taken.tick < t) taken.before under.0 (Each-from_All (λ entry. taken.tick < entry.0) taken.before taken.earliest)))
+      (subst (λ tick. Each (λ s. tick ≤ s.eligible) after) own (under-tick slots (λ t. taken.tick ≤ t) taken.after under.1.1 (Each-from_All (λ entry. taken.tick ≤ entry.0) taken.after taken.least)))
       (omega (arith, own, due))))
 
 -- the key that is taken out is held

@@ -8,9 +8,10 @@ use Rattle.std.specs.List.{sum_by}
 use Rattle.link_server.proofs.Words.{IsPermutation, Each, Entry, HeldPacket}
 use Rattle.slab.specs.Slab.{Slab, Updates, get}
 use Rattle.link_steps.proofs.SearchAndFilter.{Each-append}
+use Rattle.link_steps.proofs.ListParts.{Each-parts}
 use Rattle.link_server.specs.Keys.{packet_told, packet_at, packets_at, queues_at, key_of, keys_of, keys_in, times, count_at_key, IsUnderTick, AreKeyed}
 use Rattle.link_server.specs.Queues.{joined, first_of, after_first, pushed}
-use Rattle.link_server.proofs.Waiting.Queues.{Each-parts, comes-before, moved-between, joined-first, joined-map, pushed-map}
+use Rattle.link_server.proofs.Waiting.Queues.{comes-before, moved-between, joined-first, joined-map, pushed-map}
 
 -- ---- how often a key is among others
 

@@ -7,11 +7,12 @@ use Rattle.std.proofs.lemmas.List.Sorted.{IsPermutation-middle}
 use Rattle.std.proofs.lemmas.Option.{same_Some}
 use Rattle.link_server.proofs.Words.{IsPermutation, Each, HeldPacket}
 use Rattle.link_steps.proofs.SearchAndFilter.{Each-append, Each-if, Each-both}
+use Rattle.link_steps.proofs.ListParts.{Each-parts}
 use Rattle.link_server.specs.Keys.{AreInOrder}
 use Rattle.link_server.specs.Line.{AreAfter, IsAfter, IsBehind, IsNext}
 use Rattle.link_server.specs.Queues.{joined, first_of, after_first, pushed}
 use Rattle.link_server.specs.Order.{IsAtLevel, IsBy, IsSooner, IsSoonerThanEach, ArrivedBefore, IsNewest, AreByArrival, AreByTick, AreByLevel}
-use Rattle.link_server.proofs.Waiting.Queues.{Each-parts, Each-pushed, joined-first}
+use Rattle.link_server.proofs.Waiting.Queues.{Each-pushed, joined-first}
 
 -- ---- one comes
 

@@ -1,12 +1,12 @@
 -- What one element more makes of queues, and the first that goes.
 use Rattle.std.proofs.Common.{◌≡◌, ℕ, zero, suc, ◌+◌, ◌<◌, List, [], ◌∷◌, ◌++◌, Option, Some, None, length, get_or, set, map, refl, sym, ap, ◌∙◌, subst, arith}
 use Rattle.std.proofs.lemmas.List.{append_assoc, append-nil, length-append, map-append, map_push}
-use Rattle.std.proofs.lemmas.List.Sorted.{All-permutation, IsPermutation-sym, IsPermutation-trans, IsPermutation-append_right, IsPermutation-middle, length_permutation}
+use Rattle.std.proofs.lemmas.List.Sorted.{IsPermutation-sym, IsPermutation-trans, IsPermutation-append_right, IsPermutation-middle, length_permutation}
 use Rattle.link_server.proofs.Words.{IsPermutation, Each}
-use Rattle.std.specs.List.{All}
 use Rattle.std.specs.Option.{option_map, option_to_list}
 use Rattle.static_priority.specs.Queues.{head_from, left_of}
 use Rattle.link_steps.proofs.SearchAndFilter.{Each-append}
+use Rattle.link_steps.proofs.ListParts.{Each-parts}
 use Rattle.link_server.specs.Queues.{joined, first_of, after_first, pushed}
 
 module _ {X : Type 0} where
@@ -20,23 +20,6 @@ module _ {X : Type 0} where
   joined-pushed (queue ∷ queues) (suc place) x inside =
       IsPermutation-trans (x ∷ (queue ++ joined queues)) (queue ++ x ∷ joined queues) (queue ++ joined (pushed queues place x)) (IsPermutation-sym _ _ (IsPermutation-middle queue x (joined queues)))
       (IsPermutation-append_right queue _ _ (joined-pushed queues place x (omega arith)))
-
-  all-of : (P : X → Type 0) (xs : List X) → Each P xs → (k : ℕ) (d : X) → k < length xs → P (get_or xs k d)
-  all-of P [] each k d inside = absurd (omega (arith, inside))
-  all-of P (x ∷ xs) each zero d inside = each.0
-  all-of P (x ∷ xs) each (suc k) d inside = all-of P xs each.1 k d (omega (arith, inside))
-
-  pub each-of : (P : X → Type 0) (xs : List X) → All P xs → Each P xs
-  each-of P [] all = tt
-  each-of P (x ∷ xs) all = (all 0 x (omega arith), each-of P xs (λ k d inside. all (suc k) d (omega (arith, inside))))
-
-  -- what holds of each element holds in any order
-  pub each-same : (P : X → Type 0) (xs ys : List X) → IsPermutation xs ys → Each P xs → Each P ys
-  each-same P xs ys same each = each-of P ys (All-permutation P xs ys same (all-of P xs each))
-
-  pub Each-parts : (P : X → Type 0) (xs ys : List X) → Each P (xs ++ ys) → Each P xs × Each P ys
-  Each-parts P [] ys each = (tt, each)
-  Each-parts P (x ∷ xs) ys each = let rest = Each-parts P xs ys each.1 in ((each.0, rest.0), rest.1)
 
   pub Each-pushed : (P : X → Type 0) (queues : List (List X)) (place : ℕ) (x : X) → P x → Each P (joined queues) → Each P (joined (pushed queues place x))
   Each-pushed P [] place x here each = tt

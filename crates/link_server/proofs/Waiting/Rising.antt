@@ -1,6 +1,6 @@
 -- Places that rise: how many they may be, what one more makes of them, and which places lie between two of them.
-use Rattle.std.proofs.Common.{◌≡◌, ℕ, zero, suc, ◌+◌, ◌<◌, ◌≤◌, Bool, true, false, ◌||◌, List, [], ◌∷◌, ◌++◌, remove, length, get_or, refl, arith}
-use Rattle.std.proofs.lemmas.Bool.{eq-eqb, ne_eqb, or_right}
+use Rattle.std.proofs.Common.{◌≡◌, ℕ, zero, suc, ◌+◌, ◌<◌, ◌≤◌, true, false, List, [], ◌∷◌, ◌++◌, remove, length, get_or, refl, arith}
+use Rattle.std.proofs.lemmas.Bool.{eq-eqb, ne_eqb, or_right, or_parts, or_from}
 use Rattle.link_server.proofs.Words.{insert, nat_eq}
 use Rattle.link_server.specs.KeyedList.{AreRising}
 use Rattle.link_server.specs.Plans.{is_turn}
@@ -91,21 +91,13 @@ turn-inserted places zero x within = rw (eq-eqb x x refl) refl
 turn-inserted [] (suc i) x within = absurd (omega (arith, within))
 turn-inserted (place ∷ places) (suc i) x within = or_right (nat_eq x place) (is_turn (insert places i x) x) (turn-inserted places i x (omega (arith, within)))
 
--- and those that were are so yet
-or-parts : (a b : Bool) → (a || b) ≡ false → (a ≡ false) × (b ≡ false)
-or-parts true b is = absurd (let f : true ≡ false = is in cc)
-or-parts false b is = (refl, is)
-
-or-both : (a b : Bool) → a ≡ false → b ≡ false → (a || b) ≡ false
-or-both a b one other = rw (one, other) refl
-
 pub turn-before : (places : List ℕ) (i x other : ℕ) → is_turn (insert places i x) other ≡ false → is_turn places other ≡ false
 turn-before [] zero x other none = refl
 turn-before [] (suc i) x other none = refl
-turn-before (place ∷ places) zero x other none = (or-parts (nat_eq other x) (is_turn (place ∷ places) other) none).1
+turn-before (place ∷ places) zero x other none = (or_parts (nat_eq other x) (is_turn (place ∷ places) other) none).1
 turn-before (place ∷ places) (suc i) x other none =
-    let parts = or-parts (nat_eq other place) (is_turn (insert places i x) other) none in
-    or-both (nat_eq other place) (is_turn places other) parts.0 (turn-before places i x other parts.1)
+    let parts = or_parts (nat_eq other place) (is_turn (insert places i x) other) none in
+    or_from (nat_eq other place) (is_turn places other) parts.0 (turn-before places i x other parts.1)
 
 -- ---- which are among them
 
@@ -118,19 +110,19 @@ none-below : (low high : ℕ) (places : List ℕ) (x : ℕ) → AreRising low hi
 none-below low high [] x rising below = refl
 none-below low high (place ∷ places) x rising below =
     let from = rising.0 in
-    or-both (nat_eq x place) (is_turn places x) (ne_eqb x place (λ same. omega (arith, same, from, below))) (none-below (suc place) high places x rising.1 (omega (arith, from, below)))
+    or_from (nat_eq x place) (is_turn places x) (ne_eqb x place (λ same. omega (arith, same, from, below))) (none-below (suc place) high places x rising.1 (omega (arith, from, below)))
 
 -- none before the first
 pub none-first : (low high : ℕ) (places : List ℕ) (x : ℕ) → AreRising low high places → x < get_or places 0 high → is_turn places x ≡ false
 none-first low high [] x rising before = refl
 none-first low high (place ∷ places) x rising before =
-    or-both (nat_eq x place) (is_turn places x) (ne_eqb x place (λ same. omega (arith, same, before))) (none-below (suc place) high places x rising.1 (omega (arith, before)))
+    or_from (nat_eq x place) (is_turn places x) (ne_eqb x place (λ same. omega (arith, same, before))) (none-below (suc place) high places x rising.1 (omega (arith, before)))
 
 -- nor between one and the next
 pub none-between : (low high : ℕ) (places : List ℕ) (k d x : ℕ) → AreRising low high places → k < length places → get_or places k d < x → x < get_or places (suc k) high → is_turn places x ≡ false
 none-between low high [] k d x rising inside past before = refl
 none-between low high (place ∷ places) zero d x rising inside past before =
-    or-both (nat_eq x place) (is_turn places x) (ne_eqb x place (λ same. omega (arith, same, past))) (none-first (suc place) high places x rising.1 before)
+    or_from (nat_eq x place) (is_turn places x) (ne_eqb x place (λ same. omega (arith, same, past))) (none-first (suc place) high places x rising.1 before)
 none-between low high (place ∷ places) (suc k) d x rising inside past before =
     let from = rising-from (suc place) high places k d rising.1 (omega (arith, inside)) in
-    or-both (nat_eq x place) (is_turn places x) (ne_eqb x place (λ same. omega (arith, same, past, from))) (none-between (suc place) high places k d x rising.1 (omega (arith, inside)) past before)
+    or_from (nat_eq x place) (is_turn places x) (ne_eqb x place (λ same. omega (arith, same, past, from))) (none-between (suc place) high places k d x rising.1 (omega (arith, inside)) past before)

@@ -1,6 +1,6 @@
 -- What is known where an engine makes the step that an actor is about to make, and what it then stands for.
 use Rattle.std.proofs.Common.{◌≡◌, ℕ, List, sym, subst, ◌∙◌}
-use Rattle.run_engine.proofs.Words.{Result, Ok, Err, IfOk, OnErr, link_number, ActorNo, LinkNo, AnyLink, Ask, PlanParts, network_of, Done}
+use Rattle.run_engine.proofs.Words.{Result, Ok, Err, IfOk, link_number, ActorNo, LinkNo, AnyLink, Ask, PlanParts, network_of, Done}
 use Rattle.run_engine.specs.schedules.Standing.{IsAboutTo, LinksStand}
 use Rattle.run_engine.specs.declared.engine.Engine.{Engine}
 use Rattle.run_engine.proofs.Keeping.NextStep.{Asking}
@@ -14,17 +14,7 @@ asking-in parts engine links run actor to ask own number about same from get = r
   is = sym (from ∙ get);
 }
 
--- what holds anyway holds of an error
-pub on-err : {X E : Type 0} {P : Type 0} (result : Result X E) → P → OnErr result P
-on-err (Ok x) holds = tt
-on-err (Err e) holds = holds
-
 -- two facts of a result make a third
 pub both-ok : {X E : Type 0} {P Q R : X → Type 0} (result : Result X E) → ((x : X) → P x → Q x → R x) → IfOk result P → IfOk result Q → IfOk result R
 both-ok (Ok x) both one other = both x one other
 both-ok (Err e) both one other = tt
-
--- and one of an error another
-pub more-err : {X E P Q : Type 0} (result : Result X E) → (P → Q) → OnErr result P → OnErr result Q
-more-err (Ok x) more holds = tt
-more-err (Err e) more holds = more holds

@@ -27,7 +27,7 @@ front-more entries i done inside is =
     let more : take (i + 1) entries ≡ take i entries ++ done ∷ [] = take_more entries i done inside ∙ ap (λ (d : Done). take i entries ++ d ∷ []) (sym is) in
     ap reverse more ∙ reverse-append (take i entries) (done ∷ [])
 
-next-head : (network : Network) (done : Done) (past : List Done) → IsRun network (done ∷ past) → IsNext network past done
+pub next-head : (network : Network) (done : Done) (past : List Done) → IsRun network (done ∷ past) → IsNext network past done
 unfolding IsRun
 next-head network done past run = run.1
 

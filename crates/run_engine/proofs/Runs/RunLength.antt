@@ -87,7 +87,7 @@ follows-longer network past run (actor ∷ actors) fits is follows =
     let more = ap length made.is in
     omega (arith, rest, more)
 
-repeated-long : {X : Type 0} (n : ℕ) (x : X) → length (repeated n x) ≡ n
+pub repeated-long : {X : Type 0} (n : ℕ) (x : X) → length (repeated n x) ≡ n
 unfolding repeated
 repeated-long zero x = refl
 repeated-long (suc n) x = ap suc (repeated-long n x)

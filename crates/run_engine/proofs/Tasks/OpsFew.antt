@@ -1,8 +1,7 @@
 -- A caller of a plan has few operations: a channel is opened once, closed once and joined once at most, and few packets are sent and
 -- poured.
 use Rattle.std.proofs.Common.{◌≡◌, ℕ, zero, suc, ◌+◌, ◌*◌, ◌<◌, ◌≤◌, Bool, true, false, not, eqb, Option, Some, None, List, [], ◌∷◌, ◌++◌, length, refl, sym, ap, ◌∙◌, subst, inl, inr, append_assoc, arith}
-use Rattle.run_engine.proofs.Words.{cases_Bool, and_parts, eq-eqb, eqb-true, leb-true, ne_eqb, length-append, length-map, same_Some, slice_get_within, list_all, list_any, slice_get, AllByRecursion, IsDistinct, nat_le, ◌||◌, channel_number, ChanNo, Each, total, PlanParts, openings_in, openings_of, opening_of, HasTerms, IsPlan}
-use Rattle.std.proofs.lemmas.List.Folds.{list_any-append}
+use Rattle.run_engine.proofs.Words.{cases_Bool, and_parts, eqb-true, leb-true, ne_eqb, length-append, length-map, same_Some, slice_get_within, list_all, list_any, slice_get, AllByRecursion, IsDistinct, nat_le, channel_number, ChanNo, Each, total, PlanParts, openings_in, openings_of, opening_of, HasTerms, IsPlan}
 use Rattle.std.proofs.lemmas.Map.Steps.{length-le_from_distinct_below}
 use Rattle.std.proofs.lemmas.Nat.{mul-le}
 use Rattle.call_script.specs.Operations.{attributes_of}
@@ -17,9 +16,8 @@ use Rattle.link_steps.proofs.ListParts.{Each-at}
 use Rattle.call_script.proofs.Growing.{few-in, ranges-in}
 use Rattle.call_script.proofs.ScriptLoads.{load-append}
 use Rattle.call_script.proofs.OpeningsInOrder.{opened-has}
-use Rattle.call_script.proofs.OneOwner.{any-later, twice-not}
+use Rattle.call_script.proofs.OneOwner.{any-later, twice-not, now-has}
 use Rattle.call_script.proofs.RulesAreKept.{each-of, fresh-some, is_fresh, keeps-rules, moves-in, unclosed-in, used-in}
-use Rattle.std.proofs.Math.Bool.{or-true}
 
 -- ---- operations by their kinds
 
@@ -95,11 +93,6 @@ not-not false on off = cc
 abbrev IsAsked : Role → Role → Type 0
 IsAsked asks adds = (op : Op) (chan : ℕ) → named adds op ≡ Some chan → named asks op ≡ Some chan
 
-named-itself : (adds : Role) (above : List Op) (op : Op) (chan : ℕ) → named adds op ≡ Some chan → list_any (is_in adds chan) (above ++ op ∷ []) ≡ true
-named-itself adds above op chan is =
-    let own : is_in adds chan op ≡ true = rw is (eq-eqb chan chan refl) in
-    list_any-append (is_in adds chan) above (op ∷ []) ∙ ap (λ b. list_any (is_in adds chan) above || (b || false)) own ∙ or-true (list_any (is_in adds chan) above)
-
 -- what an operation names apart from what is above, is apart from a channel named there
 apart-next : (asks adds : Role) → IsAsked asks adds → (k : ℕ) (above : List Op) (op : Op) (rest : List ℕ) (told : Option ℕ) → named adds op ≡ told → is_apart asks adds above op ≡ true → list_any (is_in adds k) above ≡ true
     → AllByRecursion (λ y. eqb k y ≡ false) rest → AllByRecursion (λ y. eqb k y ≡ false) (listed told ++ rest)
@@ -119,7 +112,7 @@ named-apart asks adds asked k above (op ∷ ops) kept before =
 once-next : (asks adds : Role) → IsAsked asks adds → (above : List Op) (op : Op) (ops : List Op) (told : Option ℕ) → named adds op ≡ told → each_after (is_apart asks adds) (above ++ op ∷ []) ops ≡ true → IsDistinct eqb (channels_in adds ops) → IsDistinct eqb (listed told ++ channels_in adds ops)
 unfolding IsDistinct
 once-next asks adds asked above op ops None is later others = others
-once-next asks adds asked above op ops (Some chan) is later others = (named-apart asks adds asked chan (above ++ op ∷ []) ops later (named-itself adds above op chan is), others)
+once-next asks adds asked above op ops (Some chan) is later others = (named-apart asks adds asked chan (above ++ op ∷ []) ops later (now-has adds chan above op is), others)
 
 pub named-once : (asks adds : Role) → IsAsked asks adds → (above ops : List Op) → each_after (is_apart asks adds) above ops ≡ true → IsDistinct eqb (channels_in adds ops)
 unfolding each_after IsDistinct

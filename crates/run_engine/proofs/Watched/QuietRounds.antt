@@ -1,6 +1,6 @@
 -- A run that rests goes on by quiet rounds, tick by tick.
 use Rattle.std.proofs.Common.{◌≡◌, ◌≢◌, ℕ, zero, suc, ◌+◌, ◌*◌, ◌<◌, ◌≤◌, List, [], ◌∷◌, length, refl, sym, ap, ◌∙◌, subst, inl, inr, arith}
-use Rattle.run_engine.proofs.Words.{cases_lt, eq-eqb, ne_eqb, slice_get, nat_eq, if◌then◌else◌, actor_number, link_at, link_number, ActorNo, Tick, Entry, quiet_reply, quiet_ticks, reply_to, NetworkFits, Network, Plane, plane_ask, plane_after, next_due, entry_of, replies_to, part_of, Done, plane_no, plane_at, IsNext, IsRun}
+use Rattle.run_engine.proofs.Words.{cases_lt, eq-eqb, ne_eqb, slice_get, nat_eq, if◌then◌else◌, actor_number, link_at, link_number, ActorNo, Tick, Entry, quiet_ticks, reply_to, NetworkFits, Network, Plane, plane_ask, plane_after, next_due, entry_of, replies_to, part_of, Done, plane_no, plane_at, IsNext, IsRun}
 use Rattle.tick_plane.proofs.QuietRounds.{none-yet, after-still, asks-tick}
 use Rattle.run_engine.specs.schedules.Quiet.{quiet_step, quiet_round, quiet_rounds, the_plane, rested, RestsFor, GoesOnAtRest, QuietRoundsGoOn}
 use Rattle.run_engine.specs.schedules.Schedules.{repeated, FollowsTurns}
@@ -10,6 +10,7 @@ use Rattle.run_engine.proofs.Schedules.PlayedTurns.{step-follows, follows-start,
 use Rattle.run_engine.proofs.Runs.RunLegal.{asked-plane, link_at-number, part-on, part-off, plane-by, replies-off}
 use Rattle.run_engine.proofs.Runs.RunOf.{step-is}
 use Rattle.run_engine.proofs.Runs.RunFronts.{run-more}
+use Rattle.link_steps.proofs.QuietTicks.{more-quiet}
 
 -- ---- numbers
 
@@ -24,10 +25,6 @@ one-round-more m links = omega arith
 none-made : (t : ℕ) (h : List Entry) → h ≡ quiet_ticks 0 t h
 unfolding quiet_ticks
 none-made t h = refl
-
-one-made : (m t : ℕ) (h : List Entry) → record { ask = Tick; reply = quiet_reply (t + m) } ∷ quiet_ticks m t h ≡ quiet_ticks (suc m) t h
-unfolding quiet_ticks
-one-made m t h = refl
 
 turn-of : (network : Network) (past : List Done) (done : Done) → IsNext network past done → FollowsTurns network past (done.actor ∷ []) (done ∷ past)
 turn-of network past done next =
@@ -121,7 +118,7 @@ module _ (network : Network) (n : ℕ) (base : List Done) (fits : NetworkFits ne
               | inl before ↦ part-off k done run (λ same. absurd (omega (arith, same, number, before))) ∙ midway.made k before
               | inr from ↦ (
                   let same : k ≡ j = omega (arith, from, less) in
-                  part-on k done run (number ∙ sym same) ∙ ap (λ h. entry_of done ∷ h) (midway.left k from (omega (arith, same, inside))) ∙ one-made m at.round (part_of k base))
+                  part-on k done run (number ∙ sym same) ∙ ap (λ h. entry_of done ∷ h) (midway.left k from (omega (arith, same, inside))) ∙ more-quiet at.round m (part_of k base))
             ];
         left = λ k from within. part-off k done run (λ same. absurd (omega (arith, same, number, from))) ∙ midway.left k (omega (arith, from)) within;
       }

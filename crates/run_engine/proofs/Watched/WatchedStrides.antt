@@ -1,7 +1,7 @@
 -- What strides make of a run that is watched, and of the turns of one actor.
 use Rattle.std.proofs.Common.{◌≡◌, ℕ, zero, suc, ◌+◌, ◌*◌, ◌≤◌, None, List, [], ◌∷◌, ◌++◌, length, refl, sym, ap, ◌∙◌, subst, arith}
-use Rattle.run_engine.proofs.Words.{length-map, Result, Ok, Err, OnOk, actor_number, ActorNo, PlanParts, IsPlan, entry_link, groups_in, Network, network_of, Plane, next_for, plane_at, run_from, Done}
-use Rattle.call_script.proofs.PlansFit.{plan-fits}
+use Rattle.run_engine.proofs.Words.{actor_number, ActorNo, PlanParts, IsPlan, Network, network_of, Plane, next_for, plane_at, run_from, Done}
+use Rattle.call_script.proofs.PlansFit.{plan-fits, links-are}
 use Rattle.run_engine.specs.schedules.Quiet.{quiet_round, quiet_rounds, quiet_step, rested, the_plane}
 use Rattle.run_engine.specs.schedules.Resting.{MakesStride}
 use Rattle.run_engine.specs.schedules.Schedules.{repeated, FollowsTurns}
@@ -12,7 +12,7 @@ use Rattle.run_engine.proofs.Watched.WatchedSteps.{plays-none, plays-out}
 
 -- ---- turns of one actor
 
-repeated-sum : {X : Type 0} (m n : ℕ) (x : X) → repeated (m + n) x ≡ repeated m x ++ repeated n x
+pub repeated-sum : {X : Type 0} (m n : ℕ) (x : X) → repeated (m + n) x ≡ repeated m x ++ repeated n x
 unfolding repeated
 repeated-sum zero n x = (let same : 0 + n ≡ n = omega arith in ap (λ k. repeated k x) same)
 repeated-sum (suc m) n x = (let more : suc m + n ≡ suc (m + n) = omega arith in ap (λ k. repeated k x) more ∙ ap (λ xs. x ∷ xs) (repeated-sum m n x))
@@ -20,10 +20,6 @@ repeated-sum (suc m) n x = (let more : suc m + n ≡ suc (m + n) = omega arith i
 repeated-one : {X : Type 0} (x : X) → repeated 1 x ≡ x ∷ []
 unfolding repeated
 repeated-one x = refl
-
-pub links-are : (parts : PlanParts) → length (network_of parts).links ≡ length parts.links
-unfolding network_of
-links-are parts = length-map parts.links (entry_link (groups_in parts))
 
 module _ {W : Type 0} (saw : W → PlanParts → List Done → Type 0) (parts : PlanParts) where
   pub plays-more : (mid engine : Engine) (seen watch : W) (past : List Done) (actor : ActorNo) (m n : ℕ) → PlaysOn saw parts mid seen past (repeated m actor) → ((run : List Done) → WatchStands saw parts mid seen run → PlaysOn saw parts engine watch run (repeated n actor))
@@ -84,13 +80,6 @@ rested-is network past run new plane links first n is actor all at same =
     ∙ ap (λ l. quiet_rounds (the_plane network) l first n run) all
     ∙ ap (λ t. quiet_rounds (the_plane network) (length network.links) t n run) (sym at)
     ∙ ap (quiet_rounds (the_plane network) (length network.links) (plane_at network past).round n) same
-
-pub links-few : (parts : PlanParts) → IsPlan parts → length parts.links ≤ 32
-links-few parts plan = (let few = (plan-fits parts plan).few in let same = links-are parts in omega (arith, few, same))
-
-pub on-ok : {X E P Q : Type 0} (result : Result X E) → (P → Q) → OnOk result P → OnOk result Q
-on-ok (Ok x) turn holds = turn holds
-on-ok (Err e) turn holds = tt
 
 no-turn : (network : Network) (past : List Done) (actor : ActorNo) → run_from network past (repeated 0 actor) ≡ past
 unfolding repeated run_from

@@ -1,7 +1,7 @@
 -- One more turn, until nobody has a step left, or the plane alone, which then makes its steps. A run is too short for the loop to end before.
 use Rattle.std.proofs.Common.{refl, ◌∙◌, arith}
+use Rattle.std.proofs.lemmas.Result.{on_ok_weaker}
 use Rattle.net_units.specs.Numbers.{actor_number}
-use Rattle.run_engine.proofs.Watched.WatchedStrides.{on-ok}
 use Rattle.load_maker.proofs.PlaneTurns.{plane-alone}
 use Rattle.load_maker.proofs.WatchedTurns.{circle-at, no-turns, one-turn, never-ending, next-within}
 use Rattle.load_maker.proofs.turns.make_turns.Goals as goal
@@ -24,7 +24,7 @@ returns-then-is_plane_alone-clause-turns g c =
     let at = circle-at g.W.Watch.saw c.args.plan.now c.loop.engine c.loop.watch c.loop.next c.loop.counter turns in
     let turn = c.in-Some.ensures.some turns.run at in
     let alone = c.if-is_plane_alone.true in
-    on-ok c.play_plane.result
+    on_ok_weaker c.play_plane.result
     (λ out. plane-alone g.W.Watch.saw c.args.plan.now c.loop.engine c.play_plane.new.engine c.loop.watch c.play_plane.new.watch c.loop.next c.loop.counter (actor_number c.in-Some.actor) turns (c.is_plane_alone.ensures.first alone) (c.is_plane_alone.ensures.plane alone) turn.turn
     (out turns.run turns.stand))
     c.play_plane.ensures.out

@@ -1,10 +1,11 @@
 -- A stride is a number of steps of the plane, and a step is one.
 use Rattle.std.proofs.Common.{length, sym, ap, subst, arith}
 use Rattle.call_script.specs.Tasks.{network_of}
+use Rattle.call_script.proofs.PlansFit.{links-few}
 use Rattle.run_engine.specs.schedules.Quiet.{the_plane}
 use Rattle.run_engine.specs.schedules.Watching.{GoesOn}
 use Rattle.run_engine.proofs.Watched.RestedRounds.{fewer-engine}
-use Rattle.run_engine.proofs.Watched.WatchedStrides.{links-few, links-some}
+use Rattle.run_engine.proofs.Watched.WatchedStrides.{links-some}
 use Rattle.plane_workers.proofs.StepsAddUp.{step-more, stride-more}
 use Rattle.plane_workers.proofs.LinksAtDesks.{plane-left}
 use Rattle.plane_workers.proofs.alone.make_some.Goals as goal

@@ -1,13 +1,13 @@
 -- No round yet, and then a part more.
 use Rattle.std.proofs.Common.{◌≡◌, length, refl, ap, ◌∙◌, arith}
 use Rattle.net_units.specs.Numbers.{actor_at}
-use Rattle.call_script.proofs.PlansFit.{plan-fits}
+use Rattle.call_script.proofs.PlansFit.{plan-fits, rounds-are}
 use Rattle.call_script.specs.Tasks.{network_of}
 use Rattle.run_engine.specs.schedules.Quiet.{the_plane}
 use Rattle.run_engine.proofs.Keeping.NextStep.{callers-few, has-few}
 use Rattle.plane_workers.proofs.GapLaw.{packets-take}
 use Rattle.plane_workers.proofs.StepsAddUp.{none-more, more-again, more-out}
-use Rattle.plane_workers.proofs.LinksAtDesks.{plane-end, plane-of-callers, plan-spaced, rounds-of}
+use Rattle.plane_workers.proofs.LinksAtDesks.{plane-end, plane-of-callers, plan-spaced}
 use Rattle.plane_workers.proofs.rounds.make_rounds.Goals as goal
 
 pub overflow_add-rounds : goal.overflow_add-rounds
@@ -34,7 +34,7 @@ make_part-requires-clause-early g c κs within = (let at = c.round-round.ensures
 pub make_part-requires-clause-all : goal.make_part-requires-clause-all
 make_part-requires-clause-all g c κs within =
     let all = c.next-part.ensures.all in
-    let is = rounds-of c.args.plan.now in
+    let is = rounds-are c.args.plan.now in
     let r = c.rounds.ensures.value in
     let t = c.tail.ensures.value in
     omega (arith, all, is, r, t)
@@ -48,7 +48,7 @@ make_part-requires-clause-near g c κs within = λ several.
 
 pub make_part-requires-clause-rounds : goal.make_part-requires-clause-rounds
 make_part-requires-clause-rounds g c κs within =
-    let is = rounds-of c.args.plan.now in
+    let is = rounds-are c.args.plan.now in
     let r = c.rounds.ensures.value in
     let t = c.tail.ensures.value in
     omega (arith, is, r, t)
@@ -66,7 +66,7 @@ returns-clause-out g c = λ past stand.
     let is : c.actor_of-actor.result ≡ the_plane (network_of c.args.plan.now) = c.actor_of-actor.ensures ∙ plane-of-callers c.args.plan.now (length c.callers.result.now) same in
     let r = c.rounds.ensures.value in
     let t = c.tail.ensures.value in
-    let all = rounds-of c.args.plan.now in
+    let all = rounds-are c.args.plan.now in
     let over = c.loop-alloc-test.false in
     let at = c.round.ensures in
     more-out g.W.Watch.saw c.args.plan.now c.loop-alloc.engine c.loop-alloc.watch past c.actor_of-actor.result (actor_at (length c.args.plan.now.callers)) (c.actor_of-actor.ensures ∙ ap actor_at same)

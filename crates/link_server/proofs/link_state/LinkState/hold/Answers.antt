@@ -1,6 +1,5 @@
 -- There is room for the packets of the row, and the row comes into the table.
 use Rattle.std.proofs.Common.{◌≡◌, ◌+◌, ◌≤◌, suc, length, refl, sym, ap, ◌∙◌, subst, arith}
-use Rattle.std.specs.Prelude.{Result, Ok, Err, OnErr}
 use Rattle.link_server.proofs.Words.{AccountRow, total, Offer, slots_of, account_after, account, QueueAccount, TableAccount, reservation_in, row_in, IsWithinLevels, account_in}
 use Rattle.link_steps.proofs.ReservationFound.{may-reach}
 use Rattle.link_server.specs.Held.{reservations_held}
@@ -23,6 +22,7 @@ use Rattle.link_server.proofs.RowsOfTable.Sums.{within-reserved}
 use Rattle.link_server.proofs.RowsOfTable.Parts.{still-of}
 use Rattle.link_server.proofs.link_state.LinkState.hold.Goals as goal
 use Rattle.link_server.proofs.link_state.LinkState.hold.Goals.{In_ok-add}
+use Rattle.net_units.proofs.ByCases.{on-err}
 
 pub places_with-requires : goal.places_with-requires
 places_with-requires c =
@@ -103,11 +103,6 @@ invariant_of-self-2 c =
 
 pub returns-clause-kept : goal.returns-clause-kept
 returns-clause-kept c = held (goal.at.returns-clause-kept c).In_ok-add
-
--- what is kept stays where memory is wanted
-on-err : {X E P : Type 0} (r : Result X E) → P → OnErr r P
-on-err (Ok x) fact = tt
-on-err (Err e) fact = fact
 
 pub returns-in_err-reserve-clause-memory : goal.returns-in_err-reserve-clause-memory
 returns-in_err-reserve-clause-memory c = on-err c.from_residual-in_err-reserve.result (ap (λ (queue : QueueAccount). account c.args.self.now.clock queue c.args.self.now.table.rows) c.reserve.ensures.kept)

@@ -4,6 +4,7 @@ use Rattle.std.proofs.lemmas.List.{length-map}
 use Rattle.std.proofs.lemmas.List.Sorted.{IsPermutation-map, length_permutation}
 use Rattle.link_server.proofs.Words.{IsPermutation, filter, is_best, is_eligible_by, served, start_at, Arrival}
 use Rattle.link_steps.specs.Service.{first_in_line}
+use Rattle.link_steps.proofs.ListParts.{Each-permuted}
 use Rattle.link_server.specs.Arrived.{all_here, arrived, HaveOwnNumbers, IsNumbered, AreNumberedUpTo}
 use Rattle.link_server.specs.Line.{waiting_in}
 use Rattle.link_server.specs.Packets.{arrival_in, here_in, on_in}
@@ -12,7 +13,6 @@ use Rattle.link_server.specs.declared.queue.held_packet.Running.{Running}
 use Rattle.link_server.proofs.Replies.Account.{queue-same}
 use Rattle.link_server.proofs.Waiting.Arrived.{all-moved, arrived-same, count-same, long-arrived, one-more, own-same}
 use Rattle.link_server.proofs.Waiting.Next.{none-first, next-first}
-use Rattle.link_server.proofs.Waiting.Queues.{each-same}
 use Rattle.link_server.proofs.queue.Queue.occupant.Goals as goal
 use Rattle.link_server.proofs.queue.Queue.occupant.Goals.{After-len, In_err-packet, In_ok-packet, After-best_in}
 
@@ -65,7 +65,7 @@ invariant_of-self c =
     let long = length_permutation (packets_of q) _ moved in
     record {
       own = own-same (packets_of q) _ moved c.self.invariant.own;
-      numbered = each-same (IsNumbered q.taken) (packets_of q) _ moved c.self.invariant.numbered;
+      numbered = Each-permuted (IsNumbered q.taken) (packets_of q) _ moved c.self.invariant.numbered;
       fits = omega (arith, fits, long);
       lines_up = omega (arith, lines_up, c.next.ensures.room);
       best_counted =
@@ -118,7 +118,7 @@ invariant_of-self-3 c =
     let long = length_permutation was now moved in
     record {
       own = own-same was now moved (waits at.After-len HaveOwnNumbers c.self.invariant.own);
-      numbered = each-same (IsNumbered q.taken) was now moved (waits at.After-len (AreNumberedUpTo q.taken) c.self.invariant.numbered);
+      numbered = Each-permuted (IsNumbered q.taken) was now moved (waits at.After-len (AreNumberedUpTo q.taken) c.self.invariant.numbered);
       fits = omega (arith, fits, long);
       lines_up = omega (arith, lines_up, c.next.ensures.room);
       best_counted = (let waited = waited at.After-best_in in omega (arith, waited));
@@ -134,7 +134,7 @@ returns-clause-occupant c =
     let next = c.in_ok-packet.ensures.next in
     let own = waits at.After-len HaveOwnNumbers c.self.invariant.own in
     rw (← c.self.view_is) (starts at.After-len (Some (arrival_in c.in_ok-packet.packet))
-    (sym (next-first c.args.tick q.taken c.in_ok-packet.packet (waiting_in c.next.new.self) (own-same was now moved own) (each-same (IsNumbered q.taken) was now moved (waits at.After-len (AreNumberedUpTo q.taken) c.self.invariant.numbered)) next.eligible next.after)
+    (sym (next-first c.args.tick q.taken c.in_ok-packet.packet (waiting_in c.next.new.self) (own-same was now moved own) (Each-permuted (IsNumbered q.taken) was now moved (waits at.After-len (AreNumberedUpTo q.taken) c.self.invariant.numbered)) next.eligible next.after)
     ∙ ap (λ here. first_in_line (filter (is_eligible_by c.args.tick) here)) (sym (arrived-same was now q.taken moved own))))
 
 pub returns-clause-kept : goal.returns-clause-kept

@@ -4,6 +4,7 @@ use Rattle.std.proofs.lemmas.List.{length-map}
 use Rattle.std.proofs.lemmas.List.Sorted.{IsPermutation-map, length_permutation}
 use Rattle.link_server.proofs.Words.{IsPermutation, filter, is_best, QueueAccount}
 use Rattle.link_steps.proofs.SearchAndFilter.{Each-if, Each-mapped}
+use Rattle.link_steps.proofs.ListParts.{Each-permuted}
 use Rattle.link_server.specs.Arrived.{all_here, arrived, IsNumbered}
 use Rattle.link_server.specs.Line.{waiting_in}
 use Rattle.link_server.specs.Order.{IsNewest}
@@ -12,7 +13,6 @@ use Rattle.link_server.specs.QueueParts.{packets_of}
 use Rattle.link_server.proofs.Replies.Account.{queue-same}
 use Rattle.link_server.proofs.Sound.Packets.{count-upto}
 use Rattle.link_server.proofs.Waiting.Arrived.{all-came, arrived-came, arrived-same, count-same, here-waiting, long-arrived, long-here, one-more, own-came, own-same}
-use Rattle.link_server.proofs.Waiting.Queues.{each-same}
 use Rattle.link_server.proofs.queue.Queue.push.Goals as goal
 use Rattle.link_server.proofs.queue.Queue.push.Goals.{After-self, After-push}
 
@@ -91,7 +91,7 @@ invariant_of-self c =
     let best = count-same (is_best q.bounds) _ _ (IsPermutation-map arrival_in (c.args.packet ∷ waiting_in q.line) (waiting_in c.push.new.self) c.push.ensures.waiting) in
     record {
       own = own-same (p ∷ here) _ came (own-came p here q.taken c.self.invariant.numbered c.self.invariant.own (omega (arith, next)));
-      numbered = each-same (IsNumbered (q.taken + 1)) (p ∷ here) _ came (
+      numbered = Each-permuted (IsNumbered (q.taken + 1)) (p ∷ here) _ came (
         record { least = omega (arith, next); most = omega (arith, next) },
         Each-if (IsNumbered q.taken) (IsNumbered (q.taken + 1)) here (λ r is. record { least = is.least; most = (let most = is.most in omega (arith, most)) }) c.self.invariant.numbered,
       );

@@ -4,18 +4,19 @@ use Rattle.link_server.proofs.Words.{find, is_for, source_step}
 use Rattle.link_server.specs.Packets.{arrival_in}
 use Rattle.link_server.specs.Planned.{left_in}
 use Rattle.link_server.specs.QueueParts.{queue_seen}
-use Rattle.link_server.proofs.Replies.Pour.{best-rests, best-loses, best-brings, rests-queue, drops-queue, brings-queue}
+use Rattle.link_server.proofs.Replies.Pour.{best-loses, best-brings, rests-queue, drops-queue, brings-queue}
 use Rattle.link_server.proofs.queue.Queue.take_best.Goals as goal
+use Rattle.link_server.proofs.Sourcing.Steps.{rests-where-none}
 
 pub returns-in_default-clause-lost : goal.returns-in_default-clause-lost
 returns-in_default-clause-lost c =
     let found = find (is_for c.args.clock) (left_in c.self.inside.best) in
-    rw (← c.self.view_is) (rw (best-rests c.args.fits found c.in_default.ensures.size) refl)
+    rw (← c.self.view_is) (rw (rests-where-none c.args.fits found c.in_default.ensures.size) refl)
 
 pub returns-in_default-clause-kept : goal.returns-in_default-clause-kept
 returns-in_default-clause-kept c =
     let found = find (is_for c.args.clock) (left_in c.self.inside.best) in
-    rw (← c.self.view_is) (rests-queue c.args.shape.now.bounds c.args.clock (queue_seen c.self.inside) (left_in c.take_at.new.self) (source_step c.args.fits found) (best-rests c.args.fits found c.in_default.ensures.size) c.take_at.ensures.left)
+    rw (← c.self.view_is) (rests-queue c.args.shape.now.bounds c.args.clock (queue_seen c.self.inside) (left_in c.take_at.new.self) (source_step c.args.fits found) (rests-where-none c.args.fits found c.in_default.ensures.size) c.take_at.ensures.left)
 
 pub returns-then-not-fits-clause-lost : goal.returns-then-not-fits-clause-lost
 returns-then-not-fits-clause-lost c =

@@ -4,9 +4,9 @@ use Rattle.std.proofs.lemmas.List.{length-map}
 use Rattle.link_server.proofs.Words.{account_stays, TableAccount, row_in}
 use Rattle.link_server.specs.Plans.{ArePlanned}
 use Rattle.link_server.proofs.Calendars.PlanRows.{planned-left, planned-later}
-use Rattle.link_server.proofs.RowsOfTable.Totals.{filter-fewer}
 use Rattle.link_server.proofs.RowsOfTable.Parts.{own-parts}
 use Rattle.link_server.proofs.table.Table.expire.Goals as goal
+use Rattle.net_units.proofs.ListPlaces.{length-passed}
 
 pub invariant_of-self : goal.invariant_of-self
 invariant_of-self c =
@@ -20,7 +20,7 @@ invariant_of-self c =
     let as_many = ap length made.rows in
     let after = length-map c.expire.new.rows.items row_in in
     let before = length-map t.rows.items row_in in
-    let fewer = filter-fewer (account_stays t.bounds c.args.clock) (map row_in t.rows.items) in
+    let fewer = length-passed (account_stays t.bounds c.args.clock) (map row_in t.rows.items) in
     record {
       same_bounds = ap (λ server. server.bounds) made.server ∙ is.same_bounds;
       parts = own-parts _ t.bounds _ _ _ made.parts;

@@ -1,9 +1,10 @@
 -- The link's reply is that of the actor's next step in each run that the engine stands for.
 use Rattle.std.proofs.Common.{◌≡◌, ◌∷◌, length, sym, ap, subst, ◌∙◌, refl, arith}
+use Rattle.std.proofs.lemmas.Result.{on_err_weaker}
 use Rattle.run_engine.proofs.Words.{with_items_is, slice_get, actor_number, network_of, part_of, Done}
 use Rattle.call_script.proofs.PlansFit.{plan-fits}
 use Rattle.run_engine.specs.schedules.Standing.{LinksStand}
-use Rattle.run_engine.proofs.Keeping.EngineStep.{asking-in, both-ok, more-err}
+use Rattle.run_engine.proofs.Keeping.EngineStep.{asking-in, both-ok}
 use Rattle.run_engine.proofs.Keeping.KeptLinks.{clock-small, links-with}
 use Rattle.run_engine.proofs.Keeping.NextStep.{asked-within, fits-at, next-by, links-stepped}
 use Rattle.run_engine.proofs.engine.Engine.ask_link.Goals as goal
@@ -41,7 +42,7 @@ returns-clause-answered c =
 
 pub returns-clause-memory : goal.returns-clause-memory
 returns-clause-memory c =
-    more-err c.step_link.result
+    on_err_weaker c.step_link.result
     (λ memory parts run stands.
     let network = network_of parts in
     let long : length c.step_link.new.links ≡ c.args.self.now.links.len = omega (arith, c.step_link.ensures.length, ap length c.deref_mut.ensures.value, c.args.self.now.links.ok.0) in

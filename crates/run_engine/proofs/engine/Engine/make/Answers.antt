@@ -1,8 +1,8 @@
 -- The link has replied, and the actor gets the reply.
 use Rattle.std.proofs.Common.{refl}
-use Rattle.run_engine.proofs.Keeping.EngineStep.{on-err}
 use Rattle.run_engine.proofs.Keeping.NextPlaneStep.{makes-step}
 use Rattle.run_engine.proofs.engine.Engine.make.Goals as goal
+use Rattle.net_units.proofs.ByCases.{on-err}
 
 pub ask_link-requires : goal.ask_link-requires
 ask_link-requires c = (c.args.plan.now, c.requires.0, c.args.actor, c.requires.1)

@@ -1,8 +1,9 @@
 -- The rounds are recorded after the others.
 use Rattle.std.proofs.Common.{length, reverse, sym, ap, ◌∙◌, arith}
+use Rattle.std.proofs.lemmas.Result.{on_ok_weaker}
 use Rattle.run_engine.proofs.Words.{network_of}
-use Rattle.call_script.proofs.PlansFit.{plan-fits}
-use Rattle.run_engine.proofs.Watched.WatchedStrides.{links-are, links-few, on-ok, rested-is}
+use Rattle.call_script.proofs.PlansFit.{plan-fits, links-few, links-are}
+use Rattle.run_engine.proofs.Watched.WatchedStrides.{rested-is}
 use Rattle.run_engine.proofs.watching.RecordWatch.rested.Goals as goal
 
 pub overflow_cast-links : goal.overflow_cast-links
@@ -21,7 +22,7 @@ record_rounds-requires-clause-rounds c =
 
 pub returns-clause-seen : goal.returns-clause-seen
 returns-clause-seen c =
-    on-ok c.record_rounds.result
+    on_ok_weaker c.record_rounds.result
     (λ is past next.
     rested-is (network_of c.args.plan.now) past (reverse c.args.self.now.entries) (reverse c.record_rounds.new.kept.entries) c.plane_of.result (length c.links.result.now) c.args.first c.args.rounds is c.plane_of.ensures (ap length c.links.ensures.value ∙ sym (links-are c.args.plan.now)) next.at next.seen)
     c.record_rounds.ensures

@@ -6,6 +6,7 @@ use Rattle.std.proofs.lemmas.Bool.{eq-eqb, true≢false}
 use Rattle.tick_calendar.proofs.Chains.{entries-put}
 use Rattle.tick_calendar.proofs.WheelStaysRight.{wheel-beyond, wheel-first, append-after, last-within}
 use Rattle.tick_calendar.proofs.wheel.Wheel.append.Goals as goal
+use Rattle.tick_calendar.proofs.Slots.{none-of}
 
 pub returns-then-tick-self-ge1024-clause-wheel : goal.returns-then-tick-self-ge1024-clause-wheel
 returns-then-tick-self-ge1024-clause-wheel c =
@@ -16,10 +17,6 @@ returns-then-tick-self-ge1024-clause-entries c = rw c.push_reserved.ensures.item
 
 pub returns-then-is_none-clause-entries : goal.returns-then-is_none-clause-entries
 returns-then-is_none-clause-entries c = rw c.push_reserved.ensures.items (entries-put _ _ refl)
-
-none-of : (r : Option ℕ) → is_some r ≡ false → r ≡ None
-none-of None none = refl
-none-of (Some x) none = absurd (true≢false none)
 
 some-of : (r : Option ℕ) → is_some r ≡ true → (x : ℕ) × (r ≡ Some x)
 some-of None some = absurd (true≢false (sym some))

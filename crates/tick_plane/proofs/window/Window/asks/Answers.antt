@@ -1,8 +1,9 @@
 -- The arrivals of the first round, the tick that is left of it, and then the rounds after it.
-use Rattle.std.proofs.Common.{◌≡◌, [], ◌∷◌, Some, suc, ◌+◌, ◌-◌, ◌<◌, ◌++◌, List, length, drop, refl, sym, ap, subst, ◌∙◌, arith}
+use Rattle.std.proofs.Common.{◌≡◌, [], ◌∷◌, Some, suc, ◌+◌, ◌-◌, ◌++◌, List, length, drop, refl, sym, ap, subst, ◌∙◌, arith}
 use Rattle.std.proofs.lemmas.Option.{slice_get_read}
 use Rattle.std.specs.List.{slice_get}
 use Rattle.std.specs.Prelude.{nat_lt, if◌then◌else◌}
+use Rattle.std.proofs.lemmas.Result.{on_ok_weaker}
 use Rattle.link_steps.specs.Lists.{Each}
 use Rattle.link_steps.specs.declared.asks.Ask.TheVariants.{Tick}
 use Rattle.net_units.specs.Numbers.{link_number}
@@ -10,7 +11,7 @@ use Rattle.tick_plane.specs.Coming.{AreComing, AreLeft, IsDueFrom, arrivals_in, 
 use Rattle.tick_plane.specs.Planes.{Plane}
 use Rattle.tick_plane.specs.Windows.{WindowAt, window_at}
 use Rattle.tick_plane.specs.declared.flight.Flight.{Flight}
-use Rattle.tick_plane.proofs.ComingInOrder.{coming-listed, own-ahead, window-is, on-ok}
+use Rattle.tick_plane.proofs.ComingInOrder.{coming-listed, own-ahead, window-is}
 use Rattle.tick_plane.proofs.window.Window.asks.Goals as goal
 
 pub sorted-requires : goal.sorted-requires
@@ -41,7 +42,7 @@ returns c =
     let are : AreComing n at.round until at.flights coming = coming-listed (λ own. own.items) n until at lists c.index-own.result.now coming c.self.invariant found all in
     let left : AreLeft (suc at.round) coming (drop next coming) =
     subst (λ r. AreLeft (suc r) coming (drop next coming)) round (subst (λ (fs : List Flight). AreLeft (suc c.round-round.result) fs (drop next fs)) c.deref-2.ensures.value c.in_ok-next.ensures.left) in
-    on-ok c.add_rounds.result (λ asked.
+    on_ok_weaker c.add_rounds.result (λ asked.
     window-is n until at (let early = c.if-round-self.false in omega (arith, early, round)) coming (drop next coming) are left (c.round-round.result + 1) (omega (arith, round)) c.args.asks.now.items c.add_arrivals.new.asks.items c.add_tick.new.asks.items c.add_rounds.new.asks.items
     (c.in_ok-next.ensures.asks ∙ ap (λ (fs : List Flight). c.args.asks.now.items ++ arrivals_in c.round-round.result fs) c.deref-2.ensures.value ∙ ap (λ r. c.args.asks.now.items ++ arrivals_in r coming) round)
     (c.in_ok-add_tick.ensures ∙ ap (λ t. c.add_arrivals.new.asks.items ++ (if nat_lt n t then [] else Tick ∷ [])) c.ticked.ensures)

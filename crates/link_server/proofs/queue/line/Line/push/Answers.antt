@@ -3,8 +3,8 @@ use Rattle.std.proofs.Common.{◌∷◌, [], sym, subst, arith}
 use Rattle.std.proofs.lemmas.List.Sorted.{IsPermutation-append_right, IsPermutation-trans, length_permutation}
 use Rattle.link_server.specs.Line.{waiting_in, later_in, AreAfter}
 use Rattle.link_server.specs.Order.{ArrivedBefore}
-use Rattle.link_server.proofs.Waiting.Queues.{each-same}
 use Rattle.link_server.proofs.queue.line.Line.push.Goals as goal
+use Rattle.link_steps.proofs.ListParts.{Each-permuted}
 
 pub push_later-requires-clause-eligible : goal.push_later-requires-clause-eligible
 push_later-requires-clause-eligible c = omega (arith, c.requires.on, c.requires.eligible)
@@ -19,7 +19,7 @@ push_ready-requires c =
       room = omega (arith, same, c.look.ensures.room, c.requires.room);
       eligible = (let past = c.if-packet-clock.false in omega (arith, past, c.requires.eligible, c.look.ensures.until));
       after = subst (λ tick. AreAfter tick (later_in c.look.new.self)) (sym c.look.ensures.until) c.look.ensures.after;
-      newest = each-same (λ s. ArrivedBefore s c.args.packet.now) (waiting_in c.args.self.now) (waiting_in c.look.new.self) c.look.ensures.waiting c.requires.newest;
+      newest = Each-permuted (λ s. ArrivedBefore s c.args.packet.now) (waiting_in c.args.self.now) (waiting_in c.look.new.self) c.look.ensures.waiting c.requires.newest;
     }
 
 pub returns-clause-waiting : goal.returns-clause-waiting
