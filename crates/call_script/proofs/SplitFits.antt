@@ -66,8 +66,6 @@ of-groups groups quotas few there k d inside =
     let upto : (get_or quotas k d).group ≤ length groups = leb-true (get_or quotas k d).group (length groups) at.1 in
     (from, omega (arith, upto, few))
 
--- ---- levels
-
 -- ---- the quotas of a link of a plan
 
 pub entry-quotas : (parts : PlanParts) (n : ℕ) (entry : LinkEntry) → IsPlan parts → slice_get parts.links n ≡ Some entry → AreQuotas entry.shape.bounds entry.quotas

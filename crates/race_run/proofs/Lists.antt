@@ -7,8 +7,6 @@ use Rattle.std.specs.List.{slice_get}
 use Rattle.link_steps.specs.Lists.{Among}
 use Rattle.link_steps.proofs.ListParts.{Among-turned, Among-reverse, Among-at, mapped-at}
 
--- ---- a list turned round
-
 -- ---- through a map
 
 -- the element that stands at a place, or in the list
