@@ -101,6 +101,7 @@ impl Calendar {
     }
 
     /// A tick before which no key falls due.
+    #[inline(always)]
     pub fn rests_until(&self) -> u64
         ensures { All (λ entry. result ≤ entry.0) self.now.entries }
     {
@@ -109,6 +110,7 @@ impl Calendar {
 
     /// The key that `take_due` takes at `now`, which stays. `now` isn't below that of the call before, as there. It takes no
     /// memory.
+    #[inline(always)]
     pub fn look_due(&mut self, now: u64) -> Option<u32>
         requires { self.old.clock ≤ now }
         ensures key { result ≡ due_key self.old.entries now }
@@ -140,6 +142,7 @@ impl Calendar {
 
     /// Takes out the key with the least tick, the earliest put among equals, where that tick is at most `now`. None
     /// comes exactly where there is no such key. `now` isn't below that of the call before. It takes no memory.
+    #[inline(always)]
     pub fn take_due(&mut self, now: u64) -> Option<u32>
         requires { self.old.clock ≤ now }
 
@@ -156,9 +159,7 @@ impl Calendar {
             return None;
         }
         let key = self.take_at(now);
-        if key.is_none() {
-            self.next = self.next_due();
-        }
+        self.next = self.next_due();
         key
     }
 
