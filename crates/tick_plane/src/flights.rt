@@ -53,6 +53,7 @@ impl Flights {
 
     // Makes room for `more` more flights at least. Where there is that room already it does nothing. An `Err` changes
     // nothing.
+    #[inline(always)]
     pub(crate) fn reserve(&mut self, more: usize) -> Result<(), OutOfMemory>
         ensures room { OnOk result (more ≤ self.new.spare) }
         ensures had_room { more ≤ self.old.spare → IsOk result }
@@ -64,6 +65,17 @@ impl Flights {
         if more <= self.room {
             return Ok(());
         }
+        self.reserve_more(more)
+    }
+
+    // The same, where there isn't that room. It stands apart, so that the test alone is made where it is called.
+    #[inline(never)]
+    fn reserve_more(&mut self, more: usize) -> Result<(), OutOfMemory>
+        requires { self.old.spare < more }
+        ensures room { OnOk result (more ≤ self.new.spare) }
+        ensures kept { self.new ≡ record self.old { spare = self.new.spare } }
+        ensures err { OnErr result (self.new ≡ self.old) }
+    {
         let want = self.carried.len().checked_add(more).ok_or(OutOfMemory)?;
         if self.carried.capacity() < want {
             // Twice as many at least, so that copies stay few.

@@ -63,6 +63,7 @@ impl Plane {
     /// Makes room for one flight of each link that hasn't made its tick in this round. Where there is that room already, as
     /// in the rest of a round in which this was answered Ok, it does nothing. An `Err`, which comes for want of memory alone,
     /// changes nothing.
+    #[inline(always)]
     pub fn ready(&mut self) -> Result<(), OutOfMemory>
         ensures room { OnOk result (self.new.links - self.new.at.ticked ≤ self.new.spare) }
         ensures had_room { self.old.links - self.old.at.ticked ≤ self.old.spare → IsOk result }
