@@ -12,3 +12,4 @@ pub mod ChosenLevel
 mod KeyedValues
 mod KeyPlaces
 pub mod LinkRests
+pub mod SureAsks

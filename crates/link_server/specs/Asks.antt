@@ -15,6 +15,17 @@ TakesNone (Arrive packet) = Unit {0}
 TakesNone Tick = Unit {0}
 TakesNone (Pour count gap size) = Unit {0}
 
+-- a packet arrives, or a tick is made
+abbrev pub IsArriveOrTick : Ask → Type 0
+IsArriveOrTick (Reserve chan contract kind delay up_reach first next) = ⊥
+IsArriveOrTick (Relax chan level up_bound) = ⊥
+IsArriveOrTick (Deny chan) = ⊥
+IsArriveOrTick (Submit chan count gap size) = ⊥
+IsArriveOrTick (Release chan upstream) = ⊥
+IsArriveOrTick (Arrive packet) = Unit {0}
+IsArriveOrTick Tick = Unit {0}
+IsArriveOrTick (Pour count gap size) = ⊥
+
 -- the reply is an offer
 abbrev pub IsOffer : Reply → Type 0
 IsOffer (Is.Offer level reach) = Unit {0}

@@ -51,6 +51,9 @@ impl LinkState {
     ghost use Rattle.link_steps.specs.Scan.{scan_of};
     ghost use Rattle.link_server.specs.Held.{reservations_held, seen_at, seen_of};
     ghost use Rattle.link_server.specs.State.{LinkStands};
+    ghost use Rattle.link_server.specs.Asks.{IsArriveOrTick};
+    ghost use Rattle.link_steps.specs.Replies.{reply_to};
+    ghost use Rattle.link_steps.specs.Split.{whole};
 
     /// A link of this shape that has made no step. It takes the memory of the best-effort packets that may be here.
     pub fn new(alloc: Global, shape: LinkShape) -> Result<LinkState, OutOfMemory>
@@ -69,6 +72,23 @@ impl LinkState {
             queue,
             due: 0,
         })
+    }
+
+    /// Makes a step that lets a packet arrive or makes a tick, as [`LinkStep::step`] does. It never wants memory. The reply is
+    /// written where the caller reads it, since to copy one takes as long as a part of the step.
+    #[inline(always)]
+    pub fn step_into(&mut self, ask: &Ask, reply: &mut Reply)
+        requires fits { AskFits self.old.shape ask.now }
+        requires early { self.old.clock < 2 ^ 61 }
+        requires sure { IsArriveOrTick ask.now }
+        ensures same { whole self.new.shape ≡ whole self.old.shape }
+        ensures legal { (h : List Entry) → LinkStands self.old h → reply.new ≡ reply_to (whole self.old.shape) h ask.now }
+        ensures entered { (h : List Entry) → LinkStands self.old h → LinkStands self.new (record { ask = ask.now; reply = reply.new } ∷ h) }
+    {
+        match ask {
+            Ask::Arrive { packet } => *reply = self.arrive(packet),
+            _ => *reply = self.make_tick(),
+        }
     }
 
     /// The row at this place, from 0, among those that are held, in the order of their reserves, with the units that it

@@ -25,20 +25,18 @@ impl LinkState {
         if self.clock < self.due {
             return Ok(self.rest_once());
         }
-        self.make_tick()
+        Ok(self.make_tick())
     }
 
     // Makes a tick in which something may fall due: rows whose hold has ended expire, the source packets that are planned for it
-    // arrive, then the best-effort packet, and the link serves the packets here. It never wants memory; it answers as a step
-    // does, so that the reply is written where the caller reads it and not copied there.
+    // arrive, then the best-effort packet, and the link serves the packets here. It never wants memory.
     #[inline(never)]
-    pub(crate) fn make_tick(&mut self) -> Result<Reply, OutOfMemory>
+    pub(crate) fn make_tick(&mut self) -> Reply
         requires early { self.old.clock < 2 ^ 61 }
-        ensures made { IsOk result }
         ensures shape { self.new.shape ≡ self.old.shape }
         ensures clock { self.new.clock ≡ suc self.old.clock }
-        ensures reply { IfOk result (λ reply. reply ≡ account_reply (whole self.old.shape) (account_in self.old) AskTick) }
-        ensures kept { IfOk result (λ reply. account_in self.new ≡ account_after self.old.shape (account_in self.old) AskTick reply) }
+        ensures reply { result ≡ account_reply (whole self.old.shape) (account_in self.old) AskTick }
+        ensures kept { account_in self.new ≡ account_after self.old.shape (account_in self.old) AskTick result }
     {
         let clock = self.clock;
         let shape = self.shape;
@@ -50,12 +48,12 @@ impl LinkState {
         self.table.depart(&left.gone);
         self.clock += 1;
         self.due = next_due(&self.table, &self.queue, &shape);
-        Ok(Reply::Ticked {
+        Reply::Ticked {
             clock,
             full,
             sent: left.sent,
             best_sent: left.best_sent,
             best_lost,
-        })
+        }
     }
 }
