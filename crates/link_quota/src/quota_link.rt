@@ -58,7 +58,7 @@ impl QuotaLink {
     ghost use Rattle.link_quota.specs.State.{rules_of, QuotaStands};
     ghost use Rattle.link_quota.specs.Steps.{GoesOn, IsReserve, IsSettling, IsCarrying};
     ghost use Rattle.std.specs.Prelude.{false};
-    ghost use Rattle.link_server.specs.Asks.{IsOffer, TakesNone};
+    ghost use Rattle.link_server.specs.Asks.{IsArriveOrTick, IsOffer, TakesNone};
     ghost use Rattle.link_steps.specs.Replies.{reply_to};
     ghost use Rattle.link_steps.specs.declared.asks.Ask.TheVariants.{Tick};
     ghost use Rattle.link_steps.specs.declared.replies.Entry.{Entry};
@@ -85,6 +85,21 @@ impl QuotaLink {
             closing: Vec::new(alloc),
             due: 0,
         })
+    }
+
+    /// Makes a step that lets a packet arrive or makes a tick, as [`LinkStep::step`] does. It never wants memory.
+    pub fn step_into(&mut self, ask: &Ask, reply: &mut Reply)
+        requires fits { AskFits self.old.link.shape ask.now }
+        requires early { self.old.link.clock < 2 ^ 61 }
+        requires sure { IsArriveOrTick ask.now }
+        ensures same { rules_of self.new ≡ rules_of self.old }
+        ensures legal { (h : List Entry) → QuotaStands self.old h → reply.new ≡ reply_to (rules_of self.old) h ask.now }
+        ensures entered { (h : List Entry) → QuotaStands self.old h → QuotaStands self.new (record { ask = ask.now; reply = reply.new } ∷ h) }
+    {
+        match self.step(ask) {
+            Ok(told) => *reply = told,
+            Err(_) => unreachable!(),
+        }
     }
 
     // The share of a group, and its quota: nothing where it has none.
