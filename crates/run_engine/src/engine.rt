@@ -1,7 +1,8 @@
 //! The links and the actors of a plan on their way through a run, which they don't record.
-ghost use Rattle.std.specs.Prelude.{◌≡◌, ◌≤◌, ◌∷◌, [], true, List, IfOk, OnErr, length};
+ghost use Rattle.std.specs.Prelude.{◌≡◌, ◌-◌, ◌≤◌, ◌∷◌, [], true, List, IfOk, OnErr, length};
 ghost use Rattle.net_units.specs.Numbers.{actor_number};
 ghost use Rattle.net_units.specs.declared.numbers.ActorNo.{ActorNo as Actor};
+ghost use Rattle.link_server.specs.Asks.{IsArriveOrTick};
 ghost use Rattle.link_steps.specs.declared.asks.Ask.TheVariants.{Tick as AskTick};
 ghost use Rattle.link_steps.specs.Quiet.{quiet_reply};
 ghost use Rattle.call_script.specs.Parts.{PlanParts};
@@ -14,7 +15,7 @@ ghost use Rattle.run_record.specs.declared.done.Done.{Done as Entry};
 
 use crate::actors::Actors;
 use crate::callers::Callers;
-use crate::links::{new_links, rest_link, rest_links, step_link, ticks_at_rest};
+use crate::links::{new_links, rest_link, rest_links, step_link, step_link_into, ticks_at_rest};
 use call_script::Plan;
 use link_quota::AnyLink;
 use link_steps::{Ask, Reply};
@@ -82,6 +83,17 @@ impl Engine {
     {
         self.actors.ready()?;
         step_link(&mut self.links, usize::from(link.get()), ask)
+    }
+
+    // The same of an arrive or a tick, where the plane has room for what the step sets on its way. It never wants memory.
+    #[inline(always)]
+    pub(crate) fn ask_into(&mut self, link: LinkNo, ask: &Ask, reply: &mut Reply)
+        requires about { (parts : PlanParts) × (run : List Entry) × (actor : Actor) × IsAboutTo parts self.old run actor link ask.now }
+        requires sure { IsArriveOrTick ask.now }
+        requires room { self.old.actors.plane.links - self.old.actors.plane.at.ticked ≤ self.old.actors.plane.spare }
+        ensures { (parts : PlanParts) (run : List Entry) (actor : Actor) → IsAboutTo parts self.old run actor link ask.now → IsAnswered parts self.new run (record { actor = actor; link = link; ask = ask.now; reply = reply.new }) }
+    {
+        step_link_into(&mut self.links, usize::from(link.get()), ask, reply);
     }
 
     // Whether nothing falls due in the next tick of this link, as far as the link knows without a look at its rows and packets.

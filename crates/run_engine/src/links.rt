@@ -9,6 +9,7 @@ ghost use Rattle.run_engine.specs.schedules.Resting.{RestsBy, HaveRested};
 ghost use Rattle.run_engine.specs.schedules.Standing.{LinksStand};
 ghost use Rattle.link_quota.specs.Any.{any_rules, any_clock, AnyStands};
 ghost use Rattle.link_quota.specs.declared.any_link.AnyLink.{AnyLink as Kept};
+ghost use Rattle.link_server.specs.Asks.{IsArriveOrTick};
 ghost use Rattle.link_steps.specs.Legal.{AskFits};
 ghost use Rattle.link_steps.specs.declared.asks.Ask.TheVariants.{Tick as AskTick};
 ghost use Rattle.link_steps.specs.Lists.{Each};
@@ -66,6 +67,22 @@ pub(crate) fn step_link(
     ensures memory { OnErr result ((link next : Kept) (h : List Entry) → slice_get links.old number ≡ Some link → slice_get links.new number ≡ Some next → AnyStands link h → AnyStands next h) }
 {
     links[number].step(ask)
+}
+
+// The same of a step that lets a packet arrive or makes a tick. It never wants memory.
+#[inline(always)]
+pub(crate) fn step_link_into(links: &mut [AnyLink], number: usize, ask: &Ask, reply: &mut Reply)
+    requires inside { number < length links.old }
+    requires fits { (link : Kept) → slice_get links.old number ≡ Some link → AskFits (any_rules link).shape ask.now }
+    requires early { (link : Kept) → slice_get links.old number ≡ Some link → any_clock link < 2 ^ 61 }
+    requires sure { IsArriveOrTick ask.now }
+    ensures length { length links.new ≡ length links.old }
+    ensures others { (n : ℕ) → n ≢ number → slice_get links.new n ≡ slice_get links.old n }
+    ensures same { (link next : Kept) → slice_get links.old number ≡ Some link → slice_get links.new number ≡ Some next → any_rules next ≡ any_rules link }
+    ensures legal { (link : Kept) (h : List Entry) → slice_get links.old number ≡ Some link → AnyStands link h → reply.new ≡ reply_to (any_rules link) h ask.now }
+    ensures entered { (link next : Kept) (h : List Entry) → slice_get links.old number ≡ Some link → slice_get links.new number ≡ Some next → AnyStands link h → AnyStands next (record { ask = ask.now; reply = reply.new } ∷ h) }
+{
+    links[number].step_into(ask, reply);
 }
 
 // The link of this number makes a tick, in which nothing falls due. Answers its clock before it.

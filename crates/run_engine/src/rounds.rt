@@ -1,6 +1,7 @@
 //! The plane's steps, made and shown without the entries that they stand for, many of them at once.
 ghost use Rattle.std.specs.Prelude.{◌≡◌, ◌≤◌, true, false, None, List, IfOk, OnOk};
 ghost use Rattle.call_script.specs.Tasks.{network_of};
+ghost use Rattle.link_server.specs.Asks.{IsArriveOrTick};
 ghost use Rattle.link_steps.specs.declared.asks.Ask.TheVariants.{Tick as AskTick};
 ghost use Rattle.net_units.specs.Numbers.{actor_number};
 ghost use Rattle.run_engine.specs.runs.Runs.{next_for};
@@ -15,7 +16,7 @@ use crate::engine::Engine;
 use crate::quiet::plane_of;
 use crate::watching::{Watch, stride_watched};
 use call_script::Plan;
-use link_steps::Ask;
+use link_steps::{Ask, Reply};
 use net_units::{Gate, LinkNo, NoGate, OutOfMemory};
 
 /// Lets the plane make its steps until it has none left, and shows them to the watcher. An `Err` comes only for want of memory.
@@ -168,6 +169,7 @@ fn make_tick<W: Watch>(
 }
 
 // Makes the plane's next step, the tick of this link, in which nothing falls due there, and shows it to the watcher.
+#[inline(always)]
 fn pass_watched<W: Watch>(
     engine: &mut Engine,
     watch: &mut W,
@@ -185,7 +187,7 @@ fn pass_watched<W: Watch>(
     Ok(())
 }
 
-// Makes the plane's next step, which asks this link this, and shows it to the watcher.
+// Makes the plane's next step, which asks this link this, and shows it to the watcher. The plane asks for arrivals and ticks alone.
 fn step_watched<W: Watch>(
     engine: &mut Engine,
     watch: &mut W,
@@ -193,11 +195,15 @@ fn step_watched<W: Watch>(
     link: LinkNo,
     ask: &Ask,
 ) -> Result<(), OutOfMemory>
-    requires { (run : List Entry) × IsAsked W.saw plan.now engine.old watch.old run (the_plane (network_of plan.now)) link ask.now }
+    requires asked { (run : List Entry) × IsAsked W.saw plan.now engine.old watch.old run (the_plane (network_of plan.now)) link ask.now }
+    requires sure { IsArriveOrTick ask.now }
     ensures goes_on { OnOk result ((past : List Entry) → IsAsked W.saw plan.now engine.old watch.old past (the_plane (network_of plan.now)) link ask.now → GoesOn W.saw plan.now engine.new watch.new past (the_plane (network_of plan.now))) }
     ensures table { OnOk result (W.has_table watch.new ≡ W.has_table watch.old) }
 {
-    let reply = engine.ask_link(link, ask)?;
+    engine.actors.ready()?;
+    // it is written there, whatever it is now
+    let mut reply = Reply::Denied;
+    engine.ask_into(link, ask, &mut reply);
     engine.actors.take_plane(&reply);
     watch.see_plane(plan, link, ask, &reply)?;
     Ok(())

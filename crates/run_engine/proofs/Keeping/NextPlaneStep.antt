@@ -1,6 +1,8 @@
 -- The plane's next step: what it asks, and what is known where the link has replied and where the plane has the reply.
-use Rattle.std.proofs.Common.{◌≡◌, ℕ, true, Option, Some, None, IfSome, List, [], ◌∷◌, length, refl, sym, ap, subst, ◌∙◌, arith}
+use Rattle.std.proofs.Common.{◌≡◌, ℕ, Bool, true, false, if◌then◌else◌, nat_lt, Option, Some, None, IfSome, List, [], ◌∷◌, length, refl, sym, ap, subst, ◌∙◌, arith}
 use Rattle.run_engine.proofs.Words.{actor_number, LinkNo, Ask, Tick, Reply, quiet_reply, PlanParts, IsPlan, network_of, next_for, Done, Plane, next_due, plane_after, plane_ask, plane_expects, plane_with, tick_made, Flight}
+use Rattle.link_server.specs.Asks.{IsArriveOrTick}
+use Rattle.tick_plane.specs.Planes.{ask_due}
 use Rattle.run_engine.specs.schedules.PlaneSteps.{IsAnswered, IsPlaneStep, plane_step}
 use Rattle.run_engine.specs.schedules.Quiet.{the_plane}
 use Rattle.run_engine.specs.schedules.Standing.{ActorsStand, LinksStand, MakesStep}
@@ -32,6 +34,23 @@ pub tick-asked : (parts : PlanParts) (actors : Actors) (run : List Done) (next :
     → next_for (network_of parts) (actor_number (the_plane (network_of parts))) run ≡ Some (link, Tick)
 tick-asked parts actors run next link plan stand asked is =
     plane-asked parts actors run (Some (link, Tick)) plan stand (sym (subst (λ (found : Option LinkNo). IfSome found (λ to. plane_ask actors.plane.rounds actors.plane.at ≡ Some (to, Tick))) is asked))
+
+-- it asks for an arrive or a tick
+abbrev AsksSurely : Option (LinkNo × Ask) → Type 0
+AsksSurely None = Unit {0}
+AsksSurely (Some next) = IsArriveOrTick next.1
+
+due-surely : (ticked : ℕ) (due : Option Flight) → IsArriveOrTick (ask_due ticked due).1
+due-surely ticked None = tt
+due-surely ticked (Some flight) = tt
+
+either-surely : (left : Bool) (next : LinkNo × Ask) → IsArriveOrTick next.1 → AsksSurely (if left then Some next else None)
+either-surely true next sure = sure
+either-surely false next sure = tt
+
+pub asked-surely : (rounds : ℕ) (plane : Plane) (link : LinkNo) (ask : Ask) → Some (link, ask) ≡ plane_ask rounds plane → IsArriveOrTick ask
+asked-surely rounds plane link ask is =
+    subst AsksSurely (sym is) (either-surely (nat_lt plane.round rounds) (ask_due plane.ticked (next_due plane)) (due-surely plane.ticked (next_due plane)))
 
 -- ---- a tick in which nothing happens
 
