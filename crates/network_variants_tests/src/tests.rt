@@ -34,21 +34,37 @@ copies = 3
 ";
 
 fn made(alloc: Global, words: &str) -> Result<Result<Variants, BadChange>, Fail> {
-    made_of(alloc, Form::Scenario, NETWORK, words)
+    made_of(alloc, Form::Scenario, NETWORK, &parts(alloc, words, ' ')?)
 }
 
 // Of a design the changes have slashes between them.
+fn made_of_design(alloc: Global, words: &str) -> Result<Result<Variants, BadChange>, Fail> {
+    made_of(alloc, Form::Design, DESIGN, &parts(alloc, words, '/')?)
+}
+
+// What stands between the signs of a text.
+fn parts(alloc: Global, text: &str, sign: char) -> Result<Vec<String>, Fail> {
+    let mut list = Vec::new(alloc);
+    for part in text.split(sign) {
+        list.push(String::from_str(alloc, part)?)?;
+    }
+    Ok(list)
+}
+
+// The call, without the clauses of what it answers.
 fn made_of(
     alloc: Global,
     form: Form,
     file: &str,
-    words: &str,
+    changes: &[String],
 ) -> Result<Result<Variants, BadChange>, Fail> {
-    let mut list = Vec::new(alloc);
-    for word in words.split(if form == Form::Scenario { ' ' } else { '/' }) {
-        list.push(String::from_str(alloc, word)?)?;
-    }
-    Ok(variants_of(alloc, form, file.as_bytes(), list.as_slice()))
+    Ok(variants_of(alloc, form, file.as_bytes(), changes))
+}
+
+// The text of a variant.
+fn text_of(alloc: Global, variants: &Variants, variant: usize) -> Result<String, Fail> {
+    let bytes = variants.text(alloc, variant)?;
+    Ok(String::from_utf8_lossy(alloc, bytes.as_slice())?)
 }
 
 // The line of a number, from 1, of a text.
@@ -65,8 +81,7 @@ fn seen(
 ) -> Result<(String, usize), Fail> {
     match made(alloc, words)? {
         Ok(variants) => {
-            let bytes = variants.text(alloc, variant)?;
-            let text = String::from_utf8_lossy(alloc, bytes.as_slice())?;
+            let text = text_of(alloc, &variants, variant)?;
             let line = String::from_str(alloc, line_at(text.as_str(), number))?;
             Ok((line, text.lines().count()))
         }
@@ -88,13 +103,14 @@ fn has_line(
 
 // The place of the change that is refused, and why.
 fn refusal(alloc: Global, words: &str) -> Result<String, Fail> {
-    match made(alloc, words)? {
-        Err(BadChange::Word { place, why }) => {
-            let why = why.as_str();
-            Ok(format!(in alloc; "{place}: {why}")?)
-        }
+    match made(alloc, words)?.err() {
+        Some(BadChange::Word { place, why }) => told(alloc, place, why.as_str()),
         _ => Ok(String::from_str(alloc, "taken")?),
     }
+}
+
+fn told(alloc: Global, place: usize, why: &str) -> Result<String, Fail> {
+    Ok(format!(in alloc; "{place}: {why}")?)
 }
 
 #[test]
@@ -184,6 +200,14 @@ fn names_with_a_star_are_several(rt: HostRuntime) -> Result<(), Fail> {
     Ok(())
 }
 
+// How many variants there are, where the changes are taken.
+fn count(alloc: Global, words: &str) -> Result<Option<usize>, Fail> {
+    Ok(match made(alloc, words)? {
+        Ok(variants) => Some(variants.count),
+        Err(_) => None,
+    })
+}
+
 #[test]
 fn the_last_change_is_the_fastest(rt: HostRuntime) -> Result<(), Fail> {
     let words = "A.D1=5,6 r1.delay=60..64/2";
@@ -223,14 +247,7 @@ fn the_last_change_is_the_fastest(rt: HostRuntime) -> Result<(), Fail> {
             "open r1 route A B contract 5 10 20 2 delay 62 rate"
         )?
     );
-    match made(rt.alloc(), words)? {
-        Ok(variants) => {
-            assert_eq!(rt; variants.count, 6);
-        }
-        Err(_) => {
-            assert_eq!(rt; words, "taken");
-        }
-    }
+    assert!(rt; count(rt.alloc(), words)? == Some(6));
     Ok(())
 }
 
@@ -275,10 +292,9 @@ fn has_line_of_design(
     number: usize,
     line: &str,
 ) -> Result<bool, Fail> {
-    match made_of(alloc, Form::Design, DESIGN, words)? {
+    match made_of_design(alloc, words)? {
         Ok(variants) => {
-            let bytes = variants.text(alloc, variant)?;
-            let text = String::from_utf8_lossy(alloc, bytes.as_slice())?;
+            let text = text_of(alloc, &variants, variant)?;
             Ok(line_at(text.as_str(), number) == line && text.lines().count() == 14)
         }
         Err(_) => Ok(false),
