@@ -10,6 +10,3 @@ pub mod shifted;
 
 pub use mover::Mover;
 pub use shifted::{MoveOdd, Shifted};
-
-#[cfg(test)]
-mod tests;

@@ -10,6 +10,3 @@ mod route;
 
 pub use itinerary::{Itinerary, Offer};
 pub use route::{BadRoute, Hop, Route};
-
-#[cfg(test)]
-mod tests;

@@ -13,6 +13,3 @@ pub use link::{LinkNumbers, LinkRow};
 pub use share::{WHOLE, long_run};
 pub use window::{LevelLoad, least_bound, least_window, level_load};
 pub use work::{load, work_up_to};
-
-#[cfg(test)]
-mod tests;

@@ -10,6 +10,3 @@ mod trail;
 
 pub use auditing::audit;
 pub use rows::{Fault, Found, Promise, Row};
-
-#[cfg(test)]
-mod tests;

@@ -160,6 +160,3 @@ fn put(levels: &[Level], out: &mut Levels)
         out.push(*level);
     }
 }
-
-#[cfg(test)]
-mod tests;

@@ -12,6 +12,3 @@ pub mod telling;
 pub use fault::ReportFault;
 pub use lines::do_line;
 pub use telling::{finish, tell, tell_line, write_line};
-
-#[cfg(test)]
-mod tests;
