@@ -1,5 +1,5 @@
 use Rattle.interleave_core.specs.Cores.{CoreStands}
-use Rattle.channel_report_tests.proofs.tests.steps.Given as goal
+use Rattle.run_tests.proofs.cores.moves.steps.Given as goal
 
 -- the core stands
 abbrev pub invariant-loop-step : goal.invariant-loop-step

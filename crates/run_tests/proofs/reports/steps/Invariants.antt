@@ -1,5 +1,5 @@
 use Rattle.interleave_core.specs.Cores.{CoreStands}
-use Rattle.interleave_core_tests.proofs.tests.moves.steps.Given as goal
+use Rattle.run_tests.proofs.reports.steps.Given as goal
 
 -- the core stands
 abbrev pub invariant-loop-step : goal.invariant-loop-step

@@ -1,6 +1,6 @@
 -- Each tick of the run is early.
-use Rattle.trace_audit_tests.proofs.EarlyRun.{ticks-are-early}
-use Rattle.trace_audit_tests.proofs.tests.recorded.a_run_that_opens_a_channel_has_no_rows.Goals as goal
+use Rattle.run_tests.proofs.EarlyRun.{ticks-are-early}
+use Rattle.run_tests.proofs.audits.recorded.a_run_that_opens_a_channel_has_no_rows.Goals as goal
 
 pub rows-requires : goal.rows-requires
 rows-requires c d =

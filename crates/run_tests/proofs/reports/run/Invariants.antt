@@ -1,5 +1,5 @@
 use Rattle.interleave_core.specs.Cores.{CoreStands}
-use Rattle.channel_report_tests.proofs.tests.run.Given as goal
+use Rattle.run_tests.proofs.reports.run.Given as goal
 
 -- the core stands
 abbrev pub invariant-loop-actor : goal.invariant-loop-actor
