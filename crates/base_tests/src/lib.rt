@@ -25,6 +25,8 @@ mod moves;
 #[cfg(test)]
 mod numbers;
 #[cfg(test)]
+mod queues;
+#[cfg(test)]
 mod records;
 #[cfg(test)]
 mod regulators;

@@ -1,5 +1,5 @@
 use Rattle.std.proofs.Common.{◌≡◌, length}
-use Rattle.static_priority.proofs.tests.answers_alike.Given as goal
+use Rattle.base_tests.proofs.queues.answers_alike.Given as goal
 
 -- there are three queues
 abbrev pub invariant-loop-turn : goal.invariant-loop-turn
