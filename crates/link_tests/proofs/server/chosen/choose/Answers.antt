@@ -19,7 +19,7 @@ use Rattle.link_steps.specs.Shape.{server_of, IsShapeOf}
 use Rattle.link_server.specs.Held.{reservations_held}
 use Rattle.link_server.specs.State.{account_in}
 use Rattle.link_server.proofs.ChosenLevel.{terms-stand}
-use Rattle.link_server_tests.proofs.tests.chosen.choose.Goals as goal
+use Rattle.link_tests.proofs.server.chosen.choose.Goals as goal
 
 abbrev voice : Traffic
 voice = terms_of 5 10 20 2

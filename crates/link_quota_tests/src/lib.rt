@@ -1,5 +1,0 @@
-//! Tests of `link_quota`, in a crate of their own, so that its functions aren't proved again with them.
-#![tactic(auto)]
-
-#[cfg(test)]
-mod tests;

@@ -1,5 +1,0 @@
-//! Tests of `tick_plane`, in a crate of their own, so that its functions aren't proved again with them.
-#![tactic(auto)]
-
-#[cfg(test)]
-mod rounds;
