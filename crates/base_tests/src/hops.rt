@@ -10,9 +10,11 @@ use std::test::Fail;
 fn hop(link: u8) -> Result<Hop, Fail>
     ensures { IfOk result (λ hop. hop.bounds ≡ 10 ∷ 20 ∷ 40 ∷ []) }
 {
+    let link = LinkNo::new(link).ok_or("link")?;
+    let bounds = Bounds::new(&[10, 20, 40]).ok_or("bounds")?;
     Ok(Hop {
-        link: LinkNo::new(link).ok_or("link")?,
-        bounds: Bounds::new(&[10, 20, 40]).ok_or("bounds")?,
+        link,
+        bounds,
         prop: 2,
     })
 }
@@ -39,6 +41,15 @@ fn a_route_has_some_hops_and_no_link_twice(rt: HostRuntime) -> Result<(), Fail> 
     Ok(())
 }
 
+// How many hops have offered, the reach of the last one and the delay of all.
+fn so_far(itinerary: &Itinerary) -> (u8, u64, u64) {
+    (
+        itinerary.offers(),
+        itinerary.reach_before(),
+        itinerary.delay_sum(),
+    )
+}
+
 #[test]
 #[tactic(auto, unfolding(hop_reservation::specs::Offers::next_levels))]
 fn offers_add_up(rt: HostRuntime) -> Result<(), Fail> {
@@ -46,33 +57,12 @@ fn offers_add_up(rt: HostRuntime) -> Result<(), Fail> {
     assert_eq!(rt; route.len(), 2);
     assert_eq!(rt; route.hop(2).link.get(), 1);
     let mut itinerary = Itinerary::new(route);
-    assert_eq!(rt;
-        (
-            itinerary.offers(),
-            itinerary.reach_before(),
-            itinerary.delay_sum()
-        ),
-        (0, 0, 0)
-    );
+    assert!(rt; so_far(&itinerary) == (0, 0, 0));
     let reach = Level::new(3).ok_or("level")?;
     itinerary.push_offer(Level::LEAST, reach);
-    assert_eq!(rt;
-        (
-            itinerary.offers(),
-            itinerary.reach_before(),
-            itinerary.delay_sum()
-        ),
-        (1, 40, 12)
-    );
+    assert!(rt; so_far(&itinerary) == (1, 40, 12));
     itinerary.push_offer(Level::LEAST, Level::LEAST);
-    assert_eq!(rt;
-        (
-            itinerary.offers(),
-            itinerary.reach_before(),
-            itinerary.delay_sum()
-        ),
-        (2, 10, 24)
-    );
+    assert!(rt; so_far(&itinerary) == (2, 10, 24));
     assert_eq!(rt; itinerary.offer(2).level, Level::LEAST);
     Ok(())
 }

@@ -7,9 +7,11 @@ use std::process::Abort;
 use std::test::Fail;
 
 fn hop(link: u8) -> Result<Hop, Fail> {
+    let link = LinkNo::new(link).ok_or("link")?;
+    let bounds = Bounds::new(&[10, 20]).ok_or("bounds")?;
     Ok(Hop {
-        link: LinkNo::new(link).ok_or("link")?,
-        bounds: Bounds::new(&[10, 20]).ok_or("bounds")?,
+        link,
+        bounds,
         prop: 2,
     })
 }

@@ -24,11 +24,9 @@ fn line_of(from: u32, to: u32, prop: u32) -> Line {
 }
 
 fn hop(number: u8, prop: u32) -> Result<Hop, Fail> {
-    Ok(Hop {
-        link: LinkNo::new(number).ok_or("link")?,
-        bounds: Bounds::new(&[10, 20, 40]).ok_or("bounds")?,
-        prop,
-    })
+    let link = LinkNo::new(number).ok_or("link")?;
+    let bounds = Bounds::new(&[10, 20, 40]).ok_or("bounds")?;
+    Ok(Hop { link, bounds, prop })
 }
 
 // The edges of these lines, numbered from 0.
@@ -98,6 +96,21 @@ fn way_of(alloc: Global, lines: &[Line], from: u32, to: u32) -> Result<Option<Wa
     }
 }
 
+// Whether the least walk has these links, and this propagation.
+fn is_way(
+    alloc: Global,
+    lines: &[Line],
+    from: u32,
+    to: u32,
+    links: &[u8],
+    prop: u64,
+) -> Result<bool, Fail> {
+    Ok(match way_of(alloc, lines, from, to)? {
+        Some(way) => way.links.as_slice() == links && way.prop == prop,
+        None => false,
+    })
+}
+
 // From node 0 to node 3 over 1, over 2, and directly.
 const LINES: [Line; 5] = [
     Line {
@@ -131,11 +144,9 @@ const LINES: [Line; 5] = [
 #[test]
 fn propagation_comes_before_links(rt: HostRuntime) -> Result<(), Fail> {
     let mut lines = LINES;
-    let found = way_of(rt.alloc(), &lines, 0, 3)?.ok_or("a way")?;
-    assert_eq!(rt; (found.links.as_slice(), found.prop), (&[0, 1][..], 4));
+    assert!(rt; is_way(rt.alloc(), &lines, 0, 3, &[0, 1], 4)?);
     lines[4] = line_of(0, 3, 4);
-    let found = way_of(rt.alloc(), &lines, 0, 3)?.ok_or("a way")?;
-    assert_eq!(rt; (found.links.as_slice(), found.prop), (&[4][..], 4));
+    assert!(rt; is_way(rt.alloc(), &lines, 0, 3, &[4], 4)?);
     assert!(rt; way_of(rt.alloc(), &lines, 3, 0)?.is_none());
     Ok(())
 }
@@ -150,8 +161,7 @@ fn three_links_may_come_before_two(rt: HostRuntime) -> Result<(), Fail> {
         line_of(0, 4, 2),
         line_of(4, 3, 2),
     ];
-    let found = way_of(rt.alloc(), &lines, 0, 3)?.ok_or("a way")?;
-    assert_eq!(rt; (found.links.as_slice(), found.prop), (&[0, 1, 2][..], 3));
+    assert!(rt; is_way(rt.alloc(), &lines, 0, 3, &[0, 1, 2], 3)?);
     Ok(())
 }
 

@@ -10,9 +10,11 @@ use std::test::Fail;
 use traffic_contract::Contract;
 
 fn hop(link: u8) -> Result<Hop, Fail> {
+    let link = LinkNo::new(link).ok_or("link")?;
+    let bounds = Bounds::new(&[10, 20, 40]).ok_or("bounds")?;
     Ok(Hop {
-        link: LinkNo::new(link).ok_or("link")?,
-        bounds: Bounds::new(&[10, 20, 40]).ok_or("bounds")?,
+        link,
+        bounds,
         prop: 2,
     })
 }

@@ -1,5 +1,5 @@
 //! Admissions worked by hand, and generated lists of calls beside plain rows.
-ghost use Rattle.std.specs.Prelude.{◌≡◌, ◌+◌, ◌≤◌, IfOk, OnOk};
+ghost use Rattle.std.specs.Prelude.{◌≡◌, ◌+◌, ◌≤◌, IfOk, OnOk, length};
 ghost use Rattle.rcsp_admission.specs.Sums.{Holds, added};
 
 use net_units::Bounds;
@@ -24,6 +24,22 @@ fn admit(sums: &mut LevelSums, key: u32, contract: &Contract) -> Result<u8, NoLe
     Ok(level.get())
 }
 
+fn best_of(sums: &LevelSums, contract: &Contract) -> Result<u8, NoLevel> {
+    sums.best(contract).map(|level| level.get())
+}
+
+// Whether the contract has no level, by this sum and bound.
+fn is_denied(sums: &LevelSums, contract: &Contract, sum: u64, bound: u64) -> bool {
+    sums.best(contract).err() == Some(NoLevel { sum, bound })
+}
+
+// Whether these are the sums of three levels.
+fn are_sums(sums: &LevelSums, due: [u64; 3]) -> bool
+    requires { length sums.now.server.bounds ≡ 3 }
+{
+    generated::loads_of(sums) == due
+}
+
 #[test]
 #[tactic(auto, using(rcsp_admission::proofs::StaysAdmitted::not_held))]
 fn admits_until_no_level_passes(rt: HostRuntime) -> Result<(), Fail> {
@@ -32,17 +48,12 @@ fn admits_until_no_level_passes(rt: HostRuntime) -> Result<(), Fail> {
     let contract = Contract::new(5, 10, 20, 2)?;
     let mut sums = LevelSums::new(rt.alloc(), bounds, 1, 4, Test::Whole);
     sums.reserve(5)?;
-    assert_eq!(rt; admit(&mut sums, 1, &contract)?, 1);
-    assert_eq!(rt; admit(&mut sums, 2, &contract)?, 2);
-    assert_eq!(rt; admit(&mut sums, 3, &contract)?, 2);
-    assert_eq!(rt; admit(&mut sums, 4, &contract)?, 2);
-    assert_eq!(rt;
-        sums.best(&contract).err(),
-        Some(NoLevel { sum: 44, bound: 40 })
-    );
-    assert_eq!(rt; sums.sum(level_at(1)), 8);
-    assert_eq!(rt; sums.sum(level_at(2)), 20);
-    assert_eq!(rt; sums.sum(level_at(3)), 36);
+    assert!(rt; admit(&mut sums, 1, &contract)? == 1);
+    assert!(rt; admit(&mut sums, 2, &contract)? == 2);
+    assert!(rt; admit(&mut sums, 3, &contract)? == 2);
+    assert!(rt; admit(&mut sums, 4, &contract)? == 2);
+    assert!(rt; is_denied(&sums, &contract, 44, 40));
+    assert!(rt; are_sums(&sums, [8, 20, 36]));
     Ok(())
 }
 
@@ -54,11 +65,11 @@ fn follows_a_row_that_moves_and_goes(rt: HostRuntime) -> Result<(), Fail> {
     let contract = Contract::new(5, 10, 20, 2)?;
     let mut sums = LevelSums::new(rt.alloc(), bounds, 1, 4, Test::Whole);
     sums.reserve(1)?;
-    assert_eq!(rt; admit(&mut sums, 7, &contract)?, 1);
+    assert!(rt; admit(&mut sums, 7, &contract)? == 1);
     sums.move_to(7, level_at(3));
-    assert_eq!(rt; (sums.sum(level_at(2)), sums.sum(level_at(3))), (4, 12));
+    assert!(rt; are_sums(&sums, [4, 4, 12]));
     sums.remove(7);
-    assert_eq!(rt; sums.sum(level_at(3)), 4);
+    assert!(rt; are_sums(&sums, [4, 4, 4]));
     Ok(())
 }
 
@@ -71,15 +82,12 @@ fn finds_a_window_before_the_bound(rt: HostRuntime) -> Result<(), Fail> {
     let contract = Contract::new(5, 10, 20, 2)?;
     let mut sums = LevelSums::new(rt.alloc(), bounds, 1, 4, Test::Least);
     sums.reserve(4)?;
-    assert_eq!(rt; admit(&mut sums, 1, &contract)?, 1);
-    assert_eq!(rt; admit(&mut sums, 2, &contract)?, 1);
-    assert_eq!(rt; admit(&mut sums, 3, &contract)?, 1);
-    assert_eq!(rt; admit(&mut sums, 4, &contract)?, 1);
-    assert_eq!(rt;
-        sums.best(&contract).err(),
-        Some(NoLevel { sum: 34, bound: 23 })
-    );
-    assert_eq!(rt; sums.sum(level_at(1)), 28);
+    assert!(rt; admit(&mut sums, 1, &contract)? == 1);
+    assert!(rt; admit(&mut sums, 2, &contract)? == 1);
+    assert!(rt; admit(&mut sums, 3, &contract)? == 1);
+    assert!(rt; admit(&mut sums, 4, &contract)? == 1);
+    assert!(rt; is_denied(&sums, &contract, 34, 23));
+    assert!(rt; sums.sum(level_at(1)) == 28);
     Ok(())
 }
 
@@ -94,17 +102,11 @@ fn leaps_to_a_window_far_off(rt: HostRuntime) -> Result<(), Fail> {
     let often = Contract::new(4, 4, 1_025, 4)?;
     let mut sums = LevelSums::new(rt.alloc(), bounds, 1, 4, Test::Least);
     sums.reserve(3)?;
-    assert_eq!(rt; admit(&mut sums, 1, &seldom)?, 1);
-    assert_eq!(rt; admit(&mut sums, 2, &seldom)?, 1);
-    assert_eq!(rt; admit(&mut sums, 3, &seldom)?, 1);
-    assert_eq!(rt; sums.best(&often).map(|level| level.get()), Ok(2));
+    assert!(rt; admit(&mut sums, 1, &seldom)? == 1);
+    assert!(rt; admit(&mut sums, 2, &seldom)? == 1);
+    assert!(rt; admit(&mut sums, 3, &seldom)? == 1);
+    assert!(rt; best_of(&sums, &often) == Ok(2));
     let always = Contract::new(1, 1, 1, 1)?;
-    assert_eq!(rt;
-        sums.best(&always).err(),
-        Some(NoLevel {
-            sum: 7_182,
-            bound: 7_175
-        })
-    );
+    assert!(rt; is_denied(&sums, &always, 7_182, 7_175));
     Ok(())
 }

@@ -109,7 +109,7 @@ fn call(
 }
 
 // The sums of the levels.
-fn loads_of(sums: &LevelSums) -> [u64; 3]
+pub(super) fn loads_of(sums: &LevelSums) -> [u64; 3]
     requires { length sums.now.server.bounds ≡ 3 }
 {
     [
