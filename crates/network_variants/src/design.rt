@@ -275,12 +275,17 @@ fn keys_in(
             if count > 0 {
                 keys.push_str(", ")?;
             }
-            let key = String::from_utf8_lossy(alloc, item.key.as_slice())?;
-            keys.push_str(key.as_str())?;
+            add_key(alloc, &mut keys, item.key.as_slice())?;
             count = count.saturating_add(1);
         }
     }
     Ok(keys)
+}
+
+// Adds a key, as far as it is text.
+fn add_key(alloc: Global, keys: &mut String, key: &[u8]) -> Result<(), AllocError> {
+    let key = String::from_utf8_lossy(alloc, key)?;
+    keys.push_str(key.as_str())
 }
 
 // The most keys that are shown.

@@ -158,12 +158,22 @@ fn run_of_send(field: &str) -> Option<Run> {
 /// The fields of a line, in words.
 pub(crate) fn fields_text(line: &[u8], fields: &[Span]) -> &'static str {
     if is_field(line, fields, 0, b"link") {
-        "a link has rate, cap, prop, buffer, best (where it has one), levels and D1 to D8"
+        LINK_FIELDS
     } else if is_field(line, fields, 0, b"quota") {
-        "a quota has buffer, levels and Q1 to Q8"
+        QUOTA_FIELDS
     } else if is_field(line, fields, 0, b"open") {
-        "a request has xmin, xave, i, smax, delay and jitter (where it has one)"
+        REQUEST_FIELDS
     } else {
-        "a send or a pour has count, gap and size"
+        SEND_FIELDS
     }
 }
+
+const LINK_FIELDS: &str =
+    "a link has rate, cap, prop, buffer, best (where it has one), levels and D1 to D8";
+
+const QUOTA_FIELDS: &str = "a quota has buffer, levels and Q1 to Q8";
+
+const REQUEST_FIELDS: &str =
+    "a request has xmin, xave, i, smax, delay and jitter (where it has one)";
+
+const SEND_FIELDS: &str = "a send or a pour has count, gap and size";

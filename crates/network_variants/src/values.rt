@@ -78,17 +78,23 @@ fn range_of<'a>(low: &str, rest: &'a str) -> Option<Range<'a>> {
 
 // A text cut before the first letter or space.
 fn without_unit(text: &str) -> (&str, &str) {
-    let mut at: usize = 0;
+    let long = numbers_length(text);
+    (
+        text.get(..long).unwrap_or(text),
+        text.get(long..).unwrap_or(""),
+    )
+}
+
+// How many digits and slashes stand at the front of a text.
+fn numbers_length(text: &str) -> usize {
+    let mut long: usize = 0;
     for byte in text.bytes() {
         if !byte.is_ascii_digit() && byte != b'/' {
             break;
         }
-        at = at.saturating_add(1);
+        long = long.saturating_add(1);
     }
-    match (text.get(..at), text.get(at..)) {
-        (Some(front), Some(back)) => (front, back),
-        _ => (text, ""),
-    }
+    long
 }
 
 /// The number that a word is: 1 to 18 digits, without a leading 0.
