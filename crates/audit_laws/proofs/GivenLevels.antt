@@ -1,35 +1,22 @@
 -- The levels with which the requests of a plan were accepted in a run, as an audit takes them.
 use Rattle.std.proofs.Common.{◌≡◌, ℕ, zero, suc, ◌≤◌, List, [], ◌∷◌, length, map, take, Option, Some, None, refl, sym, ap, ◌∙◌, subst, arith}
-use Rattle.std.proofs.lemmas.List.{take_all, length-map}
+use Rattle.run_engine.proofs.Words.{take_all, length-map, same_Some, slice_get, actor_number, channel_number, level_number, AreLevels, Hop, Each, IsHopOf, Outcome, Accepts, Denies, verdict_of, PlanParts, IsPlan, network_of, Done, IsRun}
 use Rattle.std.proofs.Math.Nat.{min-le_left}
-use Rattle.std.proofs.lemmas.Option.{same_Some}
-use Rattle.std.specs.List.{slice_get}
 use Rattle.std.specs.Prelude.{min, slice_index_or}
 use Rattle.net_units.specs.Allotted.{levels_of}
-use Rattle.net_units.specs.Numbers.{actor_number, channel_number, level_number}
 use Rattle.net_units.specs.declared.levels.Levels.{Levels}
 use Rattle.net_units.proofs.BoundsInOrder.{bounds-parts}
-use Rattle.hop_reservation.specs.Offers.{AreLevels}
-use Rattle.hop_reservation.specs.declared.route.Hop.{Hop}
 use Rattle.link_steps.specs.Levels.{level_of}
-use Rattle.link_steps.specs.Lists.{Each}
 use Rattle.link_steps.proofs.LevelByNumber.{level_of-number}
 use Rattle.link_steps.proofs.ListParts.{stands-at}
-use Rattle.setup_protocol.specs.Hops.{IsHopOf}
-use Rattle.setup_protocol.specs.Setup.{Outcome, Accepts, Denies, verdict_of}
-use Rattle.call_script.specs.Parts.{PlanParts}
-use Rattle.call_script.specs.Plans.{IsPlan}
-use Rattle.call_script.specs.Tasks.{network_of}
 use Rattle.call_script.specs.declared.entries.RequestEntry.{RequestEntry}
 use Rattle.call_script.proofs.PlansFit.{plan-fits}
 use Rattle.call_script.proofs.OneOwner.{owned-by}
-use Rattle.run_record.specs.declared.done.Done.{Done}
-use Rattle.run_engine.specs.runs.Runs.{IsRun}
 use Rattle.run_engine.specs.replies.Verdicts.{setup_replies}
 use Rattle.interleave_core.proofs.Channels.KeptRequest.{accepted-kept}
 use Rattle.run_engine.proofs.Replies.VerdictHolds.{verdicts-follow}
 use Rattle.audit_laws.specs.RunLevels.{AreLevelsFor, AreLevelsOf}
-use Rattle.audit_laws.proofs.PacketOf.{fits-network}
+use Rattle.run_engine.proofs.Channels.PlanChannels.{request-sound}
 
 -- ---- the levels of one request
 
@@ -91,7 +78,7 @@ levels-are plan run is run_is = record {
   one : (c : ℕ) (entry : RequestEntry) → slice_get plan.requests c ≡ Some entry → (levels : List ℕ) (delay : ℕ) → verdict_of entry.request (setup_replies (channel_number entry.request.chan) run) ≡ Some (Accepts levels delay) → levels_of (as_levels levels) ≡ levels
   one c entry requested levels delay accepted =
       let full = owned-by plan c entry is requested in
-      let sound = fits-network plan c entry is requested in
+      let sound = request-sound plan c entry is requested in
       let script = stands-at (network_of plan).scripts (actor_number entry.caller) full.inside in
       let known = verdicts-follow (network_of plan) entry.request (actor_number entry.caller) script.0 run sound full run_is script.1 ∙ accepted in
       let keeps = (accepted-kept (network_of plan) entry.request (actor_number entry.caller) run script.0 levels delay (plan-fits plan is) sound full run_is script.1 known).keeps in

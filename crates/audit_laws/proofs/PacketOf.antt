@@ -1,35 +1,16 @@
 -- In the run of a plan each packet of a channel is of one of the plan's requests, which was accepted, at a hop of its route.
 use Rattle.std.proofs.Common.{◌≡◌, ◌≢◌, ℕ, ◌≤◌, true, List, length, map, Option, Some, None, refl, sym, ap, ◌∙◌, subst, arith}
-use Rattle.std.proofs.lemmas.Option.{same_Some, slice_get_within}
-use Rattle.std.specs.List.{slice_get}
+use Rattle.run_engine.proofs.Words.{same_Some, slice_get_within, slice_get, link_number, actor_number, channel_number, Hop, Each, Among, Arrival, Link, RequestFits, Outcome, Accepts, Denies, offers_in, verdict_of, Request, is_of_channel, OwnedFully, TaskOff, IsUnnamed, PlanParts, IsPlan, Network, request_of, tasks_of, script_of, network_of, Task, Done, packets_on, ChannelAsked, HopAt, packets_at, IsRun}
 use Rattle.net_units.specs.Allotted.{levels_of}
-use Rattle.net_units.specs.Numbers.{link_number, actor_number, channel_number}
 use Rattle.net_units.specs.declared.levels.Levels.{Levels}
-use Rattle.hop_reservation.specs.declared.route.Hop.{Hop}
-use Rattle.link_steps.specs.Lists.{Each, Among}
-use Rattle.link_steps.specs.Service.{Arrival}
-use Rattle.link_steps.specs.Split.{Link}
 use Rattle.link_steps.proofs.ListParts.{comes-from, stands-at}
 use Rattle.link_steps.proofs.PacketRows.{Among-passes}
-use Rattle.setup_protocol.specs.Hops.{RequestFits}
-use Rattle.setup_protocol.specs.Setup.{Outcome, Accepts, Denies, offers_in, verdict_of}
-use Rattle.setup_protocol.specs.declared.request.Request.{Request}
 use Rattle.setup_protocol.proofs.SettledRequest.{accepted-passed}
-use Rattle.channel_laws.specs.Channels.{is_of_channel}
-use Rattle.call_script.specs.Owners.{OwnedFully, TaskOff, IsUnnamed}
-use Rattle.call_script.specs.Parts.{PlanParts}
-use Rattle.call_script.specs.Plans.{IsPlan}
-use Rattle.call_script.specs.Tasks.{Network, request_of, tasks_of, script_of, network_of}
 use Rattle.call_script.specs.declared.entries.RequestEntry.{RequestEntry}
 use Rattle.call_script.specs.declared.operations.Op.{Op}
-use Rattle.call_script.specs.declared.tasks.Task.{Task}
-use Rattle.call_script.proofs.PlansFit.{request-fits, plan-fits}
+use Rattle.call_script.proofs.PlansFit.{plan-fits}
 use Rattle.call_script.proofs.OperationTable.{tasks-hold}
 use Rattle.call_script.proofs.OneOwner.{owned-by}
-use Rattle.run_record.specs.declared.done.Done.{Done}
-use Rattle.run_engine.specs.channels.Hops.{packets_on, ChannelAsked}
-use Rattle.run_engine.specs.channels.Paths.{HopAt, packets_at}
-use Rattle.run_engine.specs.runs.Runs.{IsRun}
 use Rattle.run_engine.specs.replies.Verdicts.{setup_replies}
 use Rattle.interleave_core.proofs.Channels.AcceptedOnly.{taken-accepted}
 use Rattle.run_engine.proofs.Channels.ChannelsAt.{packet-offered}
@@ -37,10 +18,11 @@ use Rattle.interleave_core.proofs.Channels.GuaranteeLaw.{unnamed-packet, own-cha
 use Rattle.run_engine.proofs.Channels.HopsAt.{hop-at, HaveLevelsAt}
 use Rattle.interleave_core.proofs.Flights.ReadyRun.{counts-first}
 use Rattle.run_engine.proofs.Replies.RunCloses.{owned-once}
-use Rattle.run_engine.proofs.Replies.RunGoes.{owned-asked, accepted-levels}
+use Rattle.run_engine.proofs.Replies.RunGoes.{accepted-levels}
 use Rattle.run_engine.proofs.Replies.VerdictHolds.{verdicts-follow}
 use Rattle.audit_laws.specs.RunLevels.{AreLevelsFor, AreLevelsOf}
 use Rattle.trace_audit.specs.Terms.{levels_given}
+use Rattle.run_engine.proofs.Channels.PlanChannels.{request-asked, request-sound}
 
 -- ---- a channel without a request has no task
 
@@ -103,7 +85,7 @@ of-entry plan run levels n link p entry is run_is are linked among numbered requ
     let full = owned-by plan (channel_number p.chan) entry is requested in
     let owner : ℕ = actor_number entry.caller in
     let once = owned-once (network_of plan) entry.request (actor_number entry.caller) full in
-    let asked = owned-asked (network_of plan) entry.request (actor_number entry.caller) fits sound once in
+    let asked = request-asked plan (channel_number p.chan) entry is requested in
     let chan : channel_number entry.request.chan ≡ channel_number p.chan = is.planned.requests (channel_number p.chan) entry requested in
     let mine : is_of_channel (channel_number entry.request.chan) p ≡ true = subst (λ c. is_of_channel c p ≡ true) (sym chan) (own-channel p numbered) in
     let row = packet-offered (network_of plan) entry.request run n link p fits run_is (asked run run_is) sound linked mine among in
@@ -139,12 +121,8 @@ of-entry plan run levels n link p entry is run_is are linked among numbered requ
       mine = mine;
     }
 
-pub fits-network : (plan : PlanParts) (c : ℕ) (entry : RequestEntry) → IsPlan plan → slice_get plan.requests c ≡ Some entry → RequestFits (network_of plan).links entry.request
-unfolding network_of
-fits-network plan c entry is requested = request-fits plan c entry is requested
-
 pub packet-of : (plan : PlanParts) (run : List Done) (levels : List (Option Levels)) (n : ℕ) (link : Link) (p : Arrival) → IsPlan plan → IsRun (network_of plan) run → AreLevelsOf plan run levels → slice_get (network_of plan).links n ≡ Some link → Among p (packets_on link n run) → 1 ≤ p.number → PacketOf plan run levels n link p
 packet-of plan run levels n link p is run_is are linked among numbered = by-entry (slice_get plan.requests (channel_number p.chan)) refl where
   by-entry : (found : Option RequestEntry) → slice_get plan.requests (channel_number p.chan) ≡ found → PacketOf plan run levels n link p
   by-entry None none = absurd (unnamed-packet (network_of plan) n link p run (plan-fits plan is) run_is linked among (own-channel p numbered) (unnamed plan (channel_number p.chan) is none))
-  by-entry (Some entry) some = of-entry plan run levels n link p entry is run_is are linked among numbered some (fits-network plan (channel_number p.chan) entry is some)
+  by-entry (Some entry) some = of-entry plan run levels n link p entry is run_is are linked among numbered some (request-sound plan (channel_number p.chan) entry is some)

@@ -1,29 +1,20 @@
 -- The levels with which the requests of a plan were accepted in a run of it keep what the requests ask for.
 use Rattle.std.proofs.Common.{◌≡◌, ℕ, zero, suc, List, [], ◌∷◌, length, Option, Some, None, sym, ap, ◌∙◌, subst}
-use Rattle.std.proofs.lemmas.Option.{same_Some}
-use Rattle.std.specs.List.{slice_get}
+use Rattle.run_engine.proofs.Words.{same_Some, slice_get, actor_number, channel_number, delay_over, Outcome, Accepts, Denies, verdict_of, PlanParts, IsPlan, network_of, Done, IsRun}
 use Rattle.net_units.specs.Allotted.{levels_of}
-use Rattle.net_units.specs.Numbers.{actor_number, channel_number}
 use Rattle.net_units.specs.declared.levels.Levels.{Levels}
-use Rattle.hop_reservation.specs.Offers.{delay_over}
 use Rattle.link_steps.proofs.ListParts.{stands-at}
 use Rattle.setup_protocol.specs.Laws.{KeepsRequest}
-use Rattle.setup_protocol.specs.Setup.{Outcome, Accepts, Denies, verdict_of}
-use Rattle.call_script.specs.Parts.{PlanParts}
-use Rattle.call_script.specs.Plans.{IsPlan}
-use Rattle.call_script.specs.Tasks.{network_of}
 use Rattle.call_script.specs.declared.entries.RequestEntry.{RequestEntry}
 use Rattle.call_script.proofs.PlansFit.{plan-fits}
 use Rattle.call_script.proofs.OneOwner.{owned-by}
-use Rattle.run_record.specs.declared.done.Done.{Done}
-use Rattle.run_engine.specs.runs.Runs.{IsRun}
 use Rattle.run_engine.specs.replies.Verdicts.{setup_replies}
 use Rattle.interleave_core.proofs.Channels.KeptRequest.{accepted-kept}
 use Rattle.run_engine.proofs.Replies.VerdictHolds.{verdicts-follow}
 use Rattle.call_script.specs.Accepted.{AreAccepted}
 use Rattle.audit_laws.specs.RunLevels.{AreLevelsFor, AreLevelsOf}
 use Rattle.trace_audit.specs.Terms.{levels_given}
-use Rattle.audit_laws.proofs.PacketOf.{fits-network}
+use Rattle.run_engine.proofs.Channels.PlanChannels.{request-sound}
 
 given-told : (levels : List (Option Levels)) (c : ℕ) (given : Levels) → slice_get levels c ≡ Some (Some given) → levels_given levels c ≡ Some given
 given-told [] c given is = absurd (let clash : None ≡ Some (Some given) = is in cc)
@@ -41,7 +32,7 @@ outcome-for None None given are is = cc
 keep-for : (plan : PlanParts) (run : List Done) (levels : List (Option Levels)) (c : ℕ) (entry : RequestEntry) (given : Levels) → IsPlan plan → IsRun (network_of plan) run → AreLevelsOf plan run levels → slice_get plan.requests c ≡ Some entry → slice_get levels c ≡ Some (Some given) → KeepsRequest entry.request (levels_of given) (delay_over entry.request.route (levels_of given))
 keep-for plan run levels c entry given is run_is are requested accepted =
     let full = owned-by plan c entry is requested in
-    let sound = fits-network plan c entry is requested in
+    let sound = request-sound plan c entry is requested in
     let script = stands-at (network_of plan).scripts (actor_number entry.caller) full.inside in
     let outcome = outcome-for (verdict_of entry.request (setup_replies (channel_number entry.request.chan) run)) (levels_given levels c) given (are.are c entry requested) (given-told levels c given accepted) in
     let known = verdicts-follow (network_of plan) entry.request (actor_number entry.caller) script.0 run sound full run_is script.1 ∙ outcome.1 in

@@ -1,37 +1,21 @@
 -- The departures of a run of a plan are as a sound table has them, and so its table is sound.
 use Rattle.std.proofs.Common.{◌≡◌, ℕ, suc, ◌+◌, ◌<◌, ◌≤◌, List, [], ◌∷◌, ◌++◌, length, map, Option, Some, refl, sym, ap, ◌∙◌, subst, inl, inr, arith}
-use Rattle.std.proofs.lemmas.Bool.{cases_Bool, eqb-true, eq-eqb}
+use Rattle.run_engine.proofs.Words.{cases_Bool, eqb-true, eq-eqb, append-nil, append_assoc, same_Some, slice_get, nat_eq, filter, reverse, link_number, channel_number, Hop, Entry, Each, Among, Arrival, HopTerms, AllOfferTerms, offers_to, tick_of_packet, AreNumberedAfter, PlanParts, IsPlan, network_of, part_of, Done, IsRun}
 use Rattle.std.proofs.lemmas.Bool.Decides.{same_from_decides}
-use Rattle.std.proofs.lemmas.List.{append-nil, append_assoc}
-use Rattle.std.proofs.lemmas.Option.{same_Some}
-use Rattle.std.specs.List.{slice_get}
-use Rattle.std.specs.Prelude.{nat_eq, filter, reverse}
-use Rattle.net_units.specs.Numbers.{link_number, channel_number}
 use Rattle.net_units.specs.declared.levels.Levels.{Levels}
-use Rattle.hop_reservation.specs.declared.route.Hop.{Hop}
 use Rattle.hop_reservation.proofs.DistinctLinks.{index-apart}
-use Rattle.link_steps.specs.declared.replies.Entry.{Entry}
-use Rattle.link_steps.specs.Lists.{Each, Among}
-use Rattle.link_steps.specs.Service.{Arrival}
 use Rattle.link_steps.proofs.SearchAndFilter.{Among-filter, Each-among, Each-if, filter-same}
 use Rattle.link_steps.proofs.FoundElements.{Each-from_among}
-use Rattle.channel_laws.specs.Channels.{HopTerms, AllOfferTerms, offers_to, tick_of_packet, AreNumberedAfter}
-use Rattle.call_script.specs.Parts.{PlanParts}
-use Rattle.call_script.specs.Plans.{IsPlan}
-use Rattle.call_script.specs.Tasks.{network_of}
 use Rattle.call_script.specs.declared.entries.RequestEntry.{RequestEntry}
 use Rattle.call_script.proofs.PlansFit.{plan-fits}
 use Rattle.call_script.proofs.OneOwner.{all-owned}
-use Rattle.run_record.specs.Runs.{part_of}
-use Rattle.run_record.specs.declared.done.Done.{Done}
 use Rattle.run_record.specs.declared.rows.HopRow.{HopRow}
 use Rattle.run_engine.specs.channels.Hops.{terms_at as asked_at}
-use Rattle.run_engine.specs.runs.Runs.{IsRun}
 use Rattle.trace_audit.specs.Above.{is_at, rows_at, tick_of}
-use Rattle.trace_audit.specs.Departures.{AreCounted}
 use Rattle.audit_laws.specs.RunLevels.{AreLevelsOf}
 use Rattle.trace_audit.proofs.TableInOrder.{at-parts}
-use Rattle.audit_laws.proofs.RunRows.{is_over, run-leaves}
+use Rattle.run_engine.specs.channels.Departures.{AreCounted, is_over}
+use Rattle.run_engine.proofs.Channels.Leaving.{run-leaves}
 use Rattle.audit_laws.proofs.RunSound.{RowIs, row-is, departures_of}
 use Rattle.trace_audit.proofs.SortedRows.{counted-above}
 use Rattle.trace_audit.proofs.Turns.{IsInTurn, AreInTurn}

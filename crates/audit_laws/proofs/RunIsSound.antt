@@ -1,47 +1,24 @@
 -- The table of a run of a plan, audited with the levels with which its requests were accepted, is sound.
 use Rattle.std.proofs.Common.{◌≡◌, ℕ, zero, suc, ◌+◌, ◌-◌, ◌<◌, ◌≤◌, true, false, List, [], ◌∷◌, ◌++◌, length, map, get_or, take, Option, Some, refl, sym, ap, ◌∙◌, subst, inl, inr, arith}
-use Rattle.std.proofs.lemmas.Bool.{eq-eqb, ne_eqb, and_from}
-use Rattle.std.proofs.lemmas.List.{map-append, take_at, take-append-le, length-map, length_push}
-use Rattle.std.proofs.lemmas.Option.{same_Some, slice_get_within}
-use Rattle.std.specs.List.{slice_get}
-use Rattle.std.specs.Prelude.{nat_eq, reverse}
+use Rattle.run_engine.proofs.Words.{eq-eqb, ne_eqb, and_from, map-append, length-map, length_push, same_Some, slice_get_within, slice_get, nat_eq, reverse, bound_at, link_number, channel_number, eligible, Hop, Arrive, Packet, Entry, Sent, Each, Among, waits_until, clock_of, Arrival, leaves_at, Link, HopTerms, is_of_channel, channel_packets, tick_of_packet, AreNumberedAfter, PlanParts, IsPlan, network_of, part_of, Done, packets_on, packets_at, IsRun}
+use Rattle.std.proofs.lemmas.List.{take_at, take-append-le}
 use Rattle.net_units.specs.Allotted.{levels_of}
-use Rattle.net_units.specs.LevelBounds.{bound_at}
-use Rattle.net_units.specs.Numbers.{link_number, channel_number}
 use Rattle.net_units.specs.declared.levels.Levels.{Levels}
-use Rattle.traffic_contract.specs.Eligible.{eligible, earliest_tick}
-use Rattle.hop_reservation.specs.declared.route.Hop.{Hop}
+use Rattle.traffic_contract.specs.Eligible.{earliest_tick}
 use Rattle.hop_reservation.proofs.DistinctLinks.{index-apart}
-use Rattle.link_steps.specs.declared.asks.Ask.TheVariants.{Arrive}
-use Rattle.link_steps.specs.declared.asks.Packet.{Packet}
-use Rattle.link_steps.specs.declared.replies.Entry.{Entry}
 use Rattle.link_steps.specs.declared.replies.Reply.TheVariants as Is
-use Rattle.link_steps.specs.declared.replies.Sent.{Sent}
-use Rattle.link_steps.specs.Lists.{Each, Among}
-use Rattle.link_steps.specs.Regulator.{waits_until}
-use Rattle.link_steps.specs.Scan.{clock_of}
-use Rattle.link_steps.specs.Service.{Arrival, leaves_at}
-use Rattle.link_steps.specs.Split.{Link}
 use Rattle.link_steps.proofs.SearchAndFilter.{Among-filter, Each-among}
 use Rattle.link_steps.proofs.ListParts.{Among-turned}
 use Rattle.link_steps.proofs.FoundElements.{Each-from_among}
 use Rattle.link_steps.proofs.PacketRows.{Among-passes}
-use Rattle.channel_laws.specs.Channels.{HopTerms, is_of_channel, channel_packets, tick_of_packet, AreNumberedAfter}
 use Rattle.channel_laws.proofs.DepartedCount.{start-among}
 use Rattle.setup_protocol.specs.Requests.{kind_of}
-use Rattle.call_script.specs.Parts.{PlanParts}
-use Rattle.call_script.specs.Plans.{IsPlan}
-use Rattle.call_script.specs.Tasks.{network_of}
 use Rattle.call_script.specs.declared.entries.RequestEntry.{RequestEntry}
 use Rattle.call_script.proofs.PlansFit.{plan-fits}
 use Rattle.call_script.proofs.OneOwner.{all-owned}
 use Rattle.run_record.specs.Rows.{row_of, links_of, rows_of}
-use Rattle.run_record.specs.Runs.{part_of}
-use Rattle.run_record.specs.declared.done.Done.{Done}
 use Rattle.run_record.specs.declared.rows.HopRow.{HopRow}
-use Rattle.run_engine.specs.channels.Hops.{packets_on, terms_at as asked_at}
-use Rattle.run_engine.specs.channels.Paths.{packets_at}
-use Rattle.run_engine.specs.runs.Runs.{IsRun}
+use Rattle.run_engine.specs.channels.Hops.{terms_at as asked_at}
 use Rattle.interleave_core.proofs.Delays.HopLaw.{TwoHops}
 use Rattle.run_engine.proofs.Channels.HopsAt.{hop-at}
 use Rattle.interleave_core.proofs.Flights.LegLaw.{leg-near}

@@ -1,45 +1,23 @@
 -- In the run of a plan, audited with the levels with which its requests were accepted, the departures are as a sound table has them.
 use Rattle.std.proofs.Common.{◌≡◌, ℕ, suc, ◌+◌, ◌-◌, ◌≤◌, Bool, true, List, length, map, get_or, take, Option, Some, refl, sym, ap, ◌∙◌, subst, arith}
-use Rattle.std.proofs.lemmas.Bool.{eq-eqb, ne_eqb, le-leb, and_from}
-use Rattle.std.proofs.lemmas.Option.{same_Some, slice_get_within}
-use Rattle.std.specs.List.{slice_get}
-use Rattle.std.specs.Prelude.{reverse}
+use Rattle.run_engine.proofs.Words.{eq-eqb, ne_eqb, le-leb, and_from, same_Some, slice_get_within, slice_get, reverse, bound_at, link_number, actor_number, channel_number, link_of, Sent, LeavesInTime, clock_of, starts_of, Arrival, Start, leaves_at, Link, Among, AllOfferTerms, SizeWithin, is_of_channel, offers_in, PlanParts, IsPlan, entry_link, groups_in, network_of, part_of, Done, packets_on, packets_at, IsRun}
 use Rattle.net_units.specs.Allotted.{levels_of}
-use Rattle.net_units.specs.LevelBounds.{bound_at}
-use Rattle.net_units.specs.Numbers.{link_number, actor_number, channel_number}
 use Rattle.net_units.specs.Quotient.{ceil_quotient}
 use Rattle.net_units.specs.declared.levels.Levels.{Levels}
-use Rattle.hop_reservation.specs.Routes.{link_of}
-use Rattle.link_steps.specs.declared.replies.Sent.{Sent}
 use Rattle.link_steps.specs.declared.replies.Reply.TheVariants as Is
-use Rattle.link_steps.specs.HopGuarantee.{LeavesInTime}
-use Rattle.link_steps.specs.Scan.{clock_of, starts_of}
-use Rattle.link_steps.specs.Service.{Arrival, Start, leaves_at}
-use Rattle.link_steps.specs.Split.{Link}
 use Rattle.link_steps.proofs.HopHolds.{guaranteed}
-use Rattle.link_steps.specs.Lists.{Among}
 use Rattle.link_steps.proofs.SearchAndFilter.{Each-among}
 use Rattle.link_steps.proofs.ListParts.{comes-from, Among-reverse}
 use Rattle.link_steps.proofs.Departures.{starts-eligible}
 use Rattle.link_steps.proofs.PacketRows.{Among-passes}
-use Rattle.channel_laws.specs.Channels.{AllOfferTerms, SizeWithin, is_of_channel}
 use Rattle.channel_laws.proofs.DepartedCount.{start-among, channel-few}
 use Rattle.channel_laws.proofs.NumberedPackets.{HasNumber, packets-have_numbers}
 use Rattle.channel_laws.proofs.SizeLaw.{legal-within}
-use Rattle.setup_protocol.specs.Setup.{offers_in}
-use Rattle.call_script.specs.Parts.{PlanParts}
-use Rattle.call_script.specs.Plans.{IsPlan}
-use Rattle.call_script.specs.Splits.{entry_link, groups_in}
-use Rattle.call_script.specs.Tasks.{network_of}
 use Rattle.call_script.proofs.PlansFit.{plan-fits}
 use Rattle.call_script.proofs.OneOwner.{all-owned}
 use Rattle.run_record.specs.Rows.{row_of, hop_among, links_of, departures_in}
-use Rattle.run_record.specs.Runs.{part_of}
-use Rattle.run_record.specs.declared.done.Done.{Done}
 use Rattle.run_record.specs.declared.rows.HopRow.{HopRow}
-use Rattle.run_engine.specs.channels.Hops.{packets_on, terms_at as asked_at}
-use Rattle.run_engine.specs.channels.Paths.{packets_at}
-use Rattle.run_engine.specs.runs.Runs.{IsRun}
+use Rattle.run_engine.specs.channels.Hops.{terms_at as asked_at}
 use Rattle.run_engine.specs.replies.Verdicts.{setup_replies}
 use Rattle.run_engine.proofs.Runs.RunLegal.{part-admissible}
 use Rattle.trace_audit.specs.Checks.{is_within_bound}

@@ -1,18 +1,9 @@
 -- The rows of a run are small: a link makes no more ticks than the plane has rounds, and in a tick at most one packet leaves it.
 use Rattle.std.proofs.Common.{◌≡◌, ℕ, ◌+◌, ◌≤◌, Bool, List, [], ◌∷◌, length, filter, Option, Some, refl, sym, ap, ◌∙◌, subst, inl, inr, arith}
-use Rattle.std.proofs.lemmas.Bool.{cases_Bool, eqb-true, eqb-false, eq-eqb, and_from}
-use Rattle.std.proofs.lemmas.List.{length-append}
-use Rattle.std.proofs.lemmas.Option.{slice_get_within}
-use Rattle.std.specs.Prelude.{nat_eq, nat_lt, reverse}
-use Rattle.net_units.specs.Numbers.{link_number, channel_number}
+use Rattle.run_engine.proofs.Words.{cases_Bool, eqb-true, eqb-false, eq-eqb, and_from, length-append, slice_get_within, nat_eq, nat_lt, reverse, link_number, channel_number, Tick, Reply, Among, reply_to, tick_reply, clock_of, clock_with, scan_of, starts_of, Arrival, Start, NetworkFits, AllOwned, PlanParts, IsPlan, Network, network_of, part_of, Done, plane_at, IsNext, IsRun}
+use Rattle.std.proofs.lemmas.List.Elements.{filter-append}
 use Rattle.net_units.specs.declared.levels.Levels.{Levels}
-use Rattle.link_steps.specs.declared.asks.Ask.TheVariants.{Tick}
-use Rattle.link_steps.specs.declared.replies.Reply.{Reply}
 use Rattle.link_steps.specs.declared.replies.Reply.TheVariants as Is
-use Rattle.link_steps.specs.Lists.{Among}
-use Rattle.link_steps.specs.Replies.{reply_to, tick_reply}
-use Rattle.link_steps.specs.Scan.{clock_of, clock_with, scan_of, starts_of}
-use Rattle.link_steps.specs.Service.{Arrival, Start}
 use Rattle.link_steps.proofs.FoundElements.{Each-from_among}
 use Rattle.link_steps.proofs.Departures.{starts-eligible}
 use Rattle.link_steps.proofs.SearchAndFilter.{Each-among}
@@ -20,31 +11,23 @@ use Rattle.link_steps.proofs.ListParts.{Among-reverse}
 use Rattle.link_steps.proofs.PacketRows.{Among-passes}
 use Rattle.link_steps.proofs.RulesAsMeant.{scan-patient}
 use Rattle.channel_laws.proofs.SentInTime.{tick-answer}
-use Rattle.call_script.specs.Fits.{NetworkFits}
-use Rattle.call_script.specs.Owners.{AllOwned}
-use Rattle.call_script.specs.Parts.{PlanParts}
-use Rattle.call_script.specs.Plans.{IsPlan}
-use Rattle.call_script.specs.Tasks.{Network, network_of}
 use Rattle.call_script.proofs.PlansFit.{plan-fits}
 use Rattle.call_script.proofs.OneOwner.{all-owned}
 use Rattle.run_record.specs.Rows.{IsEarly, departures_in, in_order, rows_by}
-use Rattle.run_record.specs.Runs.{part_of}
 use Rattle.run_record.specs.SmallRows.{IsSmall}
-use Rattle.run_record.specs.declared.done.Done.{Done}
 use Rattle.run_record.specs.declared.rows.HopRow.{HopRow}
 use Rattle.run_engine.specs.replies.Answers.{IsReplyOf}
-use Rattle.run_engine.specs.runs.Runs.{plane_at, IsNext, IsRun}
-use Rattle.interleave_core.proofs.Channels.ChainLaw.{is-tick}
-use Rattle.interleave_core.proofs.Flights.LegLaw.{quiet-clock}
+use Rattle.run_engine.proofs.Flights.FlightOrigins.{is-tick, quiet-clock}
 use Rattle.run_engine.proofs.Replies.Replying.{asks-answered}
 use Rattle.run_engine.proofs.Runs.PartLaws.{clocks-follow}
 use Rattle.run_engine.proofs.Runs.RunLegal.{part-off, part-on, plane-due, by-part}
 use Rattle.run_engine.proofs.Tasks.CallerAsksFit.{IsCallers}
 use Rattle.trace_audit.specs.Above.{is_at, rows_at}
 use Rattle.audit_laws.specs.RunLevels.{AreLevelsOf, EveryTickIsEarly, RowsOfRunsAreSmall}
-use Rattle.trace_audit.proofs.WholeRoute.{filter-append}
 use Rattle.audit_laws.proofs.RunDeparts.{counted, counted-le, rows-over}
-use Rattle.audit_laws.proofs.RunRows.{asks-tick, departures-more, is_over, no-tick, off-link, run-split, ticked-clock}
+use Rattle.run_engine.specs.channels.Departures.{is_over}
+use Rattle.run_engine.proofs.Channels.Leaving.{asks-tick, departures-more, no-tick, off-link}
+use Rattle.audit_laws.proofs.RunRows.{run-split, ticked-clock}
 use Rattle.audit_laws.proofs.RunSound.{departures_of, row-is}
 use Rattle.trace_audit.proofs.SortedRows.{order-among}
 

@@ -18,17 +18,18 @@ use Rattle.call_script.specs.Plans.{IsPlan}
 use Rattle.call_script.specs.Tasks.{network_of}
 use Rattle.call_script.specs.declared.entries.RequestEntry.{RequestEntry}
 use Rattle.run_engine.proofs.Keeping.Lookups.{get-push, get-set-other, get-set-same, held}
+use Rattle.run_engine.specs.channels.Departures.{is_over}
 use Rattle.run_engine.specs.runs.Runs.{IsRun}
-use Rattle.run_record.specs.Rows.{departures_in, row_of, rows_by, rows_of}
+use Rattle.run_record.specs.Rows.{departures_in, row_of, rows_by}
 use Rattle.run_record.proofs.KeptRows.{departures-more}
 use Rattle.run_record.specs.declared.done.Done.{Done}
 use Rattle.run_record.specs.declared.rows.HopRow.{HopRow}
 use Rattle.channel_report.proofs.ChannelTallies.{first-at}
 use Rattle.channel_report.proofs.PairedDelays.{paired-are}
 use Rattle.channel_report.specs.DelayTallies.{AreDelayTallies, delay_tally_of, with_delay}
-use Rattle.channel_report.specs.Delays.{last_prop, least_of, prop_of, worst_of}
+use Rattle.channel_report.specs.Delays.{delay_if, departures_of, last_link, last_prop, least_of, link_at, prop_of, worst_of}
 use Rattle.channel_report.specs.Flows.{AreFlows, KeepsFlow}
-use Rattle.channel_report.specs.Pairing.{arrival_if, arrivals_of, delay_if, last_link, leaves, link_at, paired_of}
+use Rattle.channel_report.specs.Pairing.{arrival_if, arrivals_of, paired_of}
 use Rattle.channel_report.specs.Sources.{first_link}
 use Rattle.channel_report.specs.declared.delay_tally.DelayTally.{DelayTally}
 use Rattle.channel_report.specs.declared.flow.Flow.{Flow}
@@ -63,8 +64,8 @@ pub flow-more : (c : ℕ) (request : Request) (rows : List HopRow) (old new : Fl
 unfolding arrivals_of paired_of
 flow-more c request rows old new links link clock sent own keeps first last prop arrivals delays =
     let chan = eq-eqb (channel_number sent.packet.chan) c own in
-    let at_first : leaves c (first_link request.route) (row_of links link clock sent) ≡ nat_eq (link_number link) (link_number old.first) = rw chan (ap (nat_eq (link_number link)) (sym keeps.first)) in
-    let at_last : leaves c (last_link request.route) (row_of links link clock sent) ≡ nat_eq (link_number link) (link_number old.last) = rw chan (ap (nat_eq (link_number link)) (sym keeps.last)) in
+    let at_first : is_over c (first_link request.route) (row_of links link clock sent) ≡ nat_eq (link_number link) (link_number old.first) = rw chan (ap (nat_eq (link_number link)) (sym keeps.first)) in
+    let at_last : is_over c (last_link request.route) (row_of links link clock sent) ≡ nat_eq (link_number link) (link_number old.last) = rw chan (ap (nat_eq (link_number link)) (sym keeps.last)) in
     let kept : new.arrivals.items ≡ arrivals_of c request (row_of links link clock sent ∷ rows) =
     arrivals ∙ ap (λ front. front ++ arrival_if (nat_eq (link_number link) (link_number old.first)) sent.at) keeps.arrivals
     ∙ ap (λ b. arrivals_of c request rows ++ arrival_if b sent.at) (sym at_first) in
@@ -75,8 +76,8 @@ flow-more c request rows old new links link clock sent own keeps first last prop
       arrivals = kept;
       delays = delays (paired_of c request rows) keeps.delays
           ∙ ap (λ b. delay_tally_of (delay_if b old.prop (suc clock) (slice_get new.arrivals.items (sent.packet.number - 1)) ++ paired_of c request rows)) (sym at_last)
-          ∙ ap (λ p. delay_tally_of (delay_if (leaves c (last_link request.route) (row_of links link clock sent)) p (suc clock) (slice_get new.arrivals.items (sent.packet.number - 1)) ++ paired_of c request rows)) keeps.prop
-          ∙ ap (λ xs. delay_tally_of (delay_if (leaves c (last_link request.route) (row_of links link clock sent)) (last_prop request.route) (suc clock) (slice_get xs (sent.packet.number - 1)) ++ paired_of c request rows)) kept;
+          ∙ ap (λ p. delay_tally_of (delay_if (is_over c (last_link request.route) (row_of links link clock sent)) p (suc clock) (slice_get new.arrivals.items (sent.packet.number - 1)) ++ paired_of c request rows)) keeps.prop
+          ∙ ap (λ xs. delay_tally_of (delay_if (is_over c (last_link request.route) (row_of links link clock sent)) (last_prop request.route) (suc clock) (slice_get xs (sent.packet.number - 1)) ++ paired_of c request rows)) kept;
     }
 
 -- a row of another channel
@@ -145,9 +146,9 @@ paired-few : (c : ℕ) (request : Request) (rows : List HopRow) → length (pair
 unfolding paired_of
 paired-few c request [] = omega arith
 paired-few c request (row ∷ rows) =
-    let some = delay-few (leaves c (last_link request.route) row) (last_prop request.route) row.departed (slice_get (arrivals_of c request (row ∷ rows)) (row.number - 1)) in
+    let some = delay-few (is_over c (last_link request.route) row) (last_prop request.route) row.departed (slice_get (arrivals_of c request (row ∷ rows)) (row.number - 1)) in
     let rest = paired-few c request rows in
-    let both = length-append (delay_if (leaves c (last_link request.route) row) (last_prop request.route) row.departed (slice_get (arrivals_of c request (row ∷ rows)) (row.number - 1))) (paired_of c request rows) in
+    let both = length-append (delay_if (is_over c (last_link request.route) row) (last_prop request.route) row.departed (slice_get (arrivals_of c request (row ∷ rows)) (row.number - 1))) (paired_of c request rows) in
     omega (arith, some, rest, both)
 
 pub flow-few : (requests : List RequestEntry) (rows : List HopRow) (flows : List Flow) (place : ℕ) (flow : Flow) → AreFlows requests rows flows → slice_get flows place ≡ Some flow → flow.delays.delivered ≤ length rows
@@ -202,13 +203,13 @@ flows-go_on requests past done old new goes are whole =
 
 -- ---- so they tell the delays of the run
 
-pub found-delays : (parts : PlanParts) (run : List Done) (flows : List Flow) (tallies : List DelayTally) → IsPlan parts → IsRun (network_of parts) run → AreFlows parts.requests (reverse (departures_in (reverse run) (reverse run))) flows → tallies ≡ map (λ (flow : Flow). flow.delays) flows
-    → AreDelayTallies parts.requests (reverse (rows_of (reverse run))) tallies
+pub found-delays : (parts : PlanParts) (run : List Done) (flows : List Flow) (tallies : List DelayTally) → IsPlan parts → IsRun (network_of parts) run → AreFlows parts.requests (reverse (departures_of (reverse run))) flows → tallies ≡ map (λ (flow : Flow). flow.delays) flows
+    → AreDelayTallies parts.requests (reverse (departures_of (reverse run))) tallies
 found-delays parts run flows tallies plan is_run are is = record {
   all = ap length is ∙ length-map flows (λ (flow : Flow). flow.delays) ∙ are.all;
   tells = λ n entry tally found at.
       let from = comes-from (λ (flow : Flow). flow.delays) flows n tally (ap (λ ts. slice_get ts n) (sym is) ∙ at) in
       let keeps = are.tells n entry from.from found from.found in
       let number : n ≡ channel_number entry.request.chan = sym (plan.planned.requests n entry found) in
-      sym from.is ∙ keeps.delays ∙ ap delay_tally_of (ap (λ c. paired_of c entry.request (reverse (departures_in (reverse run) (reverse run)))) number ∙ paired-are parts n entry plan found run is_run);
+      sym from.is ∙ keeps.delays ∙ ap delay_tally_of (ap (λ c. paired_of c entry.request (reverse (departures_of (reverse run)))) number ∙ paired-are parts n entry plan found run is_run);
 }

@@ -4,13 +4,10 @@ pub mod PlannedTicks
 pub mod RouteLine
 pub mod SourceAfterEntry
 pub mod ChannelTallies
-pub mod DelaysRowByRow
 pub mod EstablishedLine
 pub mod LinkTallies
 pub mod EarlyTicks
 pub mod SumsOverRequests
-pub mod ToldDelays
-pub mod PairedRows
 pub mod PairedDelays
 pub mod FlowsKept
 pub mod RowsStayKept

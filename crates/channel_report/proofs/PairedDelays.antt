@@ -1,374 +1,142 @@
--- In every run of a plan the delays that are paired as the packets leave are those that the rows in their order tell. At the first and at
--- the last link the packets of a channel leave in the order of their numbers, from 1, so the rows there stay in their order when all
--- are put in order; and a packet that leaves the last link has left the first.
-use Rattle.std.proofs.Common.{◌≡◌, ℕ, zero, suc, ◌+◌, ◌-◌, ◌<◌, Bool, true, List, [], ◌∷◌, ◌++◌, length, map, get_or, Option, Some, None, refl, sym, ap, ◌∙◌, inl, inr, arith, append-nil, append_assoc}
-use Rattle.std.proofs.lemmas.Bool.{cases_Bool, and_from, and_parts, eqb-true, eq-eqb}
-use Rattle.std.proofs.lemmas.Bool.Decides.{same_from_decides}
-use Rattle.std.proofs.lemmas.List.{get_or_default, length-map, map-append, reverse-append, reverse-reverse}
+-- In every run of a plan the delays that are paired as the packets leave are those of the packets, by their numbers: the packets of a
+-- channel leave the first and the last link of its route in the order of their numbers, from 1.
+use Rattle.std.proofs.Common.{◌≡◌, ◌≢◌, ℕ, zero, suc, ◌+◌, ◌-◌, true, List, [], ◌∷◌, ◌++◌, length, map, Some, refl, sym, ap, ◌∙◌, subst, inl, inr, arith, append-nil}
+use Rattle.std.proofs.lemmas.Bool.{cases_Bool, cases_eq, eq-eqb, ne_eqb}
+use Rattle.std.proofs.lemmas.List.{length-map, map-append, reverse-append, reverse-reverse}
 use Rattle.std.proofs.lemmas.List.Elements.{filter-append}
-use Rattle.std.proofs.lemmas.Option.{same_Some, slice_get_read}
+use Rattle.std.proofs.lemmas.Option.{slice_get_past}
 use Rattle.std.specs.List.{slice_get}
-use Rattle.std.specs.Prelude.{filter, nat_eq, reverse}
-use Rattle.net_units.specs.Numbers.{actor_number, channel_number, link_number}
-use Rattle.net_units.specs.declared.levels.Levels.{Levels}
-use Rattle.hop_reservation.proofs.DistinctLinks.{index-apart}
-use Rattle.hop_reservation.specs.declared.route.Hop.{Hop}
-use Rattle.link_steps.specs.declared.replies.Reply.{Reply}
-use Rattle.link_steps.specs.declared.replies.Reply.TheVariants as Is
-use Rattle.link_steps.specs.Lists.{Among}
-use Rattle.link_steps.proofs.FoundElements.{Each-from_among}
-use Rattle.link_steps.proofs.ListParts.{Among-reverse, Among-turned}
-use Rattle.link_steps.proofs.PacketRows.{Among-passes}
-use Rattle.link_steps.proofs.SearchAndFilter.{filter-same}
-use Rattle.setup_protocol.specs.Hops.{RequestFits}
+use Rattle.std.specs.Prelude.{filter, reverse}
+use Rattle.net_units.specs.Numbers.{channel_number, link_number}
 use Rattle.setup_protocol.specs.declared.request.Request.{Request}
-use Rattle.call_script.proofs.OneOwner.{all-owned, owned-by}
-use Rattle.call_script.proofs.PlansFit.{plan-fits}
-use Rattle.call_script.specs.Fits.{NetworkFits}
 use Rattle.call_script.specs.Parts.{PlanParts}
 use Rattle.call_script.specs.Plans.{IsPlan}
 use Rattle.call_script.specs.Tasks.{network_of}
 use Rattle.call_script.specs.declared.entries.RequestEntry.{RequestEntry}
-use Rattle.run_record.specs.Rows.{departures_in, links_of, row_of, rows_by, rows_of}
 use Rattle.run_record.specs.declared.done.Done.{Done}
 use Rattle.run_record.specs.declared.rows.HopRow.{HopRow}
 use Rattle.run_engine.proofs.Channels.HopsAt.{hop-at}
-use Rattle.run_engine.proofs.Replies.RunCloses.{owned-once}
-use Rattle.run_engine.proofs.Replies.RunGoes.{owned-asked}
-use Rattle.run_engine.specs.channels.Hops.{ChannelAsked, terms_at}
+use Rattle.run_engine.specs.channels.Departures.{AreCounted, is_over}
 use Rattle.run_engine.specs.channels.Paths.{HopAt}
 use Rattle.run_engine.specs.runs.Runs.{IsRun}
-use Rattle.trace_audit.proofs.SortedRows.{among-order, counted-rise, order-among, rows-stay}
-use Rattle.trace_audit.proofs.WholeRoute.{filter-reverse}
-use Rattle.trace_audit.specs.Above.{is_at, rows_at}
-use Rattle.trace_audit.specs.Checks.{AllPass}
-use Rattle.trace_audit.specs.Departures.{AreCounted}
-use Rattle.audit_laws.proofs.GivenLevels.{levels-are, levels_in}
-use Rattle.audit_laws.proofs.PacketOf.{fits-network}
-use Rattle.audit_laws.proofs.RunDeparts.{counted, counted-le}
-use Rattle.audit_laws.proofs.RunIsSound.{run-is_sound}
-use Rattle.audit_laws.proofs.RunRows.{Leaving, departures-more, run-leaves, told-departs}
-use Rattle.audit_laws.proofs.RunSound.{RowIs, departures_of, row-is}
 use Rattle.channel_report.proofs.ChannelTallies.{first-at}
-use Rattle.channel_report.proofs.PairedRows.{has-first, none-delay, one-delay, tells-delay}
-use Rattle.channel_report.proofs.ToldDelays.{first-is}
-use Rattle.channel_report.specs.Delays.{delays_of, first_in, is_last, last_prop}
-use Rattle.channel_report.specs.Pairing.{arrival_if, arrivals_of, delay_if, last_link, leaves, link_at, paired_of}
+use Rattle.channel_report.specs.Delays.{arrived_at, delay_if, delays_of, departures_of, last_link, last_prop, link_at}
+use Rattle.channel_report.specs.Pairing.{arrival_if, arrivals_of, paired_of}
 use Rattle.channel_report.specs.Sources.{first_link}
+use Rattle.run_engine.proofs.Channels.PlanChannels.{hop-leaves, request-sound}
 
--- ---- lists
+-- ---- rows over a link, listed from the last one
 
-abbrev pub at_of : HopRow → ℕ
+abbrev numbered_over : ℕ → ℕ → List HopRow → List HopRow
+numbered_over c link rows = filter (is_over c link) (reverse rows)
+
+-- each has the number of its place
+abbrev AreNumbered : ℕ → ℕ → List HopRow → Type 0
+AreNumbered c link [] = Unit {0}
+AreNumbered c link (row ∷ rows) = (is_over c link row ≡ true → row.number ≡ suc (length (numbered_over c link rows))) × AreNumbered c link rows
+
+counted-last : (n : ℕ) (rows : List HopRow) (row : HopRow) → AreCounted n (rows ++ row ∷ []) → AreCounted n rows × (row.number ≡ suc (length rows + n))
+counted-last n [] row are = (tt, (let number = are.0 in omega (arith, number)))
+counted-last n (first ∷ rows) row are = (let rest = counted-last (suc n) rows row are.1 in ((are.0, rest.0), (let number = rest.1 in omega (arith, number))))
+
+over-more : (c link : ℕ) (row : HopRow) (rows : List HopRow) → numbered_over c link (row ∷ rows) ≡ numbered_over c link rows ++ filter (is_over c link) (row ∷ [])
+over-more c link row rows = ap (filter (is_over c link)) (reverse-append (row ∷ []) rows) ∙ filter-append (is_over c link) (reverse rows) (row ∷ [])
+
+are-numbered : (c link : ℕ) (rows : List HopRow) → AreCounted 0 (numbered_over c link rows) → AreNumbered c link rows
+are-numbered c link [] are = tt
+are-numbered c link (row ∷ rows) are =
+    elim (cases_Bool (is_over c link row)) [
+      | inl on ↦
+          (let kept : filter (is_over c link) (row ∷ []) ≡ row ∷ [] = rw on refl in
+          let parts = counted-last 0 (numbered_over c link rows) row (subst (AreCounted 0) (over-more c link row rows ∙ ap (λ rs. numbered_over c link rows ++ rs) kept) are) in
+          ((λ _. (let number = parts.1 in omega (arith, number))), are-numbered c link rows parts.0))
+      | inr off ↦
+          (let none : filter (is_over c link) (row ∷ []) ≡ [] = rw off refl in
+          let before = subst (AreCounted 0) (over-more c link row rows ∙ ap (λ rs. numbered_over c link rows ++ rs) none ∙ append-nil (numbered_over c link rows)) are in
+          ((λ on. (let clash = sym on ∙ off in cc)), are-numbered c link rows before))
+    ]
+
+-- ---- arrivals by their places
+
+abbrev at_of : HopRow → ℕ
 at_of row = row.at
 
 -- the arrivals are those of the rows over the first link
-pub arrivals-are : (c : ℕ) (request : Request) (rows : List HopRow) → arrivals_of c request (reverse rows) ≡ map at_of (filter (leaves c (first_link request.route)) rows)
+pub arrivals-are : (c : ℕ) (request : Request) (rows : List HopRow) → arrivals_of c request rows ≡ map at_of (numbered_over c (first_link request.route) rows)
 unfolding arrivals_of
-arrivals-are c request rows = turned (reverse rows) ∙ ap (λ rs. map at_of (filter (leaves c (first_link request.route)) rs)) (reverse-reverse rows) where
-  turned : (rs : List HopRow) → arrivals_of c request rs ≡ map at_of (filter (leaves c (first_link request.route)) (reverse rs))
-  turned [] = refl
-  turned (row ∷ rs) =
-      ap (λ front. front ++ arrival_if (leaves c (first_link request.route) row) row.at) (turned rs)
-      ∙ ap (λ end. map at_of (filter (leaves c (first_link request.route)) (reverse rs)) ++ end) (one row)
-      ∙ sym (map-append at_of (filter (leaves c (first_link request.route)) (reverse rs)) (filter (leaves c (first_link request.route)) (row ∷ [])))
-      ∙ ap (map at_of) (sym (filter-append (leaves c (first_link request.route)) (reverse rs) (row ∷ [])))
-      ∙ ap (λ xs. map at_of (filter (leaves c (first_link request.route)) xs)) (sym (reverse-append (row ∷ []) rs)) where
-        one : (r : HopRow) → arrival_if (leaves c (first_link request.route) r) r.at ≡ map at_of (filter (leaves c (first_link request.route)) (r ∷ []))
-        one r = elim (cases_Bool (leaves c (first_link request.route) r)) [ inl on ↦ rw on refl | inr off ↦ rw off refl ]
+arrivals-are c request [] = refl
+arrivals-are c request (row ∷ rows) =
+    let first = first_link request.route in
+    let one : arrival_if (is_over c first row) row.at ≡ map at_of (filter (is_over c first) (row ∷ [])) = elim (cases_Bool (is_over c first row)) [ inl on ↦ rw on refl | inr off ↦ rw off refl ] in
+    ap (λ front. front ++ arrival_if (is_over c first row) row.at) (arrivals-are c request rows)
+    ∙ ap (λ end. map at_of (numbered_over c first rows) ++ end) one
+    ∙ sym (map-append at_of (numbered_over c first rows) (filter (is_over c first) (row ∷ [])))
+    ∙ ap (map at_of) (sym (over-more c first row rows))
 
--- the delays of some rows, by the arrivals of all packets
-unfoldable pub told_by : ℕ → List ℕ → List HopRow → List ℕ
-told_by prop all [] = []
-told_by prop all (row ∷ rows) = (row.departed + prop - get_or all (row.number - 1) 0) ∷ told_by prop all rows
+get-last : (xs : List ℕ) (x k : ℕ) → k ≡ length xs → slice_get (xs ++ x ∷ []) k ≡ Some x
+get-last [] x zero is = refl
+get-last [] x (suc k) is = absurd (omega (arith, is))
+get-last (y ∷ xs) x zero is = absurd (omega (arith, is))
+get-last (y ∷ xs) x (suc k) is = get-last xs x k (omega (arith, is))
 
-get-front : (xs ys : List ℕ) (i x : ℕ) → slice_get xs i ≡ Some x → get_or (xs ++ ys) i 0 ≡ x
-get-front [] ys i x is = cc
-get-front (y ∷ xs) ys zero x is = same_Some y x is
-get-front (y ∷ xs) ys (suc i) x is = get-front xs ys i x is
+get-other : (xs : List ℕ) (x k : ℕ) → k ≢ length xs → slice_get (xs ++ x ∷ []) k ≡ slice_get xs k
+get-other [] x zero other = absurd (other refl)
+get-other [] x (suc k) other = slice_get_past (x ∷ []) (suc k) (omega arith) ∙ sym (slice_get_past [] (suc k) (omega arith))
+get-other (y ∷ xs) x zero other = refl
+get-other (y ∷ xs) x (suc k) other = get-other xs x k (λ same. other (omega (arith, same)))
 
--- counted rows are found by their numbers
-pub counted-at : (n k : ℕ) (rows : List HopRow) (x : HopRow) → AreCounted n rows → Among x rows → x.number ≡ suc (n + k) → get_or (map at_of rows) k 0 ≡ x.at
-counted-at n k [] x are among is = absurd among
-counted-at n zero (row ∷ rows) x are (inl same) is = ap at_of (sym same)
-counted-at n (suc k) (row ∷ rows) x are (inl same) is = absurd (let e : x.number ≡ row.number = ap (λ (r : HopRow). r.number) same in let f = are.0 in omega (arith, e, f, is))
-counted-at n zero (row ∷ rows) x are (inr there) is = absurd (let above = number-above (suc n) rows x are.1 there in omega (arith, above, is)) where
-  number-above : (m : ℕ) (rs : List HopRow) (y : HopRow) → AreCounted m rs → Among y rs → m < y.number
-  number-above m [] y own among = absurd among
-  number-above m (r ∷ rs) y own (inl same) = (let e : y.number ≡ r.number = ap (λ (s : HopRow). s.number) same in let f = own.0 in omega (arith, e, f))
-  number-above m (r ∷ rs) y own (inr among) = (let rest = number-above (suc m) rs y own.1 among in omega (arith, rest))
-counted-at n (suc k) (row ∷ rows) x are (inr there) is = counted-at (suc n) k rows x are.1 there (omega (arith, is))
-
--- ---- rows in their order
-
--- where each packet of the channel is found by its number, the rows of the last hop tell these delays
-sorted-told : (plan : PlanParts) (levels : List (Option Levels)) (request : Request) (all : List ℕ) (rows : List HopRow) → AllPass plan levels rows
-    → ((first : HopRow) → Among first rows → channel_number first.chan ≡ channel_number request.chan → first.hop ≡ 1 → get_or all (first.number - 1) 0 ≡ first.at)
-    → delays_of request rows ≡ told_by (last_prop request.route) all (filter (is_last request) rows)
-unfolding delays_of AllPass told_by
-sorted-told plan levels request all [] pass found = refl
-sorted-told plan levels request all (row ∷ above) pass found =
-    let rest = sorted-told plan levels request all above pass.0 (λ first among own hop. found first (inr among) own hop) in
-    elim (cases_Bool (is_last request row)) [
-      | inr other ↦ ap (λ ds. ds ++ delays_of request above) (none-delay request row (first_in (row ∷ above)) other) ∙ rest ∙ (rw other refl)
-      | inl last ↦
-          (let near = has-first plan levels row above pass in
-          let first = first-is (row ∷ above) near.first near.found in
-          let own : channel_number near.first.chan ≡ channel_number request.chan = sym near.chan ∙ eqb-true (channel_number row.chan) (channel_number request.chan) (and_parts (nat_eq (channel_number row.chan) (channel_number request.chan)) (nat_eq row.hop (length request.route)) last).0 in
-          let at : get_or all (row.number - 1) 0 ≡ near.first.at = ap (λ n. get_or all (n - 1) 0) near.number ∙ found near.first first.0 own first.1 in
-          ap (λ ds. ds ++ delays_of request above) (one-delay request row above near last)
-          ∙ ap (λ t. (row.departed + last_prop request.route - t) ∷ delays_of request above) (sym at)
-          ∙ ap (λ ds. (row.departed + last_prop request.route - get_or all (row.number - 1) 0) ∷ ds) rest
-          ∙ (rw last refl))
+-- the arrival at a place is that of the packet of its number
+found-by : (c : ℕ) (request : Request) (rows : List HopRow) (k : ℕ) → AreNumbered c (first_link request.route) rows → slice_get (arrivals_of c request rows) k ≡ arrived_at c (first_link request.route) (suc k) rows
+unfolding arrivals_of arrived_at
+found-by c request [] k are = slice_get_past [] k (omega arith)
+found-by c request (row ∷ rows) k are =
+    let rest = found-by c request rows k are.1 in
+    elim (cases_Bool (is_over c (first_link request.route) row)) [
+      | inr off ↦ rw off (ap (λ xs. slice_get xs k) (append-nil (arrivals_of c request rows)) ∙ rest)
+      | inl on ↦
+          (let long : length (arrivals_of c request rows) ≡ length (numbered_over c (first_link request.route) rows) = ap length (arrivals-are c request rows) ∙ length-map (numbered_over c (first_link request.route) rows) at_of in
+          let number = are.0 on in
+          elim (cases_eq k (length (arrivals_of c request rows))) [
+            | inl here ↦ (let same = eq-eqb row.number (suc k) (omega (arith, number, long, here)) in rw (on, same) (get-last (arrivals_of c request rows) row.at k here))
+            | inr apart ↦ (let other = ne_eqb row.number (suc k) (λ e. apart (omega (arith, number, long, e))) in rw (on, other) (get-other (arrivals_of c request rows) row.at k apart ∙ rest))
+          ])
     ]
 
--- ---- the row of an entry
+-- ---- so the pairs are the delays
 
--- the row that an entry tells, with the hop that the run's offers tell
-record WithHop (run : List Done) (row : HopRow) : Type 0 where
-  pub told : HopRow
-  pub among : Among told (departures_of run)
-  pub chan : told.chan ≡ row.chan
-  pub link : told.link ≡ row.link
-  pub number : told.number ≡ row.number
-
-with-hop : (whole past : List Done) (done : Done) (reply : Reply) (row : HopRow) → done.reply ≡ reply → rows_by whole done.link reply ≡ row ∷ [] → WithHop (done ∷ past) row
-with-hop whole past done (Is.Ticked clock full (Some sent) best_sent best_lost) row is told = record {
-  told = row_of (links_of (channel_number sent.packet.chan) (reverse (done ∷ past))) done.link clock sent;
-  among = told-departs (reverse (done ∷ past)) (reverse (done ∷ past)) done clock full sent best_sent best_lost (Among-turned done (done ∷ past) (inl refl)) is;
-  chan = ap (λ (r : HopRow). r.chan) (head-of _ _ told);
-  link = ap (λ (r : HopRow). r.link) (head-of _ _ told);
-  number = ap (λ (r : HopRow). r.number) (head-of _ _ told);
-} where
-  head-of : (x y : HopRow) → x ∷ [] ≡ y ∷ [] → x ≡ y
-  head-of x y same = cc
-with-hop whole past done _ row is told = absurd (let clash : [] ≡ row ∷ [] = told in cc)
-
--- an entry tells one row at most
-two-told : (whole : List Done) (done : Done) (reply : Reply) (x y : HopRow) (rows : List HopRow) → rows_by whole done.link reply ≡ x ∷ y ∷ rows → ⊥
-two-told whole done (Is.Ticked clock full (Some sent) best_sent best_lost) x y rows same = cc
-two-told whole done (Is.Ticked clock full None best_sent best_lost) x y rows same = cc
-two-told whole done _ x y rows same = cc
-
-one-more : (c : ℕ) (request : Request) (before : List HopRow) (row : HopRow) (rest : List ℕ) → arrivals_of c request (row ∷ before) ++ rest ≡ arrivals_of c request before ++ (arrival_if (leaves c (first_link request.route) row) row.at ++ rest)
-unfolding arrivals_of
-one-more c request before row rest = append_assoc (arrivals_of c request before) (arrival_if (leaves c (first_link request.route) row) row.at) rest
+pairs-are : (request : Request) (rows : List HopRow) → AreNumbered (channel_number request.chan) (first_link request.route) rows → AreNumbered (channel_number request.chan) (last_link request.route) rows → paired_of (channel_number request.chan) request rows ≡ delays_of request rows
+unfolding paired_of delays_of
+pairs-are request [] first last = refl
+pairs-are request (row ∷ rows) first last =
+    let c = channel_number request.chan in
+    let rest = pairs-are request rows first.1 last.1 in
+    elim (cases_Bool (is_over c (last_link request.route) row)) [
+      | inr off ↦ rw off rest
+      | inl on ↦
+          (let number = last.0 on in
+          let next : suc (row.number - 1) ≡ row.number = omega (arith, number) in
+          let arrival = found-by c request (row ∷ rows) (row.number - 1) first ∙ ap (λ n. arrived_at c (first_link request.route) n (row ∷ rows)) next in
+          rw on (ap (λ a. delay_if true (last_prop request.route) row.departed a ++ paired_of c request rows) arrival
+          ∙ ap (λ ds. delay_if true (last_prop request.route) row.departed (arrived_at c (first_link request.route) row.number (row ∷ rows)) ++ ds) rest))
+    ]
 
 -- ---- the rows of a request
 
 module _ (plan : PlanParts) (c : ℕ) (entry : RequestEntry) (is : IsPlan plan) (requested : slice_get plan.requests c ≡ Some entry) where
-  abbrev chan : ℕ
-  chan = channel_number entry.request.chan
+  -- the rows over a hop's link are numbered
+  over-hop : (i : ℕ) (at : HopAt (network_of plan) entry.request i) (run : List Done) → IsRun (network_of plan) run → AreNumbered (channel_number entry.request.chan) (link_number at.hop.link) (reverse (departures_of (reverse run)))
+  over-hop i at run run_is =
+      let rows = departures_of (reverse run) in
+      are-numbered (channel_number entry.request.chan) (link_number at.hop.link) (reverse rows)
+      (subst (λ rs. AreCounted 0 (filter (is_over (channel_number entry.request.chan) (link_number at.hop.link)) rs)) (sym (reverse-reverse rows)) (hop-leaves plan c entry i at (reverse run) run is requested run_is).counted)
 
-  abbrev first : ℕ
-  first = first_link entry.request.route
-
-  abbrev last : ℕ
-  last = last_link entry.request.route
-
-  fits : NetworkFits (network_of plan)
-  fits = plan-fits plan is
-
-  sound : RequestFits (network_of plan).links entry.request
-  sound = fits-network plan c entry is requested
-
-  asked : (past : List Done) → IsRun (network_of plan) past → ChannelAsked entry.request past
-  asked = owned-asked (network_of plan) entry.request (actor_number entry.caller) fits sound (owned-once (network_of plan) entry.request (actor_number entry.caller) (owned-by plan c entry is requested))
-
-  -- the hop with an index
-  hop : (i : ℕ) → i < length entry.request.route → HopAt (network_of plan) entry.request i
-  hop i inside = hop-at (network_of plan) entry.request i sound inside
-
-  -- the rows over a hop's link are numbered from 1, and there are as many whatever the offers
-  leaving : (i : ℕ) (at : HopAt (network_of plan) entry.request i) (whole run : List Done) → IsRun (network_of plan) run → Leaving at.link.shape chan (link_number at.hop.link) whole run
-  leaving i at whole run run_is =
-      run-leaves (network_of plan) (terms_at entry.request i) chan (link_number at.hop.link) at.link whole run fits (all-owned plan is) at.linked
-      (λ past past_is. ((asked past past_is).names i at.hop at.stands, (asked past past_is).once (link_number at.hop.link))) run_is
-
-  -- a row of the channel is of this request
-  own-entry : (run : List Done) (row : HopRow) → (one : RowIs plan run (levels_in plan run) row) → channel_number row.chan ≡ chan → one.own.entry ≡ entry
-  own-entry run row one same =
-      let at : channel_number one.start.packet.chan ≡ c = sym (ap channel_number one.chan) ∙ same ∙ is.planned.requests c entry requested in
-      same_Some one.own.entry entry (sym one.own.requested ∙ ap (slice_get plan.requests) at ∙ requested)
-
-  row-stands : (run : List Done) (row : HopRow) → (one : RowIs plan run (levels_in plan run) row) → channel_number row.chan ≡ chan → slice_get entry.request.route one.own.index ≡ Some one.own.at.hop
-  row-stands run row one same = ap (λ (e : RequestEntry). slice_get e.request.route one.own.index) (sym (own-entry run row one same)) ∙ one.own.at.stands
-
-  -- over the link of a hop it tells that hop, and of that hop it is over that link
-  hop-of : (run : List Done) (row : HopRow) (i : ℕ) (at : HopAt (network_of plan) entry.request i) → RowIs plan run (levels_in plan run) row → channel_number row.chan ≡ chan → link_number row.link ≡ link_number at.hop.link → row.hop ≡ suc i
-  hop-of run row i at one same over = one.hop ∙ ap suc (index-apart entry.request.route one.own.index i one.own.at.hop at.hop sound.route (row-stands run row one same) at.stands (one.own.on ∙ over))
-
-  link-of : (run : List Done) (row : HopRow) (i : ℕ) (at : HopAt (network_of plan) entry.request i) → RowIs plan run (levels_in plan run) row → channel_number row.chan ≡ chan → row.hop ≡ suc i → link_number row.link ≡ link_number at.hop.link
-  link-of run row i at one same there =
-      let h = one.hop in
-      let index : one.own.index ≡ i = omega (arith, h, there) in
-      sym one.own.on ∙ ap (λ (x : Hop). link_number x.link) (same_Some one.own.at.hop at.hop (sym (row-stands run row one same) ∙ ap (slice_get entry.request.route) index ∙ at.stands))
-
-  is-row : (run : List Done) (row : HopRow) → IsRun (network_of plan) run → Among row (departures_of run) → RowIs plan run (levels_in plan run) row
-  is-row run row run_is among = row-is plan run (levels_in plan run) row is run_is (levels-are plan run is run_is) among
-
-  -- so the rows at a hop are those over its link
-  rows-over : (run : List Done) (i : ℕ) (at : HopAt (network_of plan) entry.request i) → IsRun (network_of plan) run → rows_at chan (suc i) (departures_of run) ≡ filter (leaves chan (link_number at.hop.link)) (departures_of run)
-  rows-over run i at run_is = filter-same (is_at chan (suc i)) (leaves chan (link_number at.hop.link)) (departures_of run) (Each-from_among _ (departures_of run) same-test) where
-    same-test : (row : HopRow) → Among row (departures_of run) → is_at chan (suc i) row ≡ leaves chan (link_number at.hop.link) row
-    same-test row among =
-        elim (cases_Bool (nat_eq (channel_number row.chan) chan)) [
-          | inr off ↦ rw off refl
-          | inl on ↦
-              (let one = is-row run row run_is among in
-              let own = eqb-true (channel_number row.chan) chan on in
-              let same : nat_eq row.hop (suc i) ≡ nat_eq (link_number row.link) (link_number at.hop.link) = same_from_decides _ _
-              (λ e. link-of run row i at one own (eqb-true row.hop (suc i) e), λ e. eq-eqb row.hop (suc i) (hop-of run row i at one own e))
-              (λ e. eqb-true (link_number row.link) (link_number at.hop.link) e, λ e. eq-eqb (link_number row.link) (link_number at.hop.link) e) in
-              rw (on, same) refl)
-        ]
-
-  -- ---- the first hop and the last
-
-  first-hop : HopAt (network_of plan) entry.request 0
-  first-hop = hop 0 sound.route.least
-
-  abbrev last-index : ℕ
-  last-index = length entry.request.route - 1
-
-  last-inside : last-index < length entry.request.route
-  last-inside = (let some = sound.route.least in omega (arith, some))
-
-  last-hop : HopAt (network_of plan) entry.request last-index
-  last-hop = hop last-index last-inside
-
-  first-number : first ≡ link_number first-hop.hop.link
-  first-number = first-at entry.request.route first-hop.hop first-hop.stands
-
-  last-number : last ≡ link_number last-hop.hop.link
-  last-number = ap link_at last-hop.stands
-
-  last-suc : suc last-index ≡ length entry.request.route
-  last-suc = (let some = sound.route.least in omega (arith, some))
-
-  -- ---- a packet that leaves the last link has left the first
-
-  left-first : (whole past : List Done) (done : Done) (row : HopRow) → IsRun (network_of plan) (done ∷ past) → rows_by whole done.link done.reply ≡ row ∷ [] → channel_number row.chan ≡ chan → link_number row.link ≡ last
-      → row.number - 1 < length (filter (leaves chan first) (departures_in whole (reverse (done ∷ past))))
-  left-first whole past done row run_is told own over =
-      let row2 = with-hop whole past done done.reply row refl told in
-      let own2 : channel_number row2.told.chan ≡ chan = ap channel_number row2.chan ∙ own in
-      let one = is-row (done ∷ past) row2.told run_is row2.among in
-      let at_last : row2.told.hop ≡ length entry.request.route = hop-of (done ∷ past) row2.told last-index last-hop one own2 (ap link_number row2.link ∙ over ∙ last-number) ∙ last-suc in
-      let passes : is_last entry.request row2.told ≡ true = and_from _ _ (eq-eqb (channel_number row2.told.chan) chan own2) (eq-eqb row2.told.hop (length entry.request.route) at_last) in
-      let sorted : Among row2.told (reverse (rows_of (reverse (done ∷ past)))) = Among-turned row2.told (rows_of (reverse (done ∷ past))) (among-order row2.told (departures_of (done ∷ past)) row2.among) in
-      let pass : AllPass plan (levels_in plan (done ∷ past)) (reverse (rows_of (reverse (done ∷ past)))) = run-is_sound plan (done ∷ past) (levels_in plan (done ∷ past)) is run_is (levels-are plan (done ∷ past) is run_is) in
-      let tells = tells-delay plan (levels_in plan (done ∷ past)) entry.request (reverse (rows_of (reverse (done ∷ past)))) row2.told pass sorted passes in
-      let head = tells.of.first in
-      let there : Among head (departures_of (done ∷ past)) = order-among head (departures_of (done ∷ past)) (Among-reverse head (rows_of (reverse (done ∷ past))) tells.of.first_among) in
-      let head_own : channel_number head.chan ≡ chan = sym tells.of.first_chan ∙ ap (λ (r : HopRow). channel_number r.chan) tells.row_is ∙ own2 in
-      let head_is = is-row (done ∷ past) head run_is there in
-      let head_link = link-of (done ∷ past) head 0 first-hop head_is head_own tells.of.first_hop in
-      let passed : Among head (filter (leaves chan (link_number first-hop.hop.link)) (departures_of (done ∷ past))) = Among-passes (leaves chan (link_number first-hop.hop.link)) head (departures_of (done ∷ past))
-      (and_from _ _ (eq-eqb (channel_number head.chan) chan head_own) (eq-eqb (link_number head.link) (link_number first-hop.hop.link) head_link)) there in
-      let here = leaving 0 first-hop (reverse (done ∷ past)) (done ∷ past) run_is in
-      let with_whole = leaving 0 first-hop whole (done ∷ past) run_is in
-      let few = counted-le 0 (filter (leaves chan (link_number first-hop.hop.link)) (departures_of (done ∷ past))) head here.counted passed in
-      let same : length (filter (leaves chan (link_number first-hop.hop.link)) (departures_of (done ∷ past))) ≡ length (filter (leaves chan (link_number first-hop.hop.link)) (departures_in whole (reverse (done ∷ past)))) = here.count ∙ sym with_whole.count in
-      let number : head.number ≡ row.number = sym tells.of.first_number ∙ ap (λ (r : HopRow). r.number) tells.row_is ∙ row2.number in
-      let some = head_is.numbered in
-      let long : length (filter (leaves chan first) (departures_in whole (reverse (done ∷ past)))) ≡ length (filter (leaves chan (link_number first-hop.hop.link)) (departures_in whole (reverse (done ∷ past)))) =
-      ap (λ n. length (filter (leaves chan n) (departures_in whole (reverse (done ∷ past))))) first-number in
-      omega (arith, few, same, number, some, long)
-
-  -- ---- the pairs of a run
-
-  abbrev rows-in : List Done → List Done → List HopRow
-  rows-in whole run = departures_in whole (reverse run)
-
-  one-filtered : (test : HopRow → Bool) (rows : List HopRow) (row : HopRow) → filter test (rows ++ row ∷ []) ≡ filter test rows ++ filter test (row ∷ [])
-  one-filtered test rows row = filter-append test rows (row ∷ [])
-
-  turned-one : (rows : List HopRow) (row : HopRow) → reverse (rows ++ row ∷ []) ≡ row ∷ reverse rows
-  turned-one rows row = reverse-append rows (row ∷ [])
-
-  read-inside : (xs : List ℕ) (i : ℕ) → i < length xs → (x : ℕ) × (slice_get xs i ≡ Some x)
-  read-inside xs i inside = (get_or xs i 0, slice_get_read xs (length xs) i (get_or xs i 0) refl inside (get_or_default xs i 0 (get_or xs i 0) inside))
-
-  -- the row of a step that tells one
-  pairs-one : (whole past : List Done) (done : Done) (row : HopRow) (all rest : List ℕ) → IsRun (network_of plan) (done ∷ past) → rows_by whole done.link done.reply ≡ row ∷ []
-      → all ≡ arrivals_of chan entry.request (row ∷ reverse (rows-in whole past)) ++ rest
-      → paired_of chan entry.request (reverse (rows-in whole past)) ≡ told_by (last_prop entry.request.route) all (reverse (filter (leaves chan last) (rows-in whole past)))
-      → paired_of chan entry.request (row ∷ reverse (rows-in whole past)) ≡ told_by (last_prop entry.request.route) all (reverse (filter (leaves chan last) (rows-in whole past) ++ filter (leaves chan last) (row ∷ [])))
-  unfolding paired_of told_by
-  pairs-one whole past done row all rest run_is told is_all was =
-      elim (cases_Bool (leaves chan last row)) [
-        | inr off ↦ rw off (was ∙ ap (λ rs. told_by (last_prop entry.request.route) all (reverse rs)) (sym (append-nil (filter (leaves chan last) (rows-in whole past)))))
-        | inl on ↦
-            (let parts = and_parts (nat_eq (channel_number row.chan) chan) (nat_eq (link_number row.link) last) on in
-            let rows : rows-in whole (done ∷ past) ≡ rows-in whole past ++ row ∷ [] = departures-more whole past done ∙ ap (λ rs. rows-in whole past ++ rs) told in
-            let back : reverse (rows-in whole (done ∷ past)) ≡ row ∷ reverse (rows-in whole past) = ap reverse rows ∙ turned-one (rows-in whole past) row in
-            let are : arrivals_of chan entry.request (row ∷ reverse (rows-in whole past)) ≡ map at_of (filter (leaves chan first) (rows-in whole (done ∷ past))) = ap (arrivals_of chan entry.request) (sym back) ∙ arrivals-are chan entry.request (rows-in whole (done ∷ past)) in
-            let early = left-first whole past done row run_is told (eqb-true (channel_number row.chan) chan parts.0) (eqb-true (link_number row.link) last parts.1) in
-            let long : length (arrivals_of chan entry.request (row ∷ reverse (rows-in whole past))) ≡ length (filter (leaves chan first) (rows-in whole (done ∷ past))) = ap length are ∙ length-map (filter (leaves chan first) (rows-in whole (done ∷ past))) at_of in
-            let read = read-inside (arrivals_of chan entry.request (row ∷ reverse (rows-in whole past))) (row.number - 1) (omega (arith, early, long)) in
-            let same : get_or all (row.number - 1) 0 ≡ read.0 = ap (λ xs. get_or xs (row.number - 1) 0) is_all ∙ get-front (arrivals_of chan entry.request (row ∷ reverse (rows-in whole past))) rest (row.number - 1) read.0 read.1 in
-            let kept : filter (leaves chan last) (row ∷ []) ≡ row ∷ [] = rw on refl in
-            let end : reverse (filter (leaves chan last) (rows-in whole past) ++ filter (leaves chan last) (row ∷ [])) ≡ row ∷ reverse (filter (leaves chan last) (rows-in whole past)) = ap (λ rs. reverse (filter (leaves chan last) (rows-in whole past) ++ rs)) kept ∙ turned-one (filter (leaves chan last) (rows-in whole past)) row in
-            ap (λ b. delay_if b (last_prop entry.request.route) row.departed (slice_get (arrivals_of chan entry.request (row ∷ reverse (rows-in whole past))) (row.number - 1)) ++ paired_of chan entry.request (reverse (rows-in whole past))) on
-            ∙ ap (λ a. delay_if true (last_prop entry.request.route) row.departed a ++ paired_of chan entry.request (reverse (rows-in whole past))) read.1
-            ∙ ap (λ t. (row.departed + last_prop entry.request.route - t) ∷ paired_of chan entry.request (reverse (rows-in whole past))) (sym same)
-            ∙ ap (λ ds. (row.departed + last_prop entry.request.route - get_or all (row.number - 1) 0) ∷ ds) was
-            ∙ ap (told_by (last_prop entry.request.route) all) (sym end))
-      ]
-
-  pairs : (whole run : List Done) (all rest : List ℕ) → IsRun (network_of plan) run → all ≡ arrivals_of chan entry.request (reverse (rows-in whole run)) ++ rest
-      → paired_of chan entry.request (reverse (rows-in whole run)) ≡ told_by (last_prop entry.request.route) all (reverse (filter (leaves chan last) (rows-in whole run)))
-  unfolding IsRun departures_in paired_of told_by
-  pairs whole [] all rest run_is is_all = refl
-  pairs whole (done ∷ past) all rest run_is is_all = by-rows (rows_by whole done.link done.reply) refl (λ more is_more. pairs whole past all more run_is.0 is_more) where
-    told-more : rows-in whole (done ∷ past) ≡ rows-in whole past ++ rows_by whole done.link done.reply
-    told-more = departures-more whole past done
-
-    by-rows : (told : List HopRow) → rows_by whole done.link done.reply ≡ told
-        → ((more : List ℕ) → all ≡ arrivals_of chan entry.request (reverse (rows-in whole past)) ++ more → paired_of chan entry.request (reverse (rows-in whole past)) ≡ told_by (last_prop entry.request.route) all (reverse (filter (leaves chan last) (rows-in whole past))))
-        → paired_of chan entry.request (reverse (rows-in whole (done ∷ past))) ≡ told_by (last_prop entry.request.route) all (reverse (filter (leaves chan last) (rows-in whole (done ∷ past))))
-    by-rows [] none was =
-        let same : rows-in whole (done ∷ past) ≡ rows-in whole past = told-more ∙ ap (λ rs. rows-in whole past ++ rs) none ∙ append-nil (rows-in whole past) in
-        ap (λ rs. paired_of chan entry.request (reverse rs)) same
-        ∙ was rest (is_all ∙ ap (λ rs. arrivals_of chan entry.request (reverse rs) ++ rest) same)
-        ∙ ap (λ rs. told_by (last_prop entry.request.route) all (reverse (filter (leaves chan last) rs))) (sym same)
-    by-rows (row ∷ []) one was =
-        let same : rows-in whole (done ∷ past) ≡ rows-in whole past ++ row ∷ [] = told-more ∙ ap (λ rs. rows-in whole past ++ rs) one in
-        let back : reverse (rows-in whole (done ∷ past)) ≡ row ∷ reverse (rows-in whole past) = ap reverse same ∙ turned-one (rows-in whole past) row in
-        let front : all ≡ arrivals_of chan entry.request (row ∷ reverse (rows-in whole past)) ++ rest = is_all ∙ ap (λ rs. arrivals_of chan entry.request rs ++ rest) back in
-        let before = was (arrival_if (leaves chan first row) row.at ++ rest) (front ∙ one-more chan entry.request (reverse (rows-in whole past)) row rest) in
-        ap (paired_of chan entry.request) back
-        ∙ pairs-one whole past done row all rest run_is one front before
-        ∙ ap (λ rs. told_by (last_prop entry.request.route) all (reverse rs)) (sym (ap (filter (leaves chan last)) same ∙ one-filtered (leaves chan last) (rows-in whole past) row))
-    by-rows (row ∷ other ∷ more_rows) many was = absurd (two-told whole done done.reply row other more_rows many)
-
-  -- ---- the law
-
-  found-first : (run : List Done) → IsRun (network_of plan) run → (row : HopRow) → Among row (reverse (rows_of (reverse run))) → channel_number row.chan ≡ chan → row.hop ≡ 1
-      → get_or (arrivals_of chan entry.request (reverse (departures_of run))) (row.number - 1) 0 ≡ row.at
-  found-first run run_is row among own begins =
-      let there = order-among row (departures_of run) (Among-reverse row (rows_of (reverse run)) among) in
-      let one = is-row run row run_is there in
-      let link = link-of run row 0 first-hop one own begins in
-      let passed = Among-passes (leaves chan (link_number first-hop.hop.link)) row (departures_of run) (and_from _ _ (eq-eqb (channel_number row.chan) chan own) (eq-eqb (link_number row.link) (link_number first-hop.hop.link) link)) there in
-      let here = leaving 0 first-hop (reverse run) run run_is in
-      let some = one.numbered in
-      ap (λ xs. get_or xs (row.number - 1) 0) (arrivals-are chan entry.request (departures_of run) ∙ ap (λ n. map at_of (filter (leaves chan n) (departures_of run))) first-number)
-      ∙ counted-at 0 (row.number - 1) (filter (leaves chan (link_number first-hop.hop.link)) (departures_of run)) row here.counted passed (omega (arith, some))
-
-  -- the rows of the last hop stay in their order
-  last-rows : (run : List Done) → IsRun (network_of plan) run → filter (is_last entry.request) (reverse (rows_of (reverse run))) ≡ reverse (filter (leaves chan last) (departures_of run))
-  last-rows run run_is =
-      let counts : (k h : ℕ) → AreCounted 0 (rows_at k h (departures_of run)) = counted plan run (levels_in plan run) is run_is (levels-are plan run is run_is) in
-      filter-reverse (is_last entry.request) (rows_of (reverse run))
-      ∙ ap (λ h. reverse (rows_at chan h (rows_of (reverse run)))) (sym last-suc)
-      ∙ ap reverse (rows-stay (departures_of run) (λ k h. counted-rise 0 (rows_at k h (departures_of run)) (counts k h)) chan (suc last-index))
-      ∙ ap reverse (rows-over run last-index last-hop run_is)
-      ∙ ap (λ n. reverse (filter (leaves chan n) (departures_of run))) (sym last-number)
-
-  pub paired-are : (run : List Done) → IsRun (network_of plan) run → paired_of chan entry.request (reverse (departures_of run)) ≡ delays_of entry.request (reverse (rows_of (reverse run)))
+  pub paired-are : (run : List Done) → IsRun (network_of plan) run → paired_of (channel_number entry.request.chan) entry.request (reverse (departures_of (reverse run))) ≡ delays_of entry.request (reverse (departures_of (reverse run)))
   paired-are run run_is =
-      pairs (reverse run) run (arrivals_of chan entry.request (reverse (departures_of run))) [] run_is (sym (append-nil (arrivals_of chan entry.request (reverse (departures_of run)))))
-      ∙ ap (told_by (last_prop entry.request.route) (arrivals_of chan entry.request (reverse (departures_of run)))) (sym (last-rows run run_is))
-      ∙ sym (sorted-told plan (levels_in plan run) entry.request (arrivals_of chan entry.request (reverse (departures_of run))) (reverse (rows_of (reverse run)))
-      (run-is_sound plan run (levels_in plan run) is run_is (levels-are plan run is run_is)) (found-first run run_is))
+      let rows = reverse (departures_of (reverse run)) in
+      let sound = request-sound plan c entry is requested in
+      let some = sound.route.least in
+      let first = hop-at (network_of plan) entry.request 0 sound some in
+      let last = hop-at (network_of plan) entry.request (length entry.request.route - 1) sound (omega (arith, some)) in
+      pairs-are entry.request rows
+      (subst (λ n. AreNumbered (channel_number entry.request.chan) n rows) (sym (first-at entry.request.route first.hop first.stands)) (over-hop 0 first run run_is))
+      (subst (λ n. AreNumbered (channel_number entry.request.chan) n rows) (sym (ap link_at last.stands)) (over-hop (length entry.request.route - 1) last run run_is))

@@ -34,7 +34,7 @@ use Rattle.run_engine.proofs.Worked.Networks.{k1, chan0, wide_link, request_over
 use Rattle.run_record.specs.Rows.{links_of, place_in, departures_in, put_row, in_order}
 use Rattle.run_record.specs.Runs.{replies_to, part_of}
 use Rattle.tick_plane.specs.Planes.{plane_of}
-use Rattle.channel_report.specs.Delays.{first_in, delays_of, least_of, worst_of}
+use Rattle.channel_report.specs.Delays.{arrived_at, delays_of, least_of, worst_of}
 use Rattle.channel_report.specs.Links.{total_in}
 use Rattle.channel_report.specs.Report.{report_of}
 use Rattle.channel_report.specs.Sources.{planned_in, refused_in}
@@ -60,7 +60,7 @@ plan = parts_of One
 
 -- the report of the run of these actors
 unfoldable told : List ActorNo → Bool → List ℕ
-unfolding network_of tasks_of run_from next_for part_of replies_to plane_of standing resumed from_step newest is_established outcome_in offers_in after_offers reach_after delay_over bound_at_end allotment reply_to reply_at reserve_reply room_of whole_room relax_reply deny_reply submit_reply release_reply arrive_reply sent_at best_sent_at clock_of scan_of after with_arrival after_tick with_best best_step_at best_step waiting_best change_first without_first without_expired with_sources hold_ended here_at starts_below serve_tick is_waiting first_in_line goes_before held_packets slots_of need_of held_units free_units planned_from eligible_next step_of source_packets rows_after dropped_in work_in work_up_to load some_upto passes_up_to passes admits first_level best_level most_in first_from eligible may_follow setup_replies links_of place_in departures_in put_row in_order first_in delays_of least_of worst_of total_in planned_in refused_in are_spaced keeps digits
+unfolding network_of tasks_of run_from next_for part_of replies_to plane_of standing resumed from_step newest is_established outcome_in offers_in after_offers reach_after delay_over bound_at_end allotment reply_to reply_at reserve_reply room_of whole_room relax_reply deny_reply submit_reply release_reply arrive_reply sent_at best_sent_at clock_of scan_of after with_arrival after_tick with_best best_step_at best_step waiting_best change_first without_first without_expired with_sources hold_ended here_at starts_below serve_tick is_waiting first_in_line goes_before held_packets slots_of need_of held_units free_units planned_from eligible_next step_of source_packets rows_after dropped_in work_in work_up_to load some_upto passes_up_to passes admits first_level best_level most_in first_from eligible may_follow setup_replies links_of place_in departures_in put_row in_order arrived_at delays_of least_of worst_of total_in planned_in refused_in are_spaced keeps digits
 told actors packets = report_of plan (reverse (run_from (network_of plan) [] actors)) packets
 
 -- all steps: two of the setup, the send, and three ticks

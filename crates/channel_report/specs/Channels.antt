@@ -46,14 +46,14 @@ offered_for run entry = offered_in (channel_number entry.request.chan) (part_of 
 abbrev pub sends_refused : List Done → RequestEntry → ℕ
 sends_refused run entry = refused_in (channel_number entry.request.chan) (part_of (first_link entry.request.route) run)
 
--- the line of an established channel, in a run that has these rows
+-- the line of an established channel, in a run that has these departures
 abbrev pub established_line : List HopRow → List Done → RequestEntry → List ℕ
-established_line rows run entry = told_channel entry.name
+established_line departures run entry = told_channel entry.name
     (length (offered_for run entry))
     (keeps entry.request.contract (offered_for run entry))
-    (length (delays_in entry.request rows))
-    (least_of (delays_in entry.request rows))
-    (worst_of (delays_in entry.request rows))
+    (length (delays_in entry.request departures))
+    (least_of (delays_in entry.request departures))
+    (worst_of (delays_in entry.request departures))
     (sends_refused run entry)
 
 -- whether a request was accepted
@@ -62,8 +62,8 @@ was_accepted None = false
 was_accepted (Some outcome) = is_accepted outcome
 
 abbrev pub channel_line : List HopRow → List Done → RequestEntry → List ℕ
-channel_line rows run entry = if was_accepted (verdict_in run entry) then established_line rows run entry else []
+channel_line departures run entry = if was_accepted (verdict_in run entry) then established_line departures run entry else []
 
 -- those of all requests of a plan
 abbrev pub channel_lines : PlanParts → List HopRow → List Done → List ℕ
-channel_lines parts rows run = flat_map (channel_line rows run) parts.requests
+channel_lines parts departures run = flat_map (channel_line departures run) parts.requests

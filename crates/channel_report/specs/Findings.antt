@@ -9,6 +9,7 @@ use Rattle.run_record.specs.Rows.{rows_of}
 use Rattle.run_record.specs.declared.done.Done.{Done}
 use Rattle.channel_report.specs.ChannelTallies.{AreChannelTallies}
 use Rattle.channel_report.specs.DelayTallies.{AreDelayTallies}
+use Rattle.channel_report.specs.Delays.{departures_of}
 use Rattle.channel_report.specs.Tallies.{AreLinkTallies}
 use Rattle.channel_report.specs.declared.findings.Findings.{Findings}
 
@@ -19,6 +20,6 @@ pub record AreFound (parts : PlanParts) (entries : List Done) (findings : Findin
   pub links : AreLinkTallies (length parts.links) (reverse entries) findings.links.items
   pub rows : findings.packets ≡ true → findings.rows ≡ rows_of entries
   pub channels : AreChannelTallies parts.requests (reverse entries) findings.channels.items
-  pub delays : AreDelayTallies parts.requests (reverse (rows_of entries)) findings.delays.items
+  pub delays : AreDelayTallies parts.requests (reverse (departures_of entries)) findings.delays.items
   pub short : length entries < 2 ^ 60
   pub steps : findings.steps ≡ length entries

@@ -8,8 +8,8 @@ use Rattle.call_script.specs.declared.entries.RequestEntry.{RequestEntry}
 use Rattle.run_record.specs.declared.rows.HopRow.{HopRow}
 use Rattle.setup_protocol.specs.declared.request.Request.{Request}
 use Rattle.channel_report.specs.DelayTallies.{delay_tally_of}
-use Rattle.channel_report.specs.Delays.{last_prop}
-use Rattle.channel_report.specs.Pairing.{arrivals_of, last_link, paired_of}
+use Rattle.channel_report.specs.Delays.{last_link, last_prop}
+use Rattle.channel_report.specs.Pairing.{arrivals_of, paired_of}
 use Rattle.channel_report.specs.Sources.{first_link}
 use Rattle.channel_report.specs.declared.flow.Flow.{Flow}
 

@@ -8,6 +8,7 @@ use Rattle.call_script.specs.Parts.{PlanParts}
 use Rattle.run_record.specs.Rows.{rows_of}
 use Rattle.run_record.specs.declared.done.Done.{Done}
 use Rattle.channel_report.specs.Channels.{channel_lines}
+use Rattle.channel_report.specs.Delays.{departures_of}
 use Rattle.text_writer.specs.Lines.{whole_line}
 use Rattle.channel_report.specs.Links.{link_line}
 use Rattle.channel_report.specs.Moves.{move_lines}
@@ -38,7 +39,7 @@ report_of parts entries packets =
     request_lines parts (reverse entries)
     ++ (route_lines parts.links parts.requests
     ++ (move_lines parts (reverse entries)
-    ++ (channel_lines parts (rows_of entries) (reverse entries)
+    ++ (channel_lines parts (departures_of entries) (reverse entries)
     ++ (link_lines parts (reverse entries)
     ++ (end_line (length entries)
     ++ table_if packets parts entries)))))

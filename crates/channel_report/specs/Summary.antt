@@ -8,11 +8,10 @@ use Rattle.traffic_contract.specs.Admission.{total}
 use Rattle.setup_protocol.specs.Setup.{Outcome, Accepts, Denies}
 use Rattle.call_script.specs.Parts.{PlanParts}
 use Rattle.call_script.specs.declared.entries.RequestEntry.{RequestEntry}
-use Rattle.run_record.specs.Rows.{rows_of}
 use Rattle.run_record.specs.declared.done.Done.{Done}
 use Rattle.run_record.specs.declared.rows.HopRow.{HopRow}
 use Rattle.channel_report.specs.Channels.{was_accepted}
-use Rattle.channel_report.specs.Delays.{delays_in}
+use Rattle.channel_report.specs.Delays.{delays_in, departures_of}
 use Rattle.text_writer.specs.Lines.{whole_line}
 use Rattle.channel_report.specs.Links.{one_if}
 use Rattle.channel_report.specs.Verdicts.{verdict_in}
@@ -35,12 +34,12 @@ denies run entry = one_if (is_denied (verdict_in run entry))
 
 -- how many packets of its channel were delivered
 abbrev pub delivers : List HopRow → RequestEntry → ℕ
-delivers rows entry = length (delays_in entry.request rows)
+delivers departures entry = length (delays_in entry.request departures)
 
 -- ---- all requests
 
 abbrev pub sums_of : List HopRow → List Done → List RequestEntry → Sums
-sums_of rows run requests = record { accepted = total (accepts run) requests; denied = total (denies run) requests; delivered = total (delivers rows) requests }
+sums_of departures run requests = record { accepted = total (accepts run) requests; denied = total (denies run) requests; delivered = total (delivers departures) requests }
 
 -- with one more request
 abbrev pub with_request : Option Outcome → ℕ → Sums → Sums
@@ -64,4 +63,4 @@ told_summary number size sums steps = whole_line (
 
 -- that of a run of a plan, whose entries are listed in the order of time
 abbrev pub summary_of : ℕ → ℕ → PlanParts → List Done → List ℕ
-summary_of number size parts entries = told_summary number size (sums_of (rows_of entries) (reverse entries) parts.requests) (length entries)
+summary_of number size parts entries = told_summary number size (sums_of (departures_of entries) (reverse entries) parts.requests) (length entries)

@@ -2,10 +2,10 @@
 ghost use Rattle.std.specs.Prelude.{◌≡◌, ◌++◌, ◌∷◌, ◌<◌, ◌≤◌, ◌^◌, [], List, IfOk, OnOk, Some, length, option_map, reverse, slice_index_or, string_bytes};
 ghost use Rattle.std.specs.List.{slice_get};
 ghost use Rattle.call_script.specs.declared.entries.RequestEntry.{RequestEntry as Asked};
-ghost use Rattle.run_record.specs.Rows.{rows_of};
 ghost use Rattle.setup_protocol.specs.State.{outcome_of};
 ghost use Rattle.run_record.specs.declared.done.Done.{Done as Step};
 ghost use Rattle.channel_report.specs.Channels.{channel_line, channel_lines, established_line, was_accepted, told_channel};
+ghost use Rattle.channel_report.specs.Delays.{departures_of};
 ghost use Rattle.channel_report.specs.Findings.{AreFound};
 ghost use Rattle.channel_report.specs.Sources.{first_link};
 ghost use Rattle.text_writer.specs.Telling.{Tells};
@@ -34,7 +34,7 @@ pub(crate) fn tell_channels<K: Sink>(
 ) -> Result<(), ReportFault>
     requires { (entries : List Step) × AreFound plan.now entries findings.now }
     ensures { (entries : List Step) → AreFound plan.now entries findings.now
-        → Tells result (K.written sink.old) (K.written sink.new) gather.old gather.new (K.faults sink.old) (K.faults sink.new) (channel_lines plan.now (rows_of entries) (reverse entries)) }
+        → Tells result (K.written sink.old) (K.written sink.new) gather.old gather.new (K.faults sink.old) (K.faults sink.new) (channel_lines plan.now (departures_of entries) (reverse entries)) }
 {
     for number in 0..plan.requests().len() {
         tell_request(alloc, plan, findings, number, gather, sink)?;
@@ -54,7 +54,7 @@ fn tell_request<K: Sink>(
     requires found { (entries : List Step) × AreFound plan.now entries findings.now }
     requires inside { number < length plan.now.requests }
     ensures { (entries : List Step) (entry : Asked) → AreFound plan.now entries findings.now → slice_get plan.now.requests number ≡ Some entry
-        → Tells result (K.written sink.old) (K.written sink.new) gather.old gather.new (K.faults sink.old) (K.faults sink.new) (channel_line (rows_of entries) (reverse entries) entry) }
+        → Tells result (K.written sink.old) (K.written sink.new) gather.old gather.new (K.faults sink.old) (K.faults sink.new) (channel_line (departures_of entries) (reverse entries) entry) }
 {
     if was_accepted(&findings.callers.verdict(plan, number)) {
         tell_channel(alloc, plan, findings, number, gather, sink)
@@ -75,7 +75,7 @@ fn tell_channel<K: Sink>(
     requires found { (entries : List Step) × AreFound plan.now entries findings.now }
     requires inside { number < length plan.now.requests }
     ensures { (entries : List Step) (entry : Asked) → AreFound plan.now entries findings.now → slice_get plan.now.requests number ≡ Some entry
-        → Tells result (K.written sink.old) (K.written sink.new) gather.old gather.new (K.faults sink.old) (K.faults sink.new) (established_line (rows_of entries) (reverse entries) entry) }
+        → Tells result (K.written sink.old) (K.written sink.new) gather.old gather.new (K.faults sink.old) (K.faults sink.new) (established_line (departures_of entries) (reverse entries) entry) }
 {
     let line = established_line(alloc, plan, findings, number);
     tell_line(gather, sink, line)
@@ -91,7 +91,7 @@ fn established_line(
     requires found { (entries : List Step) × AreFound plan.now entries findings.now }
     requires inside { number < length plan.now.requests }
     ensures { (entries : List Step) (entry : Asked) → AreFound plan.now entries findings.now → slice_get plan.now.requests number ≡ Some entry
-        → IfOk result (λ line. string_bytes line ≡ established_line (rows_of entries) (reverse entries) entry) }
+        → IfOk result (λ line. string_bytes line ≡ established_line (departures_of entries) (reverse entries) entry) }
 {
     let entry = plan.requests()[number];
     let tally = &findings.channels[number];

@@ -9,7 +9,8 @@ ghost use Rattle.call_script.specs.declared.entries.RequestEntry.{RequestEntry a
 ghost use Rattle.setup_protocol.specs.declared.request.Request.{Request as Asking};
 ghost use Rattle.channel_report.specs.DelayTallies.{delay_tally_of};
 ghost use Rattle.channel_report.specs.Flows.{AreFlows, KeepsFlow};
-ghost use Rattle.channel_report.specs.Pairing.{arrival_if, delay_if};
+ghost use Rattle.channel_report.specs.Delays.{delay_if};
+ghost use Rattle.channel_report.specs.Pairing.{arrival_if};
 
 use crate::delay_tally::DelayTally;
 use call_script::Plan;

@@ -3,8 +3,8 @@ ghost use Rattle.std.specs.Prelude.{◌++◌, List, length, reverse};
 ghost use Rattle.call_script.specs.Tasks.{network_of};
 ghost use Rattle.run_engine.specs.runs.Runs.{IsRun};
 ghost use Rattle.run_record.specs.declared.done.Done.{Done as Step};
-ghost use Rattle.run_record.specs.Rows.{rows_of};
 ghost use Rattle.channel_report.specs.Channels.{channel_lines};
+ghost use Rattle.channel_report.specs.Delays.{departures_of};
 ghost use Rattle.channel_report.specs.Findings.{AreFound};
 ghost use Rattle.channel_report.specs.Moves.{move_lines};
 ghost use Rattle.channel_report.specs.Report.{end_line, link_lines, report_of, request_lines, table_if};
@@ -88,7 +88,7 @@ fn tell_found<K: Sink>(
     sink: &mut K,
 ) -> Result<(), ReportFault>
     requires { (entries : List Step) × AreFound plan.now entries findings.now }
-    ensures { (entries : List Step) → AreFound plan.now entries findings.now → Tells result (K.written sink.old) (K.written sink.new) gather.old gather.new (K.faults sink.old) (K.faults sink.new) (route_lines plan.now.links plan.now.requests ++ (move_lines plan.now (reverse entries) ++ (channel_lines plan.now (rows_of entries) (reverse entries) ++ (link_lines plan.now (reverse entries) ++ (end_line (length entries) ++ table_if findings.now.packets plan.now entries))))) }
+    ensures { (entries : List Step) → AreFound plan.now entries findings.now → Tells result (K.written sink.old) (K.written sink.new) gather.old gather.new (K.faults sink.old) (K.faults sink.new) (route_lines plan.now.links plan.now.requests ++ (move_lines plan.now (reverse entries) ++ (channel_lines plan.now (departures_of entries) (reverse entries) ++ (link_lines plan.now (reverse entries) ++ (end_line (length entries) ++ table_if findings.now.packets plan.now entries))))) }
 {
     tell_routes(alloc, plan.links(), plan.requests(), gather, sink)?;
     tell_moved(alloc, plan, findings, gather, sink)
@@ -103,7 +103,7 @@ fn tell_moved<K: Sink>(
     sink: &mut K,
 ) -> Result<(), ReportFault>
     requires { (entries : List Step) × AreFound plan.now entries findings.now }
-    ensures { (entries : List Step) → AreFound plan.now entries findings.now → Tells result (K.written sink.old) (K.written sink.new) gather.old gather.new (K.faults sink.old) (K.faults sink.new) (move_lines plan.now (reverse entries) ++ (channel_lines plan.now (rows_of entries) (reverse entries) ++ (link_lines plan.now (reverse entries) ++ (end_line (length entries) ++ table_if findings.now.packets plan.now entries)))) }
+    ensures { (entries : List Step) → AreFound plan.now entries findings.now → Tells result (K.written sink.old) (K.written sink.new) gather.old gather.new (K.faults sink.old) (K.faults sink.new) (move_lines plan.now (reverse entries) ++ (channel_lines plan.now (departures_of entries) (reverse entries) ++ (link_lines plan.now (reverse entries) ++ (end_line (length entries) ++ table_if findings.now.packets plan.now entries)))) }
 {
     tell_moves(alloc, plan, &findings.callers, gather, sink)?;
     tell_carried(alloc, plan, findings, gather, sink)
@@ -118,7 +118,7 @@ fn tell_carried<K: Sink>(
     sink: &mut K,
 ) -> Result<(), ReportFault>
     requires { (entries : List Step) × AreFound plan.now entries findings.now }
-    ensures { (entries : List Step) → AreFound plan.now entries findings.now → Tells result (K.written sink.old) (K.written sink.new) gather.old gather.new (K.faults sink.old) (K.faults sink.new) (channel_lines plan.now (rows_of entries) (reverse entries) ++ (link_lines plan.now (reverse entries) ++ (end_line (length entries) ++ table_if findings.now.packets plan.now entries))) }
+    ensures { (entries : List Step) → AreFound plan.now entries findings.now → Tells result (K.written sink.old) (K.written sink.new) gather.old gather.new (K.faults sink.old) (K.faults sink.new) (channel_lines plan.now (departures_of entries) (reverse entries) ++ (link_lines plan.now (reverse entries) ++ (end_line (length entries) ++ table_if findings.now.packets plan.now entries))) }
 {
     tell_channels(alloc, plan, findings, gather, sink)?;
     tell_network(alloc, plan, findings, gather, sink)

@@ -5,9 +5,9 @@ ghost use Rattle.call_script.specs.Parts.{PlanParts as Parts};
 ghost use Rattle.call_script.specs.Tasks.{network_of};
 ghost use Rattle.call_script.specs.declared.entries.RequestEntry.{RequestEntry as Asked};
 ghost use Rattle.run_engine.specs.runs.Runs.{IsRun};
-ghost use Rattle.run_record.specs.Rows.{rows_of};
 ghost use Rattle.run_record.specs.declared.done.Done.{Done as Step};
 ghost use Rattle.setup_protocol.specs.State.{outcome_of};
+ghost use Rattle.channel_report.specs.Delays.{departures_of};
 ghost use Rattle.channel_report.specs.Findings.{AreFound};
 ghost use Rattle.channel_report.specs.Summary.{delivers, summary_of, sums_of, told_summary, with_request};
 ghost use Rattle.channel_report.specs.Tallied.{IsTalliedRun};
@@ -100,7 +100,7 @@ pub fn write_tallied_summary<K: Sink>(
 // What all requests have come to.
 fn sum_up(plan: &Plan, findings: &Findings) -> Sums
     requires { (entries : List Step) × AreFound plan.now entries findings.now }
-    ensures { (entries : List Step) → AreFound plan.now entries findings.now → result ≡ sums_of (rows_of entries) (reverse entries) plan.now.requests }
+    ensures { (entries : List Step) → AreFound plan.now entries findings.now → result ≡ sums_of (departures_of entries) (reverse entries) plan.now.requests }
 {
     let mut sums = Sums::NOTHING;
     for number in 0..plan.requests().len() {
@@ -114,7 +114,7 @@ fn sum_up(plan: &Plan, findings: &Findings) -> Sums
 fn delivered_on(findings: &Findings, number: usize) -> u64
     requires { number < length findings.now.delays.items }
     ensures small { result < 18446744073709551616 }
-    ensures told { (parts : Parts) (entries : List Step) (entry : Asked) → AreFound parts entries findings.now → slice_get parts.requests number ≡ Some entry → result ≡ delivers (rows_of entries) entry }
+    ensures told { (parts : Parts) (entries : List Step) (entry : Asked) → AreFound parts entries findings.now → slice_get parts.requests number ≡ Some entry → result ≡ delivers (departures_of entries) entry }
 {
     findings.delays[number].delivered
 }

@@ -4,22 +4,23 @@ use Rattle.net_units.specs.Numbers.{channel_number}
 use Rattle.std.proofs.lemmas.Bool.{ne_eqb}
 use Rattle.run_record.specs.declared.rows.HopRow.{HopRow}
 use Rattle.setup_protocol.specs.declared.request.Request.{Request}
-use Rattle.channel_report.specs.Delays.{delay_by, delay_from, delays_of, first_in, worst_of}
-use Rattle.channel_report.proofs.DelaysRowByRow.{by-earlier, by-last}
+use Rattle.channel_report.specs.Delays.{worst_of}
+use Rattle.report_laws.specs.RowDelays.{delay_by, delay_from, first_in, row_delays_of}
+use Rattle.report_laws.proofs.DelaysRowByRow.{by-earlier, by-last}
 use Rattle.packet_answers.specs.ChannelDelays.{IsEndOf, delays_as, with_delay}
 use Rattle.packet_answers.specs.declared.delays.Delays.{Delays}
 use Rattle.packet_answers.specs.declared.delays.End.{End}
 
 pub delay-more : (request : Request) (row : HopRow) (before : List HopRow) (first : Option HopRow) (delay : ℕ) (old new : Delays) → first ≡ first_in (row ∷ before) → delay_by request first row ≡ delay ∷ []
-    → new ≡ with_delay delay old → old ≡ delays_as (delays_of request before) → new ≡ delays_as (delays_of request (row ∷ before))
-unfolding delays_of worst_of
+    → new ≡ with_delay delay old → old ≡ delays_as (row_delays_of request before) → new ≡ delays_as (row_delays_of request (row ∷ before))
+unfolding row_delays_of worst_of
 delay-more request row before first delay old new near is more was =
     let here : delay_by request (first_in (row ∷ before)) row ≡ delay ∷ [] = ap (λ f. delay_by request f row) (sym near) ∙ is in
-    more ∙ ap (with_delay delay) was ∙ sym (rw (here) (let one : suc (length (delays_of request before)) ≡ length (delays_of request before) + 1 = omega arith in rw one refl))
+    more ∙ ap (with_delay delay) was ∙ sym (rw (here) (let one : suc (length (row_delays_of request before)) ≡ length (row_delays_of request before) + 1 = omega arith in rw one refl))
 
 pub delay-same : (request : Request) (row : HopRow) (before : List HopRow) (first : Option HopRow) (old : Delays) → first ≡ first_in (row ∷ before) → delay_by request first row ≡ []
-    → old ≡ delays_as (delays_of request before) → old ≡ delays_as (delays_of request (row ∷ before))
-unfolding delays_of
+    → old ≡ delays_as (row_delays_of request before) → old ≡ delays_as (row_delays_of request (row ∷ before))
+unfolding row_delays_of
 delay-same request row before first old near is was =
     let here : delay_by request (first_in (row ∷ before)) row ≡ [] = ap (λ f. delay_by request f row) (sym near) ∙ is in
     was ∙ sym (rw (here) refl)

@@ -14,11 +14,13 @@ use Rattle.run_record.specs.Rows.{rows_of}
 use Rattle.run_record.specs.declared.done.Done.{Done}
 use Rattle.run_record.specs.declared.rows.HopRow.{HopRow}
 use Rattle.channel_report.specs.Channels.{offered_for, sends_refused}
-use Rattle.channel_report.specs.Delays.{delays_of, worst_of}
+use Rattle.channel_report.specs.Delays.{worst_of}
 use Rattle.channel_report.specs.Verdicts.{verdict_in}
-use Rattle.report_laws.specs.Bounds.{ReportsKeepTheirBounds}
+use Rattle.report_laws.proofs.DelaysOfRows.{delays-of-rows}
+use Rattle.report_laws.specs.Bounds.{ReportsKeepTheirBounds, delays_told}
+use Rattle.report_laws.specs.RowDelays.{row_delays_of}
 use Rattle.packet_answers.specs.ChannelDelays.{delays_as}
-use Rattle.packet_answers.specs.ChannelRows.{TellsChannel, delays_told, promised_in}
+use Rattle.packet_answers.specs.ChannelRows.{TellsChannel, promised_in}
 use Rattle.packet_answers.specs.SourceTallies.{BreaksFrom}
 use Rattle.packet_answers.specs.declared.delays.Delays.{Delays}
 use Rattle.packet_answers.specs.declared.rows.ChannelRow.{ChannelRow}
@@ -35,13 +37,14 @@ accepted None delay same = cc
 
 pub row-told : (parts : PlanParts) (run : List Done) (number : ℕ) (entry read : RequestEntry) (row : ChannelRow) (offered : List ℕ) (rows : List HopRow) (delays : Delays) → IsPlan parts → IsRun (network_of parts) run → slice_get parts.requests number ≡ Some entry → read ≡ entry → ReportsKeepTheirBounds
     → row.promised ≡ promised_in (verdict_in run read) → offered ≡ offered_for run read → row.sent ≡ length offered → row.keeps ≡ keeps read.request.contract offered → BreaksFrom read.request.contract offered row.breaks_from
-    → rows ≡ rows_of (reverse run) → delays ≡ delays_as (delays_of read.request (reverse rows)) → row.arrived ≡ delays.arrived → row.worst ≡ delays.worst → row.refused ≡ sends_refused run read
+    → rows ≡ rows_of (reverse run) → delays ≡ delays_as (row_delays_of read.request (reverse rows)) → row.arrived ≡ delays.arrived → row.worst ≡ delays.worst → row.refused ≡ sends_refused run read
     → TellsChannel run entry row
 row-told parts run number entry read row offered rows delays plan is_run found same laws promises offers sent kept breaks all told arrives most refuses =
     let promises' : row.promised ≡ promised_in (verdict_in run entry) = promises ∙ ap (λ (e : RequestEntry). promised_in (verdict_in run e)) same in
     let offers' : offered ≡ offered_for run entry = offers ∙ ap (offered_for run) same in
     let kept' : row.keeps ≡ keeps entry.request.contract (offered_for run entry) = kept ∙ ap (λ (e : RequestEntry). keeps e.request.contract offered) same ∙ ap (keeps entry.request.contract) offers' in
-    let told' : delays ≡ delays_as (delays_told run entry) = told ∙ ap (λ (e : RequestEntry). delays_as (delays_of e.request (reverse rows))) same ∙ ap (λ rs. delays_as (delays_of entry.request (reverse rs))) all in
+    let told' : delays ≡ delays_as (delays_told run entry) = told ∙ ap (λ (e : RequestEntry). delays_as (row_delays_of e.request (reverse rows))) same ∙ ap (λ rs. delays_as (row_delays_of entry.request (reverse rs))) all
+    ∙ ap delays_as (sym (delays-of-rows parts run number entry plan is_run found)) in
     let most' : row.worst ≡ worst_of (delays_told run entry) = most ∙ ap (λ (d : Delays). d.worst) told' in
     record {
       promises = promises';

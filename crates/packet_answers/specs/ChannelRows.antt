@@ -1,7 +1,7 @@
 -- What a run tells of the channel of each request, in the numbers of its report (channel_report): the delay that was promised, the packets
 -- that its source has sent, whether these keep its contract, and from which packet on they don't, the packets that have arrived, the greatest
 -- of their delays, and the sends that were refused. As long as the source keeps its contract, no packet is later than was promised.
-use Rattle.std.specs.Prelude.{◌≡◌, ◌≤◌, ℕ, true, Option, Some, None, List, length, reverse}
+use Rattle.std.specs.Prelude.{◌≡◌, ◌≤◌, ℕ, true, Option, Some, None, List, length}
 use Rattle.std.specs.List.{slice_get}
 use Rattle.traffic_contract.specs.Keeping.{keeps}
 use Rattle.setup_protocol.specs.Setup.{Outcome, Accepts}
@@ -10,11 +10,11 @@ use Rattle.call_script.specs.Tasks.{network_of}
 use Rattle.call_script.specs.declared.entries.RequestEntry.{RequestEntry}
 use Rattle.call_script.specs.declared.schedule.Schedule.{Schedule}
 use Rattle.run_engine.specs.schedules.Schedules.{IsPlayed}
-use Rattle.run_record.specs.Rows.{rows_of}
 use Rattle.run_record.specs.declared.done.Done.{Done}
 use Rattle.channel_report.specs.Channels.{offered_for, sends_refused}
-use Rattle.channel_report.specs.Delays.{delays_in, worst_of}
+use Rattle.channel_report.specs.Delays.{worst_of}
 use Rattle.channel_report.specs.Verdicts.{verdict_in}
+use Rattle.report_laws.specs.Bounds.{delays_told}
 use Rattle.packet_answers.specs.SourceTallies.{BreaksFrom}
 use Rattle.packet_answers.specs.declared.rows.ChannelRow.{ChannelRow}
 
@@ -22,10 +22,6 @@ use Rattle.packet_answers.specs.declared.rows.ChannelRow.{ChannelRow}
 abbrev pub promised_in : Option Outcome → Option ℕ
 promised_in (Some (Accepts levels delay)) = Some delay
 promised_in _ = None
-
--- the delays of the channel's packets, in a run that is listed newest first
-abbrev pub delays_told : List Done → RequestEntry → List ℕ
-delays_told run entry = delays_in entry.request (rows_of (reverse run))
 
 -- what the run tells of a request's channel
 pub record TellsChannel (run : List Done) (entry : RequestEntry) (row : ChannelRow) : Type 0 where

@@ -2,7 +2,7 @@
 ghost use Rattle.std.specs.Prelude.{◌≡◌, ◌+◌, ◌∷◌, ◌<◌, ◌≤◌, ◌^◌, [], List, IfNone, IfSome, Some, length, reverse};
 ghost use Rattle.setup_protocol.specs.declared.request.Request.{Request as Asked};
 ghost use Rattle.run_record.specs.declared.rows.HopRow.{HopRow as Row};
-ghost use Rattle.channel_report.specs.Delays.{delay_by, delay_from, delays_of, first_in, is_same_packet, nearer};
+ghost use Rattle.report_laws.specs.RowDelays.{delay_by, delay_from, first_in, is_same_packet, nearer, row_delays_of};
 ghost use Rattle.packet_answers.specs.ChannelDelays.{IsEndOf, delays_as};
 
 use crate::rows::end_of;
@@ -56,8 +56,8 @@ impl Delays {
 fn deliver(delays: &mut Delays, end: &End, first: &Option<HopRow>, row: &HopRow)
     requires { delays.old.arrived < 2 ^ 63 }
     ensures few { delays.new.arrived ≤ delays.old.arrived + 1 }
-    ensures told { (request : Asked) (before : List Row) → IsEndOf request end.now → first.now ≡ first_in (row.now ∷ before) → delays.old ≡ delays_as (delays_of request before)
-        → delays.new ≡ delays_as (delays_of request (row.now ∷ before)) }
+    ensures told { (request : Asked) (before : List Row) → IsEndOf request end.now → first.now ≡ first_in (row.now ∷ before) → delays.old ≡ delays_as (row_delays_of request before)
+        → delays.new ≡ delays_as (row_delays_of request (row.now ∷ before)) }
 {
     match delay_by(end, first, row) {
         Some(delay) => delays.add(delay),
@@ -68,7 +68,7 @@ fn deliver(delays: &mut Delays, end: &End, first: &Option<HopRow>, row: &HopRow)
 // The delays that these rows tell, in their order.
 pub(crate) fn delays_in(end: &End, rows: &[HopRow]) -> Delays
     requires { length rows.now < 2 ^ 62 }
-    ensures { (request : Asked) → IsEndOf request end.now → result ≡ delays_as (delays_of request (reverse rows.now)) }
+    ensures { (request : Asked) → IsEndOf request end.now → result ≡ delays_as (row_delays_of request (reverse rows.now)) }
 {
     let mut delays = Delays::NONE;
     let mut first = None;

@@ -1,30 +1,13 @@
 -- The counts of a report's lines are those of the entries and the starts that they speak of.
 use Rattle.std.proofs.Common.{◌≡◌, ◌≢◌, ℕ, suc, ◌+◌, Bool, true, false, List, [], ◌∷◌, ◌++◌, length, refl, ap, ◌∙◌, inl, inr, arith}
-use Rattle.std.proofs.lemmas.Bool.{cases_Bool}
-use Rattle.std.proofs.lemmas.List.{append_assoc, length-reverse}
-use Rattle.std.specs.Prelude.{nat_eq, filter, reverse, if◌then◌else◌}
-use Rattle.net_units.specs.Numbers.{channel_number}
-use Rattle.link_steps.specs.Admissible.{IsAdmissible}
-use Rattle.link_steps.specs.declared.asks.Ask.{Ask}
-use Rattle.link_steps.specs.declared.asks.Ask.TheVariants.{Deny, Submit, Release, Pour, Tick}
-use Rattle.link_steps.specs.declared.replies.Entry.{Entry}
-use Rattle.link_steps.specs.declared.replies.Reply.{Reply}
+use Rattle.run_engine.proofs.Words.{cases_Bool, append_assoc, length-reverse, nat_eq, filter, reverse, if◌then◌else◌, channel_number, IsAdmissible, Ask, Deny, Submit, Release, Tick, Entry, Reply, LinkShape, sent_at, best_sent_at, tick_reply, Scan, clock_with, clock_of, scan_of, starts_of, after, starts_below, Link, ticked, PlanParts, network_of, part_of, Done}
+use Rattle.link_steps.specs.declared.asks.Ask.TheVariants.{Pour}
 use Rattle.link_steps.specs.declared.replies.Reply.TheVariants as Is
-use Rattle.link_steps.specs.declared.shape.LinkShape.{LinkShape}
-use Rattle.link_steps.specs.Replies.{sent_at, best_sent_at, tick_reply}
-use Rattle.link_steps.specs.Scan.{Scan, clock_with, clock_of, scan_of, starts_of, after}
-use Rattle.link_steps.specs.Service.{starts_below}
-use Rattle.link_steps.specs.Split.{Link}
-use Rattle.channel_laws.specs.Departing.{ticked}
 use Rattle.call_script.proofs.PlansFit.{plan-fits}
 use Rattle.call_script.proofs.OneOwner.{all-owned}
-use Rattle.call_script.specs.Parts.{PlanParts}
-use Rattle.call_script.specs.Tasks.{network_of}
-use Rattle.run_record.specs.Rows.{rows_of}
-use Rattle.run_record.specs.Runs.{part_of}
-use Rattle.run_record.specs.declared.done.Done.{Done}
+use Rattle.channel_report.specs.Delays.{departures_of}
 use Rattle.run_engine.specs.replies.Answers.{IsReplyOf}
-use Rattle.interleave_core.proofs.Flights.LegLaw.{quiet-clock}
+use Rattle.run_engine.proofs.Flights.FlightOrigins.{quiet-clock}
 use Rattle.channel_report.specs.Channels.{channel_lines}
 use Rattle.channel_report.specs.Links.{one_if, one_if_some, sent_by, dropped_by, best_sent_by, best_lost_by, pours_refused_by, total_in, sent_in, dropped_in, best_sent_in, best_lost_in}
 use Rattle.channel_report.specs.Moves.{move_lines}
@@ -159,11 +142,11 @@ regroup a b c d e f = simp append_assoc
 
 -- the lines of the requests, the routes, the moves, the channels and the links
 abbrev lines_before : PlanParts → List Done → List ℕ
-lines_before plan entries = request_lines plan (reverse entries) ++ (route_lines plan.links plan.requests ++ (move_lines plan (reverse entries) ++ (channel_lines plan (rows_of entries) (reverse entries) ++ link_lines plan (reverse entries))))
+lines_before plan entries = request_lines plan (reverse entries) ++ (route_lines plan.links plan.requests ++ (move_lines plan (reverse entries) ++ (channel_lines plan (departures_of entries) (reverse entries) ++ link_lines plan (reverse entries))))
 
 pub steps-told : ReportsShowTheSteps
 steps-told plan run packets = record {
   lines = lines_before plan (reverse run);
-  is = regroup (request_lines plan (reverse (reverse run))) (route_lines plan.links plan.requests) (move_lines plan (reverse (reverse run))) (channel_lines plan (rows_of (reverse run)) (reverse (reverse run))) (link_lines plan (reverse (reverse run))) (end_line (length (reverse run)) ++ table_if packets plan (reverse run))
+  is = regroup (request_lines plan (reverse (reverse run))) (route_lines plan.links plan.requests) (move_lines plan (reverse (reverse run))) (channel_lines plan (departures_of (reverse run)) (reverse (reverse run))) (link_lines plan (reverse (reverse run))) (end_line (length (reverse run)) ++ table_if packets plan (reverse run))
       ∙ ap (λ n. lines_before plan (reverse run) ++ (end_line n ++ table_if packets plan (reverse run))) (length-reverse run);
 }

@@ -1,34 +1,15 @@
 -- Each delay that the report tells of an accepted channel is that of a packet that has left the last hop, as the whole guarantee has it.
-use Rattle.std.specs.List.{slice_get}
-use Rattle.std.specs.Prelude.{reverse}
 use Rattle.std.proofs.Common.{List, Some, ◌≡◌, ℕ, suc, ◌-◌, true, length, sym, ap, ◌∙◌, arith}
-use Rattle.net_units.specs.Numbers.{link_number, actor_number, channel_number}
-use Rattle.link_steps.specs.Split.{Link}
-use Rattle.link_steps.specs.Lists.{Among}
+use Rattle.run_engine.proofs.Words.{slice_get, reverse, link_number, channel_number, Link, Among, Arrival, leaves_at, RequestFits, Request, is_of_channel, NetworkFits, PlanParts, IsPlan, Network, network_of, Done, IsRun, packets_on, ChannelAsked, HopAt, packets_at, arrived_at}
 use Rattle.link_steps.proofs.PacketRows.{Among-passes}
-use Rattle.link_steps.specs.Service.{Arrival, leaves_at}
 use Rattle.link_steps.proofs.ListParts.{Among-reverse}
-use Rattle.setup_protocol.specs.Hops.{RequestFits}
-use Rattle.setup_protocol.specs.declared.request.Request.{Request}
-use Rattle.channel_laws.specs.Channels.{is_of_channel}
 use Rattle.channel_laws.proofs.DepartedCount.{start-among}
-use Rattle.call_script.specs.Fits.{NetworkFits}
-use Rattle.call_script.specs.Parts.{PlanParts}
-use Rattle.call_script.specs.Plans.{IsPlan}
 use Rattle.call_script.specs.declared.entries.RequestEntry.{RequestEntry}
 use Rattle.call_script.proofs.PlansFit.{plan-fits}
-use Rattle.call_script.proofs.OneOwner.{owned-by}
-use Rattle.call_script.specs.Tasks.{Network, network_of}
 use Rattle.run_record.specs.Rows.{rows_of}
-use Rattle.run_record.specs.declared.done.Done.{Done}
 use Rattle.run_record.specs.declared.rows.HopRow.{HopRow}
-use Rattle.run_engine.specs.runs.Runs.{IsRun}
 use Rattle.run_engine.proofs.Channels.ChannelsAt.{packet-offered}
-use Rattle.run_engine.proofs.Replies.RunCloses.{owned-once}
-use Rattle.run_engine.proofs.Replies.RunGoes.{owned-asked}
-use Rattle.run_engine.specs.channels.Hops.{packets_on, ChannelAsked}
-use Rattle.run_engine.specs.channels.Paths.{HopAt, clock_at, packets_at, arrived_at}
-use Rattle.audit_laws.proofs.PacketOf.{fits-network}
+use Rattle.run_engine.specs.channels.Paths.{clock_at}
 use Rattle.audit_laws.proofs.RunSound.{departures_of}
 use Rattle.trace_audit.proofs.SortedRows.{order-among}
 use Rattle.channel_report.specs.Delays.{last_prop, prop_of}
@@ -36,7 +17,8 @@ use Rattle.report_laws.proofs.HopPacket.{AreOneHop, one-hop, left-there, packets
 use Rattle.report_laws.specs.Rows.{TellsDeparture}
 use Rattle.report_laws.specs.Delivered.{IsDelay}
 use Rattle.report_laws.proofs.RowPacket.{AllOffered, row-is-of}
-use Rattle.channel_report.proofs.ToldDelays.{DelayOf}
+use Rattle.report_laws.proofs.ToldDelays.{DelayOf}
+use Rattle.run_engine.proofs.Channels.PlanChannels.{request-asked, request-sound}
 
 -- the delay of the packet of this number, which has left the last hop, and the packet at the first hop
 pub record ToldDelay (network : Network) (request : Request) (first : HopAt network request 0) (m : ℕ) (last : HopAt network request m) (run : List Done) (number delay : ℕ) : Type 0 where
@@ -74,10 +56,10 @@ delay-is plan run c entry first m last delay is run_is requested offered end of 
   fits = plan-fits plan is
 
   sound : RequestFits (network_of plan).links entry.request
-  sound = fits-network plan c entry is requested
+  sound = request-sound plan c entry is requested
 
   asked : (past : List Done) → IsRun (network_of plan) past → ChannelAsked entry.request past
-  asked = owned-asked (network_of plan) entry.request (actor_number entry.caller) fits sound (owned-once (network_of plan) entry.request (actor_number entry.caller) (owned-by plan c entry is requested))
+  asked = request-asked plan c entry is requested
 
   there : (row : HopRow) → Among row (reverse (rows_of (reverse run))) → Among row (departures_of run)
   there row among = order-among row (departures_of run) (Among-reverse row (rows_of (reverse run)) among)

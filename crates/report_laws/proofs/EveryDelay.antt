@@ -1,41 +1,35 @@
 -- The delays that the report tells of an accepted channel are those of the packets that have departed from its last hop: as many, each
 -- of them, and no other.
 use Rattle.std.proofs.Common.{◌≡◌, ℕ, suc, ◌+◌, ◌-◌, ◌≤◌, true, List, [], ◌∷◌, length, Option, Some, None, refl, sym, ap, ◌∙◌, subst, inl, inr, arith}
-use Rattle.std.proofs.lemmas.Bool.{cases_lt, and_from, eq-eqb}
-use Rattle.std.proofs.lemmas.List.{length-reverse}
-use Rattle.std.specs.Prelude.{filter, reverse, min, max}
-use Rattle.net_units.specs.Numbers.{link_number, channel_number}
-use Rattle.link_steps.specs.Lists.{Each, Among}
-use Rattle.link_steps.specs.Service.{Arrival, Start}
+use Rattle.run_engine.proofs.Words.{cases_lt, and_from, eq-eqb, length-reverse, filter, reverse, link_number, channel_number, Each, Among, Arrival, Start, Request, Network, network_of, Done, packets_on, HopAt, arrived_at}
+use Rattle.std.specs.Prelude.{min, max}
 use Rattle.link_steps.proofs.FoundElements.{Each-from_among}
 use Rattle.link_steps.proofs.Departures.{starts-once, leaves-once}
 use Rattle.link_steps.proofs.SearchAndFilter.{Among-filter, Each-among, Each-if}
 use Rattle.link_steps.proofs.ListParts.{Among-turned}
-use Rattle.setup_protocol.specs.declared.request.Request.{Request}
 use Rattle.channel_laws.proofs.SentOrder.{start-departed}
-use Rattle.call_script.specs.Tasks.{Network, network_of}
 use Rattle.call_script.proofs.PlansFit.{plan-fits}
 use Rattle.run_record.specs.Rows.{rows_of}
-use Rattle.run_record.specs.declared.done.Done.{Done}
 use Rattle.run_record.specs.declared.rows.HopRow.{HopRow}
 use Rattle.interleave_core.specs.channels.Guarantee.{HasLeft}
-use Rattle.run_engine.specs.channels.Hops.{packets_on}
-use Rattle.run_engine.specs.channels.Paths.{HopAt, clock_at, starts_at, departs_at, arrived_at, delay_of}
+use Rattle.run_engine.specs.channels.Paths.{clock_at, starts_at, departs_at, delay_of}
 use Rattle.run_engine.proofs.Channels.ChannelsAt.{packets-numbered}
 use Rattle.trace_audit.specs.Above.{is_at, rows_at}
 use Rattle.trace_audit.specs.Checks.{AllPass}
 use Rattle.trace_audit.proofs.TableInOrder.{at-parts}
 use Rattle.trace_audit.proofs.WholeRoute.{filter-reverse}
 use Rattle.audit_laws.proofs.RunIsSound.{run-is_sound}
-use Rattle.channel_report.specs.Delays.{is_last, least_with, least_of, worst_with, worst_of}
+use Rattle.channel_report.specs.Delays.{least_with, least_of, worst_with, worst_of}
 use Rattle.report_laws.specs.Bounds.{delays_told}
+use Rattle.report_laws.specs.RowDelays.{is_last, row_delays_in}
 use Rattle.report_laws.specs.Delivered.{IsDelay, IsLeast, IsWorst, ReportsShowEveryDelay}
 use Rattle.report_laws.proofs.DelayRows.{delay-is}
 use Rattle.audit_laws.proofs.GivenLevels.{levels_in, levels-are}
-use Rattle.channel_report.proofs.PairedRows.{delays-count, tells-delay}
+use Rattle.report_laws.proofs.DelaysOfRows.{delays-of-rows}
+use Rattle.report_laws.proofs.PairedRows.{delays-count, tells-delay}
 use Rattle.report_laws.proofs.RowCount.{RowsLeft, row-with, one-numbered, rows-left, taken-there, left-early}
 use Rattle.report_laws.proofs.RowPacket.{AllOffered, all-offered}
-use Rattle.channel_report.proofs.ToldDelays.{DelayOf, delays-are}
+use Rattle.report_laws.proofs.ToldDelays.{DelayOf, delays-are}
 
 -- ---- the least and the greatest
 
@@ -83,17 +77,21 @@ same-delay network request first m last run j k one other index departs = ap (λ
 
 pub every-delay : ReportsShowEveryDelay
 every-delay plan run c entry levels delay first m last is run_is requested accepted end = record {
-  delivered = delays-count plan (levels_in plan run) entry.request (reverse (rows_of (reverse run))) sound
+  delivered = ap length same-told
+      ∙ delays-count plan (levels_in plan run) entry.request (reverse (rows_of (reverse run))) sound
       ∙ ap length (filter-reverse (is_last entry.request) (rows_of (reverse run)))
       ∙ length-reverse (filter (is_last entry.request) (rows_of (reverse run)))
       ∙ ap (λ h. length (rows_at (channel_number entry.request.chan) h (rows_of (reverse run)))) (sym end)
       ∙ rows.count;
   all = all;
   each = Each-from_among (IsDelay (network_of plan) entry.request first m last run) (delays_told run entry)
-      (λ d among. (delay-is plan run c entry first m last d is run_is requested offered end (Each-among (DelayOf entry.request (reverse (rows_of (reverse run)))) d (delays_told run entry) (delays-are entry.request (reverse (rows_of (reverse run)))) among)).is);
+      (λ d among. (delay-is plan run c entry first m last d is run_is requested offered end (Each-among (DelayOf entry.request (reverse (rows_of (reverse run)))) d (row_delays_in entry.request (rows_of (reverse run))) (delays-are entry.request (reverse (rows_of (reverse run)))) (subst (Among d) same-told among))).is);
   least = least-is (delays_told run entry);
   worst = worst-is (delays_told run entry);
 } where
+  same-told : delays_told run entry ≡ row_delays_in entry.request (rows_of (reverse run))
+  same-told = delays-of-rows plan run c entry is run_is requested
+
   offered : AllOffered run entry.request
   offered = all-offered run entry.request levels delay accepted
 
@@ -123,4 +121,4 @@ every-delay plan run c entry levels delay first m last is run_is requested accep
       let b = leaves-upto (network_of plan) entry.request m last run start told.is.start left.among told.is.left.among (sym same) in
       let own = told.is.left.number in
       let index : told.is.k ≡ k = omega (arith, own, number) in
-      subst (λ d. Among d (delays_told run entry)) (told.is.is ∙ same-delay (network_of plan) entry.request first m last run told.is.k k told.is.start start index (omega (arith, a, b))) tells.among
+      subst (λ d. Among d (delays_told run entry)) (told.is.is ∙ same-delay (network_of plan) entry.request first m last run told.is.k k told.is.start start index (omega (arith, a, b))) (subst (Among tells.delay) (sym same-told) tells.among)

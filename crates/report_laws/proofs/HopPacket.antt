@@ -1,22 +1,9 @@
 -- Two hops of a route with one index are one hop; and the packet with an index at a first hop arrived at the tick at that index.
 use Rattle.std.proofs.Common.{◌≡◌, ℕ, zero, suc, ◌+◌, ◌<◌, ◌≤◌, true, List, [], ◌∷◌, map, get_or, sym, ap, ◌∙◌, subst, inl, inr, arith}
-use Rattle.std.proofs.lemmas.Option.{same_Some}
-use Rattle.std.specs.List.{slice_get}
-use Rattle.net_units.specs.Numbers.{link_number, channel_number}
-use Rattle.hop_reservation.specs.declared.route.Hop.{Hop}
-use Rattle.link_steps.specs.Scan.{clock_of, starts_of}
-use Rattle.link_steps.specs.Service.{Arrival, Start, leaves_at}
+use Rattle.run_engine.proofs.Words.{same_Some, slice_get, link_number, channel_number, Hop, clock_of, starts_of, Arrival, Start, leaves_at, Link, Among, Request, is_of_channel, AreNumberedAfter, Network, part_of, Done, packets_on, HopAt}
 use Rattle.link_steps.specs.SourceGuarantee.{arrival_of}
-use Rattle.link_steps.specs.Split.{Link}
-use Rattle.link_steps.specs.Lists.{Among}
 use Rattle.link_steps.proofs.SearchAndFilter.{Each-among}
-use Rattle.setup_protocol.specs.declared.request.Request.{Request}
-use Rattle.channel_laws.specs.Channels.{is_of_channel, AreNumberedAfter}
-use Rattle.call_script.specs.Tasks.{Network}
-use Rattle.run_record.specs.Runs.{part_of}
-use Rattle.run_record.specs.declared.done.Done.{Done}
-use Rattle.run_engine.specs.channels.Hops.{packets_on}
-use Rattle.run_engine.specs.channels.Paths.{HopAt, clock_at, starts_at, departs_at}
+use Rattle.run_engine.specs.channels.Paths.{clock_at, starts_at, departs_at}
 use Rattle.interleave_core.specs.channels.Guarantee.{HasLeft}
 use Rattle.audit_laws.proofs.RunDeparts.{numbers-above}
 

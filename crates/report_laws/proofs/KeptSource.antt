@@ -1,26 +1,17 @@
 -- Where the report says that the source of a channel keeps its contract, and the channel has a packet at its first hop, the whole
 -- guarantee says of its row that the source keeps its contract.
 use Rattle.std.proofs.Common.{◌≡◌, ℕ, ◌≤◌, ◌⊎◌, true, List, [], ◌∷◌, length, refl, sym, ◌∙◌, subst, inl, inr, arith}
-use Rattle.std.proofs.lemmas.Bool.{cases_lt, eqb-true, eq-eqb, and_parts}
-use Rattle.std.specs.Prelude.{nat_eq, nat_lt}
-use Rattle.net_units.specs.Numbers.{channel_number}
-use Rattle.traffic_contract.specs.Keeping.{keeps, Keeps}
+use Rattle.run_engine.proofs.Words.{cases_lt, eqb-true, eq-eqb, and_parts, nat_eq, nat_lt, channel_number, Keeps, Entry, LinkShape, IsAdmissible, Among, Row, offered_by, clock_of, scan_of, Arrival, HopTerms, is_of_channel, channel_packets, channel_of, offers_to, AllOfferTerms, RowTells, IsElsewhere, IsOnly}
+use Rattle.traffic_contract.specs.Keeping.{keeps}
 use Rattle.traffic_contract.proofs.PartsKeepContract.{Decides-keeps}
-use Rattle.link_steps.specs.declared.replies.Entry.{Entry}
-use Rattle.link_steps.specs.declared.shape.LinkShape.{LinkShape}
-use Rattle.link_steps.specs.Admissible.{IsAdmissible}
 use Rattle.link_steps.specs.Belonging.{own_packets, IsRowOf, HasRow}
 use Rattle.link_steps.specs.Buffer.{has_lead}
-use Rattle.link_steps.specs.Lists.{Any, Among}
-use Rattle.link_steps.specs.Rows.{Row, offered_by}
-use Rattle.link_steps.specs.Scan.{clock_of, scan_of}
-use Rattle.link_steps.specs.Service.{Arrival}
+use Rattle.link_steps.specs.Lists.{Any}
 use Rattle.link_steps.specs.SourceGuarantee.{SourceKeeps}
 use Rattle.link_steps.proofs.FoundElements.{Each-if_passes}
 use Rattle.link_steps.proofs.SearchAndFilter.{Each-among}
 use Rattle.link_steps.proofs.PacketRows.{packets-have_rows}
 use Rattle.link_steps.proofs.RowPackets.{IsHeld, IsBeside}
-use Rattle.channel_laws.specs.Channels.{HopTerms, is_of_channel, channel_packets, channel_of, offers_to, AllOfferTerms, RowTells, IsElsewhere, IsOnly}
 use Rattle.channel_laws.specs.Sources.{SourceIsKept}
 use Rattle.channel_laws.proofs.ChannelRows.{legal-stands}
 use Rattle.channel_laws.proofs.DepartedCount.{channel-few}

@@ -2,6 +2,10 @@ pub mod OfferedTicks
 pub mod KeptSource
 pub mod RowPacket
 pub mod HopPacket
+pub mod DelaysRowByRow
+pub mod ToldDelays
+pub mod PairedRows
+pub mod DelaysOfRows
 pub mod DelayRows
 pub mod ReportBounds
 pub mod RowCount

@@ -1,41 +1,20 @@
 -- What the report counts of a link is what its history tells: the starts whose packets have left, the drops of its rows, and the pours
 -- that were refused.
 use Rattle.std.proofs.Common.{◌≡◌, ◌≢◌, ℕ, suc, ◌+◌, ◌≤◌, Bool, true, false, List, [], ◌∷◌, length, Option, Some, None, refl, sym, ap, ◌∙◌, subst, inl, inr, arith}
-use Rattle.std.proofs.lemmas.Bool.{cases_Bool, cases_eq, cond_both, eqb-true, eqb-false, eq-eqb, ne_eqb, le-leb, lt-leb, ltb-true}
-use Rattle.std.proofs.lemmas.Option.{same_Some}
-use Rattle.std.specs.List.{slice_get}
-use Rattle.std.specs.Prelude.{nat_eq, not, ◌&&◌, filter, if◌then◌else◌}
-use Rattle.net_units.specs.Numbers.{link_number}
-use Rattle.link_steps.specs.Admissible.{IsAdmissible}
+use Rattle.run_engine.proofs.Words.{cases_Bool, cases_eq, cond_both, eqb-true, eqb-false, eq-eqb, ne_eqb, le-leb, lt-leb, ltb-true, same_Some, slice_get, nat_eq, not, ◌&&◌, filter, if◌then◌else◌, link_number, IsAdmissible, Ask, Tick, Entry, Reply, LinkShape, Each, sent_at, best_sent_at, tick_reply, reply_to, clock_of, clock_with, scan_of, starts_of, Arrival, Start, leaves_at, first_in_line, is_waiting, is_busy, add_start, serve_tick, starts_below, Link, ticked, NetworkFits, AllOwned, Network, part_of, Done, IsNext, IsRun}
 use Rattle.link_steps.specs.BestEffort.{is_best}
 use Rattle.link_steps.specs.BusyPeriod.{HasWork}
 use Rattle.link_steps.specs.Shape.{blocking_of}
-use Rattle.link_steps.specs.declared.asks.Ask.{Ask}
-use Rattle.link_steps.specs.declared.asks.Ask.TheVariants.{Tick}
-use Rattle.link_steps.specs.declared.replies.Entry.{Entry}
-use Rattle.link_steps.specs.declared.replies.Reply.{Reply}
-use Rattle.link_steps.specs.declared.shape.LinkShape.{LinkShape}
-use Rattle.link_steps.specs.Lists.{Each}
-use Rattle.link_steps.specs.Replies.{sent_of, sent_at, best_sent_at, tick_reply, reply_to}
-use Rattle.link_steps.specs.Scan.{clock_of, clock_with, scan_of, starts_of}
-use Rattle.link_steps.specs.Service.{Arrival, Start, work_of, leaves_at, first_in_line, is_waiting, is_busy, add_start, serve_tick, starts_below}
-use Rattle.link_steps.specs.Split.{Link}
+use Rattle.link_steps.specs.Replies.{sent_of}
+use Rattle.link_steps.specs.Service.{work_of}
 use Rattle.link_steps.proofs.SearchAndFilter.{Each-filter, Each-if}
 use Rattle.link_steps.proofs.NewPackets.{packets-after}
 use Rattle.link_steps.proofs.WindowFits.{packets-have_work}
 use Rattle.link_steps.proofs.ServiceStarts.{HasLeft, FollowEachOther, HasBegun, starts_below-append, left-idle, starts-follow, starts-begun, first_in_line-fact}
-use Rattle.channel_laws.specs.Departing.{ticked}
 use Rattle.channel_laws.proofs.DepartedCount.{more-legal}
 use Rattle.channel_laws.proofs.SentInTime.{tick-answer}
-use Rattle.call_script.specs.Fits.{NetworkFits}
-use Rattle.call_script.specs.Owners.{AllOwned}
-use Rattle.call_script.specs.Tasks.{Network}
-use Rattle.run_record.specs.Runs.{part_of}
-use Rattle.run_record.specs.declared.done.Done.{Done}
 use Rattle.run_engine.specs.replies.Answers.{IsReplyOf}
-use Rattle.run_engine.specs.runs.Runs.{IsNext, IsRun}
-use Rattle.interleave_core.proofs.Channels.ChainLaw.{is-tick}
-use Rattle.interleave_core.proofs.Flights.LegLaw.{entry-tick}
+use Rattle.run_engine.proofs.Flights.FlightOrigins.{entry-tick, is-tick}
 use Rattle.run_engine.proofs.Replies.Replying.{asks-answered}
 use Rattle.run_engine.proofs.Runs.RunLegal.{part-on, part-off, part-admissible}
 use Rattle.channel_report.specs.Links.{one_if, one_if_some}

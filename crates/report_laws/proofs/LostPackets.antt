@@ -1,26 +1,14 @@
 -- Each source packet that a tick drops is one that its row keeps as dropped; and of the best-effort packets whose tick is made each is
 -- taken or lost.
 use Rattle.std.proofs.Common.{◌≡◌, ℕ, suc, ◌+◌, Bool, true, false, List, [], ◌∷◌, ◌++◌, length, map, Option, Some, None, refl, sym, ap, ◌∙◌, arith, append-nil, length-append}
-use Rattle.std.proofs.lemmas.Bool.{lt-ltb, le-ltb}
-use Rattle.std.proofs.lemmas.List.{length-map, length_push}
+use Rattle.run_engine.proofs.Words.{lt-ltb, le-ltb, length-map, length_push, filter, find, nat_eq, nat_lt, level_number, total, Entry, Tentative, Committed, Closing, LinkShape, IsAdmissible, expires, stays, change_first, Each, Row, SourcePacket, new_row, made_by, tick_of, Scan, clock_with, clock_of, is_row_of, arrived_row, arrived_packet, with_arrival, without_expired, with_sources, with_best, best_step_at, after_tick, scan_of, Arrival, starts_below, here_at, SourceStep, Rests, step_of, row_after, taken_by, source_packets, rows_after, dropped_in}
 use Rattle.std.proofs.lemmas.List.Elements.{filter-append}
-use Rattle.std.specs.Prelude.{filter, find, nat_eq, nat_lt}
-use Rattle.net_units.specs.Numbers.{level_number}
-use Rattle.traffic_contract.specs.Admission.{total}
 use Rattle.traffic_contract.proofs.AdmissionTest.{total-append}
-use Rattle.link_steps.specs.declared.replies.Entry.{Entry}
-use Rattle.link_steps.specs.declared.replies.Phase.TheVariants.{Tentative, Committed, Closing}
-use Rattle.link_steps.specs.declared.shape.LinkShape.{LinkShape}
-use Rattle.link_steps.specs.Admissible.{IsAdmissible}
 use Rattle.link_steps.specs.BestEffort.{is_best, best_step, best_packet, waiting_best}
 use Rattle.link_steps.specs.Buffer.{has_slot}
 use Rattle.link_steps.specs.Effects.{Change, Commits, Plans, Closes, Effect, Adds, Changes, Removes, Takes, Ticks, PlansBest, Nothing, changed_row, is_changed, with_effect, clock_by}
-use Rattle.link_steps.specs.Hold.{expires, stays}
-use Rattle.link_steps.specs.Lists.{change_first, Each}
-use Rattle.link_steps.specs.Rows.{Row, SourcePacket, new_row, is_for, made_by, tick_of}
-use Rattle.link_steps.specs.Scan.{Scan, clock_with, clock_of, is_row_of, arrived_row, arrived_packet, with_arrival, without_expired, with_sources, with_best, best_step_at, after_tick, scan_of}
-use Rattle.link_steps.specs.Service.{Arrival, starts_below, here_at}
-use Rattle.link_steps.specs.Sources.{SourceStep, Rests, Brings, Drops, source_step, step_of, packet_of, row_after, taken_by, dropped_by, source_packets, rows_after, dropped_in}
+use Rattle.link_steps.specs.Rows.{is_for}
+use Rattle.link_steps.specs.Sources.{Brings, Drops, source_step, packet_of, dropped_by}
 use Rattle.link_steps.proofs.FoundElements.{total-change_first-ge, total-without_first-ge, total-filter-both}
 use Rattle.link_steps.proofs.EntryEffects.{EffectFits, each-admissible, by-fit}
 use Rattle.link_steps.proofs.LegalOrder.{legal-order}

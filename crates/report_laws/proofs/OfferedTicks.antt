@@ -2,34 +2,15 @@
 -- offered, from the submits and releases that were answered, are those that the plan of the channel's row tells, whether the row is
 -- held or gone.
 use Rattle.std.proofs.Common.{◌≡◌, ◌≢◌, ℕ, zero, suc, ◌+◌, ◌≤◌, Bool, true, List, [], ◌∷◌, ◌++◌, length, map, Option, Some, None, refl, sym, ap, ◌∙◌, inl, inr, arith}
-use Rattle.std.proofs.lemmas.Bool.{cases_Bool, eqb-true, eqb-false}
-use Rattle.std.proofs.lemmas.List.{map-append}
-use Rattle.std.specs.Prelude.{filter, find, nat_eq}
-use Rattle.net_units.specs.Numbers.{channel_number}
-use Rattle.net_units.specs.declared.numbers.ChanNo.{ChanNo}
-use Rattle.link_steps.specs.declared.asks.Ask.{Ask}
-use Rattle.link_steps.specs.declared.asks.Ask.TheVariants.{Reserve, Relax, Deny, Submit, Release, Arrive, Tick}
-use Rattle.link_steps.specs.declared.asks.Packet.{Packet}
-use Rattle.link_steps.specs.declared.replies.Entry.{Entry}
-use Rattle.link_steps.specs.declared.replies.Reply.{Reply}
+use Rattle.run_engine.proofs.Words.{cases_Bool, eqb-true, eqb-false, map-append, filter, find, nat_eq, channel_number, ChanNo, Ask, Reserve, Relax, Deny, Submit, Release, Arrive, Tick, Packet, Entry, Reply, LinkShape, MayAnswer, IsAdmissible, stays, expires, Each, change_first, submit_reply, submit_to, release_to, reply_at, tentative, Row, SourcePacket, new_row, planned_from, made_by, left_at, tick_of, offered_by, Scan, clock_of, is_row_of, is_row_at_hop, names_first_hop, relax_row, plan_row, close_row, arrived_row, with_arrival, without_expired, with_sources, with_best, after_tick, after, scan_of, Arrival, here_at, SourceStep, Rests, step_of, row_after, taken_by, rows_after, Committed, HopTerms, channel_of, offers_with, offers_to, AllOfferTerms, IsElsewhere, ChannelStands}
 use Rattle.link_steps.specs.declared.replies.Reply.TheVariants as Is
-use Rattle.link_steps.specs.declared.shape.LinkShape.{LinkShape}
-use Rattle.link_steps.specs.Admissible.{MayAnswer, IsAdmissible}
-use Rattle.link_steps.specs.Hold.{stays, expires}
-use Rattle.link_steps.specs.Lists.{Each, change_first}
 use Rattle.link_steps.specs.Refusals.{not_in_phase, busy, too_big}
-use Rattle.link_steps.specs.Replies.{submit_reply, submit_to, release_to, reply_at}
-use Rattle.link_steps.specs.Reservation.{tentative}
-use Rattle.link_steps.specs.Rows.{Row, SourcePacket, new_row, planned_from, is_before, made_by, left_at, tick_of, offered_by}
-use Rattle.link_steps.specs.Scan.{Scan, clock_of, is_row_of, is_row_at_hop, names_first_hop, relax_row, plan_row, close_row, arrived_row, with_arrival, without_expired, with_sources, with_best, after_tick, after, scan_of}
-use Rattle.link_steps.specs.Service.{Arrival, here_at}
-use Rattle.link_steps.specs.Sources.{SourceStep, Rests, Brings, Drops, step_of, row_after, taken_by, rows_after}
-use Rattle.link_steps.specs.declared.replies.Phase.TheVariants.{Committed}
+use Rattle.link_steps.specs.Rows.{is_before}
+use Rattle.link_steps.specs.Sources.{Brings, Drops}
 use Rattle.link_steps.proofs.FoundElements.{Each-change_found}
 use Rattle.link_steps.proofs.LegalChannels.{DifferInChannel, legal-channels}
 use Rattle.link_steps.proofs.SearchAndFilter.{Each-append, Each-filter, Each-find, Each-if, Each-change_first, Each-without_first, filter-map}
 use Rattle.link_steps.proofs.RulesPassed.{answers-reply}
-use Rattle.channel_laws.specs.Channels.{HopTerms, channel_of, offers_with, offers_to, AllOfferTerms, IsElsewhere, ChannelStands}
 use Rattle.channel_laws.proofs.ChannelRows.{find-passes, row-at-hop, others-elsewhere, legal-stands}
 use Rattle.channel_laws.proofs.FirstSource.{GoneTells, AllGone, legal-gone, offers-before}
 use Rattle.report_laws.specs.Offered.{HasOffered, ReportsShowWhatSourcesOffer}

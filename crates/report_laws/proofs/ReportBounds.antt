@@ -1,41 +1,29 @@
 -- The delays that the report of a run tells of an accepted channel are those that the whole guarantee speaks of, so they are within
 -- its bounds where the report says that the source keeps its contract.
 use Rattle.std.proofs.Common.{◌≡◌, ℕ, suc, ◌-◌, true, List, length, get_or, Some, refl, sym, ap, ◌∙◌, subst, arith}
-use Rattle.std.specs.List.{slice_get}
-use Rattle.std.specs.Prelude.{reverse}
-use Rattle.net_units.specs.LevelBounds.{bound_at}
-use Rattle.net_units.specs.Numbers.{link_number, actor_number, channel_number}
+use Rattle.run_engine.proofs.Words.{slice_get, reverse, bound_at, link_number, actor_number, channel_number, bound_at_end, Among, RequestFits, OwnedFully, network_of, Task, part_of, terms_at, ChannelAsked, HopAt, bound_of}
 use Rattle.traffic_contract.specs.Keeping.{keeps}
-use Rattle.relaxation.specs.Allotment.{bound_at_end}
-use Rattle.relaxation.proofs.SlackShares.{bound_at_end-last}
-use Rattle.link_steps.specs.Lists.{Among}
 use Rattle.link_steps.proofs.SearchAndFilter.{Each-among}
 use Rattle.link_steps.proofs.ListParts.{stands-at}
-use Rattle.setup_protocol.specs.Hops.{RequestFits}
-use Rattle.call_script.specs.Owners.{OwnedFully}
-use Rattle.call_script.specs.Tasks.{network_of}
-use Rattle.call_script.specs.declared.tasks.Task.{Task}
 use Rattle.call_script.proofs.PlansFit.{plan-fits}
 use Rattle.call_script.proofs.OneOwner.{owned-by}
 use Rattle.run_record.specs.Rows.{rows_of}
-use Rattle.run_record.specs.Runs.{part_of}
 use Rattle.interleave_core.specs.channels.Guarantee.{SourceKept, ChannelGuaranteed}
-use Rattle.run_engine.specs.channels.Hops.{terms_at, ChannelAsked}
-use Rattle.run_engine.specs.channels.Paths.{HopAt, bound_of}
 use Rattle.interleave_core.proofs.Channels.GuaranteeLaw.{channel-guaranteed}
 use Rattle.run_engine.proofs.Channels.HopsAt.{hop-at}
-use Rattle.run_engine.proofs.Replies.RunCloses.{owned-once}
-use Rattle.run_engine.proofs.Replies.RunGoes.{owned-asked}
 use Rattle.run_engine.proofs.Runs.RunLegal.{part-admissible}
 use Rattle.run_engine.proofs.Replies.VerdictHolds.{verdicts-follow}
-use Rattle.audit_laws.proofs.PacketOf.{fits-network}
+use Rattle.relaxation.proofs.SlackShares.{bound_at_end-last}
+use Rattle.channel_report.proofs.ChannelTallies.{first-at}
 use Rattle.channel_report.specs.Sources.{offered_in}
 use Rattle.report_laws.specs.Bounds.{delays_told, ReportsKeepTheirBounds}
+use Rattle.report_laws.specs.RowDelays.{row_delays_in}
+use Rattle.report_laws.proofs.DelaysOfRows.{delays-of-rows}
 use Rattle.report_laws.proofs.DelayRows.{ToldDelay, delay-is}
 use Rattle.report_laws.proofs.KeptSource.{source-kept}
 use Rattle.report_laws.proofs.RowPacket.{all-offered}
-use Rattle.channel_report.proofs.ToldDelays.{DelayOf, delays-are, least-among, worst-among}
-use Rattle.channel_report.proofs.ChannelTallies.{first-at}
+use Rattle.report_laws.proofs.ToldDelays.{DelayOf, delays-are, least-among, worst-among}
+use Rattle.run_engine.proofs.Channels.PlanChannels.{request-asked, request-sound}
 
 -- ---- the law
 
@@ -58,7 +46,7 @@ bounds-kept plan run c entry levels delay is run_is requested accepted says = re
       omega (arith, by, a, b, bound));
 } where
   sound : RequestFits (network_of plan).links entry.request
-  sound = fits-network plan c entry is requested
+  sound = request-sound plan c entry is requested
 
   whole : OwnedFully (network_of plan) entry.request (actor_number entry.caller)
   whole = owned-by plan c entry is requested
@@ -80,7 +68,7 @@ bounds-kept plan run c entry levels delay is run_is requested accepted says = re
       (verdicts-follow (network_of plan) entry.request (actor_number entry.caller) script.0 run sound whole run_is script.1 ∙ accepted)
 
   asked : ChannelAsked entry.request run
-  asked = owned-asked (network_of plan) entry.request (actor_number entry.caller) (plan-fits plan is) sound (owned-once (network_of plan) entry.request (actor_number entry.caller) whole) run run_is
+  asked = request-asked plan c entry is requested run run_is
 
   source : (number delay : ℕ) → ToldDelay (network_of plan) entry.request first (length entry.request.route - 1) last run number delay → SourceKept (network_of plan) entry.request first run
   source number d told =
@@ -90,5 +78,6 @@ bounds-kept plan run c entry levels delay is run_is requested accepted says = re
 
   told : (delay : ℕ) → Among delay (delays_told run entry) → (number : ℕ) × ToldDelay (network_of plan) entry.request first (length entry.request.route - 1) last run number delay
   told d among =
-      let of = Each-among (DelayOf entry.request (reverse (rows_of (reverse run)))) d (delays_told run entry) (delays-are entry.request (reverse (rows_of (reverse run)))) among in
+      let of = Each-among (DelayOf entry.request (reverse (rows_of (reverse run)))) d (row_delays_in entry.request (rows_of (reverse run))) (delays-are entry.request (reverse (rows_of (reverse run))))
+      (subst (Among d) (delays-of-rows plan run c entry is run_is requested) among) in
       (of.row.number, delay-is plan run c entry first (length entry.request.route - 1) last d is run_is requested (all-offered run entry.request levels delay accepted) end of)

@@ -1,47 +1,25 @@
 -- The rows of an accepted channel at a hop are numbered from 1, and are as many as packets of it have departed from the hop. So each
 -- packet that has departed has one row.
 use Rattle.std.proofs.Common.{Some, ◌≡◌, ℕ, zero, suc, ◌+◌, ◌-◌, ◌<◌, ◌≤◌, Bool, true, List, [], ◌∷◌, length, refl, sym, ap, ◌∙◌, subst, inl, inr, arith}
-use Rattle.std.proofs.lemmas.Bool.{cases_Bool, cases_lt, cases_eq, eqb-true, eq-eqb, ne_eqb}
+use Rattle.run_engine.proofs.Words.{cases_Bool, cases_lt, cases_eq, eqb-true, eq-eqb, ne_eqb, same_Some, slice_get, nat_eq, filter, reverse, link_number, channel_number, Hop, Among, Arrival, Start, has_departed, RequestFits, Request, is_of_channel, AreNumberedAfter, gone_of, NetworkFits, PlanParts, IsPlan, Network, network_of, Done, packets_on, ChannelAsked, HopAt, packets_at, IsRun}
 use Rattle.std.proofs.lemmas.Bool.Decides.{same_from_decides}
-use Rattle.std.proofs.lemmas.Option.{same_Some}
-use Rattle.std.specs.List.{slice_get}
-use Rattle.std.specs.Prelude.{nat_eq, filter, reverse}
-use Rattle.net_units.specs.Numbers.{link_number, actor_number, channel_number}
-use Rattle.hop_reservation.specs.declared.route.Hop.{Hop}
 use Rattle.hop_reservation.proofs.DistinctLinks.{index-apart}
-use Rattle.link_steps.specs.Lists.{Among}
-use Rattle.link_steps.specs.Service.{Arrival, Start, has_departed}
 use Rattle.link_steps.proofs.FoundElements.{Each-from_among}
 use Rattle.link_steps.proofs.SearchAndFilter.{Among-filter, Each-among, filter-same}
 use Rattle.link_steps.proofs.PacketRows.{Among-passes}
-use Rattle.setup_protocol.specs.Hops.{RequestFits}
-use Rattle.setup_protocol.specs.declared.request.Request.{Request}
-use Rattle.channel_laws.specs.Channels.{is_of_channel, AreNumberedAfter}
-use Rattle.channel_laws.specs.Departing.{gone_of}
 use Rattle.channel_laws.proofs.DepartedCount.{start-among}
 use Rattle.channel_laws.proofs.SentOrder.{start-departed}
-use Rattle.call_script.specs.Fits.{NetworkFits}
-use Rattle.call_script.specs.Parts.{PlanParts}
-use Rattle.call_script.specs.Plans.{IsPlan}
-use Rattle.call_script.specs.Tasks.{Network, network_of}
 use Rattle.call_script.specs.declared.entries.RequestEntry.{RequestEntry}
 use Rattle.call_script.proofs.PlansFit.{plan-fits}
-use Rattle.call_script.proofs.OneOwner.{owned-by, all-owned}
 use Rattle.run_record.specs.Rows.{rows_of}
-use Rattle.run_record.specs.declared.done.Done.{Done}
 use Rattle.run_record.specs.declared.rows.HopRow.{HopRow}
-use Rattle.run_engine.specs.channels.Hops.{packets_on, terms_at, ChannelAsked}
-use Rattle.run_engine.specs.channels.Paths.{HopAt, history_at, clock_at, starts_at, departs_at, packets_at}
-use Rattle.run_engine.specs.runs.Runs.{IsRun}
+use Rattle.run_engine.specs.channels.Paths.{history_at, clock_at, starts_at, departs_at}
 use Rattle.run_engine.proofs.Channels.ChannelsAt.{packets-numbered}
-use Rattle.run_engine.proofs.Replies.RunCloses.{owned-once}
-use Rattle.run_engine.proofs.Replies.RunGoes.{owned-asked}
 use Rattle.trace_audit.specs.Above.{is_at, is_of, rows_at}
-use Rattle.trace_audit.specs.Departures.{AreCounted}
 use Rattle.trace_audit.proofs.TableInOrder.{at-parts}
-use Rattle.audit_laws.proofs.PacketOf.{fits-network}
 use Rattle.audit_laws.proofs.RunDeparts.{counted, numbers-above}
-use Rattle.audit_laws.proofs.RunRows.{is_over, Leaving, run-leaves}
+use Rattle.run_engine.specs.channels.Departures.{AreCounted, is_over}
+use Rattle.run_engine.proofs.Channels.Leaving.{Leaving}
 use Rattle.audit_laws.proofs.RunSound.{departures_of}
 use Rattle.trace_audit.proofs.SortedRows.{order-among, counted-rise, rows-stay}
 use Rattle.report_laws.specs.Delivered.{EveryDepartureHasOneRow}
@@ -49,6 +27,7 @@ use Rattle.report_laws.specs.Rows.{TellsDeparture}
 use Rattle.report_laws.proofs.HopPacket.{one-hop, left-there}
 use Rattle.audit_laws.proofs.GivenLevels.{levels_in, levels-are}
 use Rattle.report_laws.proofs.RowPacket.{AllOffered, all-offered, row-is-of}
+use Rattle.run_engine.proofs.Channels.PlanChannels.{hop-leaves, request-asked, request-sound}
 
 -- ---- rows that are counted
 
@@ -139,10 +118,10 @@ rows-left plan run c entry i at is run_is requested offered = record {
   fits = plan-fits plan is
 
   sound : RequestFits (network_of plan).links entry.request
-  sound = fits-network plan c entry is requested
+  sound = request-sound plan c entry is requested
 
   asked : (past : List Done) → IsRun (network_of plan) past → ChannelAsked entry.request past
-  asked = owned-asked (network_of plan) entry.request (actor_number entry.caller) fits sound (owned-once (network_of plan) entry.request (actor_number entry.caller) (owned-by plan c entry is requested))
+  asked = request-asked plan c entry is requested
 
   counts : (k hop : ℕ) → AreCounted 0 (rows_at k hop (departures_of run))
   counts = counted plan run (levels_in plan run) is run_is (levels-are plan run is run_is)
@@ -154,8 +133,7 @@ rows-left plan run c entry i at is run_is requested offered = record {
   stay = rows-stay (departures_of run) (λ k hop. counted-rise 0 (rows_at k hop (departures_of run)) (counts k hop)) (channel_number entry.request.chan) (suc i)
 
   leaves : Leaving at.link.shape (channel_number entry.request.chan) (link_number at.hop.link) (reverse run) run
-  leaves = run-leaves (network_of plan) (terms_at entry.request i) (channel_number entry.request.chan) (link_number at.hop.link) at.link (reverse run) run fits (all-owned plan is) at.linked
-      (λ past past_is. ((asked past past_is).names i at.hop at.stands, (asked past past_is).once (link_number at.hop.link))) run_is
+  leaves = hop-leaves plan c entry i at (reverse run) run is requested run_is
 
   same-test : (row : HopRow) → Among row (departures_of run) → is_at (channel_number entry.request.chan) (suc i) row ≡ is_over (channel_number entry.request.chan) (link_number at.hop.link) row
   same-test row among =

@@ -1,48 +1,26 @@
 -- Each row of an accepted channel is of a packet of that channel that has left a hop of its route: the row tells the hop's place in the
 -- route, the packet's number, when it arrived there and when it departed.
 use Rattle.std.proofs.Common.{◌≡◌, ℕ, suc, ◌≤◌, Bool, true, List, length, map, take, Some, refl, sym, ap, ◌∙◌, subst, arith}
-use Rattle.std.proofs.lemmas.Option.{same_Some, slice_get_within}
-use Rattle.std.specs.List.{slice_get}
-use Rattle.std.specs.Prelude.{reverse}
-use Rattle.net_units.specs.Numbers.{link_number, actor_number, channel_number}
-use Rattle.hop_reservation.specs.Routes.{link_of}
-use Rattle.hop_reservation.specs.declared.route.Hop.{Hop}
+use Rattle.run_engine.proofs.Words.{same_Some, slice_get_within, slice_get, reverse, link_number, actor_number, channel_number, link_of, Hop, Sent, clock_of, starts_of, leaves_at, Link, Among, offers_in, verdict_of, Accepts, Request, is_of_channel, PlanParts, IsPlan, network_of, part_of, Done, packets_on, IsRun}
 use Rattle.link_steps.specs.declared.replies.Reply.TheVariants as Is
-use Rattle.link_steps.specs.declared.replies.Sent.{Sent}
-use Rattle.link_steps.specs.Scan.{clock_of, starts_of}
-use Rattle.link_steps.specs.Service.{leaves_at}
-use Rattle.link_steps.specs.Split.{Link}
-use Rattle.link_steps.specs.Lists.{Among}
 use Rattle.link_steps.proofs.ListParts.{Among-reverse, stands-at}
-use Rattle.setup_protocol.specs.Setup.{offers_in, verdict_of, Accepts}
-use Rattle.setup_protocol.specs.declared.request.Request.{Request}
 use Rattle.setup_protocol.proofs.SettledRequest.{accepted-passed}
-use Rattle.channel_laws.specs.Channels.{is_of_channel}
 use Rattle.channel_laws.proofs.DepartedCount.{start-among}
-use Rattle.call_script.specs.Parts.{PlanParts}
-use Rattle.call_script.specs.Plans.{IsPlan}
-use Rattle.call_script.specs.Tasks.{network_of}
 use Rattle.call_script.specs.declared.entries.RequestEntry.{RequestEntry}
 use Rattle.call_script.proofs.PlansFit.{plan-fits}
 use Rattle.call_script.proofs.OneOwner.{owned-by, all-owned}
 use Rattle.run_record.specs.Rows.{row_of, hop_among, links_of}
-use Rattle.run_record.specs.Runs.{part_of}
-use Rattle.run_record.specs.declared.done.Done.{Done}
 use Rattle.run_record.specs.declared.rows.HopRow.{HopRow}
-use Rattle.run_engine.specs.channels.Hops.{packets_on}
-use Rattle.run_engine.specs.runs.Runs.{IsRun}
 use Rattle.run_engine.specs.replies.Verdicts.{setup_replies}
 use Rattle.run_engine.proofs.Channels.ChannelsAt.{packet-offered}
 use Rattle.run_engine.proofs.Channels.HopsAt.{hop-at}
-use Rattle.run_engine.proofs.Replies.RunCloses.{owned-once}
-use Rattle.run_engine.proofs.Replies.RunGoes.{owned-asked}
 use Rattle.trace_audit.proofs.HopOrder.{offers-in-order, hop-number}
-use Rattle.audit_laws.proofs.PacketOf.{fits-network}
 use Rattle.audit_laws.proofs.RunRows.{departure-told, sent-at, run-split}
 use Rattle.audit_laws.proofs.RunSound.{departures_of}
 use Rattle.trace_audit.proofs.SortedRows.{order-among}
 use Rattle.report_laws.specs.Rows.{TellsDeparture, RowsShowDepartures}
 use Rattle.interleave_core.proofs.Channels.GuaranteeLaw.{own-channel}
+use Rattle.run_engine.proofs.Channels.PlanChannels.{request-asked, request-sound}
 
 -- every hop has offered
 abbrev pub AllOffered : List Done → Request → Type 0
@@ -54,8 +32,8 @@ told-is-of plan run c entry done clock full sent best_sent best_lost is run_is r
     let fits = plan-fits plan is in
     let owned = all-owned plan is in
     let whole = owned-by plan c entry is requested in
-    let sound = fits-network plan c entry is requested in
-    let asked = owned-asked (network_of plan) entry.request (actor_number entry.caller) fits sound (owned-once (network_of plan) entry.request (actor_number entry.caller) whole) in
+    let sound = request-sound plan c entry is requested in
+    let asked = request-asked plan c entry is requested in
     let split = run-split (network_of plan) run done run_is among in
     let at = sent-at (network_of plan) run done split.next.link clock full sent best_sent best_lost fits owned run_is among split.next.linked reply in
     let there : Among at.start.packet (packets_on split.next.link (link_number done.link) run) = start-among split.next.link.shape.rate (packets_on split.next.link (link_number done.link) run) (clock_of (part_of (link_number done.link) run)) at.start at.among in

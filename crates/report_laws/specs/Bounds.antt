@@ -14,11 +14,10 @@ use Rattle.call_script.specs.Parts.{PlanParts}
 use Rattle.call_script.specs.Plans.{IsPlan}
 use Rattle.call_script.specs.Tasks.{network_of}
 use Rattle.call_script.specs.declared.entries.RequestEntry.{RequestEntry}
-use Rattle.run_record.specs.Rows.{rows_of}
 use Rattle.run_record.specs.declared.done.Done.{Done}
 use Rattle.run_engine.specs.runs.Runs.{IsRun}
 use Rattle.channel_report.specs.Channels.{offered_for}
-use Rattle.channel_report.specs.Delays.{delays_in, least_of, worst_of}
+use Rattle.channel_report.specs.Delays.{delays_in, departures_of, least_of, worst_of}
 use Rattle.channel_report.specs.Verdicts.{verdict_in}
 
 -- the channel's line says that its source keeps its contract
@@ -27,7 +26,7 @@ SaysKeeps run entry = keeps entry.request.contract (offered_for run entry) ≡ t
 
 -- the delays whose number, least and worst it tells
 abbrev pub delays_told : List Done → RequestEntry → List ℕ
-delays_told run entry = delays_in entry.request (rows_of (reverse run))
+delays_told run entry = delays_in entry.request (departures_of (reverse run))
 
 -- what the report tells of a channel that was accepted with these levels and this delay
 pub record TellsWithinBounds (run : List Done) (entry : RequestEntry) (levels : List ℕ) (delay : ℕ) : Type 0 where

@@ -3,3 +3,4 @@ pub mod Rows
 pub mod Bounds
 pub mod Delivered
 pub mod Counts
+pub mod RowDelays

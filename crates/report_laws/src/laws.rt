@@ -2,6 +2,7 @@
 ghost use Rattle.report_laws.specs.Offered.{ReportsShowWhatSourcesOffer};
 ghost use Rattle.report_laws.specs.Rows.{RowsShowDepartures};
 ghost use Rattle.report_laws.specs.Bounds.{ReportsKeepTheirBounds};
+ghost use Rattle.report_laws.specs.RowDelays.{ReportsTellTheDelaysOfRows};
 ghost use Rattle.report_laws.specs.Delivered.{EveryDepartureHasOneRow, ReportsShowEveryDelay};
 ghost use Rattle.report_laws.specs.Counts.{ReportsShowWhatLinksDid, ReportsShowRefusedSends, ReportsShowTheSteps};
 
@@ -28,6 +29,12 @@ pub fn every_departure_has_one_row()
 /// least and the greatest of them.
 pub fn reports_show_every_delay()
     ensures { ReportsShowEveryDelay }
+{}
+
+/// The delays of a channel that the report counts, by the numbers of packets as they depart, are those that the rows of the run's table tell
+/// in their order: where a packet has departed from its last hop, the nearest row of a first hop, at its own row or before it, is its own.
+pub fn reports_tell_the_delays_of_rows()
+    ensures { ReportsTellTheDelaysOfRows }
 {}
 
 /// A link's *sent* is the number of packets of channels that have left it, and *full* that of source packets that its rows, held or

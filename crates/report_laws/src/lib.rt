@@ -11,5 +11,5 @@ pub use audit_laws::{
 pub use laws::{
     every_departure_has_one_row, reports_keep_their_bounds, reports_show_every_delay,
     reports_show_refused_sends, reports_show_the_steps, reports_show_what_links_did,
-    reports_show_what_sources_offer, rows_show_departures,
+    reports_show_what_sources_offer, reports_tell_the_delays_of_rows, rows_show_departures,
 };

@@ -3,3 +3,5 @@ pub mod HopsAt
 pub mod RowsFollow
 pub mod ChannelsAt
 pub mod RowLevels
+pub mod Leaving
+pub mod PlanChannels

@@ -3,3 +3,4 @@ pub mod Hops
 pub mod Paths
 pub mod Flights
 pub mod Moves
+pub mod Departures

@@ -11,7 +11,7 @@ use Rattle.link_steps.proofs.FoundElements.{Each-if_passes}
 use Rattle.run_record.specs.Rows.{comes_before, put_row, in_order}
 use Rattle.run_record.specs.declared.rows.HopRow.{HopRow}
 use Rattle.trace_audit.specs.Above.{is_at, rows_at}
-use Rattle.trace_audit.specs.Departures.{AreCounted}
+use Rattle.run_engine.specs.channels.Departures.{AreCounted}
 use Rattle.trace_audit.proofs.TableInOrder.{IsBelow, at-parts}
 
 -- ---- the order

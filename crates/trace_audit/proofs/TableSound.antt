@@ -3,6 +3,7 @@ use Rattle.std.proofs.Common.{◌≡◌, ℕ, suc, ◌+◌, ◌-◌, ◌<◌, �
 use Rattle.std.proofs.lemmas.Bool.{cases_Bool, cases_eq, eq-eqb, ne_eqb, le-leb, leb-false, lt-ltb, and_from, or_left, or_right}
 use Rattle.std.proofs.lemmas.List.{append-nil, append_assoc, reverse-append, reverse-reverse, length-reverse, length-map, take_at, map-append}
 use Rattle.std.specs.Prelude.{nat_le, reverse}
+use Rattle.std.proofs.lemmas.List.Elements.{filter-append}
 use Rattle.net_units.specs.Numbers.{channel_number}
 use Rattle.net_units.specs.declared.levels.Levels.{Levels}
 use Rattle.traffic_contract.specs.Eligible.{eligible}
@@ -16,9 +17,10 @@ use Rattle.run_record.specs.Rows.{in_order}
 use Rattle.run_record.specs.declared.rows.HopRow.{HopRow}
 use Rattle.trace_audit.specs.Above.{is_at, rows_at, row_at, ticks_above, tick_of, hop_before, packet_before}
 use Rattle.trace_audit.specs.Checks.{is_there, goes_on, is_next_packet, follows_row, follows, is_in_order, has_size_of, fits_size, is_not_sooner, arrives_from, arrives, may_go_from, is_eligible, fault_with, fault_under, fault_of, AllPass}
-use Rattle.trace_audit.specs.Departures.{AreCounted, HasNear, IsDeparture, AreDepartures}
+use Rattle.run_engine.specs.channels.Departures.{AreCounted}
+use Rattle.trace_audit.specs.Departures.{HasNear, IsDeparture, AreDepartures}
 use Rattle.trace_audit.proofs.TableInOrder.{IsBelow, RowsAreNumbered, at-parts, near-found, none-before, found-among}
-use Rattle.trace_audit.proofs.WholeRoute.{filter-append, filter-reverse}
+use Rattle.trace_audit.proofs.WholeRoute.{filter-reverse}
 use Rattle.trace_audit.proofs.SortedRows.{Climbs, AllRise, counted-above, counted-rise, rise-apart, order-climbs, order-among, among-order, rows-stay, not-both, one-place, is-own}
 use Rattle.trace_audit.proofs.KeptMatchesRows.{there-found}
 use Rattle.trace_audit.proofs.RowTerms.{row-known}

@@ -6,7 +6,7 @@ use Rattle.std.proofs.lemmas.Option.{get_or_from_slice_get}
 use Rattle.std.proofs.Math.Seq.{take-suc}
 use Rattle.std.specs.List.{slice_get}
 use Rattle.std.specs.Prelude.{reverse, filter}
-pub use Rattle.std.proofs.lemmas.List.Elements.{filter-append}
+use Rattle.std.proofs.lemmas.List.Elements.{filter-append}
 use Rattle.net_units.specs.Allotted.{levels_of}
 use Rattle.net_units.specs.LevelBounds.{bound_at}
 use Rattle.net_units.specs.declared.Kind.TheVariants.{Jitter}

@@ -7,8 +7,8 @@ use Rattle.interleave_core.specs.channels.Guarantee.{IsAccepted, AcceptedIn}
 use Rattle.interleave_core.proofs.Channels.ChainLaw.{open-or-not}
 use Rattle.interleave_core.proofs.Channels.FarHolds.{first-same}
 use Rattle.run_engine.proofs.Channels.RowsFollow.{held_at_hop}
-use Rattle.run_engine.proofs.Replies.RunCloses.{owned-once}
-use Rattle.run_engine.proofs.Replies.RunGoes.{GoesAt, IsAfter, run-goes, owned-asked}
+use Rattle.run_engine.proofs.Replies.RunCloses.{owned-once, fully-asked}
+use Rattle.run_engine.proofs.Replies.RunGoes.{GoesAt, IsAfter, run-goes}
 use Rattle.run_engine.proofs.Runs.EachRun.{each-resumed, entry-kept}
 use Rattle.run_engine.proofs.Tasks.EachSetup.{Before, Under, After, other-outcome}
 use Rattle.run_engine.proofs.Tasks.TaskAsks.{IsNoOpeningOf, ready-other}
@@ -102,7 +102,7 @@ module _ (network : Network) (request : Request) (owner : ℕ) (first : HopAt ne
 
   taken-next : (done : Done) (past : List Done) → NetworkFits network → RequestFits network.links request → OwnedFully network request owner → IsRun network past → (next : IsNext network past done) → (1 ≤ count_at network request 0 first past → AcceptedIn network request owner past) → 1 ≤ count_at network request 0 first (done ∷ past) → AcceptedIn network request owner (done ∷ past)
   taken-next done past fits sound full run next was some =
-      let asked' = owned-asked network request owner fits sound (owned-once network request owner full) in
+      let asked' = fully-asked network request owner fits sound full in
       elim (open-or-not (held_at_hop network request 0 first past)) [
         | inl opened ↦ accepted-later network request owner done past fits sound full run next (committed-accepted past fits sound full run opened.0 opened.1 opened.2)
         | inr quiet ↦ (let same = first-same network request first done past fits (asked' past run) run next (λ tick. quiet) in accepted-later network request owner done past fits sound full run next (was (omega (arith, same, some))))

@@ -1,5 +1,5 @@
 -- The fates of a channel's reservations in every run, by one induction with what its teardown was told.
-use Rattle.std.proofs.Common.{◌≡◌, ◌≢◌, ℕ, zero, suc, ◌≤◌, ◌⊎◌, true, List, [], ◌∷◌, ◌++◌, length, Option, Some, None, refl, sym, ap, ◌∙◌, subst, inl, inr, arith}
+use Rattle.std.proofs.Common.{◌≡◌, ℕ, zero, suc, ◌≤◌, ◌⊎◌, true, List, [], ◌∷◌, ◌++◌, length, Option, Some, None, refl, sym, ap, ◌∙◌, subst, inl, inr, arith}
 use Rattle.run_engine.proofs.Words.{cases_lt, same_Some, slice_get, find, link_number, channel_number, link_of, Ask, Release, Tick, Phase, Reply, count_at_release, reply_at, release_to, Reservation, closing, clock_of, scan_of, is_row_at_hop, after, RequestFits, Progress, Relaxing, Settled, Accepts, first_count, told_count, Request, Done, channel_packets, channel_of, NetworkFits, Task, Network, part_of, replies_to, IsNext, IsRun, Learnt, Standing, standing, OwnedFully, IsReleased, held_by, IsOff, IsMild, packets_on, ChannelAsked, HopAt, count_at}
 use Rattle.link_steps.specs.declared.replies.Phase.TheVariants as Ph
 use Rattle.link_steps.specs.declared.replies.Reply.TheVariants as Is
@@ -9,8 +9,9 @@ use Rattle.hop_reservation.proofs.DistinctLinks.{index-apart}
 use Rattle.setup_protocol.proofs.HopHolds.{IsComm, IsTail, HopStands, reserved_of}
 use Rattle.run_engine.proofs.Channels.RowsFollow.{held_at_hop, held-here, hop-reply, same-held}
 use Rattle.run_engine.proofs.Replies.ClosingStands.{AllComm, comm-later, send-later}
-use Rattle.run_engine.proofs.Replies.RunCloses.{owned-once, others-off, step-kind}
-use Rattle.run_engine.proofs.Replies.RunGoes.{owned-asked, hop-comes}
+use Rattle.run_engine.proofs.Replies.RunCloses.{others-off, step-kind, fully-asked}
+use Rattle.run_engine.proofs.Replies.RunGoes.{hop-comes}
+use Rattle.run_engine.proofs.Flights.FlightOrigins.{is-tick}
 use Rattle.run_engine.proofs.Runs.EachRun.{OwnStep, KeptByOthers, KeptBySteps, each-run}
 use Rattle.run_engine.proofs.Keeping.Lookups.{held, head-same}
 use Rattle.channel_laws.proofs.SendReplies.{release-committed}
@@ -39,10 +40,6 @@ open-or-not (Some terms) = by-phase terms.phase refl where
 
 tick-tells : (c least count : ℕ) (ask : Ask) → ask ≡ Tick → TellsAll c least count ask
 tick-tells c least count ask is = subst (TellsAll c least count) (sym is) tt
-
-pub is-tick : (ask : Ask) → (ask ≡ Tick) ⊎ (ask ≢ Tick)
-is-tick Tick = inl refl
-is-tick _ = inr (λ same. cc)
 
 fates-next : (network : Network) (request : Request) (first : HopAt network request 0) (done : Done) (past : List Done) → NetworkFits network → RequestFits network.links request → ((run : List Done) → IsRun network run → ChannelAsked request run) → IsRun network past → (next : IsNext network past done) → Chain network request first past
     → ((i : ℕ) (at : HopAt network request i) → link_number done.link ≡ link_number at.hop.link → TellsAll (channel_number request.chan) (count_at network request 0 first past) (count_at network request i at past) done.ask)
@@ -214,7 +211,7 @@ own-leaves network request first done past task replies fits sound asked run nex
 
 module _ (network : Network) (request : Request) (owner : ℕ) (first : HopAt network request 0) (fits : NetworkFits network) (sound : RequestFits network.links request) (full : OwnedFully network request owner) where
   asked : (run : List Done) → IsRun network run → ChannelAsked request run
-  asked run is = owned-asked network request owner fits sound (owned-once network request owner full) run is
+  asked run is = fully-asked network request owner fits sound full run is
 
   none-chain : Chain network request first []
   unfolding part_of scan_of

@@ -22,8 +22,8 @@ use Rattle.link_steps.proofs.PacketRows.{Among-passes}
 use Rattle.interleave_core.proofs.Delays.PathDelays.{passed, close-delays}
 use Rattle.interleave_core.proofs.Channels.AcceptedOnly.{taken-accepted}
 use Rattle.interleave_core.proofs.Flights.ReadyRun.{arrives-taken, counts-first}
-use Rattle.run_engine.proofs.Replies.RunCloses.{owned-once}
-use Rattle.run_engine.proofs.Replies.RunGoes.{owned-asked, accepted-levels}
+use Rattle.run_engine.proofs.Replies.RunCloses.{owned-once, fully-asked}
+use Rattle.run_engine.proofs.Replies.RunGoes.{accepted-levels}
 use Rattle.run_engine.proofs.Runs.RunLegal.{part-admissible, by-part}
 use Rattle.interleave_core.proofs.Channels.KeptRequest.{accepted-kept}
 use Rattle.interleave_core.specs.channels.Guarantee.{LeavesWithinBound, TakesArrive, IsOfAccepted, LinkGuaranteed, SourceKept, HasLeft, ChannelGuaranteed, Guaranteed}
@@ -90,7 +90,7 @@ channel-guaranteed network request owner tasks levels delay first run fits sound
       closer (reaches_at at one) (reaches_at at other) (arrived_at first run j) (arrived_at first run k) (bound_of at levels) (ticks i at) (omega (arith, near, a, b)));
 } where
   asked : (past : List Done) → IsRun network past → ChannelAsked request past
-  asked = owned-asked network request owner fits sound (owned-once network request owner full)
+  asked = fully-asked network request owner fits sound full
 
   have : HaveLevelsAt network request levels run
   have = (accepted-levels network request owner run tasks levels delay fits sound (owned-once network request owner full) is found accepted).0
@@ -160,7 +160,7 @@ some-there p (q ∷ ps) among = omega arith
 owned-packet : (network : Network) (run : List Done) (n : ℕ) (link : Link) (p : Arrival) → NetworkFits network → IsRun network run → slice_get network.links n ≡ Some link → Among p (packets_on link n run) → is_of_channel (channel_number p.chan) p ≡ true → IsOwned network (channel_number p.chan) → IsOfAccepted network run n p
 owned-packet network run n link p fits is linked among own owned =
     let request : Request = owned.request in
-    let asked = owned-asked network owned.request owned.owner fits owned.sound (owned-once network owned.request owned.owner owned.full) in
+    let asked = fully-asked network owned.request owned.owner fits owned.sound owned.full in
     let mine : is_of_channel (channel_number owned.request.chan) p ≡ true = subst (λ c. is_of_channel c p ≡ true) (sym owned.chan) own in
     let row = packet-offered network owned.request run n link p fits is (asked run is) owned.sound linked mine among in
     let hop = hop-at network owned.request row.route.index owned.sound (slice_get_within owned.request.route row.route.index row.route.hop row.route.stands) in

@@ -3,14 +3,15 @@
 use Rattle.std.proofs.Common.{◌≡◌, ℕ, ◌≤◌, List, [], ◌∷◌, Option, Some, None, sym, ap, ◌∙◌, subst, inl, inr, arith}
 use Rattle.run_engine.proofs.Words.{cases_lt, same_Some, channel_number, Ask, Tick, Reservation, scan_of, RequestFits, Progress, Relaxing, Settled, Accepts, Request, Done, NetworkFits, Network, part_of, IsNext, IsRun, OwnedFully, IsOff, IsMild, ChannelAsked, HopAt, count_at}
 use Rattle.link_steps.specs.declared.replies.Phase.TheVariants as Ph
-use Rattle.interleave_core.proofs.Channels.ChainLaw.{is-tick, open-or-not, run-chain}
+use Rattle.interleave_core.proofs.Channels.ChainLaw.{open-or-not, run-chain}
+use Rattle.run_engine.proofs.Flights.FlightOrigins.{is-tick}
 use Rattle.interleave_core.proofs.Channels.FarHolds.{first-same}
 use Rattle.channel_laws.proofs.HoldFates.{Fate, FateOpen, FateClosing, FateGone}
 use Rattle.setup_protocol.proofs.HopHolds.{IsTail, HopStands, reserved_of}
 use Rattle.run_engine.proofs.Channels.RowsFollow.{held_at_hop, AfterRows, comm-kept}
 use Rattle.run_engine.proofs.Replies.ClosingStands.{AllComm, comm-later}
-use Rattle.run_engine.proofs.Replies.RunCloses.{owned-once}
-use Rattle.run_engine.proofs.Replies.RunGoes.{HopLevels, levels-settled, levels-later, after-later, owned-asked}
+use Rattle.run_engine.proofs.Replies.RunCloses.{fully-asked}
+use Rattle.run_engine.proofs.Replies.RunGoes.{HopLevels, levels-settled, levels-later, after-later}
 use Rattle.interleave_core.proofs.Channels.OwnerEntries.{EntryIs, MildOne, SetupOne, entry-is}
 use Rattle.run_engine.proofs.Runs.RunFronts.{run-more}
 
@@ -63,7 +64,7 @@ off-tick c ask is = subst (IsOff c) (sym is) tt
 
 next-levelled : (network : Network) (request : Request) (owner : ℕ) (first : HopAt network request 0) (done : Done) (past : List Done) → NetworkFits network → RequestFits network.links request → OwnedFully network request owner → IsRun network past → (next : IsNext network past done) → 1 ≤ count_at network request 0 first (done ∷ past) → (1 ≤ count_at network request 0 first past → Levelled network request past) → Levelled network request (done ∷ past)
 next-levelled network request owner first done past fits sound full run next some was =
-    let asked = owned-asked network request owner fits sound (owned-once network request owner full) in
+    let asked = fully-asked network request owner fits sound full in
     let is = run-more network past done run next in
     let kept : count_at network request 0 first (done ∷ past) ≡ count_at network request 0 first past → Levelled network request (done ∷ past) = λ same.
     entry-levelled network request owner first done past (count_at network request 0 first (done ∷ past)) (count_at network request 0 first (done ∷ past)) fits run is (asked (done ∷ past) is)

@@ -3,8 +3,7 @@ use Rattle.std.proofs.Common.{◌≡◌, ℕ, suc, ◌≤◌, Bool, List, [], �
 use Rattle.run_engine.proofs.Words.{cond_both, same_Some, slice_get, filter, link_number, Tick, Entry, Sent, LinkShape, Link, reply_to, tick_reply, clock_with, clock_of, scan_of, starts_of, Arrival, Start, is_busy, is_waiting, first_in_line, add_start, serve_tick, starts_below, Among, Done, NetworkFits, Network, entry_of, part_of, IsNext, IsRun, ticked}
 use Rattle.link_steps.specs.declared.replies.Reply.TheVariants as Is
 use Rattle.link_steps.proofs.ServiceStarts.{starts_below-append}
-use Rattle.interleave_core.proofs.Channels.ChainLaw.{is-tick}
-use Rattle.interleave_core.proofs.Flights.LegLaw.{quiet-clock, entry-tick}
+use Rattle.run_engine.proofs.Flights.FlightOrigins.{entry-tick, is-tick, quiet-clock}
 use Rattle.channel_laws.proofs.DepartedCount.{history-from}
 use Rattle.run_engine.proofs.Runs.RunLegal.{part-on, part-admissible, by-part}
 use Rattle.channel_laws.proofs.SentInTime.{sent-facts, tick-answer}

@@ -17,8 +17,7 @@ use Rattle.interleave_core.proofs.Delays.PathLaw.{delay-more, path-law}
 use Rattle.run_engine.proofs.Flights.Punctual.{run-punctual}
 use Rattle.interleave_core.proofs.Flights.QueueTicks.{leg}
 use Rattle.interleave_core.proofs.Flights.ReadyRun.{two_of, run-legs}
-use Rattle.run_engine.proofs.Replies.RunCloses.{owned-once}
-use Rattle.run_engine.proofs.Replies.RunGoes.{owned-asked}
+use Rattle.run_engine.proofs.Replies.RunCloses.{fully-asked}
 use Rattle.run_engine.proofs.Runs.RunLegal.{run-stands, part-admissible}
 use Rattle.channel_laws.proofs.DepartedCount.{channel-few}
 use Rattle.channel_laws.proofs.NumberedPackets.{HasNumber, packets-have_numbers}
@@ -153,7 +152,7 @@ next-taken network request owner levels run first i near far k fits sound full i
     ] where
       late : OnItsWay (leg (channel_number request.chan) (link_number far.hop.link)) k (plane_at network run).flights → ⊥
       late way =
-          let names = owned-asked network request owner fits sound (owned-once network request owner full) in
+          let names = fully-asked network request owner fits sound full in
           let from = Each-among (ComesFrom network run) way.flight _ (run-flights network run fits is).from way.among in
           let parts = and_parts (nat_eq (channel_number way.flight.packet.chan) (channel_number request.chan)) (nat_eq (link_number way.flight.to) (link_number far.hop.link)) way.mine in
           let chan : channel_number from.taken.chan ≡ channel_number request.chan = ap channel_number (sym from.chan) ∙ eqb-true (channel_number way.flight.packet.chan) (channel_number request.chan) parts.0 in
@@ -199,11 +198,11 @@ module _ (network : Network) (request : Request) (owner : ℕ) (levels : List �
       → k < count_at network request 0 first run → get_or (hop_ticks network request 0 first run) k 0 + delay_before request levels (suc i) ≤ clock_of (part_of (link_number at.hop.link) run) + at.link.shape.prop
       → k < gone_of at.link.shape (channel_number request.chan) (part_of (link_number at.hop.link) run)
   path-departs zero at k fits sound full is have ticks taken due =
-      let names = owned-asked network request owner fits sound (owned-once network request owner full) in
+      let names = fully-asked network request owner fits sound full in
       let same = same-count network request 0 at first run in
       hop-gone network request levels run first 0 at k fits sound names is have (omega (arith, same, taken)) due
   path-departs (suc i) at k fits sound full is have ticks taken due =
-      let names = owned-asked network request owner fits sound (owned-once network request owner full) in
+      let names = fully-asked network request owner fits sound full in
       let within = slice_get_within request.route (suc i) at.hop at.stands in
       let before = hop-at network request i sound (omega (arith, within)) in
       let more = delay-more network request levels (suc i) at (let n = have.count in omega (arith, n, within)) in
@@ -218,7 +217,7 @@ module _ (network : Network) (request : Request) (owner : ℕ) (levels : List �
       → k < count_at network request 0 first run → get_or (hop_ticks network request 0 first run) k 0 + delay_before request levels (suc i) ≤ clock_of (part_of (link_number at.hop.link) run) + at.link.shape.prop
       → (k < count_at network request i at run) × ((p : Arrival) → slice_get (packets_at network request i at run) k ≡ Some p → has_departed at.link.shape.rate (starts_below at.link.shape.rate (packets_on at.link (link_number at.hop.link) run) (clock_of (part_of (link_number at.hop.link) run))) (clock_of (part_of (link_number at.hop.link) run)) p ≡ true)
   path-departed i at k fits sound full is have ticks taken due =
-      let names = owned-asked network request owner fits sound (owned-once network request owner full) in
+      let names = fully-asked network request owner fits sound full in
       let gone = path-departs i at k fits sound full is have ticks taken due in
       let fewer = count_by-le-length (has_departed at.link.shape.rate (starts_below at.link.shape.rate (packets_on at.link (link_number at.hop.link) run) (clock_of (part_of (link_number at.hop.link) run))) (clock_of (part_of (link_number at.hop.link) run))) (packets_at network request i at run) in
       let kept = length-filter (has_departed at.link.shape.rate (starts_below at.link.shape.rate (packets_on at.link (link_number at.hop.link) run) (clock_of (part_of (link_number at.hop.link) run))) (clock_of (part_of (link_number at.hop.link) run))) (packets_at network request i at run) in

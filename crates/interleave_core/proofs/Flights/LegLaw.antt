@@ -13,7 +13,7 @@ use Rattle.hop_reservation.proofs.DistinctLinks.{index-apart}
 use Rattle.channel_laws.proofs.DepartedCount.{gone-quiet, start-among, more-legal, level-channel}
 use Rattle.channel_laws.proofs.NumberedPackets.{HasNumber, packets-have_numbers}
 use Rattle.run_engine.specs.channels.Flights.{IsPunctual}
-pub use Rattle.run_engine.proofs.Flights.FlightOrigins.{entry-tick}
+use Rattle.run_engine.proofs.Flights.FlightOrigins.{entry-tick, quiet-clock}
 use Rattle.run_engine.proofs.Flights.Punctual.{run-punctual}
 use Rattle.interleave_core.proofs.Flights.QueueTicks.{leg, QueueOf, SendsTo, queue-ticks}
 use Rattle.run_engine.proofs.Runs.RunLegal.{flight-sent, part-on, part-off, run-stands, part-admissible, by-part, arrive-due, by-actor, caller-asks}
@@ -34,11 +34,6 @@ queue-lower own n dep low lower hi (f ∷ fs) less is =
       | inl mine ↦ inl (mine.0, mine.1, (let l = mine.2 in omega (arith, l, less)), mine.3)
       | inr other ↦ inr (other.0, queue-lower own n dep low lower hi fs less other.1)
     ]
-
--- an ask that is no tick leaves the near hop's end as it is
-pub quiet-clock : (ask : Ask) (t : ℕ) → ask ≢ Tick → clock_with ask t ≡ t
-quiet-clock Tick t other = absurd (other refl)
-quiet-clock _ t other = refl
 
 pub near-quiet : (network : Network) (shape : LinkShape) (c to n m : ℕ) (done : Done) (past : List Done) (flights : List Flight) → IsAdmissible shape (part_of m (done ∷ past)) → done.ask ≢ Tick → QueueOf shape c to n (part_of m past) flights → QueueOf shape c to n (part_of m (done ∷ past)) flights
 unfolding clock_of

@@ -22,8 +22,7 @@ use Rattle.interleave_core.proofs.Channels.LevelsHold.{Levelled, run-levelled}
 use Rattle.run_engine.proofs.Channels.HopsAt.{hop-at}
 use Rattle.interleave_core.proofs.Flights.ReadyLaw.{FarReady, ready-counts, taken-reply, replied}
 use Rattle.run_engine.proofs.Channels.RowsFollow.{held_at_hop}
-use Rattle.run_engine.proofs.Replies.RunCloses.{owned-once}
-use Rattle.run_engine.proofs.Replies.RunGoes.{owned-asked}
+use Rattle.run_engine.proofs.Replies.RunCloses.{fully-asked}
 use Rattle.run_engine.proofs.Runs.RunLegal.{part-admissible}
 
 abbrev pub two_of : (network : Network) (request : Request) (i : ℕ) → HopAt network request i → HopAt network request (suc i) → TwoHops network request i
@@ -115,7 +114,7 @@ ready-held network request i near far past packet terms fits sound asked run cha
 pub run-ready : (network : Network) (request : Request) (owner : ℕ) (i : ℕ) (near : HopAt network request i) (far : HopAt network request (suc i)) (done : Done) (past : List Done) (packet : Packet) → NetworkFits network → RequestFits network.links request → OwnedFully network request owner → IsRun network past → (next : IsNext network past done) → LegStands network request i (two_of network request i near far) past → done.ask ≡ Arrive packet → channel_number packet.chan ≡ channel_number request.chan → link_number done.link ≡ link_number far.hop.link
     → FindsReady network request i near far past packet
 run-ready network request owner i near far done past packet fits sound full run next leg arrives chan at =
-    let names = owned-asked network request owner fits sound (owned-once network request owner full) in
+    let names = fully-asked network request owner fits sound full in
     let first = hop-at network request 0 sound sound.route.least in
     let turn = arrive-in-turn network request i (two_of network request i near far) done past packet fits run next arrives chan at leg in
     let from = from-near network request i (two_of network request i near far) past done packet fits sound run (names past run) (arrive-comes network past done packet fits run next arrives) chan at in
@@ -130,8 +129,8 @@ run-ready network request owner i near far done past packet fits sound full run 
     let levelled = run-levelled network request owner first past fits sound full run (omega (arith, some)) in
     by-fate first some levelled ((run-chain network request owner first past fits sound full run).fates (omega (arith, some)) (suc i) far) where
       by-fate : (first : HopAt network request 0) → count_at network request (suc i) far past < count_at network request 0 first past → Levelled network request past → Fate (count_at network request 0 first past) (count_at network request (suc i) far past) (held_at_hop network request (suc i) far past) → FindsReady network request i near far past packet
-      by-fate first some levelled (FateOpen terms is phase) = ready-held network request i near far past packet terms fits sound (owned-asked network request owner fits sound (owned-once network request owner full) past run) run chan levelled is (λ tent. (let clash : Ph.Tentative ≡ Ph.Committed = sym tent ∙ phase in cc)) (λ closes. absurd (let clash : Ph.Closing ≡ Ph.Committed = sym closes ∙ phase in cc))
-      by-fate first some levelled (FateClosing terms is phase upto) = ready-held network request i near far past packet terms fits sound (owned-asked network request owner fits sound (owned-once network request owner full) past run) run chan levelled is (λ tent. (let clash : Ph.Tentative ≡ Ph.Closing = sym tent ∙ phase in cc)) (λ closes. omega (arith, some, upto))
+      by-fate first some levelled (FateOpen terms is phase) = ready-held network request i near far past packet terms fits sound (fully-asked network request owner fits sound full past run) run chan levelled is (λ tent. (let clash : Ph.Tentative ≡ Ph.Committed = sym tent ∙ phase in cc)) (λ closes. absurd (let clash : Ph.Closing ≡ Ph.Committed = sym closes ∙ phase in cc))
+      by-fate first some levelled (FateClosing terms is phase upto) = ready-held network request i near far past packet terms fits sound (fully-asked network request owner fits sound full past run) run chan levelled is (λ tent. (let clash : Ph.Tentative ≡ Ph.Closing = sym tent ∙ phase in cc)) (λ closes. omega (arith, some, upto))
       by-fate first some levelled (FateGone none upto) = absurd (omega (arith, some, upto))
 
 -- ---- the queue of each leg, in every run
@@ -141,7 +140,7 @@ unfolding IsRun
 run-legs network request owner i near far [] fits sound full is = leg-start network request i (two_of network request i near far)
 run-legs network request owner i near far (done ∷ past) fits sound full is =
     let leg = run-legs network request owner i near far past fits sound full is.0 in
-    let names = owned-asked network request owner fits sound (owned-once network request owner full) in
+    let names = fully-asked network request owner fits sound full in
     let level = one-level network request i near past fits is.0 (names past is.0) in
     leg-step network request i (two_of network request i near far) done past fits sound names is
     (λ packet arrives chan at. (let ready = run-ready network request owner i near far done past packet fits sound full is.0 is.1 leg arrives chan at in
@@ -199,7 +198,7 @@ arrives-at network request done past packet fits sound asked run next arrives ch
 -- each arrive of the channel in every run is taken
 pub arrives-taken : (network : Network) (request : Request) (owner : ℕ) (done : Done) (past : List Done) (packet : Packet) → NetworkFits network → RequestFits network.links request → OwnedFully network request owner → IsRun network past → (next : IsNext network past done) → done.ask ≡ Arrive packet → channel_number packet.chan ≡ channel_number request.chan → (clock : ℕ) × (eligible : ℕ) × (done.reply ≡ Is.Taken clock eligible)
 arrives-taken network request owner done past packet fits sound full run next arrives chan =
-    let names = owned-asked network request owner fits sound (owned-once network request owner full) in
+    let names = fully-asked network request owner fits sound full in
     let at = arrives-at network request done past packet fits sound (names past run) run next arrives chan in
     let leg = run-legs network request owner at.i at.near at.far past fits sound full run in
     let ready = run-ready network request owner at.i at.near at.far done past packet fits sound full run next leg arrives chan at.on in

@@ -4,8 +4,8 @@ use Rattle.run_engine.proofs.Words.{cases_Bool, eqb-true, and_parts, same_Some, 
 use Rattle.interleave_core.proofs.Channels.ChainLaw.{leaves-frozen}
 use Rattle.run_engine.proofs.Channels.ChannelsAt.{packets-numbered}
 use Rattle.interleave_core.proofs.Channels.FarHolds.{Frozen, frozen-later}
-use Rattle.run_engine.proofs.Replies.RunCloses.{owned-once, others-off}
-use Rattle.run_engine.proofs.Replies.RunGoes.{GoesAt, owned-asked, step-goes}
+use Rattle.run_engine.proofs.Replies.RunCloses.{owned-once, others-off, fully-asked}
+use Rattle.run_engine.proofs.Replies.RunGoes.{GoesAt, step-goes}
 use Rattle.run_engine.proofs.Runs.EachRun.{KeptBySteps, each-run, OwnStep, from-step-by}
 use Rattle.run_engine.proofs.Tasks.EachSetup.{Before, Under, After}
 use Rattle.run_engine.proofs.Tasks.TaskAsks.{off-mild, mild-tasks}
@@ -154,7 +154,7 @@ no-moves request told moved = cc
 
 module _ (network : Network) (request : Request) (owner : ℕ) (first : HopAt network request 0) (fits : NetworkFits network) (sound : RequestFits network.links request) (full : OwnedFully network request owner) where
   asked : (run : List Done) → IsRun network run → ChannelAsked request run
-  asked run is = owned-asked network request owner fits sound (owned-once network request owner full) run is
+  asked run is = fully-asked network request owner fits sound full run is
 
   -- once a move has told what it has kept, the first hop has taken so much
   abbrev MovesKept : List Done → List Learnt → Type 0
@@ -188,6 +188,6 @@ module _ (network : Network) (request : Request) (owner : ℕ) (first : HopAt ne
 
 pub moves-keep : EveryMoveKeeps
 moves-keep network request owner first run tasks told fits sound full is found moved = record {
-  numbered = packets-numbered network request run 0 first fits is (owned-asked network request owner fits sound (owned-once network request owner full) run is);
+  numbered = packets-numbered network request run 0 first fits is (fully-asked network request owner fits sound full run is);
   count = (run-moved network request owner first fits sound full run tasks is found told moved).upto;
 }

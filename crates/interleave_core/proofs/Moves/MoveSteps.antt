@@ -8,8 +8,7 @@ use Rattle.run_engine.proofs.Channels.HopsAt.{hop-at}
 use Rattle.interleave_core.proofs.Moves.LastPackets.{moves-take-last}
 use Rattle.interleave_core.proofs.Moves.MoveTotal.{cancelled_at, own-release, entry-cancels, first-cancels, run-shifted}
 use Rattle.run_engine.proofs.Replies.Replying.{moves-plan}
-use Rattle.run_engine.proofs.Replies.RunCloses.{owned-once, step-kind}
-use Rattle.run_engine.proofs.Replies.RunGoes.{owned-asked}
+use Rattle.run_engine.proofs.Replies.RunCloses.{step-kind, fully-asked}
 use Rattle.run_engine.proofs.Runs.RunLegal.{run-stands, owner-asks}
 use Rattle.run_engine.proofs.Runs.EachRun.{OwnStep}
 use Rattle.run_engine.proofs.Replies.OwnerKinds.{IsLeaving, stage-told}
@@ -62,7 +61,7 @@ module _ (network : Network) (past : List Done) (done : Done) (owner gap size : 
   step-of (AsksFirst none own release) =
       let on = hop-link network old 0 first done.link own in
       let kind = step-kind network old owner script past done (Moves old new gap size) rest replies outcomes fits sound full step in
-      let now = first-cancels network old first done past (Moves old new gap size) replies fits (owned-asked network old owner fits sound (owned-once network old owner full) past step.run) step.run step.next leaving none kind in
+      let now = first-cancels network old first done past (Moves old new gap size) replies fits (fully-asked network old owner fits sound full past step.run) step.run step.next leaving none kind in
       Leaves on release (none-before network old first done past on release now)
   step-of (AsksSubmit reply one some own submit) =
       let to = hop-at network new 0 fit.of_new (slice_get_within new.route 0 own.hop own.stands) in

@@ -8,8 +8,7 @@ use Rattle.interleave_core.proofs.Moves.Emptied.{uncancelled, none-left-closing}
 use Rattle.interleave_core.proofs.Channels.FarHolds.{Frozen}
 use Rattle.interleave_core.proofs.Moves.MoveLaw.{MoveTold, Was, Now, move-own, no-moves, run-moved, move-told}
 use Rattle.run_engine.proofs.Channels.RowsFollow.{held_at_hop, hop-may}
-use Rattle.run_engine.proofs.Replies.RunCloses.{owned-once, others-off, step-kind}
-use Rattle.run_engine.proofs.Replies.RunGoes.{owned-asked}
+use Rattle.run_engine.proofs.Replies.RunCloses.{others-off, step-kind, fully-asked}
 use Rattle.run_engine.proofs.Runs.RunLegal.{part-on, part-admissible, by-part}
 use Rattle.interleave_core.proofs.Moves.TotalLaw.{none-lost, release-cancels}
 use Rattle.run_engine.proofs.Runs.EachRun.{KeptBySteps, KeptByOthers, each-run, OwnStep}
@@ -146,7 +145,7 @@ first-told-by (reply ∷ replies) told is = (reply, replies, refl, same_Some (to
 
 module _ (network : Network) (request : Request) (owner : ℕ) (first : HopAt network request 0) (fits : NetworkFits network) (sound : RequestFits network.links request) (full : OwnedFully network request owner) where
   asked : (run : List Done) → IsRun network run → ChannelAsked request run
-  asked run is = owned-asked network request owner fits sound (owned-once network request owner full) run is
+  asked run is = fully-asked network request owner fits sound full run is
 
   abbrev ShiftedBy : List Done → Standing → Type 0
   ShiftedBy run at = ShiftedAt request (cancelled_at network request first run) at

@@ -1,7 +1,7 @@
 -- Each flight of a run is of a packet that has left a link within its bound; and while the links make their ticks no
 -- flight is due.
-use Rattle.std.proofs.Common.{◌≡◌, ℕ, suc, ◌+◌, ◌<◌, ◌≤◌, Bool, false, List, [], ◌∷◌, ◌++◌, length, Option, Some, None, refl, sym, ap, ◌∙◌, subst, inl, inr, arith, append-nil}
-use Rattle.run_engine.proofs.Words.{cases_Bool, ne_eqb, slice_get_within, slice_get, nat_eq, find, bound_at, link_number, link_at, LinkNo, Ask, Tick, Entry, Reply, Sent, LinkShape, Link, IsAdmissible, Each, Among, tick_reply, reply_to, clock_of, scan_of, Arrival, leaves_at, Done, NetworkFits, Network, Flight, Plane, is_due, next_due, ask_due, flight_in, tick_made, plane_with, plane_of, entry_of, part_of, replies_to, plane_at, IsNext, IsRun, ticked, IsSent, packets_on, ComesFrom}
+use Rattle.std.proofs.Common.{◌≡◌, ◌≢◌, ◌⊎◌, ℕ, suc, ◌+◌, ◌<◌, ◌≤◌, Bool, false, List, [], ◌∷◌, ◌++◌, length, Option, Some, None, refl, sym, ap, ◌∙◌, subst, inl, inr, arith, append-nil}
+use Rattle.run_engine.proofs.Words.{cases_Bool, ne_eqb, slice_get_within, slice_get, nat_eq, find, bound_at, link_number, link_at, LinkNo, Ask, Tick, Entry, Reply, Sent, LinkShape, Link, IsAdmissible, Each, Among, tick_reply, reply_to, clock_with, clock_of, scan_of, Arrival, leaves_at, Done, NetworkFits, Network, Flight, Plane, is_due, next_due, ask_due, flight_in, tick_made, plane_with, plane_of, entry_of, part_of, replies_to, plane_at, IsNext, IsRun, ticked, IsSent, packets_on, ComesFrom}
 use Rattle.std.proofs.lemmas.List.Folds.{find-append}
 use Rattle.link_steps.proofs.SearchAndFilter.{Each-among, Each-if, Each-without_first}
 use Rattle.link_steps.proofs.FoundElements.{Each-from_among}
@@ -91,6 +91,15 @@ none-found test [] each = refl
 none-found test (x ∷ xs) each = rw each.0 (none-found test xs each.1)
 
 -- ---- one entry more
+
+pub is-tick : (ask : Ask) → (ask ≡ Tick) ⊎ (ask ≢ Tick)
+is-tick Tick = inl refl
+is-tick _ = inr (λ same. cc)
+
+-- an ask that is no tick leaves the clock as it is
+pub quiet-clock : (ask : Ask) (t : ℕ) → ask ≢ Tick → clock_with ask t ≡ t
+quiet-clock Tick t other = absurd (other refl)
+quiet-clock _ t other = refl
 
 pub entry-tick : (done : Done) (given : Reply) → Tick ≡ done.ask → done.reply ≡ given → ◌≡◌ {A = Entry} (entry_of done) (record { ask = Tick; reply = given })
 entry-tick done given tick answered = same done.ask done.reply (sym tick) answered where

@@ -12,8 +12,8 @@ use Rattle.run_engine.proofs.Channels.HopsAt.{hop-at}
 use Rattle.run_engine.proofs.Tasks.SingleAskTask.{once-asked}
 use Rattle.channel_laws.proofs.UnsentPlans.{row-at-hop}
 use Rattle.run_engine.proofs.Channels.RowsFollow.{hop-reply}
-use Rattle.run_engine.proofs.Replies.RunCloses.{owned-once}
-use Rattle.run_engine.proofs.Replies.RunGoes.{owned-asked, step-stands}
+use Rattle.run_engine.proofs.Replies.RunCloses.{fully-asked}
+use Rattle.run_engine.proofs.Replies.RunGoes.{step-stands}
 use Rattle.run_engine.proofs.Runs.RunLegal.{run-stands, part-admissible}
 use Rattle.run_engine.proofs.Runs.EachRun.{each-left, from-step-by, KeptBySteps, each-run}
 use Rattle.run_engine.proofs.Tasks.OwnTasks.{standing-is, script-own, OwnTask, own-task, owner-is}
@@ -141,7 +141,7 @@ told-small network actor task tasks replies outcomes done past request fits fit 
           let own : once_next link (Submit chan count gap size) replies ≡ Some (done.link, done.ask) = subst (λ t. task_ask t replies ≡ Some (done.link, done.ask)) is asks in
           let once = once-asked link (Submit chan count gap size) replies done.link done.ask own in
           let planned : done.reply ≡ Is.Planned clock = head-same done.reply [] (Is.Planned clock) rest (ap (λ rs. rs ++ done.reply ∷ []) (sym once.fresh) ∙ told) in
-          let within = sent-small network request (Sends link (Some chan) count gap size) send done past fits sound (owned-asked network request actor fits sound (owned-once network request actor full) past run) run next (subst (λ rs. once_next link (Submit chan count gap size) rs ≡ Some (done.link, done.ask)) once.fresh own) clock planned in
+          let within = sent-small network request (Sends link (Some chan) count gap size) send done past fits sound (fully-asked network request actor fits sound full past run) run next (subst (λ rs. once_next link (Submit chan count gap size) rs ≡ Some (done.link, done.ask)) once.fresh own) clock planned in
           let same : size ≡ send.size = ap size_of send.is in
           omega (arith, within, same)
 

@@ -1,8 +1,8 @@
 -- In every run each submit is planned, or refused as busy or too big, and each release is answered with a closing.
 use Rattle.run_engine.proofs.Runs.EachRun.{OwnStep, KeptBySteps, each-run}
 use Rattle.std.proofs.Common.{◌≡◌, ◌≢◌, ℕ, List, [], ◌∷◌, ◌++◌, Some, sym, subst, inl, inr, None, false, refl}
-use Rattle.run_engine.proofs.Words.{UsedOnce, SendsOnce, FullScript, OwnedFully, Learnt, task_ask, is_established, Standing, outcome_by, newest, slice_get, actor_number, channel_number, Reply, Each, RequestFits, Request, Done, NetworkFits, Task, Opens, Network, part_of, IsNext, IsOff}
-use Rattle.run_engine.proofs.Replies.RunGoes.{OwnedOnce, step-setup}
+use Rattle.run_engine.proofs.Words.{UsedOnce, SendsOnce, FullScript, OwnedFully, Learnt, task_ask, is_established, Standing, outcome_by, newest, slice_get, actor_number, channel_number, Reply, Each, RequestFits, Request, Done, NetworkFits, Task, Opens, Network, part_of, IsNext, IsRun, IsOff, ChannelAsked}
+use Rattle.run_engine.proofs.Replies.RunGoes.{OwnedOnce, owned-asked, step-setup}
 use Rattle.run_engine.proofs.Replies.ClosingStands.{ClosesAt, Early, closes-later, each-sends, BetweenTasks, UnderWay, next-begins, task-over}
 use Rattle.call_script.proofs.OneOwner.{closes-sends}
 use Rattle.run_engine.proofs.Replies.ClosingSteps.{IsUsualReply, OneReply, one-reply, told-first}
@@ -38,6 +38,9 @@ module _ (request : Request) where
 
 pub owned-once : (network : Network) (request : Request) (owner : ℕ) → OwnedFully network request owner → OwnedOnce network request owner
 owned-once network request owner full = record { inside = full.inside; own = λ tasks found. full-once request tasks (full.own tasks found); others = full.others }
+
+pub fully-asked : (network : Network) (request : Request) (owner : ℕ) → NetworkFits network → RequestFits network.links request → OwnedFully network request owner → (run : List Done) → IsRun network run → ChannelAsked request run
+fully-asked network request owner fits sound full = owned-asked network request owner fits sound (owned-once network request owner full)
 
 -- ---- every run
 

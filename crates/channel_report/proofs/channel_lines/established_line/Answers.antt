@@ -3,7 +3,7 @@ use Rattle.std.proofs.lemmas.Option.{same_Some}
 use Rattle.std.specs.Prelude.{filter}
 use Rattle.traffic_contract.specs.Keeping.{keeps}
 use Rattle.channel_report.specs.Sources.{first_link, is_made}
-use Rattle.run_record.specs.Rows.{rows_of}
+use Rattle.channel_report.specs.Delays.{departures_of}
 use Rattle.run_engine.proofs.Keeping.Lookups.{found-at}
 use Rattle.channel_report.specs.Channels.{established_line, told_channel}
 use Rattle.channel_report.proofs.EstablishedLine.{first-within, route-some, offered-is, refused-is, established-is}
@@ -30,5 +30,5 @@ returns c = λ entries entry are found.
     let late = are.delays.tells number read c.index.result.now read_found delay in
     let refused = refused-is c.args.plan.now entries findings number read c.index-tally.result.now plan are read_found tally in
     let keeping = c.keeps-keeps.ensures.test ∙ ap (keeps read.request.contract) (c.as_slice-3.ensures.value ∙ sym c.as_slice-4.ensures.value) in
-    let line = established-is (rows_of entries) (reverse entries) read read c.as_slice-4.result.now c.keeps-keeps.result c.index.result.now c.index-tally.result.now.refused refl offered keeping late refused in
-    c.in_ok-push_channel.ensures ∙ (ap (λ front. front ++ told_channel read.name (length c.as_slice-4.result.now) c.keeps-keeps.result c.index.result.now.delivered c.index.result.now.least c.index.result.now.worst c.index-tally.result.now.refused) c.new-line.ensures.bytes ∙ (line ∙ ap (established_line (rows_of entries) (reverse entries)) same))
+    let line = established-is (departures_of entries) (reverse entries) read read c.as_slice-4.result.now c.keeps-keeps.result c.index.result.now c.index-tally.result.now.refused refl offered keeping late refused in
+    c.in_ok-push_channel.ensures ∙ (ap (λ front. front ++ told_channel read.name (length c.as_slice-4.result.now) c.keeps-keeps.result c.index.result.now.delivered c.index.result.now.least c.index.result.now.worst c.index-tally.result.now.refused) c.new-line.ensures.bytes ∙ (line ∙ ap (established_line (departures_of entries) (reverse entries)) same))

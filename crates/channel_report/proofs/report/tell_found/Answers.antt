@@ -1,5 +1,5 @@
 use Rattle.std.proofs.Common.{◌++◌, length, reverse}
-use Rattle.run_record.specs.Rows.{rows_of}
+use Rattle.channel_report.specs.Delays.{departures_of}
 use Rattle.channel_report.specs.Channels.{channel_lines}
 use Rattle.channel_report.specs.Report.{end_line, link_lines, table_if}
 use Rattle.channel_report.specs.Moves.{move_lines}
@@ -9,10 +9,10 @@ use Rattle.channel_report.proofs.report.tell_found.Goals as goal
 
 pub returns-in_err-tell_routes : goal.returns-in_err-tell_routes
 returns-in_err-tell_routes g c = λ entries found.
-    first-failed c.from_residual.result c.in_err-tell_routes.field-0.0 _ _ c.args.gather.now c.tell_routes.new.gather _ _ (route_lines c.args.plan.now.links c.args.plan.now.requests) (move_lines c.args.plan.now (reverse entries) ++ (channel_lines c.args.plan.now (rows_of entries) (reverse entries) ++ (link_lines c.args.plan.now (reverse entries) ++ (end_line (length entries) ++ table_if c.args.findings.now.packets c.args.plan.now entries)))) c.from_residual.ensures.1
+    first-failed c.from_residual.result c.in_err-tell_routes.field-0.0 _ _ c.args.gather.now c.tell_routes.new.gather _ _ (route_lines c.args.plan.now.links c.args.plan.now.requests) (move_lines c.args.plan.now (reverse entries) ++ (channel_lines c.args.plan.now (departures_of entries) (reverse entries) ++ (link_lines c.args.plan.now (reverse entries) ++ (end_line (length entries) ++ table_if c.args.findings.now.packets c.args.plan.now entries)))) c.from_residual.ensures.1
     (rw (c.links.ensures.value, c.requests.ensures.value) at c.in_err-tell_routes.ensures)
 
 pub returns : goal.returns
 returns g c = λ entries found.
     both-told c.tell_moved.result _ (g.K.Sink.written c.tell_routes.new.sink) _ c.args.gather.now c.tell_routes.new.gather c.tell_moved.new.gather _ (g.K.Sink.faults c.tell_routes.new.sink) _ (route_lines c.args.plan.now.links c.args.plan.now.requests)
-    (move_lines c.args.plan.now (reverse entries) ++ (channel_lines c.args.plan.now (rows_of entries) (reverse entries) ++ (link_lines c.args.plan.now (reverse entries) ++ (end_line (length entries) ++ table_if c.args.findings.now.packets c.args.plan.now entries)))) (rw (c.links.ensures.value, c.requests.ensures.value) at c.in_ok-tell_routes.ensures) (c.tell_moved.ensures entries found)
+    (move_lines c.args.plan.now (reverse entries) ++ (channel_lines c.args.plan.now (departures_of entries) (reverse entries) ++ (link_lines c.args.plan.now (reverse entries) ++ (end_line (length entries) ++ table_if c.args.findings.now.packets c.args.plan.now entries)))) (rw (c.links.ensures.value, c.requests.ensures.value) at c.in_ok-tell_routes.ensures) (c.tell_moved.ensures entries found)

@@ -2,7 +2,7 @@
 use Rattle.std.proofs.Common.{◌<◌, length, reverse, ◌∙◌}
 use Rattle.std.specs.Prelude.{option_map}
 use Rattle.run_engine.proofs.Keeping.Lookups.{held}
-use Rattle.run_record.specs.Rows.{rows_of}
+use Rattle.channel_report.specs.Delays.{departures_of}
 use Rattle.setup_protocol.specs.State.{outcome_of}
 use Rattle.channel_report.proofs.SumsOverRequests.{few-more, sums-more}
 use Rattle.channel_report.proofs.summary.sum_up.Goals as goal
@@ -22,6 +22,6 @@ loop-number-preserved c =
       delivered = few.delivered;
       told = λ entries found.
           c.add.ensures
-          ∙ sums-more (rows_of entries) (reverse entries) requests number entry.item outcome c.delivered_on.result c.loop-number.sums inside (read-at requests number entry.item entry.found) (c.verdict-verdict.ensures (reverse entries) entry.item found.run found.callers entry.found)
+          ∙ sums-more (departures_of entries) (reverse entries) requests number entry.item outcome c.delivered_on.result c.loop-number.sums inside (read-at requests number entry.item entry.found) (c.verdict-verdict.ensures (reverse entries) entry.item found.run found.callers entry.found)
           (c.delivered_on.ensures.told c.args.plan.now entries entry.item found entry.found) (c.loop-number.invariant.told entries found);
     }

@@ -1,5 +1,5 @@
 use Rattle.std.proofs.Common.{◌≡◌, ◌*◌, ◌≤◌, List, reverse, take}
-use Rattle.run_record.specs.Rows.{rows_of}
+use Rattle.channel_report.specs.Delays.{departures_of}
 use Rattle.run_record.specs.declared.done.Done.{Done}
 use Rattle.channel_report.specs.Findings.{AreFound}
 use Rattle.channel_report.specs.Summary.{sums_of}
@@ -11,5 +11,5 @@ invariant-loop-number l = record {
   accepted : l.sums.accepted ≤ l.number;
   denied : l.sums.denied ≤ l.number;
   delivered : l.sums.delivered ≤ 18446744073709551616 * l.number;
-  told : (entries : List Done) → AreFound l.plan entries l.findings → l.sums ≡ sums_of (rows_of entries) (reverse entries) (take l.number l.plan.requests);
+  told : (entries : List Done) → AreFound l.plan entries l.findings → l.sums ≡ sums_of (departures_of entries) (reverse entries) (take l.number l.plan.requests);
 }

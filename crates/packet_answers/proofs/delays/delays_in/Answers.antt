@@ -1,11 +1,12 @@
 use Rattle.std.proofs.Common.{take, reverse, refl, sym, ap, ◌∙◌, arith}
-use Rattle.channel_report.specs.Delays.{delays_of, first_in, nearer, worst_of}
-use Rattle.channel_report.proofs.DelaysRowByRow.{first-more, front-more}
+use Rattle.channel_report.specs.Delays.{worst_of}
+use Rattle.report_laws.specs.RowDelays.{first_in, nearer, row_delays_of}
+use Rattle.report_laws.proofs.DelaysRowByRow.{first-more, front-more}
 use Rattle.packet_answers.specs.ChannelDelays.{delays_as}
 use Rattle.packet_answers.proofs.delays.delays_in.Goals as goal
 
 pub loop-row-init : goal.loop-row-init
-unfolding first_in delays_of worst_of
+unfolding first_in row_delays_of worst_of
 loop-row-init c = record { few = omega arith; first = refl; delays = λ request ends. refl }
 
 pub loop-row-preserved : goal.loop-row-preserved
@@ -17,7 +18,7 @@ loop-row-preserved c =
     record {
       few = omega (arith, c.deliver.ensures.few, c.loop-row.invariant.few);
       first = first ∙ ap first_in (sym more);
-      delays = λ request ends. c.deliver.ensures.told request before ends first (c.loop-row.invariant.delays request ends) ∙ ap (λ rs. delays_as (delays_of request rs)) (sym more);
+      delays = λ request ends. c.deliver.ensures.told request before ends first (c.loop-row.invariant.delays request ends) ∙ ap (λ rs. delays_as (row_delays_of request rs)) (sym more);
     }
 
 pub deliver-requires : goal.deliver-requires

@@ -1,19 +1,15 @@
 -- In a table whose rows all pass, the nearest row of a first hop, at a row or above it, is of the row's packet. So each row of a last hop
 -- tells the delay of its packet.
 use Rattle.std.proofs.Common.{◌≡◌, ℕ, ◌-◌, ◌+◌, List, [], ◌∷◌, ◌++◌, length, Option, Some, true, false, refl, sym, ap, ◌∙◌, subst, inl, inr, suc}
-use Rattle.std.proofs.lemmas.Bool.{cases_Bool, and_parts, eqb-true, eqb-false, eq-eqb}
-use Rattle.std.specs.Prelude.{nat_eq, filter}
-use Rattle.net_units.specs.Numbers.{channel_number}
+use Rattle.run_engine.proofs.Words.{cases_Bool, and_parts, eqb-true, eqb-false, eq-eqb, nat_eq, filter, channel_number, Among, Request, PlanParts}
 use Rattle.net_units.specs.declared.levels.Levels.{Levels}
-use Rattle.link_steps.specs.Lists.{Among}
-use Rattle.setup_protocol.specs.declared.request.Request.{Request}
-use Rattle.call_script.specs.Parts.{PlanParts}
 use Rattle.run_record.specs.declared.rows.HopRow.{HopRow}
 use Rattle.trace_audit.specs.Checks.{AllPass}
 use Rattle.trace_audit.proofs.TableInOrder.{Follows, GoesOn, IsNext, IsLater, follows-told, order-parts}
 use Rattle.trace_audit.proofs.PassingRow.{passes-told}
-use Rattle.channel_report.specs.Delays.{first_in, last_prop, is_last, delay_by, delays_of}
-use Rattle.channel_report.proofs.ToldDelays.{DelayOf, first-is, later}
+use Rattle.channel_report.specs.Delays.{last_prop}
+use Rattle.report_laws.proofs.ToldDelays.{DelayOf, first-is, later}
+use Rattle.report_laws.specs.RowDelays.{first_in, is_last, delay_by, row_delays_of}
 
 -- the nearest row of a first hop is of one packet with this row
 pub record HasFirst (rows : List HopRow) (row : HopRow) : Type 0 where
@@ -51,22 +47,22 @@ one-delay request row above near last =
 pub none-delay : (request : Request) (row : HopRow) (found : Option HopRow) → is_last request row ≡ false → delay_by request found row ≡ []
 none-delay request row found other = rw other refl
 
-pub delays-count : (plan : PlanParts) (levels : List (Option Levels)) (request : Request) (rows : List HopRow) → AllPass plan levels rows → length (delays_of request rows) ≡ length (filter (is_last request) rows)
-unfolding delays_of AllPass
+pub delays-count : (plan : PlanParts) (levels : List (Option Levels)) (request : Request) (rows : List HopRow) → AllPass plan levels rows → length (row_delays_of request rows) ≡ length (filter (is_last request) rows)
+unfolding row_delays_of AllPass
 delays-count plan levels request [] pass = refl
 delays-count plan levels request (row ∷ above) pass =
     let rest = delays-count plan levels request above pass.0 in
     elim (cases_Bool (is_last request row)) [
       | inl last ↦ (let kept : length (filter (is_last request) (row ∷ above)) ≡ suc (length (filter (is_last request) above)) = rw last refl in
-          ap (λ ds. length (ds ++ delays_of request above)) (one-delay request row above (has-first plan levels row above pass) last) ∙ ap suc rest ∙ sym kept)
+          ap (λ ds. length (ds ++ row_delays_of request above)) (one-delay request row above (has-first plan levels row above pass) last) ∙ ap suc rest ∙ sym kept)
       | inr other ↦ (let kept : length (filter (is_last request) (row ∷ above)) ≡ length (filter (is_last request) above) = rw other refl in
-          ap (λ ds. length (ds ++ delays_of request above)) (none-delay request row (first_in (row ∷ above)) other) ∙ rest ∙ sym kept)
+          ap (λ ds. length (ds ++ row_delays_of request above)) (none-delay request row (first_in (row ∷ above)) other) ∙ rest ∙ sym kept)
     ]
 
 -- the delay that a row of the last hop tells
 pub record TellsDelay (request : Request) (rows : List HopRow) (row : HopRow) : Type 0 where
   pub delay : ℕ
-  pub among : Among delay (delays_of request rows)
+  pub among : Among delay (row_delays_of request rows)
   pub of : DelayOf request rows delay
   pub row_is : of.row ≡ row
 
@@ -75,7 +71,7 @@ among-later delay [] ys among = among
 among-later delay (x ∷ xs) ys among = inr (among-later delay xs ys among)
 
 pub tells-delay : (plan : PlanParts) (levels : List (Option Levels)) (request : Request) (rows : List HopRow) (row : HopRow) → AllPass plan levels rows → Among row rows → is_last request row ≡ true → TellsDelay request rows row
-unfolding delays_of AllPass later
+unfolding row_delays_of AllPass later
 tells-delay plan levels request [] row pass among last = absurd among
 tells-delay plan levels request (top ∷ above) row pass (inl same) last =
     subst (TellsDelay request (top ∷ above)) (sym same) (here (subst (λ r. is_last request r ≡ true) same last)) where
@@ -86,7 +82,7 @@ tells-delay plan levels request (top ∷ above) row pass (inl same) last =
           let parts = and_parts (nat_eq (channel_number top.chan) (channel_number request.chan)) (nat_eq top.hop (length request.route)) is in
           record {
             delay = top.departed + last_prop request.route - near.first.at;
-            among = subst (λ ds. Among (top.departed + last_prop request.route - near.first.at) (ds ++ delays_of request above)) (sym (one-delay request top above near is)) (inl refl);
+            among = subst (λ ds. Among (top.departed + last_prop request.route - near.first.at) (ds ++ row_delays_of request above)) (sym (one-delay request top above near is)) (inl refl);
             of = record {
               row = top;
               among = inl refl;
@@ -105,7 +101,7 @@ tells-delay plan levels request (top ∷ above) row pass (inr there) last =
     let rest = tells-delay plan levels request above row pass.0 there last in
     record {
       delay = rest.delay;
-      among = among-later rest.delay (delay_by request (first_in (top ∷ above)) top) (delays_of request above) rest.among;
+      among = among-later rest.delay (delay_by request (first_in (top ∷ above)) top) (row_delays_of request above) rest.among;
       of = later request top above rest.delay rest.of;
       row_is = rest.row_is;
     }

@@ -1,15 +1,12 @@
 -- Each delay that the report counts comes from two rows of one packet, that of its first hop and that of its last; and the least and the
 -- greatest of some delays are among them.
 use Rattle.std.proofs.Common.{◌≡◌, ℕ, ◌+◌, ◌-◌, List, [], ◌∷◌, length, Option, Some, None, refl, sym, ap, ◌∙◌, subst, inl, inr, arith}
-use Rattle.std.proofs.lemmas.Bool.{cases_Bool, cases_lt, eqb-true}
-use Rattle.std.proofs.lemmas.Option.{same_Some}
-use Rattle.std.specs.Prelude.{min, max, nat_eq}
-use Rattle.net_units.specs.Numbers.{channel_number}
-use Rattle.link_steps.specs.Lists.{Each, Among}
+use Rattle.run_engine.proofs.Words.{cases_Bool, cases_lt, eqb-true, same_Some, nat_eq, channel_number, Each, Among, Request}
+use Rattle.std.specs.Prelude.{min, max}
 use Rattle.link_steps.proofs.SearchAndFilter.{Each-append, Each-if}
-use Rattle.setup_protocol.specs.declared.request.Request.{Request}
 use Rattle.run_record.specs.declared.rows.HopRow.{HopRow}
-use Rattle.channel_report.specs.Delays.{first_in, last_prop, delay_by, delays_of, least_with, least_of, worst_with, worst_of}
+use Rattle.channel_report.specs.Delays.{last_prop, least_with, least_of, worst_with, worst_of}
+use Rattle.report_laws.specs.RowDelays.{first_in, delay_by, row_delays_of}
 
 -- the rows of a packet at its first hop and at its last, and its delay
 pub record DelayOf (request : Request) (rows : List HopRow) (delay : ℕ) : Type 0 where
@@ -85,12 +82,12 @@ later request row before delay of = record {
   is = of.is;
 }
 
-pub delays-are : (request : Request) (rows : List HopRow) → Each (DelayOf request rows) (delays_of request rows)
-unfolding delays_of
+pub delays-are : (request : Request) (rows : List HopRow) → Each (DelayOf request rows) (row_delays_of request rows)
+unfolding row_delays_of
 delays-are request [] = tt
 delays-are request (row ∷ before) =
-    Each-append (DelayOf request (row ∷ before)) (delay_by request (first_in (row ∷ before)) row) (delays_of request before) (delay-by request row before (first_in (row ∷ before)) refl)
-    (Each-if (DelayOf request before) (DelayOf request (row ∷ before)) (delays_of request before) (λ delay of. later request row before delay of) (delays-are request before))
+    Each-append (DelayOf request (row ∷ before)) (delay_by request (first_in (row ∷ before)) row) (row_delays_of request before) (delay-by request row before (first_in (row ∷ before)) refl)
+    (Each-if (DelayOf request before) (DelayOf request (row ∷ before)) (row_delays_of request before) (λ delay of. later request row before delay of) (delays-are request before))
 
 -- ---- the least and the greatest
 

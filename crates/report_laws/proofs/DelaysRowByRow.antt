@@ -1,12 +1,9 @@
 -- The delay of one row, and the rows so far.
 use Rattle.std.proofs.Common.{◌≡◌, ℕ, ◌+◌, ◌<◌, Option, List, [], ◌∷◌, ◌++◌, length, get_or, take, reverse, refl, sym, ap, ◌∙◌, inl, inr}
-use Rattle.std.specs.Prelude.{nat_eq}
-use Rattle.std.proofs.lemmas.Bool.{cases_Bool, eq-eqb, ne_eqb}
-use Rattle.std.proofs.lemmas.List.{take_more, reverse-append}
-use Rattle.net_units.specs.Numbers.{channel_number}
+use Rattle.run_engine.proofs.Words.{nat_eq, cases_Bool, eq-eqb, ne_eqb, take_more, reverse-append, channel_number, Request}
 use Rattle.run_record.specs.declared.rows.HopRow.{HopRow}
-use Rattle.setup_protocol.specs.declared.request.Request.{Request}
-use Rattle.channel_report.specs.Delays.{delay_by, delay_from, first_in, last_prop, nearer}
+use Rattle.channel_report.specs.Delays.{last_prop}
+use Rattle.report_laws.specs.RowDelays.{delay_by, delay_from, first_in, nearer}
 
 -- the delay of a row of the channel at its last hop
 pub by-last : (request : Request) (first : Option HopRow) (row : HopRow) (prop : ℕ) (delays : List ℕ) → channel_number row.chan ≡ channel_number request.chan → row.hop ≡ length request.route → last_prop request.route ≡ prop → delay_from prop row first ≡ delays → delay_by request first row ≡ delays
