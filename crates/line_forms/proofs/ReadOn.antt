@@ -2,13 +2,12 @@
 use Rattle.std.proofs.Common.{◌≡◌, ◌≤◌, ◌<◌, ◌+◌, ◌-◌, true, false, cond, ℕ, zero, suc, List, [], ◌∷◌, ◌++◌, length, get_or, take, drop, refl, sym, ap, ap₂, subst, ◌∙◌, arith, append_assoc, get_or-drop, drop-drop, length-drop, length-append, nat_le}
 use Rattle.std.specs.Prelude.{IsErrAnd, Ok, Err, Result}
 use Rattle.std.proofs.lemmas.Bool.{and_parts, leb-true}
-use Rattle.std.proofs.lemmas.Result.{err_from_is_err_and}
 use Rattle.std.proofs.lemmas.List.{append-nil, drop_all, take_all}
 use Rattle.line_forms.specs.Fields.{field_at}
 use Rattle.line_forms.specs.Forms.{route_length, has_form, ones_of, are_single, have_one_run, is_form}
 use Rattle.line_forms.specs.Known.{KnownNames}
 use Rattle.line_forms.specs.Reading.{LineRead, RunRead, read_run, value_before, then_on, one_before, run_before, read_parts, read_line}
-use Rattle.line_forms.specs.ReadSteps.{begun, after_one, after_run, step, IsNext}
+use Rattle.line_forms.specs.ReadSteps.{begun, after_one, after_run, step, IsNext, Puts, Fills}
 use Rattle.line_forms.specs.Slots.{FieldRead, read_slot}
 use Rattle.line_forms.specs.Values.{number_in, no_values}
 use Rattle.line_forms.specs.declared.cause.FieldCause.{FieldCause}
@@ -241,8 +240,13 @@ pub part-next : (form rest : List Part) (p : Part) (fields : List (List ℕ)) (w
 part-next form rest p fields was at stands = next-of p rest fields was (subst (λ parts. Stands parts fields was) at stands)
 
 -- the cause that was told
-pub told-cause : {X : Type 0} (r all : Result X FieldCause) (cause : FieldCause) → IsErrAnd r (λ y. y ≡ cause) → all ≡ Err cause → r ≡ all
-told-cause r all cause told e = (let p = err_from_is_err_and r told in rw (p.1, p.2) (sym e))
+pub run-told : (r : Result Unit FieldCause) (now : List FieldValue) (all : RunRead) (cause : FieldCause) → IsErrAnd r (λ y. y ≡ cause) → all ≡ Err cause → Puts r now all
+run-told (Ok x) now all cause told e = absurd (told)
+run-told (Err other) now all cause told e = e ∙ ap Err (sym told)
+
+pub line-told : (r : Result Unit FieldCause) (now : Reader) (all : LineRead) (cause : FieldCause) → IsErrAnd r (λ y. y ≡ cause) → all ≡ Err cause → Fills r now all
+line-told (Ok x) now all cause told e = absurd (told)
+line-told (Err other) now all cause told e = e ∙ ap Err (sym told)
 
 -- ---- the forms that a line may have
 

@@ -3,7 +3,7 @@ use Rattle.std.specs.Prelude.{ℕ, ◌≡◌, ◌≤◌, ◌<◌, ◌+◌, ◌-�
 use Rattle.line_forms.specs.Fields.{field_at}
 use Rattle.line_forms.specs.Forms.{route_length}
 use Rattle.line_forms.specs.Known.{KnownNames}
-use Rattle.line_forms.specs.Reading.{RunRead, read_run}
+use Rattle.line_forms.specs.Reading.{LineRead, RunRead, read_run}
 use Rattle.line_forms.specs.Slots.{FieldRead, read_slot}
 use Rattle.line_forms.specs.Values.{number_in, no_values}
 use Rattle.line_forms.specs.declared.cause.FieldCause.{FieldCause}
@@ -11,6 +11,7 @@ use Rattle.line_forms.specs.declared.form.Part.{Part}
 use Rattle.line_forms.specs.declared.form.Part.TheVariants as part
 use Rattle.line_forms.specs.declared.reading.Reader.{Reader}
 use Rattle.line_forms.specs.declared.slot.Slot.TheVariants as slot
+use Rattle.line_forms.specs.declared.value.FieldValue.{FieldValue}
 
 abbrev pub begun : Reader
 begun = record { values = no_values; place = 0; before = 0 }
@@ -36,6 +37,16 @@ step names (part.Numbers low high) fields was = after_run was (length fields - w
 abbrev pub Moves : Result Unit FieldCause → Reader → Result Reader FieldCause → Type 0
 Moves (Ok _) now said = said ≡ Ok now
 Moves (Err cause) now said = said ≡ Err cause
+
+-- the values are what was to be read, or the cause is told
+abbrev pub Puts : Result Unit FieldCause → List FieldValue → RunRead → Type 0
+Puts (Ok _) values said = said ≡ Ok values
+Puts (Err cause) values said = said ≡ Err cause
+
+-- the reader has what the line says, or the cause is told
+abbrev pub Fills : Result Unit FieldCause → Reader → LineRead → Type 0
+Fills (Ok _) now said = said ≡ Ok now.values
+Fills (Err cause) now said = said ≡ Err cause
 
 -- there are the fields that the part takes, and there is room for them
 abbrev pub IsNext : Part → Reader → List (List ℕ) → Type 0

@@ -17,7 +17,7 @@ pub use cause::FieldCause;
 pub use fields::Fields;
 pub use form::{Part, has_form};
 pub use known::{Known, Set};
-pub use reading::read_line;
+pub use reading::Reader;
 pub use slot::Slot;
 pub use value::{FewValues, FieldValue, Values};
 pub use word::Keyword;

@@ -3,7 +3,7 @@ ghost use Rattle.std.specs.Prelude.{ℕ, ◌≡◌, ◌≤◌, ◌<◌, ◌+◌,
 ghost use Rattle.std.specs.List.{list_all};
 ghost use Rattle.line_forms.specs.Fields.{field_at};
 ghost use Rattle.line_forms.specs.Forms.{has_form, is_form};
-ghost use Rattle.line_forms.specs.ReadSteps.{Moves, IsNext, after_one, after_run, step, begun};
+ghost use Rattle.line_forms.specs.ReadSteps.{Fills, Moves, Puts, IsNext, after_one, after_run, step, begun};
 ghost use Rattle.line_forms.specs.Reading.{read_line, read_run, read_parts};
 ghost use Rattle.line_forms.specs.Slots.{read_slot};
 
@@ -14,9 +14,9 @@ use crate::known::Known;
 use crate::slot::Slot;
 use crate::value::{FewValues, Values};
 
-// What was read of a line so far.
+/// Reads lines one after another. What a line says stands in its reader until the next one is read, so that it isn't copied.
 #[derive(Drop)]
-struct Reader {
+pub struct Reader {
     values: Values,
     // How many fields were read.
     place: usize,
@@ -24,51 +24,70 @@ struct Reader {
     before: usize,
 }
 
-/// What the fields of a line say that has to have one of these forms, or the first cause by which it is refused: `Shape`, where it has
-/// none of them, and then that of the first field from left to right that isn't what it has to be. A line that has several of the forms
-/// is read by the first of these.
-pub fn read_line<K: Known>(
-    forms: &[&[Part]],
-    known: &K,
-    fields: &Fields,
-) -> Result<Values, FieldCause>
-    requires { IsTrue (list_all is_form (map (λ form. form.now) forms.now)) }
-    ensures { result ≡ read_line (K.names known.now) (map (λ form. form.now) forms.now) fields.now }
-{
-    for form in forms {
-        if has_form(form, fields) {
-            return read_parts(form, known, fields);
-        }
-    }
-    Err(FieldCause::Shape)
-}
-
-// What the fields of a line say that has this form.
-fn read_parts<K: Known>(form: &[Part], known: &K, fields: &Fields) -> Result<Values, FieldCause>
-    requires form { IsTrue (is_form form.now) }
-    requires has { IsTrue (has_form form.now fields.now) }
-    ensures { result ≡ read_parts (K.names known.now) 0 form.now fields.now }
-{
-    let mut reader = Reader::begin();
-    for part in form {
-        reader.take(known, part, fields)?;
-    }
-    Ok(reader.values)
-}
-
 impl Reader {
-    // Nothing was read.
-    fn begin() -> Reader
+    /// No line was read.
+    pub fn new() -> Reader
         ensures { result ≡ begun }
     {
         Reader {
-            values: Values {
-                ones: FewValues::none(),
-                run: FewValues::none(),
-            },
+            values: Values::none(),
             place: 0,
             before: 0,
         }
+    }
+
+    /// What the line says that was read last, where it wasn't refused.
+    pub fn values(&self) -> &Values
+        ensures { result.now ≡ self.now.values }
+    {
+        &self.values
+    }
+
+    /// Reads a line that has to have one of these forms. Its first cause is answered, where it is refused: `Shape`, where it has none
+    /// of them, and then that of the first field from left to right that isn't what it has to be. A line that has several of the forms
+    /// is read by the first of these.
+    pub fn read_line<K: Known>(
+        &mut self,
+        forms: &[&[Part]],
+        known: &K,
+        fields: &Fields,
+    ) -> Result<(), FieldCause>
+        requires { IsTrue (list_all is_form (map (λ form. form.now) forms.now)) }
+        ensures { Fills result self.new (read_line (K.names known.now) (map (λ form. form.now) forms.now) fields.now) }
+    {
+        for form in forms {
+            if has_form(form, fields) {
+                return self.read_parts(form, known, fields);
+            }
+        }
+        Err(FieldCause::Shape)
+    }
+
+    // Reads the fields of a line that has this form.
+    fn read_parts<K: Known>(
+        &mut self,
+        form: &[Part],
+        known: &K,
+        fields: &Fields,
+    ) -> Result<(), FieldCause>
+        requires form { IsTrue (is_form form.now) }
+        requires has { IsTrue (has_form form.now fields.now) }
+        ensures { Fills result self.new (read_parts (K.names known.now) 0 form.now fields.now) }
+    {
+        self.begin();
+        for part in form {
+            self.take(known, part, fields)?;
+        }
+        Ok(())
+    }
+
+    // Forgets what was read.
+    fn begin(&mut self)
+        ensures { self.new ≡ begun }
+    {
+        self.values.clear();
+        self.place = 0;
+        self.before = 0;
     }
 
     // Reads the fields of the next part.
@@ -131,30 +150,32 @@ impl Reader {
         ensures { Moves result self.new (after_run self.old count (read_run (K.names known.now) self.old.before slot (take count (drop self.old.place fields.now)))) }
     {
         let _count = fields.count();
-        self.values.run = read_run(known, self.before, slot, fields, self.place, count)?;
+        let run = &mut self.values.run;
+        read_run(run, known, self.before, slot, fields, self.place, count)?;
         self.place += count;
         Ok(())
     }
 }
 
-// What so many fields from a place on say, each of which has to be the same.
+// Puts what so many fields from a place on say, each of which has to be the same, in place of the values.
 fn read_run<K: Known>(
+    values: &mut FewValues,
     known: &K,
     before: usize,
     slot: Slot,
     fields: &Fields,
     from: usize,
     count: usize,
-) -> Result<FewValues, FieldCause>
+) -> Result<(), FieldCause>
     requires few { count ≤ 16 }
     requires within { from + count ≤ length fields.now }
-    ensures { result ≡ read_run (K.names known.now) before slot (take count (drop from fields.now)) }
+    ensures { Puts result values.new (read_run (K.names known.now) before slot (take count (drop from fields.now))) }
 {
     let _all = fields.count();
-    let mut values = FewValues::none();
+    values.clear();
     for place in 0..count {
         let value = slot.read(known, before, fields.at(from + place))?;
         values.push(value);
     }
-    Ok(values)
+    Ok(())
 }

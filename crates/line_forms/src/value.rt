@@ -1,6 +1,6 @@
 //! What the fields of a line say.
 ghost use Rattle.std.specs.Prelude.{◌≡◌, ◌<◌, ◌≤◌, ◌++◌, ◌∷◌, [], length};
-ghost use Rattle.line_forms.specs.Values.{number_in, number_at, named_in, name_at, with_ones};
+ghost use Rattle.line_forms.specs.Values.{no_values, number_in, number_at, named_in, name_at, with_ones};
 
 use net_units::Name;
 use std::marker::Model;
@@ -31,6 +31,24 @@ pub struct Values {
 }
 
 impl Values {
+    /// Nothing is said.
+    pub fn none() -> Values
+        ensures { result ≡ no_values }
+    {
+        Values {
+            ones: FewValues::none(),
+            run: FewValues::none(),
+        }
+    }
+
+    // Forgets all values.
+    pub(crate) fn clear(&mut self)
+        ensures { self.new ≡ no_values }
+    {
+        self.ones.clear();
+        self.run.clear();
+    }
+
     /// These values at places of their own, and no run. There are at most 16.
     pub fn of(ones: &[FieldValue]) -> Values
         requires { length ones.now ≤ 16 }
@@ -83,6 +101,13 @@ impl FewValues {
             cells,
             len: values.len(),
         }
+    }
+
+    // Forgets the values.
+    pub(crate) fn clear(&mut self)
+        ensures { self.new ≡ [] }
+    {
+        self.len = 0;
     }
 
     /// Adds a value at the end. There have to be fewer than 16.

@@ -1,8 +1,10 @@
 //! Lines that are read and written again, and lines that are refused.
+ghost use Rattle.std.specs.Prelude.{IsTrue};
+ghost use Rattle.line_forms.specs.Forms.{is_form};
+
 use crate::known::TwoNames;
 use line_forms::{
-    FewValues, FieldCause, FieldValue, Fields, Keyword, Part, Set, Slot, Values, read_line,
-    write_form,
+    FewValues, FieldCause, FieldValue, Fields, Keyword, Part, Reader, Set, Slot, Values, write_form,
 };
 use net_units::Name;
 use std::alloc::Global;
@@ -34,21 +36,30 @@ const DO: [Part; 3] = [
     Part::One(Slot::Name),
 ];
 
-// What a line that has to have the form of a quota says.
-fn quota(line: &[u8]) -> Result<Values, FieldCause> {
-    read_line(&[&QUOTA], &TwoNames, &Fields::of(line))
+// What a line says that has to have this form. The reader has read another line before it.
+fn read(form: &[Part], line: &[u8]) -> Result<Reader, FieldCause>
+    requires { IsTrue (is_form form.now) }
+{
+    let mut reader = Reader::new();
+    let _before = reader.read_line(&[&DO], &TwoNames, &Fields::of(b"do east before"));
+    reader.read_line(&[form], &TwoNames, &Fields::of(line))?;
+    Ok(reader)
 }
 
-fn open(line: &[u8]) -> Result<Values, FieldCause> {
-    read_line(&[&OPEN], &TwoNames, &Fields::of(line))
+fn quota(line: &[u8]) -> Result<Reader, FieldCause> {
+    read(&QUOTA, line)
 }
 
-fn do_line(line: &[u8]) -> Result<Values, FieldCause> {
-    read_line(&[&DO], &TwoNames, &Fields::of(line))
+fn open(line: &[u8]) -> Result<Reader, FieldCause> {
+    read(&OPEN, line)
+}
+
+fn do_line(line: &[u8]) -> Result<Reader, FieldCause> {
+    read(&DO, line)
 }
 
 // The cause, where there is one.
-fn cause(said: Result<Values, FieldCause>) -> Option<FieldCause> {
+fn cause(said: Result<Reader, FieldCause>) -> Option<FieldCause> {
     said.err()
 }
 
@@ -58,7 +69,8 @@ fn name(text: &[u8]) -> Result<Name, Fail> {
 
 #[test]
 fn a_quota_is_read(rt: HostRuntime) -> Result<(), Fail> {
-    let said = quota(b"quota west east buffer 20 levels 5 50").map_err(|_| "cause")?;
+    let reader = quota(b"quota west east buffer 20 levels 5 50").map_err(|_| "cause")?;
+    let said = reader.values();
     assert_eq!(rt; said.ones.as_slice().len(), 3);
     assert_eq!(rt; said.ones.number(0), 4);
     assert_eq!(rt; said.ones.name(1), Some(name(b"east")?));
@@ -72,7 +84,8 @@ fn a_quota_is_read(rt: HostRuntime) -> Result<(), Fail> {
 
 #[test]
 fn a_route_is_read_up_to_its_word(rt: HostRuntime) -> Result<(), Fail> {
-    let said = open(b"open call route east west east contract 9").map_err(|_| "cause")?;
+    let reader = open(b"open call route east west east contract 9").map_err(|_| "cause")?;
+    let said = reader.values();
     assert_eq!(rt; said.ones.name(0), Some(name(b"call")?));
     assert_eq!(rt; said.ones.number(1), 9);
     assert_eq!(rt; said.run.as_slice().len(), 3);

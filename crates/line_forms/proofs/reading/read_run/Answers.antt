@@ -1,7 +1,7 @@
 use Rattle.std.proofs.Common.{◌≡◌, ◌≤◌, ◌<◌, ◌∙◌, ℕ, ◌+◌, List, [], ◌∷◌, length, get_or, take, drop, ap, refl, sym, arith, length-append, length-drop, length-take-le, get_or-drop, get_or-take}
 use Rattle.line_forms.specs.Reading.{read_run}
 use Rattle.line_forms.specs.declared.value.FieldValue.{FieldValue}
-use Rattle.line_forms.proofs.ReadOn.{values_before, run-next, run-stops, run-over, nothing-run, told-cause}
+use Rattle.line_forms.proofs.ReadOn.{values_before, run-next, run-stops, run-over, nothing-run, run-told}
 use Rattle.line_forms.proofs.reading.read_run.Goals as goal
 
 -- as many fields as are to be read
@@ -15,7 +15,7 @@ field-here fields from count place h = sym (rw (get_or-take, get_or-drop) refl)
 pub loop-place-init : goal.loop-place-init
 loop-place-init g c =
     let read = read_run (g.K.Known.names c.args.known.now) c.args.before c.args.slot (take c.args.count (drop c.args.from c.args.fields.now)) in
-    record { rest = ap (λ (values : List FieldValue). values_before values read) c.none-values.ensures ∙ nothing-run read; counted = ap length c.none-values.ensures }
+    record { rest = ap (λ (values : List FieldValue). values_before values read) c.clear.ensures ∙ nothing-run read; counted = ap length c.clear.ensures }
 
 pub returns-in_err-value : goal.returns-in_err-value
 returns-in_err-value g c =
@@ -23,7 +23,7 @@ returns-in_err-value g c =
     let fields = take c.args.count (drop c.args.from c.args.fields.now) in
     let all = counted c.args.fields.now c.args.from c.args.count c.requires.within in
     let here = field-here c.args.fields.now c.args.from c.args.count c.loop-place.place c.loop-place-test.true in
-    told-cause c.from_residual.result (read_run names c.args.before c.args.slot fields) c.in_err-value.field-0.0 c.from_residual.ensures.1
+    run-told c.from_residual.result c.loop-place.values (read_run names c.args.before c.args.slot fields) c.in_err-value.field-0.0 c.from_residual.ensures.1
     (sym c.loop-place.invariant.rest ∙ run-stops names c.args.before c.args.slot fields c.loop-place.place c.at.result.now c.loop-place.values c.in_err-value.field-0.0 (omega (arith, all, c.loop-place-test.true)) (c.at.ensures ∙ here)
     (sym c.read.ensures ∙ c.in_err-value.was))
 
@@ -46,4 +46,4 @@ pub returns : goal.returns
 returns g c =
     let fields = take c.args.count (drop c.args.from c.args.fields.now) in
     let all = counted c.args.fields.now c.args.from c.args.count c.requires.within in
-    sym (run-over (g.K.Known.names c.args.known.now) c.args.before c.args.slot fields c.loop-place.place c.loop-place.values (omega (arith, all, c.loop-place-test.false))) ∙ c.loop-place.invariant.rest
+    sym c.loop-place.invariant.rest ∙ run-over (g.K.Known.names c.args.known.now) c.args.before c.args.slot fields c.loop-place.place c.loop-place.values (omega (arith, all, c.loop-place-test.false))

@@ -2,7 +2,7 @@ use Rattle.std.proofs.Common.{◌≡◌, true, drop, map}
 use Rattle.std.specs.List.{list_all}
 use Rattle.line_forms.specs.Forms.{is_form}
 use Rattle.line_forms.specs.Reading.{read_line}
-use Rattle.line_forms.proofs.reading.read_line.Given as goal
+use Rattle.line_forms.proofs.reading.Reader.read_line.Given as goal
 
 -- the line has none of the forms before, so it is read by those that are left
 abbrev pub invariant-loop-form : goal.invariant-loop-form
