@@ -1,6 +1,4 @@
-pub mod CutFields
 pub mod FormByField
-pub mod DecimalDigits
 pub mod NameLookup
 pub mod NamedByPlace
 pub mod PlaceOfLink
@@ -9,6 +7,7 @@ pub mod NodeSteps
 pub mod FoundNodes
 pub mod LeastRoutes
 pub mod HopsInCells
+pub mod NumbersInCells
 pub mod ShapeOfNumbers
 pub mod FormText
 pub mod RulesByField
@@ -19,12 +18,12 @@ pub mod PassingLines
 pub mod OwnOpenings
 pub mod PassedLinesAdd
 pub mod ReadingAhead
-pub mod FieldText
 pub mod NumberText
 pub mod LineText
 pub mod RulesBack
 pub mod NamedBack
 pub mod SaysBack
+pub mod ReadByForms
 pub mod LineFields
 pub mod WalkBack
 pub mod PlanBack

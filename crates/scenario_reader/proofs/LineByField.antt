@@ -1,5 +1,5 @@
 -- Fields that are added to a line one after another.
-use Rattle.std.proofs.Common.{◌≡◌, ℕ, suc, zero, ◌+◌, ◌<◌, List, [], ◌∷◌, ◌++◌, length, get_or, map, take, drop, decimal, refl, sym, ap, ◌∙◌, append_assoc, arith}
+use Rattle.std.proofs.Common.{◌≡◌, ℕ, suc, zero, ◌+◌, ◌<◌, List, [], ◌∷◌, ◌++◌, length, get_or, map, drop, decimal, refl, sym, ap, ◌∙◌, append_assoc, arith}
 use Rattle.std.proofs.lemmas.Grind.{flat_map-append}
 use Rattle.std.proofs.lemmas.List.{append-nil}
 use Rattle.std.proofs.lemmas.Option.{same_Some}
@@ -7,15 +7,12 @@ use Rattle.std.specs.List.{slice_get}
 use Rattle.std.specs.Prelude.{Option, Some, None, codes}
 use Rattle.net_units.specs.Numbers.{link_number}
 use Rattle.hop_reservation.specs.declared.route.Hop.{Hop}
-use Rattle.link_steps.specs.declared.quota.Quota.{Quota}
 use Rattle.call_script.specs.declared.entries.LinkEntry.{LinkEntry}
 use Rattle.call_script.specs.declared.entries.RequestEntry.{RequestEntry}
 use Rattle.scenario_reader.specs.Fields.{line_of}
 use Rattle.text_writer.specs.Lines.{whole_line}
 use Rattle.scenario_reader.specs.line.Link.{best_fields, bounds_fields, link_text, link_line_front}
 use Rattle.scenario_reader.specs.line.Request.{route_names, way_fields, with_name, contract_fields, delay_fields, open_fields}
-use Rattle.scenario_reader.specs.line.Group.{group_name}
-use Rattle.scenario_reader.specs.line.Quota.{quota_text}
 use Rattle.scenario_reader.specs.Fields.{spaced}
 
 -- the bounds from one on: that bound, and those after it
@@ -65,19 +62,6 @@ three-parts field first second third =
     ∙ ap (λ (rest : List ℕ). field ++ rest) (ap (λ (rest : List ℕ). spaced first ++ rest) (sym (spaced-append second third)) ∙ sym (spaced-append first (second ++ third)))
     ∙ sym (line-of-fields field (first ++ (second ++ third)))
     )
-
--- a line in two parts
-two-parts : (field : List ℕ) (first second : List (List ℕ)) → ((field ++ spaced first) ++ spaced second) ++ 10 ∷ [] ≡ whole_line (field ∷ (first ++ second))
-two-parts field first second =
-    ap (λ (line : List ℕ). line ++ 10 ∷ []) (append_assoc field (spaced first) (spaced second) ∙ ap (λ (rest : List ℕ). field ++ rest) (sym (spaced-append first second)) ∙ sym (line-of-fields field (first ++ second)))
-
-pub quota-line : (groups : List (List ℕ)) (entry : LinkEntry) (quota : Quota) (line : List ℕ) → line ≡ codes "quota" ++ spaced (entry.name ∷ group_name groups quota.group ∷ codes "buffer" ∷ decimal quota.buffer ∷ codes "levels" ∷ [])
-    → (line ++ spaced (map decimal (take (length entry.shape.bounds) quota.levels))) ++ 10 ∷ [] ≡ quota_text groups entry quota
-unfolding quota_text
-quota-line groups entry quota line begins =
-    let front = entry.name ∷ group_name groups quota.group ∷ codes "buffer" ∷ decimal quota.buffer ∷ codes "levels" ∷ [] in
-    let loads = map decimal (take (length entry.shape.bounds) quota.levels) in
-    ap (λ (l : List ℕ). (l ++ spaced loads) ++ 10 ∷ []) begins ∙ two-parts (codes "quota") front loads
 
 pub link-line : (entry : LinkEntry) → ((link_line_front entry ++ spaced (best_fields entry.shape.best)) ++ spaced (bounds_fields entry.shape.bounds)) ++ 10 ∷ [] ≡ link_text entry
 unfolding link_text

@@ -3,7 +3,7 @@ use Rattle.std.proofs.Common.{ℕ, ◌≡◌, suc, ◌<◌, ◌^◌, true, List,
 use Rattle.std.proofs.lemmas.Bool.{and_from}
 use Rattle.std.proofs.lemmas.List.Folds.{list_all-append}
 use Rattle.scenario_reader.specs.Fields.{is_field, are_fields}
-use Rattle.scenario_reader.proofs.FieldText.{number-field}
+use Rattle.line_forms.proofs.FieldText.{number-field}
 
 pub both-fields : (xs ys : List (List ℕ)) → are_fields xs ≡ true → are_fields ys ≡ true → are_fields (xs ++ ys) ≡ true
 both-fields xs ys first rest = list_all-append is_field xs ys ∙ and_from (are_fields xs) (are_fields ys) first rest

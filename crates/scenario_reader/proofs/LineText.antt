@@ -5,7 +5,7 @@ use Rattle.link_steps.specs.Lists.{Each}
 use Rattle.scenario_reader.specs.Fields.{line_of, are_fields}
 use Rattle.text_writer.specs.Lines.{whole_line}
 use Rattle.byte_ends.proofs.Outlooks.{whole_lines-line, ending_from-line}
-use Rattle.scenario_reader.proofs.FieldText.{line-no-feed}
+use Rattle.line_forms.proofs.FieldText.{line-no-feed}
 
 -- each line is made of fields
 abbrev pub AreLines : List (List (List ℕ)) → Type 0

@@ -1,10 +1,10 @@
 -- Names looked up among names.
-use Rattle.std.proofs.Common.{◌≡◌, ℕ, Bool, false, nat_eq, List, Option, position, sym, ap, ◌∙◌, inl, inr}
+use Rattle.std.proofs.Common.{◌≡◌, ℕ, suc, ◌+◌, Bool, true, false, not, nat_eq, nat_lt, List, [], ◌∷◌, length, Option, Some, None, is_some, if◌then◌else◌, position, refl, sym, ap, ◌∙◌, inl, inr, arith}
 use Rattle.std.specs.Cmp.Lexicographic.{pointwise}
-use Rattle.std.specs.List.{list_any}
-use Rattle.std.proofs.lemmas.Bool.{cases_Bool, both_ways}
+use Rattle.std.specs.List.{list_any, position_or_len}
+use Rattle.std.proofs.lemmas.Bool.{cases_Bool, both_ways, cases_lt, lt-ltb, le-ltb}
 use Rattle.std.proofs.lemmas.Slice.Eq.{bytes_eq-Decides}
-use Rattle.call_script.specs.Rules.{is_named}
+use Rattle.call_script.specs.Rules.{is_named, is_new}
 use Rattle.scenario_reader.specs.Forms.{is_among}
 
 -- names are the same both ways
@@ -36,3 +36,37 @@ not_there names name e = among-both names name ∙ e
 
 pub known_there : (names : List (List ℕ)) (name : List ℕ) (b : Bool) → b ≡ list_any (pointwise nat_eq name) names → b ≡ is_among names name
 known_there names name b e = e ∙ among-both names name
+
+-- one more on both sides changes nothing
+both-more : (n m : ℕ) → nat_lt (1 + n) (suc m) ≡ nat_lt n m
+both-more n m =
+    elim (cases_lt n m) [
+      | inl less ↦ lt-ltb (1 + n) (suc m) (omega (arith, less)) ∙ sym (lt-ltb n m less)
+      | inr past ↦ le-ltb (1 + n) (suc m) (omega (arith, past)) ∙ sym (le-ltb n m past)
+    ]
+
+-- a name has a place among names exactly where it is one of them
+place-within : {X : Type 0} (test : X → Bool) (xs : List X) → nat_lt (position_or_len test xs) (length xs) ≡ list_any test xs
+place-within test [] = refl
+place-within test (x ∷ xs) = by (test x) refl (place-within test xs) where
+  by : (here : Bool) → test x ≡ here → nat_lt (position_or_len test xs) (length xs) ≡ list_any test xs → nat_lt (position_or_len test (x ∷ xs)) (length (x ∷ xs)) ≡ list_any test (x ∷ xs)
+  by true e rest = rw e (lt-ltb 0 (suc (length xs)) (omega arith))
+  by false e rest = rw e (both-more (position_or_len test xs) (length xs) ∙ rest)
+
+given-where : (within : Bool) (n : ℕ) → is_some (if within then Some n else None) ≡ within
+given-where true n = refl
+given-where false n = refl
+
+has-place : {X : Type 0} (test : X → Bool) (xs : List X) → is_some (position test xs) ≡ list_any test xs
+has-place test xs = given-where (nat_lt (position_or_len test xs) (length xs)) (position_or_len test xs) ∙ place-within test xs
+
+-- so a new name has none
+pub no-place : {X : Type 0} (test : X → Bool) (xs : List X) → list_any test xs ≡ false → position test xs ≡ None
+no-place test xs none = by (position test xs) (has-place test xs ∙ none) where
+  by : (found : Option ℕ) → is_some found ≡ false → found ≡ None
+  by None e = refl
+  by (Some n) e = cc
+
+-- and a name without a place is new
+pub new-without-place : (names : List (List ℕ)) (name : List ℕ) → position (is_named name) names ≡ None → is_new names name ≡ true
+new-without-place names name none = ap not (sym (has-place (is_named name) names) ∙ ap is_some none)

@@ -4,7 +4,8 @@ use Rattle.std.proofs.lemmas.Grind.{common_steps}
 use Rattle.std.proofs.lemmas.Bool.{cases_Bool, eqb-true}
 use Rattle.std.proofs.lemmas.List.{length-map}
 use Rattle.std.proofs.lemmas.List.Folds.{find_at}
-use Rattle.std.proofs.lemmas.Option.{slice_get_past, same_Some}
+use Rattle.std.proofs.lemmas.Option.{slice_get_past, same_Some, slice_get_cases}
+use Rattle.std.proofs.lemmas.List.Quantifiers.{position-Some}
 use Rattle.std.specs.List.{position_or_len, slice_get}
 use Rattle.net_units.specs.Numbers.{actor_number}
 use Rattle.call_script.specs.Rules.{is_named, link_names, request_names}
@@ -82,3 +83,17 @@ own-is said name entry e =
       found = sym (find_at (λ (r : RequestEntry). is_named name r.name) said.requests) ∙ p.0;
       by = p.1;
     }
+
+-- ---- links that are known
+
+-- the link at the place of its name
+pub record IsLinkAt (links : List LinkEntry) (n : ℕ) : Type 0 where
+  pub entry : LinkEntry
+  pub at : slice_get links n ≡ Some entry
+
+pub link-known : (links : List LinkEntry) (name : List ℕ) (n : ℕ) → position (is_named name) (link_names links) ≡ Some n → IsLinkAt links n
+link-known links name n e =
+    elim (slice_get_cases links n).1 [
+      | inl at ↦ record { entry = at.0; at = at.2 }
+      | inr past ↦ (let within = (position-Some (is_named name) (link_names links) n [] e).0 in let beyond = past.0 in absurd (omega (arith, within, beyond, length-map links (λ (entry : LinkEntry). entry.name))))
+    ]

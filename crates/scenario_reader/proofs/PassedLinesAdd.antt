@@ -1,43 +1,44 @@
 -- What a line that passes says may be added to what was read.
-use Rattle.std.proofs.Common.{ℕ, ◌≡◌, Bool, true, false, not, List, Option, Some, None, Result, Ok, Err, option_map, cond, if◌then◌else◌, refl, subst, IfOk}
+use Rattle.std.proofs.Common.{ℕ, ◌≡◌, Bool, true, false, not, List, Option, Some, None, Result, Ok, Err, option_map, cond, [], ◌∷◌, if◌then◌else◌, refl, sym, subst, IfOk}
+use Rattle.std.proofs.lemmas.Bool.{true≢false}
 use Rattle.call_script.specs.declared.version.Version.{Version}
 use Rattle.scenario_reader.specs.Causes.{AnswersWithRoom}
 use Rattle.scenario_reader.specs.declared.cause.LineFault.{LineFault}
-use Rattle.scenario_reader.specs.Decimal.{value_of}
 use Rattle.scenario_reader.specs.Drafts.{Said}
 use Rattle.scenario_reader.specs.Fields.{fields_of, are_fields, field_at}
 use Rattle.scenario_reader.specs.line.Header.{header_version, header_said}
-use Rattle.scenario_reader.specs.line.Send.{send_rule, send_said}
-use Rattle.scenario_reader.specs.line.Close.{close_rule, close_said}
-use Rattle.scenario_reader.specs.line.Move.{move_rule, move_said}
-use Rattle.scenario_reader.specs.line.Pour.{pour_rule, pour_said}
-use Rattle.scenario_reader.specs.line.Rounds.{rounds_rule, tail_rule}
-use Rattle.scenario_reader.specs.line.Schedule.{schedule_rule, do_rule, do_said}
-use Rattle.scenario_reader.specs.line.Table.{may_stand, line_word, judge_as, MayAdd}
+use Rattle.scenario_reader.specs.line.Send.{send_form}
+use Rattle.scenario_reader.specs.line.Close.{close_form}
+use Rattle.scenario_reader.specs.line.Move.{move_form}
+use Rattle.scenario_reader.specs.line.Pour.{pour_form}
+use Rattle.scenario_reader.specs.line.Rounds.{rounds_form, tail_form}
+use Rattle.scenario_reader.specs.line.Schedule.{schedule_form, do_form}
+use Rattle.scenario_reader.specs.line.Table.{may_stand, line_word, says, judge_as, MayAdd}
 use Rattle.scenario_reader.specs.Grammar.{judge_word, judge_after, judge_fields, is_passed_over, judge}
-use Rattle.scenario_reader.specs.line.Group.{group_rule}
-use Rattle.scenario_reader.specs.line.Caller.{group_in, caller_rule}
-use Rattle.scenario_reader.specs.line.Quota.{quota_rule, quota_said}
+use Rattle.scenario_reader.specs.line.Group.{group_form}
+use Rattle.scenario_reader.specs.line.Caller.{caller_forms}
+use Rattle.scenario_reader.specs.line.Quota.{quota_form}
 use Rattle.scenario_reader.specs.Kept.{IsDraft}
 use Rattle.scenario_reader.specs.line.Link.{link_rule, link_said}
 use Rattle.scenario_reader.specs.line.Request.{open_rule, request_said}
 use Rattle.scenario_reader.specs.declared.cause.LineCause.{LineCause}
-use Rattle.scenario_reader.specs.declared.form.Keyword.{Keyword}
+use Rattle.line_forms.specs.declared.word.Keyword.{Keyword}
 use Rattle.scenario_reader.specs.declared.item.Item.{Item}
-use Rattle.scenario_reader.proofs.kind.GroupMay.{group-may}
-use Rattle.scenario_reader.proofs.kind.CallerMay.{caller-may}
+use Rattle.scenario_reader.proofs.kind.Group.{group-may}
+use Rattle.scenario_reader.proofs.kind.Caller.{caller-may}
 use Rattle.scenario_reader.proofs.kind.LinkMay.{link-may}
-use Rattle.scenario_reader.proofs.kind.QuotaMay.{quota-may}
-use Rattle.scenario_reader.proofs.kind.SendMay.{send-may}
-use Rattle.scenario_reader.proofs.kind.CloseMay.{close-may}
-use Rattle.scenario_reader.proofs.kind.MoveMay.{move-may}
-use Rattle.scenario_reader.proofs.kind.PourMay.{pour-may}
+use Rattle.scenario_reader.proofs.kind.Quota.{quota-may}
+use Rattle.scenario_reader.proofs.kind.Send.{send-may}
+use Rattle.scenario_reader.proofs.kind.Close.{close-may}
+use Rattle.scenario_reader.proofs.kind.Move.{move-may}
+use Rattle.scenario_reader.proofs.kind.Pour.{pour-may}
 use Rattle.scenario_reader.proofs.kind.RequestMay.{open-may}
 use Rattle.scenario_reader.proofs.PassingLines.{judged-ok, stated-ok, made-some}
-use Rattle.scenario_reader.proofs.kind.RoundsMay.{rounds-may, tail-may}
-use Rattle.scenario_reader.proofs.kind.ScheduleMay.{schedule-may, do-may}
+use Rattle.scenario_reader.proofs.ReadByForms.{was-read, forms_are}
+use Rattle.scenario_reader.proofs.kind.Rounds.{rounds-may, tail-may}
+use Rattle.scenario_reader.proofs.kind.Schedule.{schedule-may, do-may}
 use Rattle.scenario_reader.specs.declared.cause.LineCause.TheVariants as cause
-use Rattle.scenario_reader.specs.declared.form.Keyword.TheVariants as word
+use Rattle.line_forms.specs.declared.word.Keyword.TheVariants as word
 use Rattle.scenario_reader.specs.declared.item.Item.TheVariants as item
 
 -- ---- each line
@@ -50,50 +51,42 @@ says-as word.Link version said number fields what draft v m e =
     let made = made-some item.Link (link_said version said fields) what p.1 in
     subst (MayAdd said) made.2 (link-may version said fields made.0 v m p.0 made.1)
 says-as word.Group version said number fields what draft v m e =
-    let p = judged-ok (group_rule said fields) (item.Group (field_at fields 1)) what e in
-    subst (MayAdd said) p.1 (group-may version said fields v m p.0)
+    let line = was-read said (group_form ∷ []) fields (says word.Group version said number) what refl e in
+    group-may version said line.values what v m line.fits line.says
 says-as word.Quota version said number fields what draft v m e =
-    let p = stated-ok (quota_rule said fields) (quota_said said fields) what e in
-    quota-may version said fields what draft v m p.0 p.1
+    let line = was-read said (quota_form ∷ []) fields (says word.Quota version said number) what refl e in
+    quota-may version said line.values what draft v m line.fits line.says
 says-as word.Caller version said number fields what draft v m e =
-    let p = judged-ok (caller_rule version said fields) (item.Caller (field_at fields 1) (group_in said fields)) what e in
-    subst (MayAdd said) p.1 (caller-may version said fields v m p.0)
+    let line = was-read said (caller_forms version) fields (says word.Caller version said number) what (forms_are version word.Caller) e in
+    caller-may version said line.values what v m line.fits line.says
 says-as word.Open version said number fields what draft v m e =
     let p = judged-ok (open_rule version said fields) (item.Open (request_said said fields)) what e in
     subst (MayAdd said) p.1 (open-may version said fields draft v m p.0)
 says-as word.Send version said number fields what draft v m e =
-    let p = stated-ok (send_rule said fields) (option_map item.Op (send_said said fields)) what e in
-    let made = made-some item.Op (send_said said fields) what p.1 in
-    subst (MayAdd said) made.2 (send-may version said fields made.0 draft v m p.0 made.1)
+    let line = was-read said (send_form ∷ []) fields (says word.Send version said number) what refl e in
+    send-may version said line.values what draft v m line.fits line.says
 says-as word.Close version said number fields what draft v m e =
-    let p = stated-ok (close_rule said fields) (option_map item.Op (close_said said fields)) what e in
-    let made = made-some item.Op (close_said said fields) what p.1 in
-    subst (MayAdd said) made.2 (close-may version said fields made.0 draft v m p.0 made.1)
+    let line = was-read said (close_form ∷ []) fields (says word.Close version said number) what refl e in
+    close-may version said line.values what draft v m line.fits line.says
 says-as word.Move version said number fields what draft v m e =
-    let p = stated-ok (move_rule said fields) (option_map item.Op (move_said said fields)) what e in
-    let made = made-some item.Op (move_said said fields) what p.1 in
-    subst (MayAdd said) made.2 (move-may version said fields made.0 draft v m p.0 made.1)
+    let line = was-read said (move_form ∷ []) fields (says word.Move version said number) what refl e in
+    move-may version said line.values what draft v m line.fits line.says
 says-as word.Pour version said number fields what draft v m e =
-    let p = stated-ok (pour_rule said fields) (option_map item.Op (pour_said said fields)) what e in
-    let made = made-some item.Op (pour_said said fields) what p.1 in
-    subst (MayAdd said) made.2 (pour-may version said fields made.0 draft v m p.0 made.1)
+    let line = was-read said (pour_form ∷ []) fields (says word.Pour version said number) what refl e in
+    pour-may version said line.values what draft v m line.fits line.says
 says-as word.Rounds version said number fields what draft v m e =
-    let p = judged-ok (rounds_rule fields) (item.Rounds (value_of (field_at fields 1))) what e in
-    subst (MayAdd said) p.1 (rounds-may version said fields v m p.0)
+    let line = was-read said (rounds_form ∷ []) fields (says word.Rounds version said number) what refl e in
+    rounds-may version said line.values what v m line.fits line.says
 says-as word.Tail version said number fields what draft v m e =
-    let p = judged-ok (tail_rule said fields) (item.Tail (value_of (field_at fields 1))) what e in
-    subst (MayAdd said) p.1 (tail-may version said fields v m p.0)
+    let line = was-read said (tail_form ∷ []) fields (says word.Tail version said number) what refl e in
+    tail-may version said line.values what v m line.fits line.says
 says-as word.Schedule version said number fields what draft v m e =
-    let p = judged-ok (schedule_rule fields) item.Schedule what e in
-    subst (MayAdd said) p.1 (schedule-may version said v m)
+    let line = was-read said (schedule_form ∷ []) fields (says word.Schedule version said number) what refl e in
+    subst (MayAdd said) (judged-ok None item.Schedule what line.says).1 (schedule-may version said v m)
 says-as word.Do version said number fields what draft v m e =
-    let p = stated-ok (do_rule said fields) (option_map item.Do (do_said said number fields)) what e in
-    let made = made-some item.Do (do_said said number fields) what p.1 in
-    subst (MayAdd said) made.2 (do-may version said number fields made.0 v m p.0 made.1)
-says-as other version said number fields what draft v m e = absurd (not-ok cause.Word what e)
-  where
-    not-ok : (c : LineCause) (what : Item) → ◌≡◌ {A = Result Item LineCause} (Err c) (Ok what) → ⊥
-    not-ok c what e = cc
+    let line = was-read said (do_form ∷ []) fields (says word.Do version said number) what refl e in
+    do-may version said number line.values what v m line.fits line.says
+says-as other version said number fields what draft v m e = absurd (true≢false (sym m))
 
 -- what is judged Ok where a condition holds
 ok-where : (holds : Bool) (r : Result Item LineCause) (c : LineCause) (what : Item) → cond holds r (Err c) ≡ Ok what → (holds ≡ true) × (r ≡ Ok what)

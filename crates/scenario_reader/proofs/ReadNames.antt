@@ -1,34 +1,32 @@
 -- Whatever is read keeps names, quotas and found routes as a plan's text has them: each line that passes adds such parts alone.
-use Rattle.std.proofs.Common.{◌≡◌, ℕ, suc, ◌≤◌, Bool, true, false, not, if◌then◌else◌, List, [], ◌∷◌, ◌++◌, length, map, drop, Option, Some, None, Result, Ok, Err, option_map, is_some, refl, sym, ◌∙◌, ap, subst, arith}
-use Rattle.std.proofs.lemmas.List.{length-append, length-drop, length-map}
+use Rattle.std.proofs.Common.{◌≡◌, ℕ, suc, Bool, true, false, not, if◌then◌else◌, List, [], ◌∷◌, ◌++◌, length, Option, Some, None, Result, Ok, Err, option_map, is_some, refl, sym, ◌∙◌, ap, subst, arith}
 use Rattle.std.proofs.lemmas.Option.{same_Some}
+use Rattle.std.specs.List.{slice_get}
 use Rattle.std.specs.Prelude.{nat_lt, unwrap_or, zero}
 use Rattle.net_units.specs.Numbers.{link_number}
-use Rattle.net_units.specs.Limits.{most_links, most_callers, most_requests, most_delay}
+use Rattle.net_units.specs.Limits.{most_links, most_requests, most_delay}
 use Rattle.net_units.specs.Text.{is_name}
 use Rattle.hop_reservation.specs.declared.route.Hop.{Hop}
 use Rattle.link_steps.specs.Lists.{Each}
 use Rattle.link_steps.specs.declared.quota.Quota.{Quota}
 use Rattle.link_steps.proofs.SearchAndFilter.{Each-append}
-use Rattle.call_script.specs.Groups.{most_groups}
 use Rattle.call_script.specs.Growing.{add_quota, add_op, with_its_quota, new_caller}
 use Rattle.call_script.specs.Parts.{PlanParts}
-use Rattle.call_script.specs.Rules.{is_named, link_names, request_names, caller_names}
+use Rattle.call_script.specs.Rules.{is_named, link_names, request_names}
 use Rattle.call_script.specs.declared.entries.CallerEntry.{CallerEntry}
 use Rattle.call_script.specs.declared.entries.LinkEntry.{LinkEntry}
 use Rattle.call_script.specs.declared.entries.RequestEntry.{RequestEntry}
 use Rattle.call_script.specs.declared.operations.Op.{Op}
-use Rattle.call_script.specs.declared.operations.Op.TheVariants.{Open}
+use Rattle.call_script.specs.declared.operations.Op.TheVariants.{Open, Send, Close, Pour, Move}
 use Rattle.call_script.specs.declared.schedule.Schedule.{Schedule}
 use Rattle.call_script.specs.declared.version.Version.{Version}
 use Rattle.byte_ends.specs.WholeLines.{Ending, all_given, cut_short, too_long, outlook}
 use Rattle.scenario_reader.specs.BothWays.{AreNamed, AreNodesNamed, HasEightLoads, HasNames, HaveFoundRoutes, IsFoundRoute}
-use Rattle.scenario_reader.specs.Causes.{unless}
-use Rattle.scenario_reader.specs.Decimal.{value_of}
-use Rattle.scenario_reader.specs.Drafts.{Said, link_named, group_named, nothing_said, with_item, is_complete, parts_said, schedule_said}
+use Rattle.scenario_reader.specs.Causes.{Rule, unless, stated}
+use Rattle.scenario_reader.specs.Drafts.{Said, nothing_said, with_item, is_complete, parts_said, schedule_said}
 use Rattle.scenario_reader.specs.Entries.{has_bounds}
 use Rattle.scenario_reader.specs.Fields.{fields_of, are_fields, field_at}
-use Rattle.scenario_reader.specs.Forms.{has_form, name_rule, new_name_rule, number_rule}
+use Rattle.scenario_reader.specs.Forms.{name_rule, new_name_rule, number_rule}
 use Rattle.scenario_reader.specs.Grammar.{judge_word, judge_after, is_passed_over, judge}
 use Rattle.scenario_reader.specs.Kept.{IsDraft}
 use Rattle.scenario_reader.specs.Nodes.{is_node, route_between}
@@ -36,27 +34,31 @@ use Rattle.scenario_reader.specs.ReadPlans.{IsReadable, WhatIsReadIsReadable}
 use Rattle.scenario_reader.specs.Reading.{PlanRead, BadLine, at_end, on_judged, reading_of, reading}
 use Rattle.scenario_reader.specs.declared.cause.LineCause.{LineCause}
 use Rattle.scenario_reader.specs.declared.cause.LineCause.TheVariants as cause
-use Rattle.scenario_reader.specs.declared.form.Keyword.{Keyword}
-use Rattle.scenario_reader.specs.declared.form.Keyword.TheVariants as word
+use Rattle.line_forms.specs.declared.word.Keyword.{Keyword}
+use Rattle.line_forms.specs.declared.word.Keyword.TheVariants as word
 use Rattle.scenario_reader.specs.declared.item.Item.{Item}
 use Rattle.scenario_reader.specs.declared.item.Item.TheVariants as item
-use Rattle.scenario_reader.specs.line.Caller.{is_caller_line, member_rule, group_in, caller_rule}
-use Rattle.scenario_reader.specs.line.Close.{close_rule, close_said}
-use Rattle.scenario_reader.specs.line.Group.{group_form, group_rule}
+use Rattle.scenario_reader.specs.line.Caller.{caller_forms}
+use Rattle.scenario_reader.specs.line.Close.{close_form}
+use Rattle.scenario_reader.specs.line.Group.{group_form}
+use Rattle.line_forms.specs.Values.{number_at}
+use Rattle.scenario_reader.proofs.ReadByForms.{was-read, forms_are}
+use Rattle.scenario_reader.proofs.kind.Caller.{caller-named}
+use Rattle.scenario_reader.proofs.kind.Group.{group-named}
 use Rattle.scenario_reader.specs.line.Header.{header_version, header_said}
 use Rattle.scenario_reader.specs.line.Link.{is_link_line, link_numbers, link_fields_rule, link_numbers_rule, best_rule, bound_numbers_rule, bound_fields, link_rule, link_with, link_said}
-use Rattle.scenario_reader.specs.line.Move.{move_rule, move_said}
-use Rattle.scenario_reader.specs.line.Pour.{pour_rule, pour_said}
-use Rattle.scenario_reader.specs.line.Quota.{quota_form, load_fields, in_eight, quota_of, quota_in, quota_rule, quota_on, quota_said}
+use Rattle.scenario_reader.specs.line.Move.{move_form, move_between}
+use Rattle.scenario_reader.specs.line.Pour.{pour_form}
+use Rattle.scenario_reader.specs.line.Quota.{quota_form}
 use Rattle.scenario_reader.specs.line.Request.{is_open_line, is_found, hops_in, node_rule, nodes_rule, way_fields_rule, between_rule, way_rule, after_route, contract_told, contract_of, terms_rule, jitter_rule, open_fields_rule, open_limits_rule, open_rule, request_said}
-use Rattle.scenario_reader.specs.line.Rounds.{rounds_rule, tail_rule}
-use Rattle.scenario_reader.specs.line.Schedule.{schedule_rule, do_rule, do_said}
-use Rattle.scenario_reader.specs.line.Send.{send_rule, send_said}
-use Rattle.scenario_reader.specs.line.Table.{may_stand, line_word, judge_as, MayAdd}
+use Rattle.scenario_reader.specs.line.Rounds.{rounds_form, tail_form, are_few_ticks}
+use Rattle.scenario_reader.specs.line.Schedule.{schedule_form, do_form, do_by}
+use Rattle.scenario_reader.specs.line.Send.{send_form}
+use Rattle.scenario_reader.specs.line.Table.{may_stand, line_word, says, judge_as, MayAdd}
 use Rattle.scenario_reader.proofs.DraftBecomesPlan.{draft-begins, draft-more, complete-draft}
 use Rattle.scenario_reader.proofs.PassingLines.{all-pass, both-pass, judged-ok, made-some, name-passes, new-name-passes, stated-ok, unless-passes, used-name-passes}
 use Rattle.scenario_reader.proofs.PassedLinesAdd.{may-add}
-use Rattle.scenario_reader.proofs.kind.QuotaForm.{quota_few}
+use Rattle.scenario_reader.proofs.kind.Quota.{says-quota, eight-said}
 
 -- ---- what a line names
 
@@ -84,34 +86,6 @@ link-named-so version said fields entry rule says =
       from = name-passes (field_at fields 2) q.1.0;
       to = name-passes (field_at fields 3) q.1.1.0;
     })
-
-group-named-so : (said : Said) (fields : List (List ℕ)) → group_rule said fields ≡ None → is_name (field_at fields 1) ≡ true
-group-named-so said fields rule =
-    let p = all-pass (unless (has_form group_form fields) cause.Shape ∷ new_name_rule said.groups (field_at fields 1) ∷ unless (nat_lt (length said.groups) most_groups) cause.Many ∷ []) rule in
-    (new-name-passes said.groups (field_at fields 1) p.1.0).0
-
-caller-named-so : (version : Version) (said : Said) (fields : List (List ℕ)) → caller_rule version said fields ≡ None → is_name (field_at fields 1) ≡ true
-caller-named-so version said fields rule =
-    let p = all-pass (unless (is_caller_line version fields) cause.Shape ∷ new_name_rule (caller_names said.callers) (field_at fields 1) ∷ member_rule said fields ∷ unless (nat_lt (length said.callers) most_callers) cause.Many ∷ []) rule in
-    (new-name-passes (caller_names said.callers) (field_at fields 1) p.1.0).0
-
-abbrev eight-zeros : List ℕ
-eight-zeros = 0 ∷ 0 ∷ 0 ∷ 0 ∷ 0 ∷ 0 ∷ 0 ∷ 0 ∷ []
-
-eight-loads : (numbers : List ℕ) → length numbers ≤ 8 → length (in_eight numbers) ≡ 8
-eight-loads numbers few =
-    omega (arith, few, length-append numbers (drop (length numbers) eight-zeros), length-drop (length numbers) eight-zeros)
-
-quota-has-loads : (said : Said) (fields : List (List ℕ)) (what : Item) → quota_rule said fields ≡ None → quota_said said fields ≡ Some what → NamesItem said what
-quota-has-loads said fields what rule says = by (link_named said.links (field_at fields 1)) (quota_in said fields) refl says (both-pass (unless (has_form quota_form fields) cause.Shape) _ rule).0 where
-  by : (link : Option LinkEntry) (told : Option Quota) → quota_in said fields ≡ told → quota_on link told ≡ Some what → unless (has_form quota_form fields) cause.Shape ≡ None → NamesItem said what
-  by None told q e form = cc
-  by (Some link) None q e form = cc
-  by (Some link) (Some quota) q e form =
-      let made = made-some (quota_of fields) (group_named said.groups (field_at fields 2)) quota q in
-      let few = quota_few fields (unless-passes (has_form quota_form fields) cause.Shape form) in
-      subst (NamesItem said) (same_Some (item.Quota link.shape.link quota) what e)
-      (subst HasEightLoads made.2 (eight-loads (map value_of (load_fields fields)) (omega (arith, few, length-map (load_fields fields) value_of))))
 
 -- ---- requests
 
@@ -150,8 +124,13 @@ open-named-so version said fields rule =
 -- ---- a line that passes
 
 -- an operation names nothing
-op-names : (said : Said) (rule : Option LineCause) (op : Option Op) (what : Item) → ◌≡◌ {A = Option Item} (option_map item.Op op) (Some what) → NamesItem said what
-op-names said rule op what e = (let made = made-some item.Op op what e in subst (NamesItem said) made.2 tt)
+op-names : {X : Type 0} (said : Said) (rule : Rule) (found : Option X) (make : X → Op) (what : Item) → stated rule (option_map (λ x. item.Op (make x)) found) ≡ Ok what → NamesItem said what
+op-names said rule found make what e = (let made = made-some (λ x. item.Op (make x)) found what (stated-ok rule (option_map (λ x. item.Op (make x)) found) what e).1 in subst (NamesItem said) made.2 tt)
+
+move-names : (said : Said) (rule : Rule) (old new : Option RequestEntry) (what : Item) → stated rule (move_between old new) ≡ Ok what → NamesItem said what
+move-names said rule None new what e = (let none = (stated-ok rule None what e).1 in cc)
+move-names said rule (Some old) None what e = (let none = (stated-ok rule None what e).1 in cc)
+move-names said rule (Some old) (Some new) what e = subst (NamesItem said) (same_Some (item.Op (Move old.request.chan new.request.chan)) what (stated-ok rule (Some (item.Op (Move old.request.chan new.request.chan))) what e).1) tt
 
 names-as : (keyword : Keyword) (version : Version) (said : Said) (number : ℕ) (fields : List (List ℕ)) (what : Item) → judge_as keyword version said number fields ≡ Ok what → NamesItem said what
 names-as word.Link version said number fields what e =
@@ -159,29 +138,38 @@ names-as word.Link version said number fields what e =
     let made = made-some item.Link (link_said version said fields) what p.1 in
     subst (NamesItem said) made.2 (link-named-so version said fields made.0 p.0 made.1)
 names-as word.Group version said number fields what e =
-    let p = judged-ok (group_rule said fields) (item.Group (field_at fields 1)) what e in
-    subst (NamesItem said) p.1 (group-named-so said fields p.0)
+    let line = was-read said (group_form ∷ []) fields (says word.Group version said number) what refl e in
+    let named = group-named said line.values what line.fits line.says in
+    subst (NamesItem said) named.is named.name_is
 names-as word.Quota version said number fields what e =
-    let p = stated-ok (quota_rule said fields) (quota_said said fields) what e in
-    quota-has-loads said fields what p.0 p.1
+    let line = was-read said (quota_form ∷ []) fields (says word.Quota version said number) what refl e in
+    let told = says-quota said line.values what line.fits line.says in
+    subst (NamesItem said) told.is (eight-said said line.values line.fits)
 names-as word.Caller version said number fields what e =
-    let p = judged-ok (caller_rule version said fields) (item.Caller (field_at fields 1) (group_in said fields)) what e in
-    subst (NamesItem said) p.1 (caller-named-so version said fields p.0)
+    let line = was-read said (caller_forms version) fields (says word.Caller version said number) what (forms_are version word.Caller) e in
+    let named = caller-named version said line.values what line.fits line.says in
+    subst (NamesItem said) named.is named.name_is
 names-as word.Open version said number fields what e =
     let p = judged-ok (open_rule version said fields) (item.Open (request_said said fields)) what e in
     subst (NamesItem said) p.1 (open-named-so version said fields p.0)
-names-as word.Send version said number fields what e = op-names said (send_rule said fields) (send_said said fields) what (stated-ok (send_rule said fields) (option_map item.Op (send_said said fields)) what e).1
-names-as word.Close version said number fields what e = op-names said (close_rule said fields) (close_said said fields) what (stated-ok (close_rule said fields) (option_map item.Op (close_said said fields)) what e).1
-names-as word.Move version said number fields what e = op-names said (move_rule said fields) (move_said said fields) what (stated-ok (move_rule said fields) (option_map item.Op (move_said said fields)) what e).1
-names-as word.Pour version said number fields what e = op-names said (pour_rule said fields) (pour_said said fields) what (stated-ok (pour_rule said fields) (option_map item.Op (pour_said said fields)) what e).1
-names-as word.Rounds version said number fields what e = subst (NamesItem said) (judged-ok (rounds_rule fields) (item.Rounds (value_of (field_at fields 1))) what e).1 tt
-names-as word.Tail version said number fields what e = subst (NamesItem said) (judged-ok (tail_rule said fields) (item.Tail (value_of (field_at fields 1))) what e).1 tt
-names-as word.Schedule version said number fields what e = subst (NamesItem said) (judged-ok (schedule_rule fields) item.Schedule what e).1 tt
+names-as word.Send version said number fields what e = (let line = was-read said (send_form ∷ []) fields (says word.Send version said number) what refl e in op-names said _ (slice_get said.requests (number_at line.values.ones 0)) (λ (entry : RequestEntry). Send entry.request.chan (number_at line.values.ones 1) (number_at line.values.ones 2) (number_at line.values.ones 3)) what line.says)
+names-as word.Close version said number fields what e = (let line = was-read said (close_form ∷ []) fields (says word.Close version said number) what refl e in op-names said _ (slice_get said.requests (number_at line.values.ones 0)) (λ (entry : RequestEntry). Close entry.request.chan) what line.says)
+names-as word.Move version said number fields what e = (let line = was-read said (move_form ∷ []) fields (says word.Move version said number) what refl e in move-names said _ (slice_get said.requests (number_at line.values.ones 0)) (slice_get said.requests (number_at line.values.ones 1)) what line.says)
+names-as word.Pour version said number fields what e = (let line = was-read said (pour_form ∷ []) fields (says word.Pour version said number) what refl e in op-names said _ (slice_get said.links (number_at line.values.ones 0)) (λ (entry : LinkEntry). Pour entry.shape.link (number_at line.values.ones 1) (number_at line.values.ones 2) (number_at line.values.ones 3)) what line.says)
+names-as word.Rounds version said number fields what e =
+    let line = was-read said (rounds_form ∷ []) fields (says word.Rounds version said number) what refl e in
+    subst (NamesItem said) (judged-ok None (item.Rounds (number_at line.values.ones 0)) what line.says).1 tt
+names-as word.Tail version said number fields what e =
+    let line = was-read said (tail_form ∷ []) fields (says word.Tail version said number) what refl e in
+    let count = number_at line.values.ones 0 in
+    subst (NamesItem said) (judged-ok (unless (are_few_ticks said count) cause.Load) (item.Tail count) what line.says).1 tt
+names-as word.Schedule version said number fields what e =
+    let line = was-read said (schedule_form ∷ []) fields (says word.Schedule version said number) what refl e in
+    subst (NamesItem said) (judged-ok None item.Schedule what line.says).1 tt
 names-as word.Do version said number fields what e =
-    let p = stated-ok (do_rule said fields) (option_map item.Do (do_said said number fields)) what e in
-    let made = made-some item.Do (do_said said number fields) what p.1 in
-    subst (NamesItem said) made.2 tt
-names-as other version said number fields what e = absurd (not-ok cause.Word what e)
+    let line = was-read said (do_form ∷ []) fields (says word.Do version said number) what refl e in
+    subst (NamesItem said) (judged-ok None (item.Do (do_by said number line.values)) what line.says).1 tt
+names-as other version said number fields what e = absurd (not-ok cause.Shape what e)
   where
     not-ok : (c : LineCause) (what : Item) → ◌≡◌ {A = Result Item LineCause} (Err c) (Ok what) → ⊥
     not-ok c what e = cc

@@ -1,6 +1,6 @@
 -- A rule over a list of fields goes on from one field to the next.
 use Rattle.std.proofs.Common.{◌≡◌, ℕ, zero, suc, ◌+◌, ◌-◌, ◌<◌, ◌≤◌, List, [], ◌∷◌, ◌++◌, Some, None, map, length, get_or, take, drop, refl, sym, ◌∙◌, ap, ap₂, arith, add-one, get_or-drop, get_or-take, length-take-le, length-drop, true, false, cond}
-use Rattle.std.proofs.lemmas.List.{length-map, map-append, drop_all, take_all, take_more, take_more_set}
+use Rattle.std.proofs.lemmas.List.{map-append, drop_all, take_more, take_more_set}
 use Rattle.std.specs.Prelude.{IsErrAnd, Result}
 use Rattle.std.proofs.lemmas.Result.{err_from_is_err_and}
 use Rattle.std.proofs.Math.ListN.{set}
@@ -9,9 +9,8 @@ use Rattle.scenario_reader.specs.Causes.{Rule, or_else, first_cause, Judges}
 use Rattle.scenario_reader.specs.Forms.{is_word, route_length}
 use Rattle.scenario_reader.specs.line.Link.{bound_start, bound_fields}
 use Rattle.scenario_reader.specs.line.Request.{route_hops, route_fields}
-use Rattle.scenario_reader.specs.line.Quota.{load_fields}
 use Rattle.scenario_reader.specs.declared.cause.LineCause.{LineCause}
-use Rattle.scenario_reader.specs.declared.form.Keyword.TheVariants as word
+use Rattle.line_forms.specs.declared.word.Keyword.TheVariants as word
 
 -- the first cause among the fields from a place on
 abbrev pub rules_from : (List ℕ → Rule) → List (List ℕ) → ℕ → Rule
@@ -67,36 +66,6 @@ bound-place fields count start left place c s l h = omega (arith, length-drop (b
 -- the field of a bound
 pub bound-field : (fields : List (List ℕ)) (start place : ℕ) → start ≡ bound_start fields → get_or fields (start + place) [] ≡ get_or (bound_fields fields) place []
 bound-field fields start place s = rw s (sym (rw get_or-drop refl))
-
--- ---- the loads of a quota
-
--- the place of a load among the last fields
-pub load-place : (fields : List (List ℕ)) (count place : ℕ) → count ≡ length (load_fields fields) → place < count → place < length (load_fields fields)
-load-place fields count place c l = omega (arith, c, l)
-
--- the field of a load
-pub load-field : (fields : List (List ℕ)) (place : ℕ) → get_or fields (6 + place) [] ≡ get_or (load_fields fields) place []
-load-field fields place = sym (rw get_or-drop refl)
-
--- the cells with one number more before the zeros
-set-filled : (fields : List (List ℕ)) (zeros : List ℕ) (place value : ℕ) → place < length fields → place < length zeros → value ≡ value_of (get_or fields place [])
-    → set (map value_of (take place fields) ++ drop place zeros) place value ≡ map value_of (take (suc place) fields) ++ drop (suc place) zeros
-set-filled [] zeros place value h k v = absurd (omega (arith, h))
-set-filled (f ∷ fields) [] place value h k v = absurd (omega (arith, k))
-set-filled (f ∷ fields) (z ∷ zeros) zero value h k v = ap (λ (n : ℕ). n ∷ zeros) v
-set-filled (f ∷ fields) (z ∷ zeros) (suc place) value h k v = ap (λ (ns : List ℕ). value_of f ∷ ns) (set-filled fields zeros place value (omega (arith, h)) (omega (arith, k)) v)
-
-pub cells-filled : (cells : List ℕ) (fields : List (List ℕ)) (zeros : List ℕ) (place value : ℕ) → place < length fields → place < length zeros → cells ≡ map value_of (take place fields) ++ drop place zeros → value ≡ value_of (get_or fields place [])
-    → set cells place value ≡ map value_of (take (place + 1) fields) ++ drop (place + 1) zeros
-cells-filled cells fields zeros place value h k e v =
-    ap (λ (ns : List ℕ). set ns place value) e ∙ set-filled fields zeros place value h k v
-    ∙ ap (λ (n : ℕ). map value_of (take n fields) ++ drop n zeros) (let next : suc place ≡ place + 1 = omega arith in next)
-
--- all of them
-pub all-filled : (fields : List (List ℕ)) (zeros : List ℕ) (place : ℕ) → place ≡ length fields → map value_of (take place fields) ++ drop place zeros ≡ map value_of fields ++ drop (length (map value_of fields)) zeros
-all-filled fields zeros place same =
-    ap (λ (n : ℕ). map value_of (take n fields) ++ drop n zeros) same
-    ∙ ap₂ (λ (front : List (List ℕ)) (n : ℕ). map value_of front ++ drop n zeros) (take_all (length fields) fields (omega arith)) (sym (length-map fields value_of))
 
 -- no field is left
 pub rules-over : (rule : List ℕ → Rule) (fields : List (List ℕ)) (place : ℕ) → length fields ≤ place → rules_from rule fields place ≡ None

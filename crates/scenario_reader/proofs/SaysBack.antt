@@ -9,9 +9,9 @@ use Rattle.scenario_reader.specs.line.Table.{may_stand, line_word, judge_as}
 use Rattle.scenario_reader.specs.Grammar.{judge_word, judge_after, judge_fields, is_passed_over, judge}
 use Rattle.scenario_reader.specs.Reading.{at_end, on_judged, reading_of}
 use Rattle.scenario_reader.specs.declared.cause.LineCause.{LineCause}
-use Rattle.scenario_reader.specs.declared.form.Keyword.{Keyword}
+use Rattle.line_forms.specs.declared.word.Keyword.{Keyword}
 use Rattle.scenario_reader.specs.declared.item.Item.{Item}
-use Rattle.scenario_reader.proofs.FieldText.{fields-back}
+use Rattle.line_forms.proofs.FieldText.{fields-back}
 use Rattle.scenario_reader.proofs.LineText.{AreLines}
 use Rattle.call_script.specs.declared.entries.CallerEntry.{CallerEntry}
 use Rattle.call_script.specs.declared.entries.LinkEntry.{LinkEntry}

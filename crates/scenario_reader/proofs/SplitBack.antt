@@ -1,5 +1,5 @@
 -- The groups of a plan are read one after another, and then the quotas of its links.
-use Rattle.std.proofs.Common.{◌≡◌, ℕ, zero, suc, ◌+◌, ◌<◌, ◌≤◌, Bool, true, false, nat_le, List, [], ◌∷◌, ◌++◌, length, map, flat_map, Some, refl, sym, ◌∙◌, ap, subst, append_assoc, arith}
+use Rattle.std.proofs.Common.{◌≡◌, ℕ, zero, suc, ◌+◌, ◌≤◌, Bool, true, false, nat_le, List, [], ◌∷◌, ◌++◌, length, map, flat_map, Some, refl, sym, ◌∙◌, ap, subst, append_assoc, arith}
 use Rattle.std.proofs.lemmas.Bool.{and_parts, and_from, le-leb, leb-true, not-true}
 use Rattle.std.proofs.lemmas.List.{append-nil}
 use Rattle.std.proofs.lemmas.Option.{same_Some}
@@ -25,20 +25,14 @@ use Rattle.call_script.specs.declared.version.Version.{Version}
 use Rattle.call_script.proofs.Growing.{length-more}
 use Rattle.scenario_reader.specs.BothWays.{HasNames, HasEightLoads}
 use Rattle.scenario_reader.specs.Drafts.{has_quotas}
-use Rattle.scenario_reader.specs.Forms.{is_among}
-use Rattle.scenario_reader.specs.line.Group.{group_rule}
 use Rattle.scenario_reader.specs.line.Link.{link_fields}
 use Rattle.scenario_reader.specs.line.Group.{group_fields}
 use Rattle.scenario_reader.specs.line.Quota.{quota_fields, quota_lines}
-use Rattle.scenario_reader.specs.line.Quota.{quota_rule, quota_said}
-use Rattle.scenario_reader.specs.declared.form.Keyword.TheVariants as word
-use Rattle.scenario_reader.specs.declared.item.Item.TheVariants as item
-use Rattle.scenario_reader.proofs.kind.GroupBack.{GroupsStand, group-here, group-is-line, group-back}
-use Rattle.scenario_reader.proofs.NamedBack.{find-back}
-use Rattle.scenario_reader.proofs.kind.QuotaBack.{IsNextQuota, quota-is-line, quota-says, quota-back}
+use Rattle.scenario_reader.proofs.kind.Group.{GroupsStand, group-here, group-read}
+use Rattle.scenario_reader.proofs.NamedBack.{position-back}
+use Rattle.scenario_reader.proofs.kind.Quota.{IsNextQuota, quota-reads}
 use Rattle.scenario_reader.proofs.SaysBack.{front, not-none}
-use Rattle.scenario_reader.proofs.RulesBack.{judged-back, stated-back}
-use Rattle.scenario_reader.proofs.SaysBack.{judged-as, Reads, reads-none, reads-one, reads-on}
+use Rattle.scenario_reader.proofs.SaysBack.{Reads, reads-none, reads-on}
 use Rattle.scenario_reader.proofs.WalkBack.{at-seam}
 
 -- ---- links whose quotas weren't read yet
@@ -82,15 +76,6 @@ bare-numbers (link ∷ links) first numbers zero entry found = ap (λ (e : LinkE
 bare-numbers (link ∷ links) first numbers (suc k) entry found = bare-numbers links (suc first) (λ n e at. numbers (suc n) e at ∙ omega arith) k entry found ∙ omega arith
 
 -- ---- groups
-
-group-read : (version : Version) (links : List LinkEntry) (groups : List (List ℕ)) (name : List ℕ) → has_groups version ≡ true → 1 ≤ length links → has_quotas links ≡ false → is_name name ≡ true → is_among groups name ≡ false → length groups < 4
-    → Reads (group_fields name ∷ []) (front version links groups [] []) (front version links (groups ++ name ∷ []) [] [])
-group-read version links groups name has some unsplit is new few =
-    let said = front version links groups [] [] in
-    let line = group-is-line name is in
-    reads-one (group_fields name) said (item.Group name) line (λ number.
-    judged-as version said number (group_fields name) word.Group (item.Group name) line refl refl refl (rw (has, not-none links some, unsplit) refl)
-    (judged-back (group_rule said (group_fields name)) (item.Group name) (group-back said name is new few)))
 
 -- the groups that are left
 pub record GroupsLeft (version : Version) (groups rest : List (List ℕ)) : Type 0 where
@@ -178,9 +163,11 @@ quota-read version groups before after entry done quota has stand here new there
     let some = some-links before link after in
     let inside = and_parts (nat_le 1 quota.group) (nat_le quota.group (length groups)) there in
     let distinct = ap are_distinct (names-with before entry after done) ∙ here.apart in
+    let at : slice_get links (link_number entry.shape.link) ≡ Some link = at-seam before link after (link_number entry.shape.link) here.number in
     let is : IsNextQuota said link quota = record {
       name = here.name;
-      found = find-back (λ (e : LinkEntry). e.name) [] links (length before) link distinct (at-seam before link after (length before) refl);
+      place = position-back (λ (e : LinkEntry). e.name) links (link_number entry.shape.link) link distinct at;
+      at = at;
       group = group-here groups quota.group stand (leb-true 1 quota.group inside.0) (leb-true quota.group (length groups) inside.1);
       new = new;
       range = range;
@@ -188,11 +175,8 @@ quota-read version groups before after entry done quota has stand here new there
       eight = eight;
       unused = unused;
     } in
-    let line = quota-is-line said link quota is in
     subst (λ (ls : List LinkEntry). Reads (quota_fields groups entry quota ∷ []) said (front version ls groups [] [])) (add-here before link after (link_number entry.shape.link) quota here.number)
-    (reads-one (quota_fields groups link quota) said (item.Quota link.shape.link quota) line (λ number.
-    judged-as version said number (quota_fields groups link quota) word.Quota (item.Quota link.shape.link quota) line refl refl refl (rw (has, not-none links some) refl)
-    (stated-back (quota_rule said (quota_fields groups link quota)) (quota_said said (quota_fields groups link quota)) (item.Quota link.shape.link quota) (quota-back said link quota is) (quota-says said link quota is))))
+    (quota-reads version said link quota refl (rw (has, not-none links some) refl) is)
 
 link-quotas-read : (version : Version) (groups : List (List ℕ)) (before after : List LinkEntry) (entry : LinkEntry) (done left : List Quota) → GroupsStand groups → StandsThere before entry after → QuotasLeft version groups entry done left
     → Reads (map (quota_fields groups entry) left) (front version (before ++ with_quotas entry done ∷ after) groups [] []) (front version (before ++ with_quotas entry (done ++ left) ∷ after) groups [] [])

@@ -36,15 +36,15 @@ use Rattle.scenario_reader.specs.Reading.{PlanRead, BadLine, reading_on, reading
 use Rattle.scenario_reader.specs.declared.cause.LineCause.TheVariants as cause
 use Rattle.scenario_reader.specs.declared.item.Item.TheVariants as item
 use Rattle.scenario_reader.specs.Drafts.{with_item}
-use Rattle.scenario_reader.proofs.kind.GroupBack.{GroupsStand}
-use Rattle.scenario_reader.proofs.kind.CallerBack.{has-of}
+use Rattle.scenario_reader.proofs.kind.Group.{GroupsStand}
+use Rattle.scenario_reader.proofs.kind.Caller.{has-of}
 use Rattle.scenario_reader.proofs.LineText.{lines-of-text}
 use Rattle.scenario_reader.proofs.PlanBack.{links-read, callers-read}
 use Rattle.scenario_reader.proofs.SaysBack.{front, whole}
 use Rattle.scenario_reader.proofs.kind.HeaderBack.{header-read}
-use Rattle.scenario_reader.proofs.kind.RoundsBack.{rounds-read, tail-read}
+use Rattle.scenario_reader.proofs.kind.Rounds.{rounds-read, tail-read}
 use Rattle.scenario_reader.proofs.SaysBack.{Reads, leads-reading, leads-lines}
-use Rattle.scenario_reader.proofs.kind.ScheduleBack.{SomeLead, then-some, IsWhole, schedule-back}
+use Rattle.scenario_reader.proofs.kind.Schedule.{SomeLead, then-some, IsWhole, schedule-back}
 use Rattle.scenario_reader.proofs.SplitBack.{bare, bare-names, bare-lines, bare-unsplit, bare-named, bare-kept, bare-numbers, bare-each, groups-read, QuotasLeft, shares-read}
 use Rattle.scenario_reader.proofs.WalkBack.{LinksStand, IsSound, OpSound}
 

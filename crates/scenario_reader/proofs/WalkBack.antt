@@ -1,7 +1,7 @@
 -- The callers of a plan are read one after another, each with its operations: what was read so far keeps the rules, and what
 -- is left of the plan is after it.
 use Rattle.std.proofs.Common.{◌≡◌, ℕ, suc, zero, ◌+◌, ◌*◌, ◌-◌, ◌<◌, ◌≤◌, true, false, nat_eq, List, [], ◌∷◌, ◌++◌, length, map, Option, Some, refl, sym, ◌∙◌, ap, subst, inl, inr, append_assoc, arith}
-use Rattle.std.specs.Prelude.{◌&&◌, not, option_map}
+use Rattle.std.specs.Prelude.{◌&&◌, not, option_map, position}
 use Rattle.std.proofs.lemmas.Bool.{and_parts, and_from, eq-eqb, not-true, not_from_false, ltb-true}
 use Rattle.std.proofs.lemmas.List.{map-append}
 use Rattle.std.proofs.lemmas.Option.{slice_get_cases, slice_get_within}
@@ -43,15 +43,15 @@ use Rattle.scenario_reader.specs.line.Send.{send_fields}
 use Rattle.scenario_reader.specs.line.Close.{close_fields}
 use Rattle.scenario_reader.specs.line.Move.{move_fields, fields_between}
 use Rattle.scenario_reader.specs.line.Pour.{pour_fields}
-use Rattle.scenario_reader.proofs.kind.UsingBack.{are-packets, IsOpenHere}
-use Rattle.scenario_reader.proofs.NamedBack.{find-back}
+use Rattle.scenario_reader.proofs.kind.Using.{are-packets, IsOpenHere}
+use Rattle.scenario_reader.proofs.NamedBack.{find-back, position-back}
 use Rattle.scenario_reader.proofs.kind.RequestBack.{IsHopHere}
 use Rattle.scenario_reader.proofs.SaysBack.{front}
 use Rattle.scenario_reader.proofs.kind.RequestBack.{open-read}
-use Rattle.scenario_reader.proofs.kind.SendBack.{send-read}
-use Rattle.scenario_reader.proofs.kind.CloseBack.{close-read}
-use Rattle.scenario_reader.proofs.kind.MoveBack.{move-read}
-use Rattle.scenario_reader.proofs.kind.PourBack.{pour-read}
+use Rattle.scenario_reader.proofs.kind.Send.{send-read}
+use Rattle.scenario_reader.proofs.kind.Close.{close-read}
+use Rattle.scenario_reader.proofs.kind.Move.{move-read}
+use Rattle.scenario_reader.proofs.kind.Pour.{pour-read}
 use Rattle.scenario_reader.proofs.SaysBack.{Reads}
 use Rattle.net_units.proofs.KnownByNumber.{same-link, same-channel}
 
@@ -77,6 +77,8 @@ record IsThere (links : List LinkEntry) (link : LinkNo) : Type 0 where
   same : link ≡ entry.shape.link
   name : is_name entry.name ≡ true
   named : link_named links entry.name ≡ Some entry
+  place : position (is_named entry.name) (link_names links) ≡ Some (link_number entry.shape.link)
+  at : slice_get links (link_number entry.shape.link) ≡ Some entry
 
 is-there : (links : List LinkEntry) (link : LinkNo) → LinksStand links → has_link links link ≡ true → IsThere links link
 is-there links link stand there =
@@ -87,6 +89,8 @@ is-there links link stand there =
         same = same-link link at.0.shape.link (sym (stand.numbers (link_number link) at.0 at.2));
         name = (Each-at HasNames links (link_number link) at.0 stand.named at.2).name;
         named = find-back (λ (e : LinkEntry). e.name) [] links (link_number link) at.0 stand.apart at.2;
+        place = position-back (λ (e : LinkEntry). e.name) links (link_number link) at.0 stand.apart at.2 ∙ ap Some (sym (stand.numbers (link_number link) at.0 at.2));
+        at = subst (λ (n : ℕ). slice_get links n ≡ Some at.0) (sym (stand.numbers (link_number link) at.0 at.2)) at.2;
       }
       | inr past ↦ (let within : link_number link < length links = ltb-true (link_number link) (length links) there in absurd (omega (arith, past.0, within)))
     ]
@@ -216,6 +220,7 @@ is-ours version links groups all requests rest callers caller chan s opened uncl
     let last : list_any (is_in role.Closes (channel_number chan)) (last_ops (callers ++ caller ∷ [])) ≡ false = ap (list_any (is_in role.Closes (channel_number chan))) (last-of callers caller) ∙ unclosed in
     let find = find-back (λ (e : RequestEntry). e.name) [] requests (channel_number chan) has.entry (distinct-requests parts s.keeps.names) has.found in
     let longer = length-more callers caller in
+    let same = same-channel chan has.entry.request.chan (sym (s.keeps.planned.requests (channel_number chan) has.entry has.found)) in
     let ours : nat_eq (actor_number has.entry.caller) (length (callers ++ caller ∷ []) - 1) ≡ true = eq-eqb (actor_number has.entry.caller) (length (callers ++ caller ∷ []) - 1) (omega (arith, has.by, longer)) in
     record {
       entry = has.entry;
@@ -223,7 +228,8 @@ is-ours version links groups all requests rest callers caller chan s opened uncl
       here = record {
         name = Each-at (λ (e : RequestEntry). is_name e.name ≡ true) requests (channel_number chan) has.entry s.named has.found;
         own = ap (if_own (length (callers ++ caller ∷ []) - 1)) find ∙ rw ours refl;
-        same = same-channel chan has.entry.request.chan (sym (s.keeps.planned.requests (channel_number chan) has.entry has.found));
+        same = same;
+        at = subst (λ (c : ChanNo). slice_get requests (channel_number c) ≡ Some has.entry) same has.found;
         unclosed = last;
       };
       found = has.found;
@@ -326,7 +332,7 @@ pour-step version links groups all requests rest callers caller link count gap s
     plain-step version links groups all requests rest callers caller (Pour link count gap size) openings (pour_fields count gap size at.entry) s later (ap (option_map (pour_fields count gap size)) at.found)
     (pour-keeps parts link count gap size s.keeps (record { some = some-callers callers caller; version = is.sound.kept; there = is.sound.there; range = is.sound.range; load = load; taken = is.sound.taken }))
     (pour-read version links groups requests (callers ++ caller ∷ []) link count gap size at.entry (some-callers callers caller) is.sound.kept
-    (record { name = at.name; found = at.named; same = at.same; taken = ap takes_best_effort (sym at.found) ∙ is.sound.taken }) are load)
+    (record { name = at.name; place = at.place; at = at.at; same = at.same; taken = ap takes_best_effort (sym at.found) ∙ is.sound.taken }) are load)
 
 -- the next request is that of the open
 open-step : (version : Version) (links : List LinkEntry) (groups : List (List ℕ)) (all requests rest : List RequestEntry) (callers : List CallerEntry) (caller : CallerEntry) (chan : ChanNo) (openings : List Opening) → LinksStand links

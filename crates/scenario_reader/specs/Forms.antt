@@ -1,49 +1,17 @@
 -- The form of a line is a list of parts: fixed words, and fields that hold a name or a number. Two parts take
 -- several fields: the links of a route, 1 to 16 fields up to the word `contract`; and the numbers of a link's
 -- levels, 1 to 8 fields at the end. A line has a form when its fields fit the parts one by one.
-use Rattle.std.specs.Prelude.{ℕ, suc, Bool, true, false, nat_eq, nat_le, not, ◌&&◌, if◌then◌else◌, Option, Some, None, List, [], ◌∷◌, length, drop, codes}
+use Rattle.std.specs.Prelude.{ℕ, suc, Bool, true, false, nat_eq, nat_le, not, ◌&&◌, if◌then◌else◌, Option, Some, None, List, [], ◌∷◌, length, drop}
 use Rattle.std.specs.List.{list_any}
 use Rattle.std.specs.Cmp.Lexicographic.{pointwise}
 use Rattle.net_units.specs.Text.{is_name}
+pub use Rattle.line_forms.specs.Words.{text_of, is_word}
 use Rattle.scenario_reader.specs.Causes.{Rule, unless, or_else}
 use Rattle.scenario_reader.specs.Decimal.{is_number, value_of}
 use Rattle.scenario_reader.specs.declared.cause.LineCause.TheVariants as cause
-use Rattle.scenario_reader.specs.declared.form.Keyword.{Keyword}
-use Rattle.scenario_reader.specs.declared.form.Keyword.TheVariants as word
+use Rattle.line_forms.specs.declared.word.Keyword.TheVariants as word
 use Rattle.scenario_reader.specs.declared.form.Part.{Part}
 use Rattle.scenario_reader.specs.declared.form.Part.TheVariants as part
-
--- the bytes of a fixed word
-abbrev pub text_of : Keyword → List ℕ
-text_of word.Link = codes "link"
-text_of word.Group = codes "group"
-text_of word.Quota = codes "quota"
-text_of word.Caller = codes "caller"
-text_of word.Open = codes "open"
-text_of word.Send = codes "send"
-text_of word.Close = codes "close"
-text_of word.Pour = codes "pour"
-text_of word.Move = codes "move"
-text_of word.Rounds = codes "rounds"
-text_of word.Tail = codes "tail"
-text_of word.Schedule = codes "schedule"
-text_of word.Do = codes "do"
-text_of word.Rate = codes "rate"
-text_of word.Cap = codes "cap"
-text_of word.Prop = codes "prop"
-text_of word.Buffer = codes "buffer"
-text_of word.Best = codes "best"
-text_of word.Levels = codes "levels"
-text_of word.Route = codes "route"
-text_of word.Contract = codes "contract"
-text_of word.Delay = codes "delay"
-text_of word.Jitter = codes "jitter"
-text_of word.From = codes "from"
-text_of word.To = codes "to"
-
--- whether a field is this word
-abbrev pub is_word : Keyword → List ℕ → Bool
-is_word keyword field = pointwise nat_eq field (text_of keyword)
 
 -- how many fields stand before the word `contract`, or before the end
 abbrev pub route_length : List (List ℕ) → ℕ

@@ -7,7 +7,7 @@ use Rattle.call_script.specs.declared.version.Version.{Version}
 use Rattle.scenario_reader.specs.Drafts.{Said}
 use Rattle.scenario_reader.specs.Fields.{fields_of, are_fields, field_at}
 use Rattle.scenario_reader.specs.declared.cause.LineCause.{LineCause}
-use Rattle.scenario_reader.specs.declared.form.Keyword.{Keyword}
+use Rattle.line_forms.specs.declared.word.Keyword.{Keyword}
 use Rattle.scenario_reader.specs.declared.item.Item.{Item}
 use Rattle.scenario_reader.specs.line.Header.{header_version, header_said}
 use Rattle.scenario_reader.specs.line.Table.{may_stand, line_word, judge_as}

@@ -2,12 +2,12 @@ pub mod Causes
 pub mod Words
 pub mod Decimal
 pub mod Fields
-pub mod FieldCells
 pub mod Forms
 pub mod Entries
 pub mod Uses
 pub mod Drafts
 pub mod Nodes
+pub mod Known
 pub mod FoundRoutes
 pub mod Grammar
 pub mod Reading

@@ -1,12 +1,23 @@
 -- The words by which a scenario's refusals are printed.
 use Rattle.std.specs.Prelude.{ℕ, List, ◌++◌, codes}
 use Rattle.std.specs.Fmt.{decimal}
+use Rattle.line_forms.specs.declared.cause.FieldCause.{FieldCause}
+use Rattle.line_forms.specs.declared.cause.FieldCause.TheVariants as field
 use Rattle.scenario_reader.specs.declared.cause.Cause.{Cause}
 use Rattle.scenario_reader.specs.declared.cause.Cause.TheVariants as cause
 use Rattle.scenario_reader.specs.declared.cause.LineCause.{LineCause}
 use Rattle.scenario_reader.specs.declared.cause.LineCause.TheVariants as line
 use Rattle.scenario_reader.specs.declared.reader.ReadRefusal.{ReadRefusal}
 use Rattle.scenario_reader.specs.declared.reader.ReadRefusal.TheVariants as refusal
+
+-- the cause of a field, among all causes of a line
+abbrev pub field_cause : FieldCause → LineCause
+field_cause field.Shape = line.Shape
+field_cause field.Name = line.Name
+field_cause field.Number = line.Number
+field_cause field.Known = line.Known
+field_cause field.Unknown = line.Unknown
+field_cause field.Range = line.Range
 
 -- the cause of a line, among all causes by which a scenario is refused
 abbrev pub cause_of : LineCause → Cause

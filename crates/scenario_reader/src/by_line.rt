@@ -10,6 +10,7 @@ ghost use Rattle.scenario_reader.specs.Reading.{PassesFrom};
 use crate::cause::{Cause, LineCause, LineFault};
 use crate::reader::{MOST_BYTES, ReadRefusal};
 use byte_ends::{Cut, LineRefusal, Lines, Source};
+use line_forms::Reader;
 use std::alloc::Global;
 
 /// What was read so far of a text that is judged line by line.
@@ -20,10 +21,11 @@ pub(crate) trait TakesLines {
     ghost language: { Language Self Whole };
 
     /// Judges the line of this number, and adds what it says where it isn't refused. `ahead` are bytes that stand after it and are in
-    /// hand; they are not judged.
+    /// hand; they are not judged. The line is read by `reader`, which may have read others.
     fn add_line(
         &mut self,
         alloc: Global,
+        reader: &mut Reader,
         number: u64,
         line: &[u8],
         ahead: &[u8],
@@ -53,7 +55,8 @@ pub(crate) fn read_lines<S: Source, D: TakesLines>(
     ensures counts { S.faults source.old ≤ S.faults source.new }
 {
     let mut lines = Lines::new(alloc, MOST_BYTES)?;
-    while read_line(alloc, &mut lines, draft, source)? {}
+    let mut reader = Reader::new();
+    while read_line(alloc, &mut reader, &mut lines, draft, source)? {}
     match draft.judge_end() {
         Ok(()) => Ok(()),
         Err(cause) => Err(ReadRefusal::Refused {
@@ -66,6 +69,7 @@ pub(crate) fn read_lines<S: Source, D: TakesLines>(
 // Reads the next line and adds what it says. It answers whether there was one.
 fn read_line<S: Source, D: TakesLines>(
     alloc: Global,
+    reader: &mut Reader,
     lines: &mut Lines,
     draft: &mut D,
     source: &mut S,
@@ -81,6 +85,7 @@ fn read_line<S: Source, D: TakesLines>(
         Ok(Cut::Line) => {
             take_line(
                 alloc,
+                reader,
                 draft,
                 lines.number(),
                 lines.line(),
@@ -101,6 +106,7 @@ fn read_line<S: Source, D: TakesLines>(
 // Judges a line and adds what it says.
 fn take_line<D: TakesLines>(
     alloc: Global,
+    reader: &mut Reader,
     draft: &mut D,
     number: u64,
     line: &[u8],
@@ -108,7 +114,7 @@ fn take_line<D: TakesLines>(
 ) -> Result<(), ReadRefusal>
     ensures { AddsLine result number draft.new (D.language.says draft.old number line.now) }
 {
-    match draft.add_line(alloc, number, line, ahead) {
+    match draft.add_line(alloc, reader, number, line, ahead) {
         Ok(()) => Ok(()),
         Err(LineFault::Memory) => Err(ReadRefusal::Memory),
         Err(LineFault::Refused(cause)) => Err(ReadRefusal::Refused {

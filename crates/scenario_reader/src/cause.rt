@@ -2,6 +2,7 @@
 ghost use Rattle.std.specs.Prelude.{◌≡◌, Some};
 ghost use Rattle.scenario_reader.specs.Words.{cause_word};
 
+use line_forms::FieldCause;
 use net_units::OutOfMemory;
 use std::fmt::{self, Display};
 
@@ -120,6 +121,24 @@ impl From<LineCause> for Cause {
     }
 }
 
+impl From<FieldCause> for LineCause {
+    ghost use Rattle.std.specs.Prelude.{◌≡◌};
+    ghost use Rattle.scenario_reader.specs.Words.{field_cause};
+
+    ghost from_gives = { λ cause told. told ≡ field_cause cause };
+
+    fn from(cause: FieldCause) -> LineCause {
+        match cause {
+            FieldCause::Shape => LineCause::Shape,
+            FieldCause::Name => LineCause::Name,
+            FieldCause::Number => LineCause::Number,
+            FieldCause::Known => LineCause::Known,
+            FieldCause::Unknown => LineCause::Unknown,
+            FieldCause::Range => LineCause::Range,
+        }
+    }
+}
+
 /// Why a line doesn't pass.
 #[derive(Clone, Copy, Debug, PartialEq, Eq)]
 pub enum LineFault {
@@ -137,6 +156,18 @@ impl From<LineCause> for LineFault {
 
     fn from(cause: LineCause) -> LineFault {
         LineFault::Refused(cause)
+    }
+}
+
+impl From<FieldCause> for LineFault {
+    ghost use Rattle.std.specs.Prelude.{◌≡◌};
+    ghost use Rattle.scenario_reader.specs.Words.{field_cause};
+    ghost use Rattle.scenario_reader.specs.declared.cause.LineFault.TheVariants.{Refused};
+
+    ghost from_gives = { λ cause fault. fault ≡ Refused (field_cause cause) };
+
+    fn from(cause: FieldCause) -> LineFault {
+        LineFault::Refused(cause.into())
     }
 }
 

@@ -10,6 +10,7 @@ use crate::names::Names;
 use crate::uses::Uses;
 use crate::values::require;
 use call_script::{CallerEntry, Do, Dos, LinkEntry, Plan, RequestEntry, Schedule, Version};
+use line_forms::Reader;
 use net_units::{Name, OutOfMemory};
 use std::alloc::Global;
 use std::marker::Model;
@@ -63,11 +64,12 @@ impl TakesLines for Draft {
     fn add_line(
         &mut self,
         alloc: Global,
+        reader: &mut Reader,
         number: u64,
         line: &[u8],
         _ahead: &[u8],
     ) -> Result<(), LineFault> {
-        let item = self.judge(alloc, number, line)?;
+        let item = self.judge_by(alloc, reader, number, line)?;
         self.put(alloc, item)?;
         Ok(())
     }

@@ -1,80 +1,8 @@
 //! The forms of a scenario's lines.
 ghost use Rattle.std.specs.Prelude.{◌≡◌, ◌≤◌, ◌+◌, ◌-◌, if◌then◌else◌, IfSome, Some, None, length, drop, min};
-ghost use Rattle.scenario_reader.specs.Forms.{text_of, is_word, route_length, fields_up_to, fields_taken, has_form};
+ghost use Rattle.scenario_reader.specs.Forms.{route_length, fields_up_to, fields_taken, has_form};
 
-use crate::fields::Fields;
-
-/// A fixed word of the grammar.
-#[derive(Clone, Copy, Debug, PartialEq, Eq)]
-pub enum Keyword {
-    Link,
-    Group,
-    Quota,
-    Caller,
-    Open,
-    Send,
-    Close,
-    Pour,
-    Move,
-    Rounds,
-    Tail,
-    Schedule,
-    Do,
-    Rate,
-    Cap,
-    Prop,
-    Buffer,
-    Best,
-    Levels,
-    Route,
-    Contract,
-    Delay,
-    Jitter,
-    From,
-    To,
-}
-
-impl Keyword {
-    /// The word's bytes.
-    pub fn text(self) -> &'static [u8]
-        ensures { result.now ≡ text_of self }
-    {
-        match self {
-            Keyword::Link => b"link",
-            Keyword::Group => b"group",
-            Keyword::Quota => b"quota",
-            Keyword::Caller => b"caller",
-            Keyword::Open => b"open",
-            Keyword::Send => b"send",
-            Keyword::Close => b"close",
-            Keyword::Pour => b"pour",
-            Keyword::Move => b"move",
-            Keyword::Rounds => b"rounds",
-            Keyword::Tail => b"tail",
-            Keyword::Schedule => b"schedule",
-            Keyword::Do => b"do",
-            Keyword::Rate => b"rate",
-            Keyword::Cap => b"cap",
-            Keyword::Prop => b"prop",
-            Keyword::Buffer => b"buffer",
-            Keyword::Best => b"best",
-            Keyword::Levels => b"levels",
-            Keyword::Route => b"route",
-            Keyword::Contract => b"contract",
-            Keyword::Delay => b"delay",
-            Keyword::Jitter => b"jitter",
-            Keyword::From => b"from",
-            Keyword::To => b"to",
-        }
-    }
-
-    /// Whether the field is this word.
-    pub fn is(self, field: &[u8]) -> bool
-        ensures { result ≡ is_word self field.now }
-    {
-        field == self.text()
-    }
-}
+use line_forms::{Fields, Keyword};
 
 /// A part of a line's form.
 #[derive(Clone, Copy, Debug)]

@@ -8,18 +8,32 @@ ghost use Rattle.scenario_reader.specs.Grammar.{judge_word, judge_after, judge, 
 
 use crate::cause::{LineCause, LineFault};
 use crate::draft::Draft;
-use crate::fields::Fields;
-use crate::form::Keyword;
 use crate::item::Item;
 use crate::line::header::judge_header;
 use crate::line::table::line_word;
 use call_script::Version;
+use line_forms::{Fields, Keyword, Reader};
 use std::alloc::Global;
 
 impl Draft {
     /// What the line of this number says after what was read, or the cause by which it is refused.
-    #[tactic(auto, unfolding(crate::specs::Grammar::judge))]
     pub fn judge(&self, alloc: Global, number: u64, line: &[u8]) -> Result<Item, LineFault>
+        ensures judged { AnswersWithRoom result (judge self.now number line.now) }
+        ensures room { IfOk result (MayAdd self.now) }
+    {
+        let mut reader = Reader::new();
+        self.judge_by(alloc, &mut reader, number, line)
+    }
+
+    // The same, where the line is read by a reader that may have read others.
+    #[tactic(auto, unfolding(crate::specs::Grammar::judge))]
+    pub(crate) fn judge_by(
+        &self,
+        alloc: Global,
+        reader: &mut Reader,
+        number: u64,
+        line: &[u8],
+    ) -> Result<Item, LineFault>
         ensures judged { AnswersWithRoom result (judge self.now number line.now) }
         ensures room { IfOk result (MayAdd self.now) }
     {
@@ -30,11 +44,17 @@ impl Draft {
         if !fields.are_written() {
             return Err(LineFault::Refused(LineCause::Shape));
         }
-        self.judge_after(alloc, number, &fields)
+        self.judge_after(alloc, reader, number, &fields)
     }
 
     // The first line is the header; after it each line begins with a word.
-    fn judge_after(&self, alloc: Global, number: u64, fields: &Fields) -> Result<Item, LineFault>
+    fn judge_after(
+        &self,
+        alloc: Global,
+        reader: &mut Reader,
+        number: u64,
+        fields: &Fields,
+    ) -> Result<Item, LineFault>
         ensures judged { AnswersWithRoom result (judge_after self.now.version self.now number fields.now) }
         ensures room { IfOk result (MayAdd self.now) }
     {
@@ -42,7 +62,7 @@ impl Draft {
             None => judge_header(fields),
             Some(version) => match line_word(fields.at(0)) {
                 None => Err(LineFault::Refused(LineCause::Word)),
-                Some(word) => self.judge_word(alloc, word, version, number, fields),
+                Some(word) => self.judge_word(alloc, reader, word, version, number, fields),
             },
         }
     }
@@ -50,6 +70,7 @@ impl Draft {
     fn judge_word(
         &self,
         alloc: Global,
+        reader: &mut Reader,
         word: Keyword,
         version: Version,
         number: u64,
@@ -58,7 +79,7 @@ impl Draft {
         ensures { AnswersWithRoom result (judge_word (Some word) version self.now number fields.now) }
     {
         if self.may_stand(version, word) {
-            self.judge_as(alloc, word, version, number, fields)
+            self.judge_as(alloc, reader, word, version, number, fields)
         } else {
             Err(LineFault::Refused(LineCause::Word))
         }

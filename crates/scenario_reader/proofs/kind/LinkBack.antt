@@ -22,14 +22,15 @@ use Rattle.scenario_reader.specs.Fields.{field_at, are_fields}
 use Rattle.scenario_reader.specs.Forms.{is_among, has_form, name_rule, new_name_rule, number_rule}
 use Rattle.scenario_reader.specs.line.Link.{is_link_line, bound_fields, best_in, link_numbers, link_numbers_rule, best_rule, bound_numbers_rule, link_fields_rule, link_rule, link_said, bounds_fields, link_fields, best_fields}
 use Rattle.scenario_reader.proofs.ShapeOfNumbers.{link-is, shape-is}
-use Rattle.scenario_reader.proofs.NumberText.{value-decimal, decimal-passes, decimals-pass, values-decimals}
+use Rattle.line_forms.proofs.NumberText.{value-decimal}
+use Rattle.scenario_reader.proofs.NumberText.{decimal-passes, decimals-pass, values-decimals}
 use Rattle.scenario_reader.proofs.RulesBack.{pass-all, unless-holds, name-back, new-name-back, stated-back}
-use Rattle.scenario_reader.proofs.FieldText.{name-field, number-field}
+use Rattle.line_forms.proofs.FieldText.{name-field, number-field}
 use Rattle.scenario_reader.proofs.LineFields.{both-fields, numbers-fields}
 use Rattle.scenario_reader.proofs.SaysBack.{judged-as, Reads, reads-one, front}
 use Rattle.scenario_reader.specs.declared.cause.LineCause.TheVariants as cause
 use Rattle.scenario_reader.specs.declared.form.Part.TheVariants as part
-use Rattle.scenario_reader.specs.declared.form.Keyword.TheVariants as word
+use Rattle.line_forms.specs.declared.word.Keyword.TheVariants as word
 use Rattle.scenario_reader.specs.declared.item.Item.TheVariants as item
 
 -- ---- the fields of a link line, with these after the buffer

@@ -7,7 +7,7 @@ use Rattle.scenario_reader.specs.Fields.{field_at}
 use Rattle.scenario_reader.specs.Forms.{text_of, is_word, has_form}
 use Rattle.scenario_reader.specs.line.Link.{link_front, plain_form, best_form, is_link_line, has_best, bound_fields}
 use Rattle.scenario_reader.proofs.FormText.{after-front, word-at, few-at}
-use Rattle.scenario_reader.specs.declared.form.Keyword.TheVariants as word
+use Rattle.line_forms.specs.declared.word.Keyword.TheVariants as word
 use Rattle.scenario_reader.specs.declared.form.Part.TheVariants as part
 
 -- a word is the test of its bytes

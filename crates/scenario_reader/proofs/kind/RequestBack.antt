@@ -34,15 +34,16 @@ use Rattle.scenario_reader.specs.BothWays.{AreNodesNamed, IsFoundRoute}
 use Rattle.scenario_reader.specs.Nodes.{LinksAreNumbered, is_node, route_between}
 use Rattle.scenario_reader.proofs.FoundNodes.{found-nodes}
 use Rattle.scenario_reader.proofs.ShapeOfNumbers.{actor-is, channel-is}
-use Rattle.scenario_reader.proofs.NumberText.{value-decimal, decimal-passes}
+use Rattle.line_forms.proofs.NumberText.{value-decimal}
+use Rattle.scenario_reader.proofs.NumberText.{decimal-passes}
 use Rattle.scenario_reader.proofs.RulesBack.{pass-all, unless-holds, new-name-back, used-name-back, name-no-word, judged-back}
-use Rattle.scenario_reader.proofs.FieldText.{name-field, number-field}
+use Rattle.line_forms.proofs.FieldText.{name-field, number-field}
 use Rattle.scenario_reader.proofs.LineFields.{both-fields}
 use Rattle.call_script.specs.Growing.{add_op}
 use Rattle.call_script.specs.declared.entries.CallerEntry.{CallerEntry}
 use Rattle.scenario_reader.proofs.SaysBack.{judged-as, Reads, reads-one, front, not-none}
 use Rattle.scenario_reader.specs.declared.cause.LineCause.TheVariants as cause
-use Rattle.scenario_reader.specs.declared.form.Keyword.TheVariants as word
+use Rattle.line_forms.specs.declared.word.Keyword.TheVariants as word
 use Rattle.scenario_reader.specs.declared.form.Part.TheVariants as part
 use Rattle.call_script.specs.declared.operations.Op.TheVariants as op
 use Rattle.scenario_reader.specs.declared.item.Item.TheVariants as item

@@ -9,7 +9,7 @@ use Rattle.scenario_reader.specs.Forms.{text_of, is_word, route_length, has_form
 use Rattle.scenario_reader.specs.line.Request.{open_front, rate_form, jitter_form, found_front, found_rate_form, found_jitter_form, is_found_line, is_found, is_open_line, route_hops}
 use Rattle.scenario_reader.specs.declared.form.Part.{Part}
 use Rattle.scenario_reader.proofs.FormText.{after-links, after-front, word-at}
-use Rattle.scenario_reader.specs.declared.form.Keyword.TheVariants as word
+use Rattle.line_forms.specs.declared.word.Keyword.TheVariants as word
 use Rattle.scenario_reader.specs.declared.form.Part.TheVariants as part
 
 -- the route of a line has 1 to 16 links

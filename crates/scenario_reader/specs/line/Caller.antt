@@ -1,58 +1,57 @@
 -- The line of a caller: caller NAME; and from version five on caller NAME group GROUP, where GROUP is the name of a group above. A caller
 -- whose line names no group is of none, which has the number 0.
-use Rattle.std.specs.Prelude.{ℕ, ◌&&◌, ◌||◌, Bool, nat_lt, if◌then◌else◌, None, List, [], ◌∷◌, length, is_some, unwrap_or, nat_eq, codes}
+use Rattle.std.specs.Prelude.{ℕ, nat_eq, nat_lt, if◌then◌else◌, Option, Some, None, Result, List, [], ◌∷◌, length, option_map}
 use Rattle.net_units.specs.Limits.{most_callers}
-use Rattle.call_script.specs.Rules.{caller_names}
+use Rattle.call_script.specs.Growing.{MayAddCaller}
 use Rattle.call_script.specs.Versions.{has_groups}
 use Rattle.call_script.specs.declared.version.Version.{Version}
-use Rattle.scenario_reader.specs.Causes.{Rule, unless, first_cause}
-use Rattle.scenario_reader.specs.Drafts.{Said, group_named, parts_said}
-use Rattle.scenario_reader.specs.Fields.{field_at}
-use Rattle.scenario_reader.specs.Forms.{is_word, has_form, new_name_rule, used_name_rule}
-use Rattle.scenario_reader.specs.declared.form.Part.{Part}
-use Rattle.call_script.specs.Growing.{MayAddCaller}
-use Rattle.scenario_reader.specs.line.Before.{HasALink}
-use Rattle.scenario_reader.specs.line.Group.{group_name}
+use Rattle.line_forms.specs.Values.{name_at, number_at, with_ones}
+use Rattle.line_forms.specs.Writing.{fields_with}
+use Rattle.line_forms.specs.declared.form.Part.{Part}
+use Rattle.line_forms.specs.declared.form.Part.TheVariants as part
+use Rattle.line_forms.specs.declared.known.Set.TheVariants as set
+use Rattle.line_forms.specs.declared.slot.Slot.TheVariants as slot
+use Rattle.line_forms.specs.declared.value.FieldValue.{FieldValue}
+use Rattle.line_forms.specs.declared.value.FieldValue.TheVariants as value
+use Rattle.line_forms.specs.declared.value.Values.{Values}
+use Rattle.line_forms.specs.declared.word.Keyword.TheVariants as word
+use Rattle.scenario_reader.specs.Causes.{unless, stated}
+use Rattle.scenario_reader.specs.Drafts.{Said, parts_said}
+use Rattle.scenario_reader.specs.declared.cause.LineCause.{LineCause}
 use Rattle.scenario_reader.specs.declared.cause.LineCause.TheVariants as cause
-use Rattle.scenario_reader.specs.declared.form.Keyword.TheVariants as word
-use Rattle.scenario_reader.specs.declared.form.Part.TheVariants as part
+use Rattle.scenario_reader.specs.declared.item.Item.{Item}
+use Rattle.scenario_reader.specs.declared.item.Item.TheVariants as item
+use Rattle.scenario_reader.specs.line.Before.{HasALink}
+use Rattle.scenario_reader.specs.line.Group.{group_value}
 
 abbrev pub caller_form : List Part
-caller_form = part.Word word.Caller ∷ part.Field ∷ []
+caller_form = part.Word word.Caller ∷ part.One (slot.New set.Callers) ∷ []
 
 abbrev pub member_form : List Part
-member_form = part.Word word.Caller ∷ part.Field ∷ part.Word word.Group ∷ part.Field ∷ []
+member_form = part.Word word.Caller ∷ part.One (slot.New set.Callers) ∷ part.Word word.Group ∷ part.One (slot.Known set.Groups) ∷ []
 
--- whether the fields have a form that the version has
-abbrev pub is_caller_line : Version → List (List ℕ) → Bool
-is_caller_line version fields = has_form caller_form fields || (has_groups version && has_form member_form fields)
+-- the forms that a version has
+abbrev pub caller_forms : Version → List (List Part)
+caller_forms version = if has_groups version then caller_form ∷ member_form ∷ [] else caller_form ∷ []
 
--- whether the word `group` stands after the name
-abbrev pub names_group : List (List ℕ) → Bool
-names_group fields = is_word word.Group (field_at fields 2)
+-- the caller that a line says, where there are few enough
+abbrev pub caller_of : Values → List ℕ → Item
+caller_of values name = item.Caller name (number_at values.ones 1)
 
--- the group, where it stands
-abbrev pub member_rule : Said → List (List ℕ) → Rule
-member_rule said fields = if names_group fields then used_name_rule (is_some (group_named said.groups (field_at fields 3))) (field_at fields 3) else None
-
--- its number, or 0
-abbrev pub group_in : Said → List (List ℕ) → ℕ
-group_in said fields = if names_group fields then unwrap_or (group_named said.groups (field_at fields 3)) 0 else 0
-
-abbrev pub caller_rule : Version → Said → List (List ℕ) → Rule
-caller_rule version said fields = first_cause (
-    unless (is_caller_line version fields) cause.Shape
-    ∷ new_name_rule (caller_names said.callers) (field_at fields 1)
-    ∷ member_rule said fields
-    ∷ unless (nat_lt (length said.callers) most_callers) cause.Many
-    ∷ [])
+abbrev pub caller_says : Said → Values → Result Item LineCause
+caller_says said values = stated (unless (nat_lt (length said.callers) most_callers) cause.Many) (option_map (caller_of values) (name_at values.ones 0))
 
 pub record MayPutCaller (said : Said) (name : List ℕ) (group : ℕ) : Type 0 where
   pub before : HasALink said
   pub caller : MayAddCaller (parts_said said) name group
 
-abbrev pub member_fields : List (List ℕ) → ℕ → List (List ℕ)
-member_fields groups group = if nat_eq group 0 then [] else codes "group" ∷ group_name groups group ∷ []
+-- what the field of its group says, where it is of one
+abbrev pub member_value : List (List ℕ) → ℕ → Option FieldValue
+member_value groups group = if nat_eq group 0 then None else group_value groups group
+
+abbrev pub fields_of_member : List ℕ → Option FieldValue → List (List ℕ)
+fields_of_member name None = fields_with caller_form (with_ones (value.Name name ∷ []))
+fields_of_member name (Some member) = fields_with member_form (with_ones (value.Name name ∷ member ∷ []))
 
 abbrev pub caller_fields : List (List ℕ) → List ℕ → ℕ → List (List ℕ)
-caller_fields groups name group = codes "caller" ∷ name ∷ member_fields groups group
+caller_fields groups name group = fields_of_member name (member_value groups group)

@@ -21,7 +21,7 @@ use Rattle.call_script.specs.Growing.{MayAddLink}
 use Rattle.scenario_reader.specs.line.Before.{IsBefore}
 use Rattle.std.specs.Fmt.{decimal}
 use Rattle.scenario_reader.specs.declared.cause.LineCause.TheVariants as cause
-use Rattle.scenario_reader.specs.declared.form.Keyword.TheVariants as word
+use Rattle.line_forms.specs.declared.word.Keyword.TheVariants as word
 use Rattle.scenario_reader.specs.declared.form.Part.TheVariants as part
 
 -- the parts up to the buffer, and then these

@@ -1,41 +1,38 @@
 -- The lines `rounds R` and `tail Q`: how many rounds the plane makes beside the callers, and after them.
-use Rattle.std.specs.Prelude.{ℕ, ◌+◌, ◌*◌, Bool, nat_le, List, [], ◌∷◌, length, ◌≡◌, ◌≤◌, None, ◌++◌, codes}
+use Rattle.std.specs.Prelude.{ℕ, ◌≡◌, ◌≤◌, ◌+◌, ◌*◌, ◌++◌, Bool, nat_le, None, Result, Ok, List, [], ◌∷◌, length}
 use Rattle.net_units.specs.Limits.{most_rounds}
-use Rattle.scenario_reader.specs.Causes.{Rule, unless, first_cause}
-use Rattle.scenario_reader.specs.Decimal.{value_of}
-use Rattle.scenario_reader.specs.Drafts.{Said, rounds_of}
-use Rattle.scenario_reader.specs.Fields.{field_at}
 use Rattle.text_writer.specs.Lines.{whole_line}
-use Rattle.scenario_reader.specs.Forms.{has_form, number_rule}
-use Rattle.scenario_reader.specs.declared.form.Part.{Part}
-use Rattle.scenario_reader.specs.line.Before.{HasALink}
-use Rattle.std.specs.Fmt.{decimal}
+use Rattle.line_forms.specs.Values.{number_at, with_ones}
+use Rattle.line_forms.specs.Writing.{fields_with}
+use Rattle.line_forms.specs.declared.form.Part.{Part}
+use Rattle.line_forms.specs.declared.form.Part.TheVariants as part
+use Rattle.line_forms.specs.declared.slot.Slot.TheVariants as slot
+use Rattle.line_forms.specs.declared.value.FieldValue.TheVariants as value
+use Rattle.line_forms.specs.declared.value.Values.{Values}
+use Rattle.line_forms.specs.declared.word.Keyword.TheVariants as word
+use Rattle.scenario_reader.specs.Causes.{unless, judged}
+use Rattle.scenario_reader.specs.Drafts.{Said, rounds_of}
+use Rattle.scenario_reader.specs.declared.cause.LineCause.{LineCause}
 use Rattle.scenario_reader.specs.declared.cause.LineCause.TheVariants as cause
-use Rattle.scenario_reader.specs.declared.form.Keyword.TheVariants as word
-use Rattle.scenario_reader.specs.declared.form.Part.TheVariants as part
+use Rattle.scenario_reader.specs.declared.item.Item.{Item}
+use Rattle.scenario_reader.specs.declared.item.Item.TheVariants as item
+use Rattle.scenario_reader.specs.line.Before.{HasALink}
 
 abbrev pub rounds_form : List Part
-rounds_form = part.Word word.Rounds ∷ part.Field ∷ []
+rounds_form = part.Word word.Rounds ∷ part.One (slot.Number 0 most_rounds) ∷ []
 
-abbrev pub rounds_rule : List (List ℕ) → Rule
-rounds_rule fields = first_cause (
-    unless (has_form rounds_form fields) cause.Shape
-    ∷ number_rule 0 most_rounds (field_at fields 1)
-    ∷ [])
+abbrev pub rounds_says : Values → Result Item LineCause
+rounds_says values = Ok (item.Rounds (number_at values.ones 0))
 
 abbrev pub tail_form : List Part
-tail_form = part.Word word.Tail ∷ part.Field ∷ []
+tail_form = part.Word word.Tail ∷ part.One (slot.Number 0 most_rounds) ∷ []
 
 -- the ticks of all links together are within the limit
 abbrev pub are_few_ticks : Said → ℕ → Bool
 are_few_ticks said tail = nat_le ((rounds_of said + tail) * length said.links) most_rounds
 
-abbrev pub tail_rule : Said → List (List ℕ) → Rule
-tail_rule said fields = first_cause (
-    unless (has_form tail_form fields) cause.Shape
-    ∷ number_rule 0 most_rounds (field_at fields 1)
-    ∷ unless (are_few_ticks said (value_of (field_at fields 1))) cause.Load
-    ∷ [])
+abbrev pub tail_says : Said → Values → Result Item LineCause
+tail_says said values = judged (unless (are_few_ticks said (number_at values.ones 0)) cause.Load) (item.Tail (number_at values.ones 0))
 
 pub record MayPutRounds (said : Said) (count : ℕ) : Type 0 where
   pub before : HasALink said
@@ -48,10 +45,10 @@ pub record MayPutTail (said : Said) (count : ℕ) : Type 0 where
   pub ticks : (rounds_of said + count) * length said.links ≤ most_rounds
 
 abbrev pub rounds_fields : ℕ → List (List ℕ)
-rounds_fields count = codes "rounds" ∷ decimal count ∷ []
+rounds_fields count = fields_with rounds_form (with_ones (value.Number count ∷ []))
 
 abbrev pub tail_fields : ℕ → List (List ℕ)
-tail_fields count = codes "tail" ∷ decimal count ∷ []
+tail_fields count = fields_with tail_form (with_ones (value.Number count ∷ []))
 
 -- `rounds` and `tail`
 unfoldable pub rounds_text : ℕ → ℕ → List ℕ

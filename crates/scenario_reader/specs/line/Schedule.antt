@@ -1,63 +1,49 @@
 -- The line `schedule`, and those of its items after it: do ACTOR COUNT. The actor is a caller or the plane.
-use Rattle.std.specs.Prelude.{ℕ, Bool, nat_eq, if◌then◌else◌, Option, Some, None, List, [], ◌∷◌, length, option_map, codes, is_some, ◌≡◌, true, false, map}
-use Rattle.std.specs.Cmp.Lexicographic.{pointwise}
-use Rattle.call_script.specs.declared.schedule.Do.{Do}
-use Rattle.net_units.specs.declared.numbers.ActorNo.{ActorNo}
+use Rattle.std.specs.Prelude.{ℕ, ◌≡◌, true, false, if◌then◌else◌, None, Result, Ok, List, [], ◌∷◌, map, length, slice_index_or}
+use Rattle.std.specs.List.{flat_map, slice_get}
 use Rattle.net_units.specs.Limits.{most_steps}
 use Rattle.net_units.specs.Numbers.{actor_at, actor_number}
-use Rattle.scenario_reader.specs.Causes.{Rule, unless, first_cause}
-use Rattle.scenario_reader.specs.Decimal.{value_of}
-use Rattle.scenario_reader.specs.Drafts.{Said, caller_named}
-use Rattle.scenario_reader.specs.Fields.{field_at}
-use Rattle.scenario_reader.specs.Forms.{has_form, used_name_rule, number_rule}
-use Rattle.scenario_reader.specs.declared.form.Part.{Part}
-use Rattle.scenario_reader.specs.Kept.{IsDo}
-use Rattle.std.specs.List.{flat_map, slice_get}
 use Rattle.call_script.specs.ActorNames.{name_of_actor}
 use Rattle.call_script.specs.declared.entries.CallerEntry.{CallerEntry}
+use Rattle.call_script.specs.declared.schedule.Do.{Do}
 use Rattle.call_script.specs.declared.schedule.Schedule.{Schedule}
 use Rattle.text_writer.specs.Lines.{do_words, whole_line}
-use Rattle.scenario_reader.specs.declared.cause.LineCause.TheVariants as cause
-use Rattle.scenario_reader.specs.declared.form.Keyword.TheVariants as word
-use Rattle.scenario_reader.specs.declared.form.Part.TheVariants as part
+use Rattle.line_forms.specs.Values.{number_in, number_at, with_ones}
+use Rattle.line_forms.specs.Writing.{fields_with}
+use Rattle.line_forms.specs.declared.form.Part.{Part}
+use Rattle.line_forms.specs.declared.form.Part.TheVariants as part
+use Rattle.line_forms.specs.declared.slot.Slot.TheVariants as slot
+use Rattle.line_forms.specs.declared.value.FieldValue.{FieldValue}
+use Rattle.line_forms.specs.declared.value.FieldValue.TheVariants as value
+use Rattle.line_forms.specs.declared.value.Values.{Values}
+use Rattle.line_forms.specs.declared.word.Keyword.TheVariants as word
+use Rattle.scenario_reader.specs.Drafts.{Said}
+use Rattle.scenario_reader.specs.Kept.{IsDo}
+use Rattle.scenario_reader.specs.declared.cause.LineCause.{LineCause}
+use Rattle.scenario_reader.specs.declared.item.Item.{Item}
+use Rattle.scenario_reader.specs.declared.item.Item.TheVariants as item
 
 abbrev pub schedule_form : List Part
 schedule_form = part.Word word.Schedule ∷ []
 
-abbrev pub schedule_rule : List (List ℕ) → Rule
-schedule_rule fields = unless (has_form schedule_form fields) cause.Shape
-
 abbrev pub do_form : List Part
-do_form = part.Word word.Do ∷ part.Field ∷ part.Field ∷ []
+do_form = part.Word word.Do ∷ part.One slot.Actor ∷ part.One (slot.Number 1 most_steps) ∷ []
 
--- whether a field names the plane
-abbrev pub is_plane : List ℕ → Bool
-is_plane field = pointwise nat_eq field (codes "plane")
+-- the number of an actor, which for the plane is after those of the callers
+abbrev pub actor_in : Said → FieldValue → ℕ
+actor_in said value.Plane = length said.callers
+actor_in said (value.Known name number) = number
+actor_in said other = number_in other
 
--- a field that has to name the plane or a caller
-abbrev pub actor_rule : Said → List ℕ → Rule
-actor_rule said field = if is_plane field then None else used_name_rule (is_some (caller_named said.callers field)) field
-
--- the number of the actor that it names, which for the plane is after those of the callers
-abbrev pub actor_named : Said → List ℕ → Option ℕ
-actor_named said field = if is_plane field then Some (length said.callers) else caller_named said.callers field
-
-abbrev pub actor_said : Said → List ℕ → Option ActorNo
-actor_said said field = option_map actor_at (actor_named said field)
-
-abbrev pub do_rule : Said → List (List ℕ) → Rule
-do_rule said fields = first_cause (
-    unless (has_form do_form fields) cause.Shape
-    ∷ actor_rule said (field_at fields 1)
-    ∷ number_rule 1 most_steps (field_at fields 2)
-    ∷ [])
+abbrev pub actor_said : Said → Values → ℕ
+actor_said said values = actor_in said (slice_index_or values.ones 0 value.Plane)
 
 -- the steps of an actor on the line of this number
-abbrev pub do_by : ℕ → List (List ℕ) → ActorNo → Do
-do_by number fields actor = record { line = number; actor = actor; count = value_of (field_at fields 2) }
+abbrev pub do_by : Said → ℕ → Values → Do
+do_by said number values = record { line = number; actor = actor_at (actor_said said values); count = number_at values.ones 1 }
 
-abbrev pub do_said : Said → ℕ → List (List ℕ) → Option Do
-do_said said number fields = option_map (do_by number fields) (actor_said said (field_at fields 1))
+abbrev pub do_says : Said → ℕ → Values → Result Item LineCause
+do_says said number values = Ok (item.Do (do_by said number values))
 
 pub record MayPutSchedule (said : Said) : Type 0 where
   pub headed : said.version ≡ None → ⊥
@@ -73,7 +59,7 @@ abbrev pub do_fields : List CallerEntry → Do → List (List ℕ)
 do_fields callers item = do_words (name_of_actor (slice_get callers (actor_number item.actor))) item.count
 
 abbrev pub schedule_fields : List (List ℕ)
-schedule_fields = codes "schedule" ∷ []
+schedule_fields = fields_with schedule_form (with_ones [])
 
 abbrev pub schedule_lines : List CallerEntry → Schedule → List (List (List ℕ))
 schedule_lines callers schedule = if schedule.written then schedule_fields ∷ map (do_fields callers) schedule.items else []

@@ -1,31 +1,34 @@
 -- The kinds of lines, each with the word that begins it, when it may stand, what it says or the cause by which it is refused, and
 -- what it may add. Best-effort packets have their forms from version three on, groups and quotas from version five on, and moves from
 -- version six on; before those versions these forms don't exist.
-use Rattle.std.specs.Prelude.{ℕ, Bool, false, nat_eq, not, ◌&&◌, if◌then◌else◌, Option, Some, None, Result, Err, List, length, option_map, is_some, is_none, ◌≡◌}
+use Rattle.std.specs.Prelude.{ℕ, Bool, false, nat_eq, not, ◌&&◌, if◌then◌else◌, Option, Some, None, Result, Ok, Err, List, [], ◌∷◌, length, option_map, is_some, is_none, ◌≡◌}
 use Rattle.call_script.specs.Versions.{has_best_effort, has_groups, has_moves}
 use Rattle.call_script.specs.declared.version.Version.{Version}
+use Rattle.line_forms.specs.Reading.{LineRead, read_line}
+use Rattle.line_forms.specs.declared.form.Part.{Part}
+use Rattle.line_forms.specs.declared.value.Values.{Values}
 use Rattle.scenario_reader.specs.Causes.{judged, stated}
-use Rattle.scenario_reader.specs.Decimal.{value_of}
 use Rattle.scenario_reader.specs.Drafts.{Said, has_quotas}
-use Rattle.scenario_reader.specs.Fields.{field_at}
 use Rattle.scenario_reader.specs.Forms.{is_word}
-use Rattle.scenario_reader.specs.line.Group.{group_rule, MayPutGroup}
-use Rattle.scenario_reader.specs.line.Caller.{group_in, caller_rule, MayPutCaller}
+use Rattle.scenario_reader.specs.Known.{names_said}
+use Rattle.scenario_reader.specs.Words.{field_cause}
+use Rattle.scenario_reader.specs.line.Group.{group_form, group_says, MayPutGroup}
+use Rattle.scenario_reader.specs.line.Caller.{caller_forms, caller_says, MayPutCaller}
 use Rattle.scenario_reader.specs.line.Link.{link_rule, link_said, MayPutLink}
 use Rattle.scenario_reader.specs.line.Request.{open_rule, request_said, MayPutOpen}
-use Rattle.scenario_reader.specs.line.Quota.{quota_rule, quota_said, MayPutQuota}
+use Rattle.scenario_reader.specs.line.Quota.{quota_form, quota_says, MayPutQuota}
 use Rattle.scenario_reader.specs.declared.cause.LineCause.{LineCause}
-use Rattle.scenario_reader.specs.declared.form.Keyword.{Keyword}
+use Rattle.line_forms.specs.declared.word.Keyword.{Keyword}
 use Rattle.scenario_reader.specs.declared.item.Item.{Item}
-use Rattle.scenario_reader.specs.line.Send.{send_rule, send_said}
-use Rattle.scenario_reader.specs.line.Close.{close_rule, close_said}
-use Rattle.scenario_reader.specs.line.Move.{move_rule, move_said}
-use Rattle.scenario_reader.specs.line.Pour.{pour_rule, pour_said}
-use Rattle.scenario_reader.specs.line.Rounds.{rounds_rule, tail_rule, MayPutRounds, MayPutTail}
-use Rattle.scenario_reader.specs.line.Schedule.{schedule_rule, do_rule, do_said, MayPutSchedule, MayPutDo}
+use Rattle.scenario_reader.specs.line.Send.{send_form, send_says}
+use Rattle.scenario_reader.specs.line.Close.{close_form, close_says}
+use Rattle.scenario_reader.specs.line.Move.{move_form, move_says}
+use Rattle.scenario_reader.specs.line.Pour.{pour_form, pour_says}
+use Rattle.scenario_reader.specs.line.Rounds.{rounds_form, rounds_says, tail_form, tail_says, MayPutRounds, MayPutTail}
+use Rattle.scenario_reader.specs.line.Schedule.{schedule_form, do_form, do_says, MayPutSchedule, MayPutDo}
 use Rattle.scenario_reader.specs.line.Operation.{MayPutOp}
 use Rattle.scenario_reader.specs.declared.cause.LineCause.TheVariants as cause
-use Rattle.scenario_reader.specs.declared.form.Keyword.TheVariants as word
+use Rattle.line_forms.specs.declared.word.Keyword.TheVariants as word
 use Rattle.scenario_reader.specs.declared.item.Item.TheVariants as item
 
 -- a link was read, and no caller and no rounds
@@ -66,22 +69,50 @@ line_word field =
     if is_word word.Schedule field then Some word.Schedule else (
     if is_word word.Do field then Some word.Do else None))))))))))))
 
+-- the forms that a line may have which begins with this word
+abbrev pub forms_of : Version → Keyword → List (List Part)
+forms_of version word.Group = group_form ∷ []
+forms_of version word.Quota = quota_form ∷ []
+forms_of version word.Caller = caller_forms version
+forms_of version word.Send = send_form ∷ []
+forms_of version word.Close = close_form ∷ []
+forms_of version word.Pour = pour_form ∷ []
+forms_of version word.Move = move_form ∷ []
+forms_of version word.Rounds = rounds_form ∷ []
+forms_of version word.Tail = tail_form ∷ []
+forms_of version word.Schedule = schedule_form ∷ []
+forms_of version word.Do = do_form ∷ []
+forms_of version other = []
+
+-- what the values of the line of this number say, or the cause by which it is refused after its fields passed
+abbrev pub says : Keyword → Version → Said → ℕ → Values → Result Item LineCause
+says word.Group version said number values = group_says said values
+says word.Quota version said number values = quota_says said values
+says word.Caller version said number values = caller_says said values
+says word.Send version said number values = send_says said values
+says word.Close version said number values = close_says said values
+says word.Pour version said number values = pour_says said values
+says word.Move version said number values = move_says said values
+says word.Rounds version said number values = rounds_says values
+says word.Tail version said number values = tail_says said values
+says word.Schedule version said number values = Ok item.Schedule
+says word.Do version said number values = do_says said number values
+says other version said number values = Err cause.Word
+
+-- the cause of the first field that doesn't pass, or else what the values say
+abbrev pub once_read : LineRead → (Values → Result Item LineCause) → Result Item LineCause
+once_read (Ok values) say = say values
+once_read (Err cause) say = Err (field_cause cause)
+
+-- what a line says that has to have one of these forms
+abbrev pub read_as : Said → List (List Part) → List (List ℕ) → (Values → Result Item LineCause) → Result Item LineCause
+read_as said forms fields say = once_read (read_line (names_said said) forms fields) say
+
 -- what the line of this number says, which begins with this word, or its cause
 abbrev pub judge_as : Keyword → Version → Said → ℕ → List (List ℕ) → Result Item LineCause
 judge_as word.Link version said number fields = stated (link_rule version said fields) (option_map item.Link (link_said version said fields))
-judge_as word.Group version said number fields = judged (group_rule said fields) (item.Group (field_at fields 1))
-judge_as word.Quota version said number fields = stated (quota_rule said fields) (quota_said said fields)
-judge_as word.Caller version said number fields = judged (caller_rule version said fields) (item.Caller (field_at fields 1) (group_in said fields))
 judge_as word.Open version said number fields = judged (open_rule version said fields) (item.Open (request_said said fields))
-judge_as word.Send version said number fields = stated (send_rule said fields) (option_map item.Op (send_said said fields))
-judge_as word.Close version said number fields = stated (close_rule said fields) (option_map item.Op (close_said said fields))
-judge_as word.Pour version said number fields = stated (pour_rule said fields) (option_map item.Op (pour_said said fields))
-judge_as word.Move version said number fields = stated (move_rule said fields) (option_map item.Op (move_said said fields))
-judge_as word.Rounds version said number fields = judged (rounds_rule fields) (item.Rounds (value_of (field_at fields 1)))
-judge_as word.Tail version said number fields = judged (tail_rule said fields) (item.Tail (value_of (field_at fields 1)))
-judge_as word.Schedule version said number fields = judged (schedule_rule fields) item.Schedule
-judge_as word.Do version said number fields = stated (do_rule said fields) (option_map item.Do (do_said said number fields))
-judge_as other version said number fields = Err cause.Word
+judge_as keyword version said number fields = read_as said (forms_of version keyword) fields (says keyword version said number)
 
 -- what a line that passes says has these
 abbrev pub MayAdd : Said → Item → Type 0

@@ -10,11 +10,10 @@ ghost use Rattle.scenario_reader.specs.declared.audit.place.Section.TheVariants 
 
 use crate::audit::draft::AuditDraft;
 use crate::draft::Draft;
-use crate::fields::Fields;
-use crate::form::Keyword;
 use crate::values::{name, number};
 use call_script::RequestEntry;
 use hop_reservation::{Itinerary, Route};
+use line_forms::{Fields, Keyword};
 use net_units::limits::MOST_DELAY;
 use net_units::{ChanNo, Level, Levels};
 use relaxation::allot;

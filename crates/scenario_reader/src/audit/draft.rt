@@ -17,10 +17,10 @@ use crate::audit::table_reader::TableReader;
 use crate::by_line::TakesLines;
 use crate::cause::{LineCause, LineFault};
 use crate::draft::Draft;
-use crate::fields::Fields;
 use crate::values::require;
 use call_script::Plan;
 use csv::ByteRecord;
+use line_forms::{Fields, Reader};
 use net_units::{Levels, OutOfMemory};
 use run_record::HopRow;
 use std::alloc::Global;
@@ -68,12 +68,13 @@ impl TakesLines for AuditDraft {
     fn add_line(
         &mut self,
         alloc: Global,
+        reader: &mut Reader,
         number: u64,
         line: &[u8],
         ahead: &[u8],
     ) -> Result<(), LineFault> {
         match self.place {
-            Section::Scenario => self.take_scenario(alloc, number, line, ahead),
+            Section::Scenario => self.take_scenario(alloc, reader, number, line, ahead),
             Section::Report => self.take_report(line),
             Section::Table => self.take_row(alloc, line, ahead),
         }
@@ -109,6 +110,7 @@ impl AuditDraft {
     fn take_scenario(
         &mut self,
         alloc: Global,
+        reader: &mut Reader,
         number: u64,
         line: &[u8],
         ahead: &[u8],
@@ -120,7 +122,7 @@ impl AuditDraft {
             require(Fields::of(line).count() == 1, LineCause::Shape)?;
             self.begin_report(alloc)?;
         } else {
-            self.draft.add_line(alloc, number, line, ahead)?;
+            self.draft.add_line(alloc, reader, number, line, ahead)?;
         }
         Ok(())
     }

@@ -1,55 +1,48 @@
-//! The line of a caller: judging it, adding the caller, and its text.
+//! The line of a caller: its forms, what it says, adding the caller, and its text.
 ghost use Rattle.std.specs.Prelude.{◌≡◌, OnOk, OnErr, IfOk, string_bytes};
-ghost use Rattle.scenario_reader.specs.Causes.{AnswersWithRoom, Judges, judged};
-ghost use Rattle.scenario_reader.specs.Fields.{field_at};
 ghost use Rattle.text_writer.specs.Lines.{whole_line};
-ghost use Rattle.scenario_reader.specs.line.Caller.{is_caller_line, member_rule, group_in, caller_rule, caller_fields};
+ghost use Rattle.scenario_reader.specs.Causes.{AnswersWithRoom};
+ghost use Rattle.scenario_reader.specs.line.Caller.{caller_forms, caller_says, caller_fields, member_value};
+ghost use Rattle.scenario_reader.specs.Known.{FitsOne, names_said};
 ghost use Rattle.scenario_reader.specs.Drafts.{with_item};
 ghost use Rattle.scenario_reader.specs.line.Table.{MayAdd};
 ghost use Rattle.scenario_reader.specs.declared.item.Item.TheVariants as item;
 
 use crate::cause::{LineCause, LineFault};
 use crate::draft::Draft;
-use crate::fields::Fields;
-use crate::form::{Keyword, Part, has_form};
 use crate::item::Item;
-use crate::line::group::group_name;
-use crate::values::{new_name, require};
+use crate::line::group::group_value;
+use crate::values::require;
 use call_script::{CallerEntry, Ops, Version};
+use line_forms::{FieldValue, Keyword, Part, Set, Slot, Values, write_form};
 use net_units::limits::MOST_CALLERS;
 use net_units::{Name, OutOfMemory};
 use std::alloc::Global;
 
-const CALLER_FORM: [Part; 2] = [Part::Word(Keyword::Caller), Part::Field];
-
-const MEMBER_FORM: [Part; 4] = [
+/// caller NAME
+pub(crate) const CALLER_FORM: [Part; 2] = [
     Part::Word(Keyword::Caller),
-    Part::Field,
+    Part::One(Slot::New(Set::Callers)),
+];
+
+/// caller NAME group GROUP
+pub(crate) const MEMBER_FORM: [Part; 4] = [
+    Part::Word(Keyword::Caller),
+    Part::One(Slot::New(Set::Callers)),
     Part::Word(Keyword::Group),
-    Part::Field,
+    Part::One(Slot::Known(Set::Groups)),
 ];
 
 impl Draft {
-    // The caller that the line says, with the number of its group.
-    pub(crate) fn judge_caller(&self, version: Version, fields: &Fields) -> Result<Item, LineFault>
-        ensures { AnswersWithRoom result (judged (caller_rule version self.now fields.now) (item.Caller (field_at fields.now 1) (group_in self.now fields.now))) }
+    // The caller that the values of a line say, with the number of its group, 0 where it names none.
+    pub(crate) fn say_caller(&self, _version: Version, values: &Values) -> Result<Item, LineFault>
+        requires { FitsOne (names_said self.now) (caller_forms _version) values.now }
+        ensures { AnswersWithRoom result (caller_says self.now values.now) }
     {
-        require(is_caller_line(version, fields), LineCause::Shape)?;
-        let name = new_name(fields.at(1), &self.caller_names)?;
-        let group = self.judge_member(fields)?;
         require(self.callers.len() < MOST_CALLERS, LineCause::Many)?;
+        let name = values.ones.name(0).ok_or(LineCause::Shape)?;
+        let group = values.ones.number(1) as u8;
         Ok(Item::Caller { name, group })
-    }
-
-    // The number of the group that a caller line names, 0 where it names none.
-    fn judge_member(&self, fields: &Fields) -> Result<u8, LineCause>
-        ensures { Judges result (member_rule self.now fields.now) (group_in self.now fields.now) }
-    {
-        if Keyword::Group.is(fields.at(2)) {
-            self.judge_group_named(fields.at(3))
-        } else {
-            Ok(0)
-        }
     }
 
     pub(crate) fn put_caller(
@@ -73,13 +66,6 @@ impl Draft {
     }
 }
 
-// Whether the line has a form that the version has.
-fn is_caller_line(version: Version, fields: &Fields) -> bool
-    ensures { result ≡ is_caller_line version fields.now }
-{
-    has_form(&CALLER_FORM, fields) || (version.has_groups() && has_form(&MEMBER_FORM, fields))
-}
-
 pub(crate) fn caller_line(
     alloc: Global,
     groups: &[Name],
@@ -88,9 +74,20 @@ pub(crate) fn caller_line(
 ) -> Result<String, OutOfMemory>
     ensures { IfOk result (λ line. string_bytes line ≡ whole_line (caller_fields groups.now name group)) }
 {
-    if group == 0 {
-        return Ok(format!(in alloc; "caller {name}\n")?);
+    let name = FieldValue::Name(name);
+    match member_value(groups, group) {
+        None => write_form(alloc, &CALLER_FORM, &Values::of(&[name])),
+        Some(member) => write_form(alloc, &MEMBER_FORM, &Values::of(&[name, member])),
     }
-    let group = group_name(groups, group);
-    Ok(format!(in alloc; "caller {name} group {group}\n")?)
+}
+
+// What the field of its group says, where it is of one.
+fn member_value(groups: &[Name], group: u8) -> Option<FieldValue>
+    ensures { result ≡ member_value groups.now group }
+{
+    if group == 0 {
+        None
+    } else {
+        group_value(groups, group)
+    }
 }

@@ -9,9 +9,9 @@ ghost use Rattle.scenario_reader.specs.declared.item.Item.TheVariants as item;
 
 use crate::cause::{LineCause, LineFault};
 use crate::draft::Draft;
-use crate::fields::Fields;
 use crate::item::Item;
 use call_script::Version;
+use line_forms::Fields;
 use net_units::OutOfMemory;
 use std::alloc::Global;
 

@@ -1,5 +1,7 @@
 //! The line of a link: judging it, adding the link, and its text.
-ghost use Rattle.std.specs.Prelude.{ℕ, ◌≡◌, ◌≤◌, ◌<◌, IfOk, List, length, is_some, option_map, OnOk, OnErr, IsTrue, map, ◌++◌, string_bytes, get_or};
+ghost use Rattle.std.specs.Prelude.{ℕ, Some, ◌≡◌, ◌≤◌, ◌<◌, IfOk, List, length, is_some, option_map, OnOk, OnErr, IsTrue, map, ◌++◌, string_bytes, get_or};
+ghost use Rattle.std.specs.List.{slice_get};
+ghost use Rattle.line_forms.specs.Values.{number_at};
 ghost use Rattle.net_units.specs.Limits.{most_best};
 ghost use Rattle.net_units.specs.Numbers.{link_at};
 ghost use Rattle.call_script.specs.Versions.{test_of};
@@ -16,11 +18,11 @@ ghost use Rattle.scenario_reader.specs.declared.item.Item.TheVariants as item;
 
 use crate::cause::{LineCause, LineFault};
 use crate::draft::Draft;
-use crate::fields::Fields;
-use crate::form::{Keyword, Part, has_form};
+use crate::form::{Part, has_form};
 use crate::item::Item;
 use crate::values::{name, new_name, number, require};
 use call_script::{LinkEntry, Quotas, Version};
+use line_forms::{Fields, Keyword, Values};
 use link_steps::LinkShape;
 use net_units::limits::{
     MOST_BEST, MOST_BOUND, MOST_BUFFER, MOST_LEVELS, MOST_LINKS, MOST_PROPAGATION, MOST_RATE,
@@ -184,6 +186,14 @@ impl Draft {
     {
         let number = self.link_names.number_of(name)?;
         Some(self.links[number].shape)
+    }
+
+    // The link that the values of a line name first.
+    pub(crate) fn link_said(&self, values: &Values) -> &LinkEntry
+        requires { number_at values.now.ones 0 < length self.now.links }
+        ensures { slice_get self.now.links (number_at values.now.ones 0) ≡ Some result.now }
+    {
+        &self.links[values.ones.number(0) as usize]
     }
 
     pub(crate) fn put_link(&mut self, entry: LinkEntry) -> Result<(), OutOfMemory>

@@ -1,18 +1,15 @@
 //! The lines of a caller's operations on channels that it has opened: what they have in common, and a row for each kind.
-ghost use Rattle.std.specs.Prelude.{ℕ, ◌≡◌, ◌≤◌, List, is_some, Some, OnOk, OnErr, IfOk, [], length, IfSome, IfNone, string_bytes};
-ghost use Rattle.scenario_reader.specs.Causes.{Judges, States};
+ghost use Rattle.std.specs.Prelude.{◌≡◌, ◌≤◌, Some, OnOk, OnErr, IfOk, [], length, IfSome, IfNone, string_bytes};
+ghost use Rattle.scenario_reader.specs.Causes.{Judges};
 ghost use Rattle.scenario_reader.specs.Drafts.{request_named, own_request, uses_said, with_item};
-ghost use Rattle.scenario_reader.specs.Forms.{used_name_rule};
-ghost use Rattle.scenario_reader.specs.line.Using.{load_rule, packets_rule};
+ghost use Rattle.scenario_reader.specs.line.Using.{IsOwn, SaysOwn, load_rule, request_value};
 ghost use Rattle.scenario_reader.specs.Uses.{IsLight};
 ghost use Rattle.std.specs.List.{slice_get};
 ghost use Rattle.net_units.specs.Numbers.{channel_number};
 ghost use Rattle.call_script.specs.Growing.{add_op};
 ghost use Rattle.call_script.specs.Rules.{hops_of, load_of, loads_in};
 ghost use Rattle.scenario_reader.specs.line.Table.{MayAdd};
-ghost use Rattle.net_units.specs.Limits.{most_packets};
-ghost use Rattle.scenario_reader.specs.Decimal.{value_of};
-ghost use Rattle.scenario_reader.specs.Fields.{field_at};
+ghost use Rattle.line_forms.specs.Values.{number_at};
 ghost use Rattle.scenario_reader.specs.line.Operation.{op_text};
 ghost use Rattle.scenario_reader.specs.declared.item.Item.TheVariants as item;
 
@@ -23,25 +20,27 @@ pub(crate) mod send;
 
 use crate::cause::LineCause;
 use crate::draft::Draft;
-use crate::fields::Fields;
 use crate::line::operation::close::close_line;
 use crate::line::operation::moving::move_line;
 use crate::line::operation::pour::pour_line;
 use crate::line::operation::send::send_line;
 use crate::line::request::text::open_line;
 use crate::uses::{Uses, use_at, use_by};
-use crate::values::{name, number, require};
+use crate::values::require;
 use call_script::{CallerEntry, LinkEntry, Op, RequestEntry};
-use net_units::limits::{MOST_GAP, MOST_PACKETS, MOST_SIZE};
+use line_forms::{FieldValue, Values};
+use net_units::limits::MOST_PACKETS;
 use net_units::{ChanNo, Name, OutOfMemory};
 use std::alloc::Global;
 
-// The packets of a send or a pour.
-#[derive(Clone, Copy)]
-pub(crate) struct Packets {
-    pub(crate) count: u64,
-    pub(crate) gap: u64,
-    pub(crate) size: u32,
+// The field of a request, which is known by its channel.
+pub(crate) fn request_value(entry: &RequestEntry) -> FieldValue
+    ensures { result ≡ request_value entry.now }
+{
+    FieldValue::Known {
+        name: entry.name,
+        number: entry.request.chan.get() as usize,
+    }
 }
 
 impl Draft {
@@ -51,14 +50,6 @@ impl Draft {
         ensures { Judges result (load_rule self.now packets) tt }
     {
         require(self.load + packets <= MOST_PACKETS, LineCause::Load)
-    }
-
-    // The request that a field names, which the last caller has opened.
-    pub(crate) fn judge_own(&self, field: &[u8]) -> Result<RequestEntry, LineCause>
-        ensures { States result (used_name_rule (is_some (own_request self.now field.now)) field.now) (own_request self.now field.now) }
-    {
-        let name = name(field)?;
-        self.own_request(&name).ok_or(LineCause::Unknown)
     }
 
     // The request of this name, where the last caller has opened it.
@@ -81,9 +72,19 @@ impl Draft {
         Some(self.requests[number])
     }
 
+    // The request that the values of a line name, which the last caller has opened.
+    pub(crate) fn own_said(&self, values: &Values, place: usize) -> &RequestEntry
+        requires { SaysOwn self.now values.now.ones place }
+        ensures at { slice_get self.now.requests (number_at values.now.ones place) ≡ Some result.now }
+        ensures own { IsOwn self.now result.now }
+    {
+        &self.requests[values.ones.number(place) as usize]
+    }
+
     // What the last caller has done with a request that it has opened.
     pub(crate) fn uses_of(&self, entry: &RequestEntry) -> Uses
-        ensures value { (name : List ℕ) → own_request self.now name ≡ Some entry.now → result ≡ uses_said self.now entry.now.request.chan }
+        requires { IsOwn self.now entry.now }
+        ensures value { result ≡ uses_said self.now entry.now.request.chan }
         ensures light { IsLight result }
     {
         use_at(&self.uses, entry.request.chan)
@@ -125,25 +126,6 @@ impl Draft {
             None => 0,
         }
     }
-}
-
-// The count, the gap and the size of a send or a pour.
-pub(crate) fn judge_packets(fields: &Fields) -> Result<Packets, LineCause>
-    ensures judged { Judges result (packets_rule fields.now) (record {
-      count = value_of (field_at fields.now 2);
-      gap = value_of (field_at fields.now 3);
-      size = value_of (field_at fields.now 4);
-    }) }
-    ensures range { IfOk result (λ packets. packets.count ≤ most_packets) }
-{
-    let count = number(fields.at(2), 1, MOST_PACKETS)?;
-    let gap = number(fields.at(3), 1, u64::from(MOST_GAP))?;
-    let size = number(fields.at(4), 1, u64::from(MOST_SIZE))?;
-    Ok(Packets {
-        count,
-        gap,
-        size: size as u32,
-    })
 }
 
 // Adds an operation after those of the last caller. Where memory runs out, nothing changes.

@@ -1,71 +1,55 @@
-//! The line of a quota: judging it, adding the quota, and its text.
-ghost use Rattle.std.specs.Prelude.{◌≡◌, ◌<◌, IfOk, is_some, position, length, [], OnOk, OnErr, ◌≤◌, IsTrue, map, nat_eq, ◌&&◌, ◌++◌, ◌∷◌, string_bytes};
-ghost use Rattle.std.specs.List.{slice_get};
-ghost use Rattle.call_script.specs.Groups.{has_group, quotas_fit};
-ghost use Rattle.call_script.specs.Rules.{is_named, link_names};
-ghost use Rattle.scenario_reader.specs.Causes.{AnswersWithRoom, Judges, States, stated};
-ghost use Rattle.scenario_reader.specs.Drafts.{link_named, with_item};
-ghost use Rattle.scenario_reader.specs.Fields.{spaced};
-ghost use Rattle.scenario_reader.specs.Forms.{used_name_rule, has_form};
-ghost use Rattle.scenario_reader.specs.line.Quota.{quota_rule, quota_said, quota_form, load_fields, in_eight, quota_of, loads_rule, quota_numbers_rule, quota_text};
+//! The line of a quota: its form, what it says, adding the quota, and its text.
+ghost use Rattle.std.specs.Prelude.{ℕ, ◌≡◌, ◌<◌, Some, length, [], OnOk, OnErr, IfOk, ◌≤◌, map, nat_eq, ◌&&◌, ◌++◌, ◌∷◌, string_bytes};
+ghost use Rattle.call_script.specs.Groups.{quotas_fit};
 ghost use Rattle.call_script.specs.Growing.{add_quota};
+ghost use Rattle.net_units.specs.Limits.{most_bound};
+ghost use Rattle.line_forms.specs.Fitting.{FitsForm};
+ghost use Rattle.line_forms.specs.Values.{number_at};
+ghost use Rattle.scenario_reader.specs.Causes.{AnswersWithRoom};
+ghost use Rattle.scenario_reader.specs.Known.{names_said};
+ghost use Rattle.scenario_reader.specs.Drafts.{with_item};
+ghost use Rattle.scenario_reader.specs.line.Quota.{IsQuotaSmall, quota_form, quota_for, quota_of, quota_says, loads_said, load_values, quota_values, quota_text};
 ghost use Rattle.scenario_reader.specs.line.Table.{MayAdd};
-ghost use Rattle.scenario_reader.specs.Decimal.{value_of};
-ghost use Rattle.std.specs.Fmt.{decimal};
 ghost use Rattle.scenario_reader.specs.declared.item.Item.TheVariants as item;
 
 use crate::cause::{LineCause, LineFault};
 use crate::draft::Draft;
-use crate::fields::Fields;
-use crate::form::{Keyword, Part, has_form};
 use crate::item::Item;
-use crate::line::group::group_name;
-use crate::values::{name, number, require};
+use crate::line::group::group_value;
+use crate::values::require;
 use call_script::LinkEntry;
+use line_forms::{FewValues, FieldValue, Keyword, Part, Set, Slot, Values, write_form};
 use link_steps::Quota;
 use net_units::limits::{MOST_BOUND, MOST_BUFFER, MOST_LEVELS};
 use net_units::{LinkNo, Name, OutOfMemory};
-use std::alloc::{AllocError, Global};
+use std::alloc::Global;
 
-const QUOTA_FORM: [Part; 7] = [
+/// quota LINK GROUP buffer U levels Q1 .. Qn
+pub(crate) const QUOTA_FORM: [Part; 7] = [
     Part::Word(Keyword::Quota),
-    Part::Field,
-    Part::Field,
+    Part::One(Slot::Known(Set::Links)),
+    Part::One(Slot::Once(Set::Groups)),
     Part::Word(Keyword::Buffer),
-    Part::Field,
+    Part::One(Slot::Number {
+        low: 0,
+        high: MOST_BUFFER as u64,
+    }),
     Part::Word(Keyword::Levels),
-    Part::Bounds,
+    Part::Numbers {
+        low: 0,
+        high: MOST_BOUND as u64,
+    },
 ];
 
-// Where the loads of the levels begin.
-const LOAD_START: usize = 6;
-
 impl Draft {
-    // The quota that the line says, with the number of its link.
-    pub(crate) fn judge_quota(&self, fields: &Fields) -> Result<Item, LineFault>
-        ensures { AnswersWithRoom result (stated (quota_rule self.now fields.now) (quota_said self.now fields.now)) }
+    // The quota that the values of a line say, with the number of its link.
+    pub(crate) fn say_quota(&self, values: &Values) -> Result<Item, LineFault>
+        requires { FitsForm (names_said self.now) quota_form values.now }
+        ensures { AnswersWithRoom result (quota_says self.now values.now) }
     {
-        require(is_quota_line(fields), LineCause::Shape)?;
-        let place = self.judge_link_place(fields.at(1))?;
-        let group = self.judge_group_named(fields.at(2))?;
-        let entry = &self.links[place];
-        require(!has_group(group, entry.quotas.as_slice()), LineCause::Known)?;
-        let quota = judge_numbers(fields, group)?;
-        require(is_fit(load_count(fields), entry, &quota), LineCause::Quota)?;
-        Ok(Item::Quota {
-            link: entry.shape.link,
-            quota,
-        })
-    }
-
-    // The place of the link that a field names.
-    fn judge_link_place(&self, field: &[u8]) -> Result<usize, LineCause>
-        ensures judged { States result (used_name_rule (is_some (link_named self.now.links field.now)) field.now) (position (is_named field.now) (link_names self.now.links)) }
-        ensures found { IfOk result (λ place. slice_get self.now.links place ≡ link_named self.now.links field.now) }
-        ensures within { IfOk result (λ place. place < length self.now.links) }
-    {
-        let name = name(field)?;
-        self.link_names.number_of(&name).ok_or(LineCause::Unknown)
+        // There are few groups, so a group's number fits its type.
+        let _groups = self.groups.len();
+        quota_for(self.link_said(values), values)
     }
 
     pub(crate) fn put_quota(&mut self, link: LinkNo, quota: Quota) -> Result<(), OutOfMemory>
@@ -78,27 +62,44 @@ impl Draft {
     }
 }
 
-// Whether the line has its form. Up to 8 loads stand in it then.
-#[tactic(auto, using(crate::proofs::kind::QuotaForm::quota_few))]
-fn is_quota_line(fields: &Fields) -> bool
-    ensures value { result ≡ has_form quota_form fields.now }
-    ensures few { IsTrue result → length (load_fields fields.now) ≤ 8 }
+// The quota of this link that the values of a line say.
+fn quota_for(entry: &LinkEntry, values: &Values) -> Result<Item, LineFault>
+    requires fits { IsQuotaSmall values.now }
+    ensures { AnswersWithRoom result (quota_for (Some entry.now) values.now) }
 {
-    has_form(&QUOTA_FORM, fields)
+    let quota = quota_of(values);
+    let count = values.run.as_slice().len();
+    require(is_fit(count, entry, &quota), LineCause::Quota)?;
+    Ok(Item::Quota {
+        link: entry.shape.link,
+        quota,
+    })
 }
 
-// How many loads stand in it.
-fn load_count(fields: &Fields) -> usize
-    ensures { result ≡ length (load_fields fields.now) }
+// Its numbers.
+fn quota_of(values: &Values) -> Quota
+    requires { IsQuotaSmall values.now }
+    ensures { result ≡ quota_of values.now }
 {
-    fields.count().saturating_sub(LOAD_START)
+    Quota {
+        group: values.ones.number(1) as u8,
+        buffer: values.ones.number(2) as u32,
+        levels: loads_said(&values.run),
+    }
 }
 
-// Whether a quota of these is of this group.
-fn has_group(group: u8, quotas: &[Quota]) -> bool
-    ensures { result ≡ has_group group quotas.now }
+// The loads that values are, and 0 in the places after them.
+fn loads_said(run: &FewValues) -> [u32; MOST_LEVELS as usize]
+    requires few { length run.now ≤ 8 }
+    requires small { (k : ℕ) → number_at run.now k ≤ most_bound }
+    ensures { result ≡ loads_said run.now }
 {
-    quotas.iter().any(|quota| quota.group == group)
+    let values = run.as_slice();
+    let mut cells = [0; MOST_LEVELS as usize];
+    for place in 0..values.len() {
+        cells[place] = values[place].number() as u32;
+    }
+    cells
 }
 
 // Whether there are as many loads as the link has levels, and the quota fits it beside the others.
@@ -106,33 +107,6 @@ fn is_fit(count: usize, entry: &LinkEntry, quota: &Quota) -> bool
     ensures { result ≡ (nat_eq count (length entry.now.shape.bounds) && quotas_fit entry.now.shape (entry.now.quotas ++ quota.now ∷ [])) }
 {
     count == usize::from(entry.shape.bounds.len()) && entry.quotas.fit_with(&entry.shape, quota)
-}
-
-// The quota of this group with the line's numbers.
-fn judge_numbers(fields: &Fields, group: u8) -> Result<Quota, LineCause>
-    requires { length (load_fields fields.now) ≤ 8 }
-    ensures { Judges result (quota_numbers_rule fields.now) (quota_of fields.now group) }
-{
-    let buffer = number(fields.at(4), 0, u64::from(MOST_BUFFER))?;
-    let levels = judge_loads(fields)?;
-    Ok(Quota {
-        group,
-        buffer: buffer as u32,
-        levels,
-    })
-}
-
-// The loads that the last fields are, and 0 in the places after them.
-fn judge_loads(fields: &Fields) -> Result<[u32; MOST_LEVELS as usize], LineCause>
-    requires { length (load_fields fields.now) ≤ 8 }
-    ensures { Judges result (loads_rule (load_fields fields.now)) (in_eight (map value_of (load_fields fields.now))) }
-{
-    let count = load_count(fields);
-    let mut cells = [0; MOST_LEVELS as usize];
-    for place in 0..count {
-        cells[place] = number(fields.at(LOAD_START + place), 0, u64::from(MOST_BOUND))? as u32;
-    }
-    Ok(cells)
 }
 
 // Adds a quota to those of the link at this place. Where memory runs out, nothing changes.
@@ -144,6 +118,7 @@ fn add_quota(links: &mut Vec<LinkEntry>, place: usize, quota: Quota) -> Result<(
     links[place].quotas.push(quota)
 }
 
+#[tactic(auto, unfolding(crate::specs::line::Quota::quota_text))]
 pub(crate) fn quota_line(
     alloc: Global,
     groups: &[Name],
@@ -152,24 +127,36 @@ pub(crate) fn quota_line(
 ) -> Result<String, OutOfMemory>
     ensures { IfOk result (λ line. string_bytes line ≡ quota_text groups.now entry.now quota.now) }
 {
-    let (link, group) = (entry.name, group_name(groups, quota.group));
-    let buffer = quota.buffer;
-    let mut line = String::new(alloc);
-    write!(line, "quota {link} {group} buffer {buffer} levels")?;
-    push_loads(
-        &mut line,
-        &quota.levels[..usize::from(entry.shape.bounds.len())],
-    )?;
-    writeln!(line)?;
-    Ok(line)
+    let ones = quota_ones(groups, entry, quota);
+    let run = load_values(&quota.levels[..usize::from(entry.shape.bounds.len())]);
+    write_form(alloc, &QUOTA_FORM, &Values { ones, run })
 }
 
-// The loads of levels.
-fn push_loads(line: &mut String, loads: &[u32]) -> Result<(), AllocError>
-    ensures { OnOk result (string_bytes line.new ≡ string_bytes line.old ++ spaced (map decimal loads.now)) }
+// What its line says at places of their own.
+fn quota_ones(groups: &[Name], entry: &LinkEntry, quota: &Quota) -> FewValues
+    ensures { result ≡ (quota_values groups.now entry.now quota.now).ones }
 {
-    for load in loads {
-        write!(line, " {load}")?;
+    let number = usize::from(entry.shape.link.get());
+    let link = FieldValue::Known {
+        name: entry.name,
+        number,
+    };
+    let buffer = FieldValue::Number(u64::from(quota.buffer));
+    match group_value(groups, quota.group) {
+        Some(group) => FewValues::of(&[link, group, buffer]),
+        // A plan has none.
+        None => FewValues::of(&[link, buffer]),
     }
-    Ok(())
+}
+
+// The loads of levels, of which there are at most 8.
+fn load_values(loads: &[u32]) -> FewValues
+    requires { length loads.now ≤ 8 }
+    ensures { result ≡ load_values loads.now }
+{
+    let mut values = FewValues::none();
+    for load in loads {
+        values.push(FieldValue::Number(u64::from(*load)));
+    }
+    values
 }

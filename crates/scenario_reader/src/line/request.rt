@@ -15,8 +15,7 @@ pub mod way;
 
 use crate::cause::{LineCause, LineFault};
 use crate::draft::Draft;
-use crate::fields::Fields;
-use crate::form::{Keyword, Part, has_form, route_length};
+use crate::form::{Part, has_form, route_length};
 use crate::item::Item;
 use crate::line::operation::add_op;
 use crate::line::request::way::Way;
@@ -24,6 +23,7 @@ use crate::uses::blank;
 use crate::values::{name, new_name, number, require};
 use call_script::{Op, RequestEntry, Version};
 use hop_reservation::Route;
+use line_forms::{Fields, Keyword};
 use net_units::limits::{MOST_DELAY, MOST_GAP, MOST_INTERVAL, MOST_REQUESTS, MOST_SIZE};
 use net_units::{ActorNo, ChanNo, Name, OutOfMemory};
 use setup_protocol::{Control, Request};

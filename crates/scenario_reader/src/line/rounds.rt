@@ -1,35 +1,50 @@
-//! The lines `rounds` and `tail`: judging them, adding what they say, and their text.
+//! The lines `rounds` and `tail`: their forms, what they say, adding it, and their text.
 ghost use Rattle.std.specs.Prelude.{◌≡◌, ◌≤◌, IfOk, string_bytes};
 ghost use Rattle.net_units.specs.Limits.{most_rounds};
-ghost use Rattle.scenario_reader.specs.Causes.{AnswersWithRoom, judged};
-ghost use Rattle.scenario_reader.specs.Decimal.{value_of};
-ghost use Rattle.scenario_reader.specs.Fields.{field_at};
+ghost use Rattle.line_forms.specs.Fitting.{FitsForm};
 ghost use Rattle.text_writer.specs.Lines.{whole_line};
-ghost use Rattle.scenario_reader.specs.line.Rounds.{tail_rule, are_few_ticks, rounds_rule, rounds_fields, tail_fields};
+ghost use Rattle.scenario_reader.specs.Causes.{AnswersWithRoom};
+ghost use Rattle.scenario_reader.specs.Known.{names_said};
+ghost use Rattle.scenario_reader.specs.line.Rounds.{tail_form, are_few_ticks, rounds_says, tail_says, rounds_fields, tail_fields};
 ghost use Rattle.scenario_reader.specs.Drafts.{with_item};
 ghost use Rattle.scenario_reader.specs.line.Table.{MayAdd};
 ghost use Rattle.scenario_reader.specs.declared.item.Item.TheVariants as item;
 
 use crate::cause::{LineCause, LineFault};
 use crate::draft::Draft;
-use crate::fields::Fields;
-use crate::form::{Keyword, Part, has_form};
 use crate::item::Item;
-use crate::values::{number, require};
+use crate::values::require;
+use line_forms::{FieldValue, Keyword, Part, Slot, Values, write_form};
 use net_units::OutOfMemory;
 use net_units::limits::MOST_ROUNDS;
 use std::alloc::Global;
 
-const ROUNDS_FORM: [Part; 2] = [Part::Word(Keyword::Rounds), Part::Field];
+/// rounds R
+pub(crate) const ROUNDS_FORM: [Part; 2] = [
+    Part::Word(Keyword::Rounds),
+    Part::One(Slot::Number {
+        low: 0,
+        high: MOST_ROUNDS,
+    }),
+];
 
-const TAIL_FORM: [Part; 2] = [Part::Word(Keyword::Tail), Part::Field];
+/// tail Q
+pub(crate) const TAIL_FORM: [Part; 2] = [
+    Part::Word(Keyword::Tail),
+    Part::One(Slot::Number {
+        low: 0,
+        high: MOST_ROUNDS,
+    }),
+];
 
 impl Draft {
-    pub(crate) fn judge_tail(&self, fields: &Fields) -> Result<Item, LineFault>
-        ensures { AnswersWithRoom result (judged (tail_rule self.now fields.now) (item.Tail (value_of (field_at fields.now 1)))) }
+    // The rounds after the callers that the values of a line say.
+    #[tactic(auto, using(crate::proofs::kind::Rounds::tail_few))]
+    pub(crate) fn say_tail(&self, values: &Values) -> Result<Item, LineFault>
+        requires { FitsForm (names_said self.now) tail_form values.now }
+        ensures { AnswersWithRoom result (tail_says self.now values.now) }
     {
-        require(has_form(&TAIL_FORM, fields), LineCause::Shape)?;
-        let count = number(fields.at(1), 0, MOST_ROUNDS)?;
+        let count = values.ones.number(0);
         require(self.are_few_ticks(count), LineCause::Load)?;
         Ok(Item::Tail(count))
     }
@@ -57,21 +72,25 @@ impl Draft {
     }
 }
 
-pub(crate) fn judge_rounds(fields: &Fields) -> Result<Item, LineFault>
-    ensures { AnswersWithRoom result (judged (rounds_rule fields.now) (item.Rounds (value_of (field_at fields.now 1)))) }
+// The rounds beside the callers that the values of a line say.
+pub(crate) fn say_rounds(values: &Values) -> Result<Item, LineFault>
+    ensures { AnswersWithRoom result (rounds_says values.now) }
 {
-    require(has_form(&ROUNDS_FORM, fields), LineCause::Shape)?;
-    Ok(Item::Rounds(number(fields.at(1), 0, MOST_ROUNDS)?))
+    Ok(Item::Rounds(values.ones.number(0)))
 }
 
 pub(crate) fn rounds_line(alloc: Global, count: u64) -> Result<String, OutOfMemory>
     ensures { IfOk result (λ line. string_bytes line ≡ whole_line (rounds_fields count)) }
 {
-    Ok(format!(in alloc; "rounds {count}\n")?)
+    write_form(
+        alloc,
+        &ROUNDS_FORM,
+        &Values::of(&[FieldValue::Number(count)]),
+    )
 }
 
 pub(crate) fn tail_line(alloc: Global, count: u64) -> Result<String, OutOfMemory>
     ensures { IfOk result (λ line. string_bytes line ≡ whole_line (tail_fields count)) }
 {
-    Ok(format!(in alloc; "tail {count}\n")?)
+    write_form(alloc, &TAIL_FORM, &Values::of(&[FieldValue::Number(count)]))
 }

@@ -1,59 +1,73 @@
-//! The line `schedule` and its `do` lines: judging them, adding what they say, and their text.
-ghost use Rattle.std.specs.Prelude.{◌≤◌, IfOk, ◌≡◌, OnOk, OnErr, option_map, string_bytes};
-ghost use Rattle.scenario_reader.specs.Causes.{AnswersWithRoom, States, judged, stated};
+//! The line `schedule` and its `do` lines: their forms, what they say, adding it, and their text.
+ghost use Rattle.std.specs.Prelude.{◌≤◌, IfOk, ◌≡◌, OnOk, OnErr, string_bytes};
+ghost use Rattle.line_forms.specs.Fitting.{FitsForm};
 ghost use Rattle.text_writer.specs.Lines.{whole_line};
-ghost use Rattle.scenario_reader.specs.line.Schedule.{actor_rule, actor_named, actor_said, do_rule, do_said, schedule_rule, do_text, schedule_fields};
+ghost use Rattle.scenario_reader.specs.Causes.{AnswersWithRoom};
+ghost use Rattle.scenario_reader.specs.Known.{names_said};
+ghost use Rattle.scenario_reader.specs.line.Schedule.{do_form, do_says, actor_in, actor_said, do_text, schedule_fields};
 ghost use Rattle.scenario_reader.specs.Drafts.{with_item};
 ghost use Rattle.scenario_reader.specs.line.Table.{MayAdd};
 ghost use Rattle.scenario_reader.specs.declared.item.Item.TheVariants as item;
 
-use crate::cause::{LineCause, LineFault};
+use crate::cause::LineFault;
 use crate::draft::Draft;
-use crate::fields::Fields;
-use crate::form::{Keyword, Part, has_form};
 use crate::item::Item;
-use crate::values::{name, number, require};
 use call_script::{CallerEntry, Do, actor_name};
+use line_forms::{FieldValue, Keyword, Part, Slot, Values, write_form};
 use net_units::limits::MOST_STEPS;
 use net_units::{ActorNo, OutOfMemory};
 use std::alloc::Global;
 
-const SCHEDULE_FORM: [Part; 1] = [Part::Word(Keyword::Schedule)];
+/// schedule
+pub(crate) const SCHEDULE_FORM: [Part; 1] = [Part::Word(Keyword::Schedule)];
 
-const DO_FORM: [Part; 3] = [Part::Word(Keyword::Do), Part::Field, Part::Field];
+/// do ACTOR COUNT
+pub(crate) const DO_FORM: [Part; 3] = [
+    Part::Word(Keyword::Do),
+    Part::One(Slot::Actor),
+    Part::One(Slot::Number {
+        low: 1,
+        high: MOST_STEPS,
+    }),
+];
 
 impl Draft {
-    pub(crate) fn judge_do(&self, number_of_line: u64, fields: &Fields) -> Result<Item, LineFault>
-        ensures { AnswersWithRoom result (stated (do_rule self.now fields.now) (option_map item.Do (do_said self.now number_of_line fields.now))) }
+    // The steps that the values of the line of this number say.
+    pub(crate) fn say_do(&self, number_of_line: u64, values: &Values) -> Result<Item, LineFault>
+        requires { FitsForm (names_said self.now) do_form values.now }
+        ensures { AnswersWithRoom result (do_says self.now number_of_line values.now) }
     {
-        require(has_form(&DO_FORM, fields), LineCause::Shape)?;
-        let actor = self.judge_actor(fields.at(1))?;
-        let count = number(fields.at(2), 1, MOST_STEPS)?;
+        let number = self.actor_said(values);
         Ok(Item::Do(Do {
             line: number_of_line,
-            actor,
-            count,
+            actor: ActorNo::new(number as u8).unwrap(),
+            count: values.ones.number(1),
         }))
     }
 
-    // The actor that a field names.
-    fn judge_actor(&self, field: &[u8]) -> Result<ActorNo, LineCause>
-        ensures { States result (actor_rule self.now field.now) (actor_said self.now field.now) }
+    // The number of the actor, which for the plane is after those of the callers.
+    #[tactic(auto, using(crate::proofs::kind::Schedule::actor_small))]
+    fn actor_said(&self, values: &Values) -> usize
+        requires { FitsForm (names_said self.now) do_form values.now }
+        ensures value { result ≡ actor_said self.now values.now }
+        ensures small { result ≤ 64 }
     {
-        let number = self.actor_number(field)?;
-        Ok(ActorNo::new(number as u8).unwrap())
+        match values.ones.as_slice().get(0) {
+            Some(value) => self.actor_in(value),
+            None => self.callers.len(),
+        }
     }
 
-    // The number of the actor that a field names.
-    fn actor_number(&self, field: &[u8]) -> Result<usize, LineCause>
-        ensures judged { States result (actor_rule self.now field.now) (actor_named self.now field.now) }
-        ensures small { IfOk result (λ number. number ≤ 64) }
+    // The number of the actor that this value is.
+    fn actor_in(&self, value: &FieldValue) -> usize
+        ensures { result ≡ actor_in self.now value.now }
     {
-        if field == b"plane".as_slice() {
-            return Ok(self.callers.len());
+        match value {
+            FieldValue::Plane => self.callers.len(),
+            FieldValue::Known { number, .. } => *number,
+            FieldValue::Number(number) => *number as usize,
+            FieldValue::Name(_) => 0,
         }
-        let name = name(field)?;
-        self.caller_names.number_of(&name).ok_or(LineCause::Unknown)
     }
 
     pub(crate) fn put_schedule(&mut self)
@@ -73,17 +87,10 @@ impl Draft {
     }
 }
 
-pub(crate) fn judge_schedule(fields: &Fields) -> Result<Item, LineFault>
-    ensures { AnswersWithRoom result (judged (schedule_rule fields.now) item.Schedule) }
-{
-    require(has_form(&SCHEDULE_FORM, fields), LineCause::Shape)?;
-    Ok(Item::Schedule)
-}
-
 pub(crate) fn schedule_line(alloc: Global) -> Result<String, OutOfMemory>
     ensures { IfOk result (λ line. string_bytes line ≡ whole_line schedule_fields) }
 {
-    Ok(format!(in alloc; "schedule\n")?)
+    write_form(alloc, &SCHEDULE_FORM, &Values::of(&[]))
 }
 
 #[tactic(auto, unfolding(crate::specs::line::Schedule::do_text))]

@@ -1,17 +1,24 @@
 //! The kinds of lines: the word that begins each, when it may stand, how it is judged, and how what it says is added.
-ghost use Rattle.std.specs.Prelude.{◌≡◌, OnOk, OnErr};
+ghost use Rattle.std.specs.Prelude.{◌≡◌, OnOk, OnErr, map};
 ghost use Rattle.scenario_reader.specs.Causes.{AnswersWithRoom};
 ghost use Rattle.scenario_reader.specs.Drafts.{has_quotas, with_item};
-ghost use Rattle.scenario_reader.specs.line.Table.{may_stand, judge_as, is_before_callers, MayAdd, line_word};
+ghost use Rattle.scenario_reader.specs.Known.{FitsOne, names_said};
+ghost use Rattle.scenario_reader.specs.line.Table.{may_stand, forms_of, says, read_as, judge_as, is_before_callers, MayAdd, line_word};
 
 use crate::cause::{LineCause, LineFault};
 use crate::draft::Draft;
-use crate::fields::Fields;
-use crate::form::Keyword;
 use crate::item::Item;
-use crate::line::rounds::judge_rounds;
-use crate::line::schedule::judge_schedule;
+use crate::line::caller::{CALLER_FORM, MEMBER_FORM};
+use crate::line::group::GROUP_FORM;
+use crate::line::operation::close::CLOSE_FORM;
+use crate::line::operation::moving::MOVE_FORM;
+use crate::line::operation::pour::POUR_FORM;
+use crate::line::operation::send::SEND_FORM;
+use crate::line::quota::QUOTA_FORM;
+use crate::line::rounds::{ROUNDS_FORM, TAIL_FORM, say_rounds};
+use crate::line::schedule::{DO_FORM, SCHEDULE_FORM};
 use call_script::{LinkEntry, Version};
+use line_forms::{Fields, Keyword, Part, Reader, Values};
 use net_units::OutOfMemory;
 use std::alloc::Global;
 
@@ -19,6 +26,7 @@ impl Draft {
     pub(crate) fn judge_as(
         &self,
         alloc: Global,
+        reader: &mut Reader,
         word: Keyword,
         version: Version,
         number: u64,
@@ -28,18 +36,49 @@ impl Draft {
     {
         match word {
             Keyword::Link => self.judge_link(alloc, version, fields),
-            Keyword::Group => self.judge_group(fields),
-            Keyword::Quota => self.judge_quota(fields),
-            Keyword::Caller => self.judge_caller(version, fields),
             Keyword::Open => self.judge_open(alloc, version, fields),
-            Keyword::Send => self.judge_send(fields),
-            Keyword::Close => self.judge_close(fields),
-            Keyword::Pour => self.judge_pour(fields),
-            Keyword::Move => self.judge_move(fields),
-            Keyword::Rounds => judge_rounds(fields),
-            Keyword::Tail => self.judge_tail(fields),
-            Keyword::Schedule => judge_schedule(fields),
-            Keyword::Do => self.judge_do(number, fields),
+            _ => self.judge_read(reader, word, version, number, fields),
+        }
+    }
+
+    // What the line says, which begins with this word, once its fields were read.
+    fn judge_read(
+        &self,
+        reader: &mut Reader,
+        word: Keyword,
+        version: Version,
+        number: u64,
+        fields: &Fields,
+    ) -> Result<Item, LineFault>
+        ensures { AnswersWithRoom result (read_as self.now (forms_of version word) fields.now (says word version self.now number)) }
+    {
+        reader.read_line(forms_of(version, word), self, fields)?;
+        self.say(word, version, number, reader.values())
+    }
+
+    // What the values of such a line say.
+    fn say(
+        &self,
+        word: Keyword,
+        version: Version,
+        number: u64,
+        values: &Values,
+    ) -> Result<Item, LineFault>
+        requires { FitsOne (names_said self.now) (forms_of version word) values.now }
+        ensures { AnswersWithRoom result (says word version self.now number values.now) }
+    {
+        match word {
+            Keyword::Group => self.say_group(values),
+            Keyword::Quota => self.say_quota(values),
+            Keyword::Caller => self.say_caller(version, values),
+            Keyword::Send => self.say_send(values),
+            Keyword::Close => self.say_close(values),
+            Keyword::Pour => self.say_pour(values),
+            Keyword::Move => self.say_move(values),
+            Keyword::Rounds => say_rounds(values),
+            Keyword::Tail => self.say_tail(values),
+            Keyword::Schedule => Ok(Item::Schedule),
+            Keyword::Do => self.say_do(number, values),
             _ => Err(LineFault::Refused(LineCause::Word)),
         }
     }
@@ -110,6 +149,27 @@ fn has_quotas(links: &[LinkEntry]) -> bool
     links
         .iter()
         .any(|entry| !entry.quotas.as_slice().is_empty())
+}
+
+// The forms that a line may have in a version, by the word that begins it.
+fn forms_of(version: Version, word: Keyword) -> &'static [&'static [Part]]
+    ensures { map (λ form. form.now) result.now ≡ forms_of version word }
+{
+    match word {
+        Keyword::Group => &[&GROUP_FORM],
+        Keyword::Quota => &[&QUOTA_FORM],
+        Keyword::Caller if version.has_groups() => &[&CALLER_FORM, &MEMBER_FORM],
+        Keyword::Caller => &[&CALLER_FORM],
+        Keyword::Send => &[&SEND_FORM],
+        Keyword::Close => &[&CLOSE_FORM],
+        Keyword::Pour => &[&POUR_FORM],
+        Keyword::Move => &[&MOVE_FORM],
+        Keyword::Rounds => &[&ROUNDS_FORM],
+        Keyword::Tail => &[&TAIL_FORM],
+        Keyword::Schedule => &[&SCHEDULE_FORM],
+        Keyword::Do => &[&DO_FORM],
+        _ => &[],
+    }
 }
 
 pub(crate) fn line_word(field: &[u8]) -> Option<Keyword>

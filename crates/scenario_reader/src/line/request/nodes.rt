@@ -69,7 +69,7 @@ fn edge_over(links: &[LinkEntry], entry: &LinkEntry) -> Edge
 }
 
 // The number of a node: the first place of its name among the ends of the links.
-fn node_of(links: &[LinkEntry], name: &Name) -> u32
+pub(crate) fn node_of(links: &[LinkEntry], name: &Name) -> u32
     requires { length links.now ≤ 32 }
     ensures value { result ≡ node_of links.now name.now }
     ensures most { result ≤ 64 }

@@ -11,12 +11,11 @@ ghost use Rattle.scenario_reader.specs.line.Request.{is_found, node_rule, way_fi
 
 use crate::cause::{LineCause, LineFault};
 use crate::draft::Draft;
-use crate::fields::Fields;
-use crate::form::Keyword;
 use crate::line::request::hops::Hops;
 use crate::line::request::nodes::{is_node, route_between};
 use crate::values::{name, require};
 use hop_reservation::{Hop, Route};
+use line_forms::{Fields, Keyword};
 use link_steps::LinkShape;
 use net_units::{LinkNo, Name};
 use std::alloc::Global;
