@@ -2,6 +2,7 @@
 use Rattle.std.proofs.Common.{◌≡◌, ◌⊎◌, inl, inr, refl, ℕ, zero, suc, ◌-◌, List, [], ◌∷◌, Option, Some, None, length, option_map, slice_index_or, subst, sym, ◌∙◌, ap}
 use Rattle.std.specs.Io.KnownBytes.{Appends, IsAtEnd}
 use Rattle.std.specs.List.{slice_get}
+use Rattle.byte_ends.specs.Faults.{FaultsRise}
 use Rattle.net_units.specs.Allotted.{levels_of}
 use Rattle.net_units.specs.Numbers.{channel_number}
 use Rattle.net_units.specs.declared.levels.Levels.{Levels}
@@ -11,7 +12,7 @@ use Rattle.call_script.specs.Plans.{IsPlan}
 use Rattle.call_script.specs.declared.entries.RequestEntry.{RequestEntry}
 use Rattle.run_record.specs.declared.rows.HopRow.{HopRow}
 use Rattle.scenario_reader.specs.AuditKept.{levels_given}
-use Rattle.scenario_reader.specs.AuditReading.{AuditReading, AuditRead, BadAuditLine, TooManyAuditBytes, audit_reading}
+use Rattle.scenario_reader.specs.AuditReading.{AuditReading, AuditRead, BadAuditLine, TooManyAuditBytes, audit_reading, LetsAuditPass}
 use Rattle.scenario_reader.specs.AuditSteps.{AuditBytes, RefusesReading, audits}
 use Rattle.scenario_reader.specs.ReadSteps.{RefusesLine}
 use Rattle.scenario_reader.specs.Words.{cause_of}
@@ -24,7 +25,7 @@ use Rattle.trace_audit.specs.Checks.{fault_of, fault_under, finding_below, findi
 use Rattle.trace_audit.specs.Terms.{levels_given as given_at, terms_at, terms_of_request, terms_of_row}
 use Rattle.trace_audit.specs.declared.finding.Finding.{Finding}
 use Rattle.tenet_app.specs.Auditing.{AnswersTable, TableTold, TableUntold, IsFindingOf, TellsFinding, AuditDueFor, AuditsDetermine, AuditsDone, Audits, DueOfAudit, FrontOfAudit, IsAuditDue, finding_line}
-use Rattle.tenet_app.specs.Playing.{Ends, MeetsNoFault, TellsRefusal, RefusalTold, FrontTold, NotTold, refusal_line}
+use Rattle.tenet_app.specs.Playing.{Ends, MeetsNoFault, TellsRefusal, RefusalTold, FrontTold, NotTold, TellsWhyUnread, refusal_line}
 use Rattle.tenet_app.specs.declared.status.Status.{Status}
 use Rattle.tenet_app.specs.declared.status.Status.TheVariants as status
 
@@ -169,7 +170,18 @@ refused-audits before after answer line why told (FrontTold is rises part) =
     (record { rises = rises; written = bad-as before.left line why (FrontOfAudit before.written after.written) told (λ c same. record { answer = status.Refused line why; text = refusal_line line why; due = (ap (status.Refused line) same, ap (refusal_line line) same); front = part }) })
 refused-audits before after answer line why told (NotTold is keeps) = subst (λ a. Audits a before after) (sym is) keeps
 
-pub audits-refused : (before after : Ends) (answer : Status) (why_not : ReadRefusal) (line : ℕ) (why : Cause)
-    → why_not ≡ refusal.Refused line why → AuditBytes before.left (RefusesReading why_not)
-    → TellsRefusal line why answer before.written after.written before.write_faults after.write_faults → Audits answer before after
-audits-refused before after answer why_not line why is told tells = refused-audits before after answer line why (subst (λ r. AuditBytes before.left (RefusesReading r)) is told) tells
+-- there were too many bytes
+over-as : (left : Option (List ℕ)) (taken : ℕ) → AuditBytes left (RefusesReading (refusal.TooLong taken)) → AuditBytes left (λ r. r ≡ TooManyAuditBytes)
+over-as None taken told = tt
+over-as (Some bytes) taken told = told.0
+
+-- no input was read
+pub audits-unread : (before after : Ends) (answer : Status) (why_not : ReadRefusal) → AuditBytes before.left (RefusesReading why_not)
+    → (why_not ≡ refusal.ReadFault → FaultsRise before.read_faults after.read_faults) → (why_not ≡ refusal.ReadFault → LetsAuditPass MOST_BYTES before.left after.left)
+    → TellsWhyUnread why_not answer before.written after.written before.write_faults after.write_faults → Audits answer before after
+audits-unread before after answer refusal.Memory told rises passing tells = subst (λ a. Audits a before after) (sym tells.0) tells.1
+audits-unread before after answer refusal.ReadFault told rises passing tells =
+    subst (λ a. Audits a before after) (sym tells.0) (record { passing = passing refl; rises = rises refl; written = tells.1 })
+audits-unread before after answer (refusal.TooLong taken) told rises passing tells =
+    subst (λ a. Audits a before after) (sym tells.0) (record { over = over-as before.left taken told; written = tells.1 })
+audits-unread before after answer (refusal.Refused line why) told rises passing tells = refused-audits before after answer line why told tells

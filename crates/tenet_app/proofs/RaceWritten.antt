@@ -1,18 +1,24 @@
 -- What is written for a race, and what its status then says.
-use Rattle.std.proofs.Common.{◌≡◌, inl, inr, refl, ℕ, Bool, List, Option, Some, None, ap, subst, sym}
+use Rattle.std.proofs.Common.{◌≡◌, inl, inr, refl, ℕ, Bool, List, Option, Some, None, Err, ap, subst, sym}
 use Rattle.std.specs.Io.KnownBytes.{IsAtEnd}
+use Rattle.byte_ends.specs.Faults.{FaultsRise}
 use Rattle.byte_ends.specs.Gathering.{WritesPart}
 use Rattle.call_script.specs.Parts.{PlanParts}
 use Rattle.call_script.specs.Plans.{IsPlan}
 use Rattle.call_script.specs.declared.schedule.Schedule.{Schedule}
 use Rattle.run_record.specs.declared.done.Done.{Done}
-use Rattle.scenario_reader.specs.Reading.{PlanRead}
+use Rattle.scenario_reader.specs.Reading.{PlanRead, LetsPass}
+use Rattle.scenario_reader.specs.ReadSteps.{TellsReading}
+use Rattle.scenario_reader.specs.declared.cause.Cause.{Cause}
+use Rattle.scenario_reader.specs.declared.reader.ReadRefusal.{ReadRefusal}
+use Rattle.scenario_reader.specs.declared.reader.ReadRefusal.TheVariants as refusal
+use Rattle.scenario_reader.specs.declared.reader.TheConstants.{MOST_BYTES}
 use Rattle.shared_network.specs.declared.closing.Closed.{Closed}
-use Rattle.tenet_app.specs.Playing.{Ends, refusal_line, BytesComeTo}
+use Rattle.tenet_app.specs.Playing.{Ends, refusal_line, BytesComeTo, TellsRefusal, RefusalTold, FrontTold, NotTold, TellsWhyUnread}
 use Rattle.tenet_app.specs.Racing.{IsRaceOf, race_text, IsDueForRace, FrontOfRace, FrontOfAnyRace, Races, FrontOfRefusal, StopsReading, FrontOfPlansRace, AnswersRace}
 use Rattle.tenet_app.specs.declared.status.Status.{Status}
 use Rattle.tenet_app.specs.declared.status.Status.TheVariants as status
-use Rattle.tenet_app.proofs.WrittenAnswers.{due-as}
+use Rattle.tenet_app.proofs.WrittenAnswers.{due-as, over-as}
 
 -- ---- a race that was told
 
@@ -71,3 +77,24 @@ none-raced packets before after status.ReadFault stops = stops
 none-raced packets before after status.WriteFault stops = record { rises = stops.0; written = front-of-refusal packets before.left before.written after.written stops.1 }
 none-raced packets before after (status.Refused line told) stops = stops
 none-raced packets before after status.TooLong stops = stops
+
+-- ---- why no plan was read
+
+-- a line was refused
+refused-stops : (before after : Ends) (answer : Status) (line : ℕ) (why : Cause) → TellsReading (Err (refusal.Refused line why)) before.left → TellsRefusal line why answer before.written after.written before.write_faults after.write_faults → StopsReading answer before after
+refused-stops before after answer line why told (RefusalTold is appends) = subst (λ a. StopsReading a before after) (sym is) (record { due = told; written = appends })
+refused-stops before after answer line why told (FrontTold is rises part) = subst (λ a. StopsReading a before after) (sym is) (rises, front-told before.left told part) where
+  front-told : (left : Option (List ℕ)) → TellsReading (Err (refusal.Refused line why)) left → WritesPart before.written after.written (refusal_line line why) → BytesComeTo left (FrontOfRefusal before.written after.written)
+  front-told None told part = tt
+  front-told (Some bytes) told part = record { line = line; why = why; bad = told; front = part }
+refused-stops before after answer line why told (NotTold is keeps) = subst (λ a. StopsReading a before after) (sym is) keeps
+
+pub unread-stops : (before after : Ends) (answer : Status) (why_not : ReadRefusal) → TellsReading (Err why_not) before.left
+    → (why_not ≡ refusal.ReadFault → FaultsRise before.read_faults after.read_faults) → (why_not ≡ refusal.ReadFault → LetsPass MOST_BYTES before.left after.left)
+    → TellsWhyUnread why_not answer before.written after.written before.write_faults after.write_faults → StopsReading answer before after
+unread-stops before after answer refusal.Memory told rises passing tells = subst (λ a. StopsReading a before after) (sym tells.0) tells.1
+unread-stops before after answer refusal.ReadFault told rises passing tells =
+    subst (λ a. StopsReading a before after) (sym tells.0) (record { passing = passing refl; rises = rises refl; written = tells.1 })
+unread-stops before after answer (refusal.TooLong taken) told rises passing tells =
+    subst (λ a. StopsReading a before after) (sym tells.0) (record { over = over-as before.left taken told; written = tells.1 })
+unread-stops before after answer (refusal.Refused line why) told rises passing tells = refused-stops before after answer line why told tells

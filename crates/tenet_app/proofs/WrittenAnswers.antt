@@ -12,13 +12,15 @@ use Rattle.run_engine.specs.declared.playing.PlayFault.{PlayFault}
 use Rattle.run_engine.specs.declared.playing.PlayFault.TheVariants.{Step}
 use Rattle.interleave_core.specs.channels.Laws.{IsGuaranteedRun}
 use Rattle.run_record.specs.declared.done.Done.{Done}
-use Rattle.tenet_app.specs.Playing.{Ends, refusal_line, Reports, Misses, IsDueFor, BytesComeTo, FrontOfDue, FrontOfPlan, AnswersPlan, WritesReport, ReportWritten, FrontWritten, LacksMemory, TellsRefusal, RefusalTold, FrontTold, NotTold, Plays}
-use Rattle.scenario_reader.specs.Reading.{Reading, PlanRead, BadLine}
+use Rattle.tenet_app.specs.Playing.{Ends, refusal_line, Reports, Misses, IsDueFor, BytesComeTo, FrontOfDue, FrontOfPlan, AnswersPlan, WritesReport, ReportWritten, FrontWritten, LacksMemory, TellsRefusal, RefusalTold, FrontTold, NotTold, TellsWhyUnread, Plays}
+use Rattle.scenario_reader.specs.Reading.{Reading, PlanRead, BadLine, TooManyBytes, LetsPass}
 use Rattle.scenario_reader.specs.ReadSteps.{TellsReading}
+use Rattle.byte_ends.specs.Faults.{FaultsRise}
 use Rattle.byte_ends.specs.Gathering.{WritesPart}
 use Rattle.channel_report.specs.Report.{report_of}
 use Rattle.scenario_reader.specs.declared.reader.ReadRefusal.{ReadRefusal}
 use Rattle.scenario_reader.specs.declared.reader.ReadRefusal.TheVariants as refusal
+use Rattle.scenario_reader.specs.declared.reader.TheConstants.{MOST_BYTES}
 use Rattle.scenario_reader.specs.declared.cause.Cause.{Cause}
 use Rattle.scenario_reader.specs.declared.cause.Cause.TheVariants as cause
 use Rattle.scenario_reader.specs.declared.cause.LineCause.{LineCause}
@@ -103,6 +105,11 @@ bad-as : (left : Option (List ℕ)) (line : ℕ) (told : Cause) (P : Reading →
 bad-as None line told P refused due = tt
 bad-as (Some bytes) line told P refused due = subst P (sym refused.is) (due refused.why refused.same)
 
+-- there were too many bytes
+pub over-as : (left : Option (List ℕ)) (taken : ℕ) → TellsReading (Err (refusal.TooLong taken)) left → BytesComeTo left (λ r. r ≡ TooManyBytes)
+over-as None taken told = tt
+over-as (Some bytes) taken told = told.0
+
 refused-plays : (packets : Bool) (before after : Ends) (answer : Status) (line : ℕ) (why : Cause) → TellsReading (Err (refusal.Refused line why)) before.left → TellsRefusal line why answer before.written after.written before.write_faults after.write_faults → Plays packets answer before after
 refused-plays packets before after answer line why told (RefusalTold is appends) =
     subst (λ a. Plays packets a before after) (sym is)
@@ -112,5 +119,13 @@ refused-plays packets before after answer line why told (FrontTold is rises part
     (record { rises = rises; written = bad-as before.left line why (FrontOfDue packets before.written after.written) told (λ c same. record { answer = status.Refused line why; text = refusal_line line why; due = (ap (status.Refused line) same, ap (refusal_line line) same); front = part }) })
 refused-plays packets before after answer line why told (NotTold is keeps) = subst (λ a. Plays packets a before after) (sym is) (inl keeps)
 
-pub plays-refused : (packets : Bool) (before after : Ends) (answer : Status) (why_not : ReadRefusal) (line : ℕ) (why : Cause) → why_not ≡ refusal.Refused line why → TellsReading (Err why_not) before.left → TellsRefusal line why answer before.written after.written before.write_faults after.write_faults → Plays packets answer before after
-plays-refused packets before after answer why_not line why is told tells = refused-plays packets before after answer line why (subst (λ r. TellsReading (Err r) before.left) is told) tells
+-- no plan was read
+pub plays-unread : (packets : Bool) (before after : Ends) (answer : Status) (why_not : ReadRefusal) → TellsReading (Err why_not) before.left
+    → (why_not ≡ refusal.ReadFault → FaultsRise before.read_faults after.read_faults) → (why_not ≡ refusal.ReadFault → LetsPass MOST_BYTES before.left after.left)
+    → TellsWhyUnread why_not answer before.written after.written before.write_faults after.write_faults → Plays packets answer before after
+plays-unread packets before after answer refusal.Memory told rises passing tells = subst (λ a. Plays packets a before after) (sym tells.0) (inl tells.1)
+plays-unread packets before after answer refusal.ReadFault told rises passing tells =
+    subst (λ a. Plays packets a before after) (sym tells.0) (record { passing = passing refl; rises = rises refl; written = tells.1 })
+plays-unread packets before after answer (refusal.TooLong taken) told rises passing tells =
+    subst (λ a. Plays packets a before after) (sym tells.0) (record { over = over-as before.left taken told; written = tells.1 })
+plays-unread packets before after answer (refusal.Refused line why) told rises passing tells = refused-plays packets before after answer line why told tells

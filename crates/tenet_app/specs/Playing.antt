@@ -21,6 +21,8 @@ use Rattle.scenario_reader.specs.Reading.{Reading, PlanRead, BadLine, TooManyByt
 use Rattle.scenario_reader.specs.Words.{cause_of, cause_word}
 use Rattle.scenario_reader.specs.declared.cause.Cause.{Cause}
 use Rattle.scenario_reader.specs.declared.cause.Cause.TheVariants as cause
+use Rattle.scenario_reader.specs.declared.reader.ReadRefusal.{ReadRefusal}
+use Rattle.scenario_reader.specs.declared.reader.ReadRefusal.TheVariants as refusal
 use Rattle.scenario_reader.specs.declared.reader.TheConstants.{MOST_BYTES}
 use Rattle.tenet_app.specs.declared.status.Status.{Status}
 use Rattle.tenet_app.specs.declared.status.Status.TheVariants as status
@@ -154,6 +156,13 @@ pub data TellsRefusal (line : ℕ) (told : Cause) (answer : Status) (written wri
   RefusalTold : answer ≡ status.Refused line told → Appends written written' (refusal_line line told) → TellsRefusal line told answer written written' faults faults'
   FrontTold : answer ≡ status.WriteFault → FaultsRise faults faults' → WritesPart written written' (refusal_line line told) → TellsRefusal line told answer written written' faults faults'
   NotTold : answer ≡ status.Memory → Keeps written written' → TellsRefusal line told answer written written' faults faults'
+
+-- why a text wasn't read is answered: a line that is refused was told, and of any other refusal nothing was written
+abbrev pub TellsWhyUnread : ReadRefusal → Status → Option (List ℕ) → Option (List ℕ) → ℕ → ℕ → Type 0
+TellsWhyUnread refusal.Memory answer written written' faults faults' = (answer ≡ status.Memory) × Keeps written written'
+TellsWhyUnread refusal.ReadFault answer written written' faults faults' = (answer ≡ status.ReadFault) × Keeps written written'
+TellsWhyUnread (refusal.TooLong taken) answer written written' faults faults' = (answer ≡ status.TooLong) × Keeps written written'
+TellsWhyUnread (refusal.Refused line told) answer written written' faults faults' = TellsRefusal line told answer written written' faults faults'
 
 -- neither count of faults rose
 pub record MeetsNoFault (before after : Ends) : Type 0 where

@@ -5,13 +5,13 @@ ghost use Rattle.run_record.specs.SmallRows.{AreSmall};
 ghost use Rattle.tenet_app.specs.Auditing.{AnswersTable, Audits, TellsFinding, finding_line};
 ghost use Rattle.tenet_app.specs.Playing.{CountsRise};
 
-use crate::playing::refuse;
+use crate::playing::refuse_reading;
 use crate::status::Status;
 use byte_ends::{Sink, Source, put_all};
 use call_script::Plan;
 use net_units::{Levels, OutOfMemory};
 use run_record::HopRow;
-use scenario_reader::{ReadRefusal, read_audit};
+use scenario_reader::read_audit;
 use std::alloc::{AllocError, Global};
 use trace_audit::Finding;
 
@@ -29,10 +29,7 @@ pub fn audit<S: Source, K: Sink>(alloc: Global, source: &mut S, sink: &mut K) ->
         Ok((plan, levels, table)) => {
             answer(alloc, &plan, levels.as_slice(), table.as_slice(), sink)
         }
-        Err(ReadRefusal::Memory) => Status::Memory,
-        Err(ReadRefusal::ReadFault) => Status::ReadFault,
-        Err(ReadRefusal::TooLong { .. }) => Status::TooLong,
-        Err(ReadRefusal::Refused { line, cause }) => refuse(alloc, line, cause, sink),
+        Err(refusal) => refuse_reading(alloc, refusal, sink),
     }
 }
 

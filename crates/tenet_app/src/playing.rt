@@ -3,7 +3,7 @@ ghost use Rattle.std.specs.Prelude.{◌≡◌, ◌≤◌, List, IfOk, IfErr, rev
 ghost use Rattle.call_script.specs.Tasks.{network_of};
 ghost use Rattle.run_engine.specs.schedules.Schedules.{IsActorOf, IsFaultOf};
 ghost use Rattle.link_steps.specs.Lists.{Each};
-ghost use Rattle.tenet_app.specs.Playing.{AnswersPlan, CountsRise, Plays, TellsRefusal, WritesReport, refusal_line};
+ghost use Rattle.tenet_app.specs.Playing.{AnswersPlan, CountsRise, Plays, TellsRefusal, TellsWhyUnread, WritesReport, refusal_line};
 ghost use Rattle.tenet_app.specs.Tallying.{IsTalliedPlay};
 ghost use Rattle.channel_report.specs.Report.{report_of};
 ghost use Rattle.channel_report.specs.Tallied.{IsTalliedRun};
@@ -34,10 +34,7 @@ pub fn play<S: Source, K: Sink>(
 {
     match read_plan(alloc, source) {
         Ok((plan, schedule)) => answer(alloc, packets, &plan, &schedule, sink),
-        Err(ReadRefusal::Memory) => Status::Memory,
-        Err(ReadRefusal::ReadFault) => Status::ReadFault,
-        Err(ReadRefusal::TooLong { .. }) => Status::TooLong,
-        Err(ReadRefusal::Refused { line, cause }) => refuse(alloc, line, cause, sink),
+        Err(refusal) => refuse_reading(alloc, refusal, sink),
     }
 }
 
@@ -93,6 +90,19 @@ pub(crate) fn report_tallied<K: Sink>(
         Ok(()) => Status::Done,
         Err(ReportFault::Memory) => Status::Memory,
         Err(ReportFault::WriteFault) => Status::WriteFault,
+    }
+}
+
+// Answers why a scenario wasn't read, and writes the line that tells which line is refused, where that is why.
+pub(crate) fn refuse_reading<K: Sink>(alloc: Global, refusal: ReadRefusal, sink: &mut K) -> Status
+    ensures tells { TellsWhyUnread refusal result (K.written sink.old) (K.written sink.new) (K.faults sink.old) (K.faults sink.new) }
+    ensures counts { K.faults sink.old ≤ K.faults sink.new }
+{
+    match refusal {
+        ReadRefusal::Memory => Status::Memory,
+        ReadRefusal::ReadFault => Status::ReadFault,
+        ReadRefusal::TooLong { .. } => Status::TooLong,
+        ReadRefusal::Refused { line, cause } => refuse(alloc, line, cause, sink),
     }
 }
 

@@ -12,14 +12,14 @@ ghost use Rattle.tenet_app.specs.Playing.{CountsRise};
 ghost use Rattle.tenet_app.specs.Racing.{AnswersRace, IsRaceOf, Races, ReadsForRace, race_text};
 ghost use Rattle.tenet_app.specs.declared.status.Status.TheVariants.{Done};
 
-use crate::playing::refuse;
+use crate::playing::refuse_reading;
 use crate::status::{Ended, Status};
 use byte_ends::{Sink, Source, put_all};
 use call_script::Plan;
 use channel_report::{ReportFault, Tally, write_schedule, write_tallied};
 use net_units::{Gate, OutOfMemory};
 use race_run::{Told, woven_watched};
-use scenario_reader::{ReadRefusal, read_plan};
+use scenario_reader::read_plan;
 use shared_network::Closed;
 use std::alloc::Global;
 use std::sync::Wait;
@@ -65,10 +65,7 @@ fn read<S: Source, K: Sink>(alloc: Global, source: &mut S, sink: &mut K) -> Resu
 {
     match read_plan(alloc, source) {
         Ok((plan, _unused)) => Ok(plan),
-        Err(ReadRefusal::Memory) => Err(Status::Memory),
-        Err(ReadRefusal::ReadFault) => Err(Status::ReadFault),
-        Err(ReadRefusal::TooLong { .. }) => Err(Status::TooLong),
-        Err(ReadRefusal::Refused { line, cause }) => Err(refuse(alloc, line, cause, sink)),
+        Err(refusal) => Err(refuse_reading(alloc, refusal, sink)),
     }
 }
 

@@ -8,7 +8,7 @@ ghost use Rattle.tenet_app.specs.Playing.{AnswersPlan, CountsRise, Plays};
 ghost use Rattle.tenet_app.specs.Tallying.{IsTalliedPlay};
 ghost use Rattle.tenet_app.specs.Working.{are_to_work, work_of, work_with_table, work_words};
 
-use crate::playing::{refuse, report_tallied};
+use crate::playing::{refuse, refuse_reading, report_tallied};
 use crate::status::Status;
 use crate::words::{is_word, number_from};
 use byte_ends::{Sink, Source};
@@ -17,7 +17,7 @@ use channel_report::Tally;
 use net_units::Gate;
 use plane_workers::played_watched;
 use run_engine::{Callers, PlayFault};
-use scenario_reader::{Cause, ReadRefusal, read_plan};
+use scenario_reader::{Cause, read_plan};
 use std::alloc::Global;
 use std::thread::Threads;
 
@@ -99,10 +99,7 @@ pub fn work<R: Threads + Sync, S: Source, K: Sink, G: Gate + Sync>(
 {
     match read_plan(alloc, source) {
         Ok((plan, schedule)) => answer(rt, alloc, packets, workers, &plan, &schedule, sink, gate),
-        Err(ReadRefusal::Memory) => Status::Memory,
-        Err(ReadRefusal::ReadFault) => Status::ReadFault,
-        Err(ReadRefusal::TooLong { .. }) => Status::TooLong,
-        Err(ReadRefusal::Refused { line, cause }) => refuse(alloc, line, cause, sink),
+        Err(refusal) => refuse_reading(alloc, refusal, sink),
     }
 }
 
