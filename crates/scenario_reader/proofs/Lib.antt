@@ -1,7 +1,8 @@
-pub mod FormByField
+pub mod LineKinds
+mod Worked
+pub mod kind
 pub mod NameLookup
 pub mod NamedByPlace
-pub mod PlaceOfLink
 pub mod NodesByNumber
 pub mod NodeSteps
 pub mod FoundNodes
@@ -9,8 +10,6 @@ pub mod LeastRoutes
 pub mod HopsInCells
 pub mod NumbersInCells
 pub mod ShapeOfNumbers
-pub mod FormText
-pub mod RulesByField
 pub mod RequestUses
 pub mod DraftBecomesPlan
 pub mod KeptBesideDraft
@@ -18,26 +17,21 @@ pub mod PassingLines
 pub mod OwnOpenings
 pub mod PassedLinesAdd
 pub mod ReadingAhead
-pub mod NumberText
 pub mod LineText
 pub mod RulesBack
 pub mod NamedBack
 pub mod SaysBack
 pub mod ReadByForms
-pub mod LineFields
 pub mod WalkBack
 pub mod PlanBack
 pub mod SplitBack
 pub mod TextBack
-pub mod LineByField
 pub mod TextOfParts
 pub mod AuditEnd
 pub mod CsvRows
 pub mod TableReading
 pub mod LevelFields
 pub mod AuditKeeps
-mod Worked
-pub mod kind
 pub mod ReadBefore
 pub mod ReadNames
 pub mod ReadRoutes

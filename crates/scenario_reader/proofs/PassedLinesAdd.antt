@@ -1,9 +1,7 @@
 -- What a line that passes says may be added to what was read.
-use Rattle.std.proofs.Common.{ℕ, ◌≡◌, Bool, true, false, not, List, Option, Some, None, Result, Ok, Err, option_map, cond, [], ◌∷◌, if◌then◌else◌, refl, sym, subst, IfOk}
+use Rattle.std.proofs.Common.{ℕ, ◌≡◌, Bool, true, false, not, List, Option, Some, None, Result, Ok, Err, cond, [], ◌∷◌, if◌then◌else◌, refl, sym, subst}
 use Rattle.std.proofs.lemmas.Bool.{true≢false}
 use Rattle.call_script.specs.declared.version.Version.{Version}
-use Rattle.scenario_reader.specs.Causes.{AnswersWithRoom}
-use Rattle.scenario_reader.specs.declared.cause.LineFault.{LineFault}
 use Rattle.scenario_reader.specs.Drafts.{Said}
 use Rattle.scenario_reader.specs.Fields.{fields_of, are_fields, field_at}
 use Rattle.scenario_reader.specs.line.Header.{header_version, header_said}
@@ -19,21 +17,21 @@ use Rattle.scenario_reader.specs.line.Group.{group_form}
 use Rattle.scenario_reader.specs.line.Caller.{caller_forms}
 use Rattle.scenario_reader.specs.line.Quota.{quota_form}
 use Rattle.scenario_reader.specs.Kept.{IsDraft}
-use Rattle.scenario_reader.specs.line.Link.{link_rule, link_said}
-use Rattle.scenario_reader.specs.line.Request.{open_rule, request_said}
+use Rattle.scenario_reader.specs.line.Link.{link_forms}
+use Rattle.scenario_reader.specs.line.Request.{open_forms}
 use Rattle.scenario_reader.specs.declared.cause.LineCause.{LineCause}
 use Rattle.line_forms.specs.declared.word.Keyword.{Keyword}
 use Rattle.scenario_reader.specs.declared.item.Item.{Item}
 use Rattle.scenario_reader.proofs.kind.Group.{group-may}
 use Rattle.scenario_reader.proofs.kind.Caller.{caller-may}
-use Rattle.scenario_reader.proofs.kind.LinkMay.{link-may}
+use Rattle.scenario_reader.proofs.kind.Link.{link-may}
 use Rattle.scenario_reader.proofs.kind.Quota.{quota-may}
 use Rattle.scenario_reader.proofs.kind.Send.{send-may}
 use Rattle.scenario_reader.proofs.kind.Close.{close-may}
 use Rattle.scenario_reader.proofs.kind.Move.{move-may}
 use Rattle.scenario_reader.proofs.kind.Pour.{pour-may}
-use Rattle.scenario_reader.proofs.kind.RequestMay.{open-may}
-use Rattle.scenario_reader.proofs.PassingLines.{judged-ok, stated-ok, made-some}
+use Rattle.scenario_reader.proofs.kind.Request.{open-may}
+use Rattle.scenario_reader.proofs.PassingLines.{judged-ok}
 use Rattle.scenario_reader.proofs.ReadByForms.{was-read, forms_are}
 use Rattle.scenario_reader.proofs.kind.Rounds.{rounds-may, tail-may}
 use Rattle.scenario_reader.proofs.kind.Schedule.{schedule-may, do-may}
@@ -47,9 +45,8 @@ use Rattle.scenario_reader.specs.declared.item.Item.TheVariants as item
 says-as : (keyword : Keyword) (version : Version) (said : Said) (number : ℕ) (fields : List (List ℕ)) (what : Item) → IsDraft said → said.version ≡ Some version → may_stand version said keyword ≡ true
     → judge_as keyword version said number fields ≡ Ok what → MayAdd said what
 says-as word.Link version said number fields what draft v m e =
-    let p = stated-ok (link_rule version said fields) (option_map item.Link (link_said version said fields)) what e in
-    let made = made-some item.Link (link_said version said fields) what p.1 in
-    subst (MayAdd said) made.2 (link-may version said fields made.0 v m p.0 made.1)
+    let line = was-read said (link_forms version) fields (says word.Link version said number) what (forms_are version word.Link) e in
+    link-may version said line.values what v m line.fits line.says
 says-as word.Group version said number fields what draft v m e =
     let line = was-read said (group_form ∷ []) fields (says word.Group version said number) what refl e in
     group-may version said line.values what v m line.fits line.says
@@ -60,8 +57,8 @@ says-as word.Caller version said number fields what draft v m e =
     let line = was-read said (caller_forms version) fields (says word.Caller version said number) what (forms_are version word.Caller) e in
     caller-may version said line.values what v m line.fits line.says
 says-as word.Open version said number fields what draft v m e =
-    let p = judged-ok (open_rule version said fields) (item.Open (request_said said fields)) what e in
-    subst (MayAdd said) p.1 (open-may version said fields draft v m p.0)
+    let line = was-read said (open_forms version) fields (says word.Open version said number) what (forms_are version word.Open) e in
+    open-may version said line.values what draft v m line.fits line.says
 says-as word.Send version said number fields what draft v m e =
     let line = was-read said (send_form ∷ []) fields (says word.Send version said number) what refl e in
     send-may version said line.values what draft v m line.fits line.says
@@ -123,9 +120,3 @@ may-add said number line what draft e = by (is_passed_over line) e where
   by : (over : Bool) → (if over then Ok item.Nothing else judge_fields said number (fields_of line)) ≡ Ok what → MayAdd said what
   by true e = (let same : item.Nothing ≡ what = cc in subst (MayAdd said) same tt)
   by false e = says-after said.version said number (fields_of line) what draft refl (ok-unless (not (are_fields (fields_of line))) (judge_after said.version said number (fields_of line)) cause.Shape what e)
-
--- the same of the answer of a judge
-pub word-may : (keyword : Keyword) (version : Version) (said : Said) (number : ℕ) (fields : List (List ℕ)) (r : Result Item LineFault) → IsDraft said → said.version ≡ Some version
-    → AnswersWithRoom r (judge_word (Some keyword) version said number fields) → IfOk r (MayAdd said)
-word-may keyword version said number fields (Ok what) draft v e = says-word (Some keyword) version said number fields what draft v e
-word-may keyword version said number fields (Err fault) draft v e = tt

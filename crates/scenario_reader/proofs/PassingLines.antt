@@ -1,19 +1,15 @@
 -- What holds of a line that its rules let pass.
-use Rattle.std.proofs.Common.{◌≡◌, ℕ, ◌≤◌, Bool, true, false, not, ◌&&◌, nat_eq, nat_le, List, [], ◌∷◌, length, Option, Some, None, Ok, is_some, is_none, if◌then◌else◌, option_map, refl, inl, inr, arith}
-use Rattle.std.proofs.lemmas.Bool.{leb-true, eqb-true, eq-eqb, and_parts, not-true, both_ways, cases_lt}
+use Rattle.std.proofs.Common.{◌≡◌, Bool, true, false, ◌&&◌, nat_eq, nat_le, List, [], ◌∷◌, length, Option, Some, None, Ok, is_some, is_none, if◌then◌else◌, option_map, refl}
+use Rattle.std.proofs.lemmas.Bool.{leb-true, eqb-true, and_parts}
 use Rattle.std.proofs.lemmas.List.{nil_from_length}
 use Rattle.std.proofs.lemmas.Option.{same_Some}
-use Rattle.net_units.specs.Text.{is_name}
 use Rattle.traffic_contract.specs.Contract.{Traffic, IsContract, burst_of}
 use Rattle.traffic_contract.specs.Refusal.{first_bad, fits_xmin, fits_xave, fits_interval, fits_smax}
 use Rattle.traffic_contract.specs.declared.contract.ContractField.{ContractField}
 use Rattle.traffic_contract.specs.declared.contract.ContractField.TheVariants.{Xmin, Xave, Interval, Smax}
 use Rattle.scenario_reader.specs.Causes.{Rule, unless, or_else, first_cause, judged, stated}
-use Rattle.scenario_reader.specs.Decimal.{is_number, value_of}
-use Rattle.scenario_reader.specs.Forms.{is_among, name_rule, new_name_rule, used_name_rule, number_rule}
 use Rattle.scenario_reader.specs.line.Request.{contract_of}
 use Rattle.scenario_reader.specs.declared.cause.LineCause.{LineCause}
-use Rattle.scenario_reader.specs.declared.cause.LineCause.TheVariants as cause
 
 -- what is judged Ok passes its rule, and is what was said
 pub judged-ok : {X : Type 0} (rule : Rule) (said what : X) → judged rule said ≡ Ok what → (rule ≡ None) × (said ≡ what)
@@ -52,43 +48,6 @@ all-pass [] e = tt
 all-pass (rule ∷ rules) e =
     let p = both-pass rule (first_cause rules) e in
     (p.0, all-pass rules p.1)
-
--- a field that passes as a number from `low` to `high`
-pub record IsNumberFrom (low high : ℕ) (field : List ℕ) : Type 0 where
-  pub number : is_number field ≡ true
-  pub least : low ≤ value_of field
-  pub most : value_of field ≤ high
-
--- a field that passes is such a number
-pub number-passes : (low high : ℕ) (field : List ℕ) → number_rule low high field ≡ None → IsNumberFrom low high field
-number-passes low high field e =
-    let p = both-pass (unless (is_number field) cause.Number) (unless (nat_le low (value_of field) && nat_le (value_of field) high) cause.Range) e in
-    let range = and_parts (nat_le low (value_of field)) (nat_le (value_of field) high) (unless-passes _ cause.Range p.1) in
-    record {
-      number = unless-passes (is_number field) cause.Number p.0;
-      least = leb-true low (value_of field) range.0;
-      most = leb-true (value_of field) high range.1;
-    }
-
--- a field that passes as a name
-pub name-passes : (field : List ℕ) → name_rule field ≡ None → is_name field ≡ true
-name-passes field e = unless-passes (is_name field) cause.Name e
-
--- a field that passes as a new name
-pub new-name-passes : (known : List (List ℕ)) (field : List ℕ) → new_name_rule known field ≡ None → (is_name field ≡ true) × (not (is_among known field) ≡ true)
-new-name-passes known field e =
-    let p = both-pass (name_rule field) (unless (not (is_among known field)) cause.Known) e in
-    (name-passes field p.0, unless-passes (not (is_among known field)) cause.Known p.1)
-
--- a field that passes as a known name
-pub used-name-passes : (known : Bool) (field : List ℕ) → used_name_rule known field ≡ None → (is_name field ≡ true) × (known ≡ true)
-used-name-passes known field e =
-    let p = both-pass (name_rule field) (unless known cause.Unknown) e in
-    (name-passes field p.0, unless-passes known cause.Unknown p.1)
-
--- a number that isn't 0
-pub some-count : (n : ℕ) → not (nat_eq n 0) ≡ true → 1 ≤ n
-some-count n e = elim (cases_lt n 1) [ inl none ↦ absurd (both_ways (nat_eq n 0) (not-true (nat_eq n 0) e) (eq-eqb n 0 (omega arith))) | inr some ↦ some ]
 
 -- a list of length 0
 pub no-items : {X : Type 0} (xs : List X) → nat_eq (length xs) 0 ≡ true → xs ≡ []

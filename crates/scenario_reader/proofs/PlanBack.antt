@@ -25,7 +25,7 @@ use Rattle.scenario_reader.specs.line.Caller.{caller_fields}
 use Rattle.scenario_reader.specs.PlanText.{caller_lines}
 use Rattle.scenario_reader.proofs.kind.Group.{GroupsStand}
 use Rattle.scenario_reader.proofs.SaysBack.{front}
-use Rattle.scenario_reader.proofs.kind.LinkBack.{link-read}
+use Rattle.scenario_reader.proofs.kind.Link.{link-read}
 use Rattle.scenario_reader.proofs.kind.Caller.{caller-read}
 use Rattle.scenario_reader.proofs.SaysBack.{Reads, reads-none, reads-on}
 use Rattle.scenario_reader.proofs.WalkBack.{LinksStand, RestStands, Stands, OpSound, op-step}

@@ -2,7 +2,7 @@
 use Rattle.std.proofs.Common.{◌≡◌, ℕ, Bool, true, false, if◌then◌else◌, List, [], ◌∷◌, Some, Ok, Err, Result, refl, ◌∙◌, ap, inl, inr}
 use Rattle.std.proofs.lemmas.Bool.{cond-true, cond-false}
 use Rattle.std.specs.List.{list_all}
-use Rattle.call_script.specs.Versions.{has_groups}
+use Rattle.call_script.specs.Versions.{has_best_effort, has_found_routes, has_groups}
 use Rattle.call_script.specs.declared.version.Version.{Version}
 use Rattle.line_forms.specs.BothWays.{IsReadByOne}
 use Rattle.line_forms.specs.Fields.{are_fields, line_of, field_at}
@@ -22,6 +22,8 @@ use Rattle.scenario_reader.specs.Known.{names_said, FitsOne}
 use Rattle.scenario_reader.specs.declared.cause.LineCause.{LineCause}
 use Rattle.scenario_reader.specs.declared.item.Item.{Item}
 use Rattle.scenario_reader.specs.line.Caller.{caller_form, member_form}
+use Rattle.scenario_reader.specs.line.Link.{plain_form, best_form}
+use Rattle.scenario_reader.specs.line.Request.{rate_form, jitter_form, found_rate_form, found_jitter_form}
 use Rattle.scenario_reader.specs.line.Table.{forms_of, says, once_read, read_as, judge_as, line_word, may_stand}
 use Rattle.scenario_reader.proofs.SaysBack.{Reads, reads-one, judged-as}
 
@@ -92,10 +94,18 @@ was-read said forms fields say what are e = by (read_line (names_said said) form
 
 -- the forms of the table are forms
 pub forms_are : (version : Version) (keyword : Keyword) → list_all is_form (forms_of version keyword) ≡ true
+forms_are version word.Link = by (has_best_effort version) where
+  by : (has : Bool) → list_all is_form (if has then plain_form ∷ best_form ∷ [] else plain_form ∷ []) ≡ true
+  by true = refl
+  by false = refl
 forms_are version word.Group = refl
 forms_are version word.Quota = refl
 forms_are version word.Caller = by (has_groups version) where
   by : (has : Bool) → list_all is_form (if has then caller_form ∷ member_form ∷ [] else caller_form ∷ []) ≡ true
+  by true = refl
+  by false = refl
+forms_are version word.Open = by (has_found_routes version) where
+  by : (has : Bool) → list_all is_form (if has then rate_form ∷ jitter_form ∷ found_rate_form ∷ found_jitter_form ∷ [] else rate_form ∷ jitter_form ∷ []) ≡ true
   by true = refl
   by false = refl
 forms_are version word.Send = refl

@@ -1,18 +1,15 @@
 -- Whatever is read keeps names, quotas and found routes as a plan's text has them: each line that passes adds such parts alone.
-use Rattle.std.proofs.Common.{◌≡◌, ℕ, suc, Bool, true, false, not, if◌then◌else◌, List, [], ◌∷◌, ◌++◌, length, Option, Some, None, Result, Ok, Err, option_map, is_some, refl, sym, ◌∙◌, ap, subst, arith}
+use Rattle.std.proofs.Common.{◌≡◌, ℕ, suc, Bool, true, false, not, if◌then◌else◌, List, [], ◌∷◌, ◌++◌, length, Option, Some, None, Result, Ok, Err, option_map, refl, sym, ◌∙◌, ap, subst, arith}
 use Rattle.std.proofs.lemmas.Option.{same_Some}
 use Rattle.std.specs.List.{slice_get}
-use Rattle.std.specs.Prelude.{nat_lt, unwrap_or, zero}
+use Rattle.std.specs.Prelude.{zero}
 use Rattle.net_units.specs.Numbers.{link_number}
-use Rattle.net_units.specs.Limits.{most_links, most_requests, most_delay}
 use Rattle.net_units.specs.Text.{is_name}
-use Rattle.hop_reservation.specs.declared.route.Hop.{Hop}
 use Rattle.link_steps.specs.Lists.{Each}
 use Rattle.link_steps.specs.declared.quota.Quota.{Quota}
 use Rattle.link_steps.proofs.SearchAndFilter.{Each-append}
 use Rattle.call_script.specs.Growing.{add_quota, add_op, with_its_quota, new_caller}
 use Rattle.call_script.specs.Parts.{PlanParts}
-use Rattle.call_script.specs.Rules.{is_named, link_names, request_names}
 use Rattle.call_script.specs.declared.entries.CallerEntry.{CallerEntry}
 use Rattle.call_script.specs.declared.entries.LinkEntry.{LinkEntry}
 use Rattle.call_script.specs.declared.entries.RequestEntry.{RequestEntry}
@@ -24,12 +21,9 @@ use Rattle.byte_ends.specs.WholeLines.{Ending, all_given, cut_short, too_long, o
 use Rattle.scenario_reader.specs.BothWays.{AreNamed, AreNodesNamed, HasEightLoads, HasNames, HaveFoundRoutes, IsFoundRoute}
 use Rattle.scenario_reader.specs.Causes.{Rule, unless, stated}
 use Rattle.scenario_reader.specs.Drafts.{Said, nothing_said, with_item, is_complete, parts_said, schedule_said}
-use Rattle.scenario_reader.specs.Entries.{has_bounds}
 use Rattle.scenario_reader.specs.Fields.{fields_of, are_fields, field_at}
-use Rattle.scenario_reader.specs.Forms.{name_rule, new_name_rule, number_rule}
 use Rattle.scenario_reader.specs.Grammar.{judge_word, judge_after, is_passed_over, judge}
 use Rattle.scenario_reader.specs.Kept.{IsDraft}
-use Rattle.scenario_reader.specs.Nodes.{is_node, route_between}
 use Rattle.scenario_reader.specs.ReadPlans.{IsReadable, WhatIsReadIsReadable}
 use Rattle.scenario_reader.specs.Reading.{PlanRead, BadLine, at_end, on_judged, reading_of, reading}
 use Rattle.scenario_reader.specs.declared.cause.LineCause.{LineCause}
@@ -45,18 +39,20 @@ use Rattle.line_forms.specs.Values.{number_at}
 use Rattle.scenario_reader.proofs.ReadByForms.{was-read, forms_are}
 use Rattle.scenario_reader.proofs.kind.Caller.{caller-named}
 use Rattle.scenario_reader.proofs.kind.Group.{group-named}
+use Rattle.scenario_reader.proofs.kind.Link.{link-named-so}
+use Rattle.scenario_reader.proofs.kind.Request.{request-named-so}
 use Rattle.scenario_reader.specs.line.Header.{header_version, header_said}
-use Rattle.scenario_reader.specs.line.Link.{is_link_line, link_numbers, link_fields_rule, link_numbers_rule, best_rule, bound_numbers_rule, bound_fields, link_rule, link_with, link_said}
+use Rattle.scenario_reader.specs.line.Link.{link_forms}
 use Rattle.scenario_reader.specs.line.Move.{move_form, move_between}
 use Rattle.scenario_reader.specs.line.Pour.{pour_form}
 use Rattle.scenario_reader.specs.line.Quota.{quota_form}
-use Rattle.scenario_reader.specs.line.Request.{is_open_line, is_found, hops_in, node_rule, nodes_rule, way_fields_rule, between_rule, way_rule, after_route, contract_told, contract_of, terms_rule, jitter_rule, open_fields_rule, open_limits_rule, open_rule, request_said}
+use Rattle.scenario_reader.specs.line.Request.{open_forms}
 use Rattle.scenario_reader.specs.line.Rounds.{rounds_form, tail_form, are_few_ticks}
 use Rattle.scenario_reader.specs.line.Schedule.{schedule_form, do_form, do_by}
 use Rattle.scenario_reader.specs.line.Send.{send_form}
 use Rattle.scenario_reader.specs.line.Table.{may_stand, line_word, says, judge_as, MayAdd}
 use Rattle.scenario_reader.proofs.DraftBecomesPlan.{draft-begins, draft-more, complete-draft}
-use Rattle.scenario_reader.proofs.PassingLines.{all-pass, both-pass, judged-ok, made-some, name-passes, new-name-passes, stated-ok, unless-passes, used-name-passes}
+use Rattle.scenario_reader.proofs.PassingLines.{judged-ok, made-some, stated-ok}
 use Rattle.scenario_reader.proofs.PassedLinesAdd.{may-add}
 use Rattle.scenario_reader.proofs.kind.Quota.{says-quota, eight-said}
 
@@ -76,51 +72,6 @@ NamesItem said (item.Caller name group) = is_name name ≡ true
 NamesItem said (item.Open entry) = NamesRequest said entry
 NamesItem said _ = Unit {0}
 
-link-named-so : (version : Version) (said : Said) (fields : List (List ℕ)) (entry : LinkEntry) → link_rule version said fields ≡ None → link_said version said fields ≡ Some entry → HasNames entry
-link-named-so version said fields entry rule says =
-    let p = all-pass (unless (is_link_line version fields) cause.Shape ∷ link_fields_rule said fields ∷ unless (nat_lt (length said.links) most_links) cause.Many ∷ unless (has_bounds (link_numbers fields)) cause.Levels ∷ []) rule in
-    let q = all-pass (new_name_rule (link_names said.links) (field_at fields 1) ∷ name_rule (field_at fields 2) ∷ name_rule (field_at fields 3) ∷ link_numbers_rule fields ∷ best_rule fields ∷ bound_numbers_rule (bound_fields fields) ∷ []) p.1.0 in
-    let made = made-some (link_with fields) _ entry says in
-    subst HasNames made.2 (record {
-      name = (new-name-passes (link_names said.links) (field_at fields 1) q.0).0;
-      from = name-passes (field_at fields 2) q.1.0;
-      to = name-passes (field_at fields 3) q.1.1.0;
-    })
-
--- ---- requests
-
-there-is : (o : Option (List Hop)) → is_some o ≡ true → o ≡ Some (unwrap_or o [])
-there-is None e = cc
-there-is (Some hops) e = refl
-
-is-found_so : (links : List LinkEntry) (found : Bool) (from to : List ℕ) (written : List Hop) → (found ≡ true → is_some (route_between links from to) ≡ true)
-    → IsFoundRoute links (if found then unwrap_or (route_between links from to) [] else written) (if found then Some (from, to) else None)
-is-found_so links true from to written some = there-is (route_between links from to) (some refl)
-is-found_so links false from to written some = tt
-
-nodes-named_so : (found : Bool) (from to : List ℕ) → (found ≡ true → (is_name from ≡ true) × (is_name to ≡ true)) → AreNodesNamed (if found then Some (from, to) else None)
-nodes-named_so true from to named = named refl
-nodes-named_so false from to named = tt
-
-open-named-so : (version : Version) (said : Said) (fields : List (List ℕ)) → open_rule version said fields ≡ None → NamesRequest said (request_said said fields)
-open-named-so version said fields rule =
-    let p = all-pass (unless (is_open_line version fields) cause.Shape ∷ open_fields_rule said fields ∷ open_limits_rule said fields ∷ []) rule in
-    let q = all-pass (new_name_rule (request_names said.requests) (field_at fields 1) ∷ way_fields_rule said fields ∷ terms_rule fields ∷ number_rule 1 most_delay (after_route fields 6) ∷ jitter_rule fields ∷ []) p.1.0 in
-    let l = all-pass (unless (nat_lt (length said.requests) most_requests) cause.Many ∷ unless (is_some (contract_of (contract_told fields))) cause.Contract ∷ way_rule said fields ∷ []) p.1.1.0 in
-    record {
-      name = (new-name-passes (request_names said.requests) (field_at fields 1) q.0).0;
-      nodes = nodes-named_so (is_found fields) (field_at fields 3) (field_at fields 5) (λ is.
-          let nodes : nodes_rule said fields ≡ None = rw is at q.1.0 in
-          let both = both-pass (node_rule said (field_at fields 3)) (node_rule said (field_at fields 5)) nodes in (
-            (used-name-passes (is_node said.links (field_at fields 3)) (field_at fields 3) both.0).0,
-            (used-name-passes (is_node said.links (field_at fields 5)) (field_at fields 5) both.1).0,
-          ));
-      found = is-found_so said.links (is_found fields) (field_at fields 3) (field_at fields 5) (hops_in said fields) (λ is.
-          let between : between_rule said (field_at fields 3) (field_at fields 5) ≡ None = rw is at l.1.1.0 in
-          let limits = both-pass (unless (not (is_named (field_at fields 5) (field_at fields 3))) cause.Route) (unless (is_some (route_between said.links (field_at fields 3) (field_at fields 5))) cause.Reach) between in
-          unless-passes (is_some (route_between said.links (field_at fields 3) (field_at fields 5))) cause.Reach limits.1);
-    }
-
 -- ---- a line that passes
 
 -- an operation names nothing
@@ -134,9 +85,9 @@ move-names said rule (Some old) (Some new) what e = subst (NamesItem said) (same
 
 names-as : (keyword : Keyword) (version : Version) (said : Said) (number : ℕ) (fields : List (List ℕ)) (what : Item) → judge_as keyword version said number fields ≡ Ok what → NamesItem said what
 names-as word.Link version said number fields what e =
-    let p = stated-ok (link_rule version said fields) (option_map item.Link (link_said version said fields)) what e in
-    let made = made-some item.Link (link_said version said fields) what p.1 in
-    subst (NamesItem said) made.2 (link-named-so version said fields made.0 p.0 made.1)
+    let line = was-read said (link_forms version) fields (says word.Link version said number) what (forms_are version word.Link) e in
+    let named = link-named-so version said line.values what line.fits line.says in
+    subst (NamesItem said) named.is (record { name = named.says.name_is; from = named.says.from_is; to = named.says.to_is })
 names-as word.Group version said number fields what e =
     let line = was-read said (group_form ∷ []) fields (says word.Group version said number) what refl e in
     let named = group-named said line.values what line.fits line.says in
@@ -150,8 +101,9 @@ names-as word.Caller version said number fields what e =
     let named = caller-named version said line.values what line.fits line.says in
     subst (NamesItem said) named.is named.name_is
 names-as word.Open version said number fields what e =
-    let p = judged-ok (open_rule version said fields) (item.Open (request_said said fields)) what e in
-    subst (NamesItem said) p.1 (open-named-so version said fields p.0)
+    let line = was-read said (open_forms version) fields (says word.Open version said number) what (forms_are version word.Open) e in
+    let named = request-named-so version said line.values what line.fits line.says in
+    subst (NamesItem said) named.is (record { name = named.says.name_is; nodes = named.nodes; found = named.found })
 names-as word.Send version said number fields what e = (let line = was-read said (send_form ∷ []) fields (says word.Send version said number) what refl e in op-names said _ (slice_get said.requests (number_at line.values.ones 0)) (λ (entry : RequestEntry). Send entry.request.chan (number_at line.values.ones 1) (number_at line.values.ones 2) (number_at line.values.ones 3)) what line.says)
 names-as word.Close version said number fields what e = (let line = was-read said (close_form ∷ []) fields (says word.Close version said number) what refl e in op-names said _ (slice_get said.requests (number_at line.values.ones 0)) (λ (entry : RequestEntry). Close entry.request.chan) what line.says)
 names-as word.Move version said number fields what e = (let line = was-read said (move_form ∷ []) fields (says word.Move version said number) what refl e in move-names said _ (slice_get said.requests (number_at line.values.ones 0)) (slice_get said.requests (number_at line.values.ones 1)) what line.says)

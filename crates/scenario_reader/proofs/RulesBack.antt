@@ -5,9 +5,7 @@ use Rattle.std.specs.Cmp.Lexicographic.{pointwise}
 use Rattle.std.specs.Prelude.{nat_eq}
 use Rattle.net_units.specs.Text.{begins_as_name, is_kept_word, is_name}
 use Rattle.scenario_reader.specs.Causes.{Rule, unless, first_cause, judged, stated}
-use Rattle.scenario_reader.specs.Forms.{is_among, name_rule, new_name_rule, used_name_rule}
 use Rattle.scenario_reader.specs.declared.cause.LineCause.{LineCause}
-use Rattle.scenario_reader.specs.declared.cause.LineCause.TheVariants as cause
 use Rattle.scenario_reader.proofs.PassingLines.{RulesPass}
 
 -- rules that pass each pass together
@@ -17,15 +15,6 @@ pass-all (rule ∷ rules) p = rw p.0 (pass-all rules p.1)
 
 pub unless-holds : (holds : Bool) (c : LineCause) → holds ≡ true → unless holds c ≡ None
 unless-holds holds c e = rw e refl
-
-pub name-back : (field : List ℕ) → is_name field ≡ true → name_rule field ≡ None
-name-back field e = unless-holds (is_name field) cause.Name e
-
-pub new-name-back : (known : List (List ℕ)) (field : List ℕ) → is_name field ≡ true → is_among known field ≡ false → new_name_rule known field ≡ None
-new-name-back known field e new = rw (name-back field e, new) refl
-
-pub used-name-back : (known : Bool) (field : List ℕ) → is_name field ≡ true → known ≡ true → used_name_rule known field ≡ None
-used-name-back known field e is = rw (name-back field e, is) refl
 
 -- a name is neither of the two words of the grammar
 pub name-no-word : (name : List ℕ) → is_name name ≡ true → (pointwise nat_eq name (codes "contract") ≡ false) × (pointwise nat_eq name (codes "plane") ≡ false)

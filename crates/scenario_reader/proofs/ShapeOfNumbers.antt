@@ -2,7 +2,7 @@
 use Rattle.std.proofs.Common.{◌≡◌, ◌<◌, ◌≤◌, Bool, true, false, Some, None, refl, sym, ◌∙◌, ap, arith}
 use Rattle.std.specs.Prelude.{nat_le, ◌&&◌, ℕ, List, if◌then◌else◌}
 use Rattle.std.proofs.Math.Bridge.{le_prop}
-use Rattle.std.proofs.lemmas.Bool.{le-leb, and_from}
+use Rattle.std.proofs.lemmas.Bool.{and_from}
 use mathlib.Core.Bool.{Bool-set}
 use mathlib.Core.HLevel.{is_prop→PathP}
 use Rattle.net_units.specs.Numbers.{link_number, actor_number, channel_number, link_at, actor_at, channel_at}
@@ -18,10 +18,8 @@ use Rattle.link_steps.specs.declared.shape.ShapeField.TheVariants.{Bounds}
 use Rattle.std.proofs.lemmas.Option.{cond_some}
 use Rattle.net_units.specs.Limits.{is_within}
 use Rattle.scenario_reader.specs.Causes.{unless}
-use Rattle.scenario_reader.specs.line.LinkFields.{AreFigures, numbers_with}
 use Rattle.scenario_reader.specs.line.Link.{bounds_of}
 use Rattle.scenario_reader.specs.declared.cause.LineCause.TheVariants.{Levels}
-use Rattle.scenario_reader.specs.declared.line.link.LinkFields.{LinkFields}
 use Rattle.scenario_reader.specs.Entries.{LinkNumbers, has_rate, has_room, has_bounds, shape_with, shape_where, shape_of}
 use Rattle.net_units.proofs.KnownByNumber.{same-link, same-actor, same-channel}
 
@@ -108,35 +106,23 @@ bounds-fit : (fits : Bool) → (if fits then None else Some Bounds) ≡ None →
 bounds-fit true e = refl
 bounds-fit false e = cc
 
--- the figures of a line are within their limits
-within-of : (link : LinkFields) → AreFigures link.figures → link.best ≤ 1024 → AreWithin link.figures.rate link.figures.cap link.figures.prop link.figures.buffer link.best
-within-of link are best = record {
-  rates = and_from (nat_le 1 link.figures.rate) (nat_le link.figures.rate 65536) (le-leb 1 link.figures.rate are.rate_least) (le-leb link.figures.rate 65536 are.rate_most);
-  caps = and_from (nat_le 1 link.figures.cap) (nat_le link.figures.cap 65536) (le-leb 1 link.figures.cap are.cap_least) (le-leb link.figures.cap 65536 are.cap_most);
-  props = le-leb link.figures.prop 1048576 are.prop_most;
-  buffers = le-leb link.figures.buffer 262144 are.buffer_most;
-  bests = le-leb link.best 1024 best;
-}
-
 -- a shape that was made of a line's numbers is the one that they have
-pub made-shape : (link : LinkFields) (numbers bounds : List ℕ) (number : LinkNo) (test : Test) (shape : LinkShape) → AreFigures link.figures → link.best ≤ 1024
-    → link.bounds ≡ bounds_of numbers → link.bounds ≡ Some bounds
-    → first_bad_field link.figures.rate link.figures.cap link.figures.prop link.figures.buffer link.best bounds ≡ None
-    → IsShapeOf number link.figures.rate link.figures.cap link.figures.prop link.figures.buffer bounds test link.best shape
-    → (unless (has_bounds (numbers_with link numbers)) Levels ≡ None) × (shape_of number test (numbers_with link numbers) ≡ Some shape)
-made-shape link numbers bounds number test shape are best said some none is =
-    let w = within-of link are best in
-    let rising = cond_some (are_bounds numbers) numbers bounds (sym said ∙ some) in
-    let fits = bounds-fit (nat_le (ceil_quotient link.figures.cap link.figures.rate) (bound_at bounds 1))
-    (sym (bounds-decide link.figures.rate link.figures.cap link.figures.prop link.figures.buffer link.best bounds w) ∙ none) in
-    let whole : has_bounds (numbers_with link numbers) ≡ true =
-    and_from (are_bounds numbers) (nat_le (ceil_quotient link.figures.cap link.figures.rate) (bound_at numbers 1)) rising.0
-    (ap (λ (bs : List ℕ). nat_le (ceil_quotient link.figures.cap link.figures.rate) (bound_at bs 1)) rising.1 ∙ fits) in (
+pub made-shape : (numbers : LinkNumbers) (bounds : List ℕ) (number : LinkNo) (test : Test) (shape : LinkShape) → AreWithin numbers.rate numbers.cap numbers.prop numbers.buffer numbers.best
+    → bounds_of numbers.bounds ≡ Some bounds → first_bad_field numbers.rate numbers.cap numbers.prop numbers.buffer numbers.best bounds ≡ None
+    → IsShapeOf number numbers.rate numbers.cap numbers.prop numbers.buffer bounds test numbers.best shape
+    → (unless (has_bounds numbers) Levels ≡ None) × (shape_of number test numbers ≡ Some shape)
+made-shape numbers bounds number test shape w some none is =
+    let rising = cond_some (are_bounds numbers.bounds) numbers.bounds bounds some in
+    let fits = bounds-fit (nat_le (ceil_quotient numbers.cap numbers.rate) (bound_at bounds 1))
+    (sym (bounds-decide numbers.rate numbers.cap numbers.prop numbers.buffer numbers.best bounds w) ∙ none) in
+    let whole : has_bounds numbers ≡ true =
+    and_from (are_bounds numbers.bounds) (nat_le (ceil_quotient numbers.cap numbers.rate) (bound_at numbers.bounds 1)) rising.0
+    (ap (λ (bs : List ℕ). nat_le (ceil_quotient numbers.cap numbers.rate) (bound_at bs 1)) rising.1 ∙ fits) in (
       rw whole refl,
-      shape-is number test (numbers_with link numbers) shape
-          (and_from (is_within 1 65536 link.figures.rate) (is_within 1 65536 link.figures.cap) w.rates w.caps)
-          (and_from (nat_le link.figures.prop 1048576 && nat_le link.figures.buffer 262144) (nat_le link.best 1024)
-          (and_from (nat_le link.figures.prop 1048576) (nat_le link.figures.buffer 262144) w.props w.buffers) w.bests)
+      shape-is number test numbers shape
+          (and_from (is_within 1 65536 numbers.rate) (is_within 1 65536 numbers.cap) w.rates w.caps)
+          (and_from (nat_le numbers.prop 1048576 && nat_le numbers.buffer 262144) (nat_le numbers.best 1024)
+          (and_from (nat_le numbers.prop 1048576) (nat_le numbers.buffer 262144) w.props w.buffers) w.bests)
           whole
           (record {
             link_is = is.link_is;

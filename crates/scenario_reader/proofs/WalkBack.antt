@@ -33,7 +33,7 @@ use Rattle.call_script.proofs.OneOwner.{after-has, apart-none}
 use Rattle.call_script.specs.Rules.{request_has_version}
 use Rattle.scenario_reader.specs.BothWays.{AreNodesNamed, IsFoundRoute}
 use Rattle.scenario_reader.specs.BothWays.{HasNames}
-use Rattle.scenario_reader.specs.Drafts.{Said, link_named, if_own, is_used, is_joined_to}
+use Rattle.scenario_reader.specs.Drafts.{Said, if_own, is_used, is_joined_to}
 use Rattle.scenario_reader.specs.line.Move.{may_join}
 use Rattle.scenario_reader.proofs.KeptBesideDraft.{use-of, closing-uses}
 use Rattle.scenario_reader.specs.line.Operation.{op_fields, op_lines}
@@ -45,9 +45,8 @@ use Rattle.scenario_reader.specs.line.Move.{move_fields, fields_between}
 use Rattle.scenario_reader.specs.line.Pour.{pour_fields}
 use Rattle.scenario_reader.proofs.kind.Using.{are-packets, IsOpenHere}
 use Rattle.scenario_reader.proofs.NamedBack.{find-back, position-back}
-use Rattle.scenario_reader.proofs.kind.RequestBack.{IsHopHere}
 use Rattle.scenario_reader.proofs.SaysBack.{front}
-use Rattle.scenario_reader.proofs.kind.RequestBack.{open-read}
+use Rattle.scenario_reader.proofs.kind.RequestBack.{IsHopHere, open-read}
 use Rattle.scenario_reader.proofs.kind.Send.{send-read}
 use Rattle.scenario_reader.proofs.kind.Close.{close-read}
 use Rattle.scenario_reader.proofs.kind.Move.{move-read}
@@ -76,7 +75,6 @@ record IsThere (links : List LinkEntry) (link : LinkNo) : Type 0 where
   found : slice_get links (link_number link) ≡ Some entry
   same : link ≡ entry.shape.link
   name : is_name entry.name ≡ true
-  named : link_named links entry.name ≡ Some entry
   place : position (is_named entry.name) (link_names links) ≡ Some (link_number entry.shape.link)
   at : slice_get links (link_number entry.shape.link) ≡ Some entry
 
@@ -88,7 +86,6 @@ is-there links link stand there =
         found = at.2;
         same = same-link link at.0.shape.link (sym (stand.numbers (link_number link) at.0 at.2));
         name = (Each-at HasNames links (link_number link) at.0 stand.named at.2).name;
-        named = find-back (λ (e : LinkEntry). e.name) [] links (link_number link) at.0 stand.apart at.2;
         place = position-back (λ (e : LinkEntry). e.name) links (link_number link) at.0 stand.apart at.2 ∙ ap Some (sym (stand.numbers (link_number link) at.0 at.2));
         at = subst (λ (n : ℕ). slice_get links n ≡ Some at.0) (sym (stand.numbers (link_number link) at.0 at.2)) at.2;
       }
@@ -98,7 +95,7 @@ is-there links link stand there =
 hop-here : (links : List LinkEntry) (hop : Hop) → LinksStand links → has_link links hop.link ≡ true → FollowsLink links hop → IsHopHere links hop
 hop-here links hop stand there follows =
     let at = is-there links hop.link stand there in
-    record { entry = at.entry; found = at.found; is = same-hop hop at.entry.shape.link at.entry.shape.bounds at.entry.shape.prop (sym at.same) (sym (follows.bounds at.entry at.found)) (sym (follows.prop at.entry at.found)); name = at.name; named = at.named }
+    record { entry = at.entry; found = at.found; is = same-hop hop at.entry.shape.link at.entry.shape.bounds at.entry.shape.prop (sym at.same) (sym (follows.bounds at.entry at.found)) (sym (follows.prop at.entry at.found)); name = at.name; place = at.place ∙ ap (λ (l : LinkNo). Some (link_number l)) (sym at.same) }
   where
     same-hop : (h : Hop) (link : LinkNo) (bounds : List ℕ) (prop : ℕ) → link ≡ h.link → bounds ≡ h.bounds → prop ≡ h.prop → record { link = link; bounds = bounds; prop = prop } ≡ h
     same-hop h link bounds prop a b c = rw (a, b, c) refl

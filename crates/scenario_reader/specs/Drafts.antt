@@ -7,7 +7,6 @@ use Rattle.std.specs.Prelude.{ℕ, suc, ◌-◌, Bool, true, false, not, nat_eq,
 use Rattle.std.specs.List.{list_any}
 use Rattle.net_units.specs.Numbers.{link_number, actor_number, channel_number}
 use Rattle.net_units.specs.declared.numbers.ChanNo.{ChanNo}
-use Rattle.hop_reservation.specs.declared.route.Hop.{Hop}
 use Rattle.link_steps.specs.declared.shape.LinkShape.{LinkShape}
 use Rattle.call_script.specs.Growing.{new_caller, add_quota, add_op, last_ops}
 use Rattle.call_script.specs.Parts.{PlanParts, parts_with}
@@ -21,7 +20,6 @@ use Rattle.call_script.specs.declared.schedule.Do.{Do}
 use Rattle.call_script.specs.declared.schedule.Schedule.{Schedule}
 use Rattle.call_script.specs.declared.version.Version.{Version}
 use Rattle.call_script.specs.declared.version.Version.TheVariants.{One}
-use Rattle.scenario_reader.specs.Entries.{hop_of}
 use Rattle.scenario_reader.specs.declared.item.Item.{Item}
 use Rattle.scenario_reader.specs.declared.uses.Uses.{Uses}
 use Rattle.scenario_reader.specs.declared.item.Item.TheVariants as item
@@ -141,12 +139,3 @@ uses_said said chan = record {
   joined = is_joined_to said chan;
   load = load_at (loads_in said.callers) chan;
 }
-
--- a route over the links of these names
-abbrev pub with_hop : Option LinkEntry → List Hop → List Hop
-with_hop None hops = hops
-with_hop (Some entry) hops = hop_of entry ∷ hops
-
-abbrev pub route_over : List LinkEntry → List (List ℕ) → List Hop
-route_over links [] = []
-route_over links (name ∷ names) = with_hop (link_named links name) (route_over links names)

@@ -7,15 +7,22 @@ use Rattle.byte_ends.specs.WholeLines.{Outlook, all_given, cut_short, too_long, 
 use Rattle.byte_ends.specs.Faults.{FaultsRise}
 use Rattle.call_script.specs.Parts.{PlanParts}
 use Rattle.call_script.specs.declared.schedule.Schedule.{Schedule}
+use Rattle.line_forms.specs.declared.value.Values.{Values}
 use Rattle.scenario_reader.specs.Causes.{Rule, unless}
 use Rattle.scenario_reader.specs.Drafts.{Said, is_complete, nothing_said}
+use Rattle.scenario_reader.specs.Known.{FitsOne, names_said}
 use Rattle.scenario_reader.specs.Reading.{Reading, PlanRead, BadLine, TooManyBytes, reading_on, reading, are_let_pass, said_line}
 use Rattle.scenario_reader.specs.Words.{cause_of}
+use Rattle.scenario_reader.specs.line.Table.{forms_of, says}
 use Rattle.scenario_reader.specs.declared.cause.Cause.{Cause}
 use Rattle.scenario_reader.specs.declared.cause.LineCause.{LineCause}
 use Rattle.scenario_reader.specs.declared.cause.LineCause.TheVariants as cause
 use Rattle.scenario_reader.specs.declared.cause.LineFault.{LineFault}
 use Rattle.scenario_reader.specs.declared.cause.LineFault.TheVariants as fault
+use Rattle.scenario_reader.specs.declared.item.Item.{Item}
+use Rattle.scenario_reader.specs.declared.item.Item.TheVariants as item
+use Rattle.scenario_reader.specs.declared.judge.LineKind.{LineKind}
+use Rattle.scenario_reader.specs.declared.judge.LineKind.TheVariants as kind
 use Rattle.scenario_reader.specs.declared.reader.ReadRefusal.{ReadRefusal}
 use Rattle.scenario_reader.specs.declared.reader.ReadRefusal.TheVariants as refusal
 use Rattle.scenario_reader.specs.declared.reader.TheConstants.{MOST_BYTES}
@@ -175,3 +182,22 @@ AnswersReading (Err why) r = Refuses scenarios why r
 -- where the source tells its bytes, the answer is that of the reading of them
 abbrev pub TellsReading : Result (PlanParts × Schedule) ReadRefusal → Option (List ℕ) → Type 0
 TellsReading answer left = IfSome left (λ bytes. AnswersReading answer (reading MOST_BYTES bytes))
+
+-- ---- a line of a scenario, up to its values
+
+-- what a line says that was read as this, where its values, if it has any, are these
+abbrev pub said_on : LineKind → Said → ℕ → Values → Result Item LineCause
+said_on kind.Nothing said number values = Ok item.Nothing
+said_on (kind.Header version) said number values = Ok (item.Header version)
+said_on (kind.Values keyword version) said number values = says keyword version said number values
+
+-- its values fit one of its forms
+abbrev pub FitsKind : LineKind → Said → Values → Type 0
+FitsKind (kind.Values keyword version) said values = FitsOne (names_said said) (forms_of version keyword) values
+FitsKind other said values = Unit {0}
+
+-- what reading a line up to its values answers, whatever number it has, where its judge is this
+abbrev pub ReadsAs : Result LineKind LineFault → (ℕ → Result Item LineCause) → Said → Values → Type 0
+ReadsAs (Ok read) judged said values = ((number : ℕ) → judged number ≡ said_on read said number values) × FitsKind read said values
+ReadsAs (Err (fault.Refused cause)) judged said values = (number : ℕ) → judged number ≡ Err cause
+ReadsAs (Err fault.Memory) judged said values = Unit {0}

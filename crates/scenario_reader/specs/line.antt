@@ -2,12 +2,10 @@
 pub mod Before
 pub mod Header
 pub mod Link
-pub mod LinkFields
 pub mod Group
 pub mod Caller
 pub mod Quota
 pub mod Request
-pub mod RequestFields
 pub mod Using
 pub mod Send
 pub mod Close

@@ -6,6 +6,7 @@ ghost use Rattle.scenario_reader.specs.Kept.{IsScheduleOf};
 
 use crate::by_line::TakesLines;
 use crate::cause::{LineCause, LineFault};
+use crate::judge::LineKind;
 use crate::names::Names;
 use crate::uses::Uses;
 use crate::values::require;
@@ -69,8 +70,16 @@ impl TakesLines for Draft {
         line: &[u8],
         _ahead: &[u8],
     ) -> Result<(), LineFault> {
-        let item = self.judge_by(alloc, reader, number, line)?;
-        self.put(alloc, item)?;
+        // What may be added goes by what a draft keeps, which is known where a part of it is seen.
+        let _ = &self.version;
+        match self.read(reader, line)? {
+            LineKind::Nothing => {}
+            LineKind::Header(version) => self.put_header(version),
+            LineKind::Values(word, version) => {
+                let item = self.say(alloc, word, version, number, reader.values())?;
+                self.put(alloc, item)?;
+            }
+        }
         Ok(())
     }
 

@@ -1,19 +1,33 @@
 //! Judging a line after what was read before it.
 //!
-//! Each kind of line has a form, a list of rules in the order in which they are judged, and what it says.
+//! A line is read up to its values, which then stand in the reader; what they say is the kind's own. So what a line says is made once,
+//! where it is added or answered.
 ghost use Rattle.std.specs.Prelude.{◌≡◌, Some, IfOk};
 ghost use Rattle.scenario_reader.specs.Causes.{AnswersWithRoom};
 ghost use Rattle.scenario_reader.specs.line.Table.{MayAdd};
-ghost use Rattle.scenario_reader.specs.Grammar.{judge_word, judge_after, judge, is_passed_over};
+ghost use Rattle.scenario_reader.specs.Grammar.{judge_after, judge, is_passed_over};
+ghost use Rattle.scenario_reader.specs.ReadSteps.{ReadsAs};
 
 use crate::cause::{LineCause, LineFault};
 use crate::draft::Draft;
 use crate::item::Item;
-use crate::line::header::judge_header;
-use crate::line::table::line_word;
+use crate::line::header::header_version;
+use crate::line::table::{forms_of, line_word};
+use crate::values::require;
 use call_script::Version;
 use line_forms::{Fields, Keyword, Reader};
 use std::alloc::Global;
+
+// What a line was read as, up to its values.
+#[derive(Clone, Copy)]
+pub(crate) enum LineKind {
+    // It is passed over.
+    Nothing,
+    // The header, with the version of the language.
+    Header(Version),
+    // A line that begins with this word, in this version.
+    Values(Keyword, Version),
+}
 
 impl Draft {
     /// What the line of this number says after what was read, or the cause by which it is refused.
@@ -21,68 +35,50 @@ impl Draft {
         ensures judged { AnswersWithRoom result (judge self.now number line.now) }
         ensures room { IfOk result (MayAdd self.now) }
     {
+        // What may be added goes by what a draft keeps, which is known where a part of it is seen.
+        let _ = &self.version;
         let mut reader = Reader::new();
-        self.judge_by(alloc, &mut reader, number, line)
+        match self.read(&mut reader, line)? {
+            LineKind::Nothing => Ok(Item::Nothing),
+            LineKind::Header(version) => Ok(Item::Header(version)),
+            LineKind::Values(word, version) => {
+                self.say(alloc, word, version, number, reader.values())
+            }
+        }
     }
 
-    // The same, where the line is read by a reader that may have read others.
+    // Reads a line up to its values, by a reader that may have read others.
     #[tactic(auto, unfolding(crate::specs::Grammar::judge))]
-    pub(crate) fn judge_by(
-        &self,
-        alloc: Global,
-        reader: &mut Reader,
-        number: u64,
-        line: &[u8],
-    ) -> Result<Item, LineFault>
-        ensures judged { AnswersWithRoom result (judge self.now number line.now) }
-        ensures room { IfOk result (MayAdd self.now) }
+    pub(crate) fn read(&self, reader: &mut Reader, line: &[u8]) -> Result<LineKind, LineFault>
+        ensures { ReadsAs result (λ number. judge self.now number line.now) self.now reader.new.values }
     {
         if is_passed_over(line) {
-            return Ok(Item::Nothing);
+            return Ok(LineKind::Nothing);
         }
         let fields = Fields::of(line);
-        if !fields.are_written() {
-            return Err(LineFault::Refused(LineCause::Shape));
-        }
-        self.judge_after(alloc, reader, number, &fields)
-    }
-
-    // The first line is the header; after it each line begins with a word.
-    fn judge_after(
-        &self,
-        alloc: Global,
-        reader: &mut Reader,
-        number: u64,
-        fields: &Fields,
-    ) -> Result<Item, LineFault>
-        ensures judged { AnswersWithRoom result (judge_after self.now.version self.now number fields.now) }
-        ensures room { IfOk result (MayAdd self.now) }
-    {
+        require(fields.are_written(), LineCause::Shape)?;
         match self.version {
-            None => judge_header(fields),
-            Some(version) => match line_word(fields.at(0)) {
-                None => Err(LineFault::Refused(LineCause::Word)),
-                Some(word) => self.judge_word(alloc, reader, word, version, number, fields),
-            },
+            None => {
+                let version = header_version(&fields).ok_or(LineCause::Header)?;
+                Ok(LineKind::Header(version))
+            }
+            Some(version) => self.read_values(reader, version, &fields),
         }
     }
 
-    fn judge_word(
+    // Reads a line after the header, which begins with a word, up to its values.
+    fn read_values(
         &self,
-        alloc: Global,
         reader: &mut Reader,
-        word: Keyword,
         version: Version,
-        number: u64,
         fields: &Fields,
-    ) -> Result<Item, LineFault>
-        ensures { AnswersWithRoom result (judge_word (Some word) version self.now number fields.now) }
+    ) -> Result<LineKind, LineFault>
+        ensures { ReadsAs result (λ number. judge_after (Some version) self.now number fields.now) self.now reader.new.values }
     {
-        if self.may_stand(version, word) {
-            self.judge_as(alloc, reader, word, version, number, fields)
-        } else {
-            Err(LineFault::Refused(LineCause::Word))
-        }
+        let word = line_word(fields.at(0)).ok_or(LineCause::Word)?;
+        require(self.may_stand(version, word), LineCause::Word)?;
+        reader.read_line(forms_of(version, word), self, fields)?;
+        Ok(LineKind::Values(word, version))
     }
 }
 

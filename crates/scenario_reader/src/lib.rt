@@ -5,7 +5,6 @@ pub mod audit;
 mod by_line;
 pub mod cause;
 pub mod draft;
-pub mod form;
 pub mod item;
 mod judge;
 mod known;

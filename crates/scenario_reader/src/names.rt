@@ -49,13 +49,6 @@ impl Names {
         self.names.get_index_of(name)
     }
 
-    /// Whether a name is one of them.
-    pub fn has(&self, name: &Name) -> bool
-        ensures { result ≡ is_among self.now name.now }
-    {
-        self.number_of(name).is_some()
-    }
-
     /// Adds a name that isn't one of them. There have to be fewer than 1,024 so far.
     #[tactic(auto, using(crate::proofs::NameLookup::not_there))]
     pub fn add(&mut self, name: Name)

@@ -1,11 +1,10 @@
 //! The names and numbers in a line's fields.
-ghost use Rattle.std.specs.Prelude.{◌≡◌, ◌≤◌, IfOk};
+ghost use Rattle.std.specs.Prelude.{◌≤◌, IfOk};
 ghost use Rattle.scenario_reader.specs.Causes.{Judges, unless};
 ghost use Rattle.scenario_reader.specs.Decimal.{value_of};
-ghost use Rattle.scenario_reader.specs.Forms.{name_rule, new_name_rule, number_rule};
+ghost use Rattle.scenario_reader.specs.Forms.{name_rule, number_rule};
 
 use crate::cause::LineCause;
-use crate::names::Names;
 use line_forms::number::{is_number, value_of};
 use net_units::Name;
 
@@ -21,15 +20,6 @@ pub fn name(field: &[u8]) -> Result<Name, LineCause>
     ensures { Judges result (name_rule field.now) field.now }
 {
     Name::new(field).ok_or(LineCause::Name)
-}
-
-/// The new name that a field holds, or the cause `Name` or `Known`.
-pub fn new_name(field: &[u8], known: &Names) -> Result<Name, LineCause>
-    ensures { Judges result (new_name_rule known.now field.now) field.now }
-{
-    let name = name(field)?;
-    require(!known.has(&name), LineCause::Known)?;
-    Ok(name)
 }
 
 /// The number from `low` to `high` that a field holds, or the cause `Number` or `Range`.

@@ -1,21 +1,20 @@
 -- The kinds of lines, each with the word that begins it, when it may stand, what it says or the cause by which it is refused, and
 -- what it may add. Best-effort packets have their forms from version three on, groups and quotas from version five on, and moves from
 -- version six on; before those versions these forms don't exist.
-use Rattle.std.specs.Prelude.{ℕ, Bool, false, nat_eq, not, ◌&&◌, if◌then◌else◌, Option, Some, None, Result, Ok, Err, List, [], ◌∷◌, length, option_map, is_some, is_none, ◌≡◌}
+use Rattle.std.specs.Prelude.{ℕ, Bool, false, nat_eq, not, ◌&&◌, if◌then◌else◌, Option, Some, None, Result, Ok, Err, List, [], ◌∷◌, length, is_some, is_none, ◌≡◌}
 use Rattle.call_script.specs.Versions.{has_best_effort, has_groups, has_moves}
 use Rattle.call_script.specs.declared.version.Version.{Version}
 use Rattle.line_forms.specs.Reading.{LineRead, read_line}
 use Rattle.line_forms.specs.declared.form.Part.{Part}
 use Rattle.line_forms.specs.declared.value.Values.{Values}
-use Rattle.scenario_reader.specs.Causes.{judged, stated}
 use Rattle.scenario_reader.specs.Drafts.{Said, has_quotas}
 use Rattle.scenario_reader.specs.Forms.{is_word}
 use Rattle.scenario_reader.specs.Known.{names_said}
 use Rattle.scenario_reader.specs.Words.{field_cause}
 use Rattle.scenario_reader.specs.line.Group.{group_form, group_says, MayPutGroup}
 use Rattle.scenario_reader.specs.line.Caller.{caller_forms, caller_says, MayPutCaller}
-use Rattle.scenario_reader.specs.line.Link.{link_rule, link_said, MayPutLink}
-use Rattle.scenario_reader.specs.line.Request.{open_rule, request_said, MayPutOpen}
+use Rattle.scenario_reader.specs.line.Link.{link_forms, link_says, MayPutLink}
+use Rattle.scenario_reader.specs.line.Request.{open_forms, open_says, MayPutOpen}
 use Rattle.scenario_reader.specs.line.Quota.{quota_form, quota_says, MayPutQuota}
 use Rattle.scenario_reader.specs.declared.cause.LineCause.{LineCause}
 use Rattle.line_forms.specs.declared.word.Keyword.{Keyword}
@@ -55,25 +54,27 @@ may_stand version said other = false
 -- the fixed word that begins a line, if its first field is one
 abbrev pub line_word : List ℕ → Option Keyword
 line_word field =
-    if is_word word.Link field then Some word.Link else (
-    if is_word word.Group field then Some word.Group else (
-    if is_word word.Quota field then Some word.Quota else (
-    if is_word word.Caller field then Some word.Caller else (
-    if is_word word.Open field then Some word.Open else (
+    if is_word word.Do field then Some word.Do else (
     if is_word word.Send field then Some word.Send else (
+    if is_word word.Open field then Some word.Open else (
     if is_word word.Close field then Some word.Close else (
     if is_word word.Pour field then Some word.Pour else (
     if is_word word.Move field then Some word.Move else (
+    if is_word word.Caller field then Some word.Caller else (
+    if is_word word.Link field then Some word.Link else (
+    if is_word word.Quota field then Some word.Quota else (
+    if is_word word.Group field then Some word.Group else (
     if is_word word.Rounds field then Some word.Rounds else (
     if is_word word.Tail field then Some word.Tail else (
-    if is_word word.Schedule field then Some word.Schedule else (
-    if is_word word.Do field then Some word.Do else None))))))))))))
+    if is_word word.Schedule field then Some word.Schedule else None))))))))))))
 
 -- the forms that a line may have which begins with this word
 abbrev pub forms_of : Version → Keyword → List (List Part)
+forms_of version word.Link = link_forms version
 forms_of version word.Group = group_form ∷ []
 forms_of version word.Quota = quota_form ∷ []
 forms_of version word.Caller = caller_forms version
+forms_of version word.Open = open_forms version
 forms_of version word.Send = send_form ∷ []
 forms_of version word.Close = close_form ∷ []
 forms_of version word.Pour = pour_form ∷ []
@@ -86,9 +87,11 @@ forms_of version other = []
 
 -- what the values of the line of this number say, or the cause by which it is refused after its fields passed
 abbrev pub says : Keyword → Version → Said → ℕ → Values → Result Item LineCause
+says word.Link version said number values = link_says version said values
 says word.Group version said number values = group_says said values
 says word.Quota version said number values = quota_says said values
 says word.Caller version said number values = caller_says said values
+says word.Open version said number values = open_says said values
 says word.Send version said number values = send_says said values
 says word.Close version said number values = close_says said values
 says word.Pour version said number values = pour_says said values
@@ -110,8 +113,6 @@ read_as said forms fields say = once_read (read_line (names_said said) forms fie
 
 -- what the line of this number says, which begins with this word, or its cause
 abbrev pub judge_as : Keyword → Version → Said → ℕ → List (List ℕ) → Result Item LineCause
-judge_as word.Link version said number fields = stated (link_rule version said fields) (option_map item.Link (link_said version said fields))
-judge_as word.Open version said number fields = judged (open_rule version said fields) (item.Open (request_said said fields))
 judge_as keyword version said number fields = read_as said (forms_of version keyword) fields (says keyword version said number)
 
 -- what a line that passes says has these

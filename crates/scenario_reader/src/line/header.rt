@@ -1,30 +1,18 @@
-//! The header: judging it, adding it, and its text.
+//! The header: reading it, adding it, and its text.
 ghost use Rattle.std.specs.Prelude.{◌≡◌, IfOk, string_bytes};
-ghost use Rattle.scenario_reader.specs.Causes.{AnswersWithRoom};
 ghost use Rattle.text_writer.specs.Lines.{whole_line};
-ghost use Rattle.scenario_reader.specs.line.Header.{version_in, header_version, header_said, header_fields};
+ghost use Rattle.scenario_reader.specs.line.Header.{version_in, header_version, header_fields};
 ghost use Rattle.scenario_reader.specs.Drafts.{with_item};
 ghost use Rattle.scenario_reader.specs.line.Table.{MayAdd};
 ghost use Rattle.scenario_reader.specs.declared.item.Item.TheVariants as item;
 
-use crate::cause::{LineCause, LineFault};
 use crate::draft::Draft;
-use crate::item::Item;
 use call_script::Version;
 use line_forms::Fields;
 use net_units::OutOfMemory;
 use std::alloc::Global;
 
-pub(crate) fn judge_header(fields: &Fields) -> Result<Item, LineFault>
-    ensures { AnswersWithRoom result (header_said (header_version fields.now)) }
-{
-    match header_version(fields) {
-        Some(version) => Ok(Item::Header(version)),
-        None => Err(LineFault::Refused(LineCause::Header)),
-    }
-}
-
-fn header_version(fields: &Fields) -> Option<Version>
+pub(crate) fn header_version(fields: &Fields) -> Option<Version>
     ensures { result ≡ header_version fields.now }
 {
     if fields.count() == 2 && fields.at(0) == b"tenet".as_slice() {

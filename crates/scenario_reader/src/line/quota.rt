@@ -89,7 +89,7 @@ fn quota_of(values: &Values) -> Quota
 }
 
 // The loads that values are, and 0 in the places after them.
-fn loads_said(run: &FewValues) -> [u32; MOST_LEVELS as usize]
+pub(crate) fn loads_said(run: &FewValues) -> [u32; MOST_LEVELS as usize]
     requires few { length run.now ≤ 8 }
     requires small { (k : ℕ) → number_at run.now k ≤ most_bound }
     ensures { result ≡ loads_said run.now }

@@ -1,10 +1,10 @@
-//! The line of a request that is opened: judging it, and adding the request.
-ghost use Rattle.std.specs.Prelude.{ℕ, ◌≡◌, ◌+◌, ◌<◌, ◌≤◌, List, false, IfOk, [], length, OnOk, OnErr, IsTrue, ◌++◌, ◌∷◌, vec_len, vec_capacity};
+//! The line of a request that is opened: its forms, what it says, and adding the request.
+ghost use Rattle.std.specs.Prelude.{◌≡◌, ◌<◌, length, OnOk, OnErr, ◌++◌, ◌∷◌, [], vec_len, vec_capacity};
 ghost use Rattle.net_units.specs.Numbers.{actor_at, channel_at};
-ghost use Rattle.scenario_reader.specs.Causes.{AnswersWithRoom, Judges, JudgesWithRoom, judged};
+ghost use Rattle.scenario_reader.specs.Causes.{AnswersWithRoom};
 ghost use Rattle.scenario_reader.specs.Drafts.{last_caller, with_item};
-ghost use Rattle.scenario_reader.specs.line.RequestFields.{open_in, HasNodes};
-ghost use Rattle.scenario_reader.specs.line.Request.{is_open_line, is_found, route_hops, after_route, open_fields_rule, open_limits_rule, open_rule, request_said, is_found_line, control_in, contract_told, contract_of, terms_rule, jitter_rule};
+ghost use Rattle.scenario_reader.specs.Known.{FitsOne, names_said};
+ghost use Rattle.scenario_reader.specs.line.Request.{AreTermsSmall, open_forms, open_says, is_found, term, contract_said, control_said};
 ghost use Rattle.scenario_reader.specs.line.Table.{MayAdd};
 ghost use Rattle.scenario_reader.specs.declared.item.Item.TheVariants as item;
 
@@ -15,172 +15,181 @@ pub mod way;
 
 use crate::cause::{LineCause, LineFault};
 use crate::draft::Draft;
-use crate::form::{Part, has_form, route_length};
 use crate::item::Item;
 use crate::line::operation::add_op;
-use crate::line::request::way::Way;
 use crate::uses::blank;
-use crate::values::{name, new_name, number, require};
+use crate::values::require;
 use call_script::{Op, RequestEntry, Version};
-use hop_reservation::Route;
-use line_forms::{Fields, Keyword};
+use line_forms::{Keyword, Part, Set, Slot, Values};
 use net_units::limits::{MOST_DELAY, MOST_GAP, MOST_INTERVAL, MOST_REQUESTS, MOST_SIZE};
-use net_units::{ActorNo, ChanNo, Name, OutOfMemory};
+use net_units::{ActorNo, ChanNo, OutOfMemory};
 use setup_protocol::{Control, Request};
 use std::alloc::Global;
 use traffic_contract::Contract;
 
-const RATE_FORM: [Part; 12] = [
+/// open NAME route LINK1 .. LINKh contract XMIN XAVE I SMAX delay D rate
+pub(crate) const RATE_FORM: [Part; 12] = [
     Part::Word(Keyword::Open),
-    Part::Field,
+    Part::One(Slot::New(Set::Requests)),
     Part::Word(Keyword::Route),
-    Part::Route,
+    Part::Route(Set::Links),
     Part::Word(Keyword::Contract),
-    Part::Field,
-    Part::Field,
-    Part::Field,
-    Part::Field,
+    Part::One(Slot::Number {
+        low: 1,
+        high: MOST_GAP as u64,
+    }),
+    Part::One(Slot::Number {
+        low: 1,
+        high: MOST_GAP as u64,
+    }),
+    Part::One(Slot::Number {
+        low: 1,
+        high: MOST_INTERVAL as u64,
+    }),
+    Part::One(Slot::Number {
+        low: 1,
+        high: MOST_SIZE as u64,
+    }),
     Part::Word(Keyword::Delay),
-    Part::Field,
+    Part::One(Slot::Number {
+        low: 1,
+        high: MOST_DELAY,
+    }),
     Part::Word(Keyword::Rate),
 ];
 
-const JITTER_FORM: [Part; 13] = [
+/// open NAME route LINK1 .. LINKh contract XMIN XAVE I SMAX delay D jitter J
+pub(crate) const JITTER_FORM: [Part; 13] = [
     Part::Word(Keyword::Open),
-    Part::Field,
+    Part::One(Slot::New(Set::Requests)),
     Part::Word(Keyword::Route),
-    Part::Route,
+    Part::Route(Set::Links),
     Part::Word(Keyword::Contract),
-    Part::Field,
-    Part::Field,
-    Part::Field,
-    Part::Field,
+    Part::One(Slot::Number {
+        low: 1,
+        high: MOST_GAP as u64,
+    }),
+    Part::One(Slot::Number {
+        low: 1,
+        high: MOST_GAP as u64,
+    }),
+    Part::One(Slot::Number {
+        low: 1,
+        high: MOST_INTERVAL as u64,
+    }),
+    Part::One(Slot::Number {
+        low: 1,
+        high: MOST_SIZE as u64,
+    }),
     Part::Word(Keyword::Delay),
-    Part::Field,
+    Part::One(Slot::Number {
+        low: 1,
+        high: MOST_DELAY,
+    }),
     Part::Word(Keyword::Jitter),
-    Part::Field,
+    Part::One(Slot::Number {
+        low: 1,
+        high: MOST_DELAY,
+    }),
 ];
 
-const FOUND_RATE_FORM: [Part; 14] = [
+/// open NAME from NODE1 to NODE2 contract XMIN XAVE I SMAX delay D rate
+pub(crate) const FOUND_RATE_FORM: [Part; 14] = [
     Part::Word(Keyword::Open),
-    Part::Field,
+    Part::One(Slot::New(Set::Requests)),
     Part::Word(Keyword::From),
-    Part::Field,
+    Part::One(Slot::Known(Set::Nodes)),
     Part::Word(Keyword::To),
-    Part::Field,
+    Part::One(Slot::Known(Set::Nodes)),
     Part::Word(Keyword::Contract),
-    Part::Field,
-    Part::Field,
-    Part::Field,
-    Part::Field,
+    Part::One(Slot::Number {
+        low: 1,
+        high: MOST_GAP as u64,
+    }),
+    Part::One(Slot::Number {
+        low: 1,
+        high: MOST_GAP as u64,
+    }),
+    Part::One(Slot::Number {
+        low: 1,
+        high: MOST_INTERVAL as u64,
+    }),
+    Part::One(Slot::Number {
+        low: 1,
+        high: MOST_SIZE as u64,
+    }),
     Part::Word(Keyword::Delay),
-    Part::Field,
+    Part::One(Slot::Number {
+        low: 1,
+        high: MOST_DELAY,
+    }),
     Part::Word(Keyword::Rate),
 ];
 
-const FOUND_JITTER_FORM: [Part; 15] = [
+/// open NAME from NODE1 to NODE2 contract XMIN XAVE I SMAX delay D jitter J
+pub(crate) const FOUND_JITTER_FORM: [Part; 15] = [
     Part::Word(Keyword::Open),
-    Part::Field,
+    Part::One(Slot::New(Set::Requests)),
     Part::Word(Keyword::From),
-    Part::Field,
+    Part::One(Slot::Known(Set::Nodes)),
     Part::Word(Keyword::To),
-    Part::Field,
+    Part::One(Slot::Known(Set::Nodes)),
     Part::Word(Keyword::Contract),
-    Part::Field,
-    Part::Field,
-    Part::Field,
-    Part::Field,
+    Part::One(Slot::Number {
+        low: 1,
+        high: MOST_GAP as u64,
+    }),
+    Part::One(Slot::Number {
+        low: 1,
+        high: MOST_GAP as u64,
+    }),
+    Part::One(Slot::Number {
+        low: 1,
+        high: MOST_INTERVAL as u64,
+    }),
+    Part::One(Slot::Number {
+        low: 1,
+        high: MOST_SIZE as u64,
+    }),
     Part::Word(Keyword::Delay),
-    Part::Field,
+    Part::One(Slot::Number {
+        low: 1,
+        high: MOST_DELAY,
+    }),
     Part::Word(Keyword::Jitter),
-    Part::Field,
+    Part::One(Slot::Number {
+        low: 1,
+        high: MOST_DELAY,
+    }),
 ];
-
-// The fields of an open line, each of which passes.
-#[derive(Drop)]
-struct OpenFields {
-    name: Name,
-    way: Way,
-    // None where the four numbers aren't one.
-    contract: Option<Contract>,
-    delay: u64,
-    control: Control,
-}
 
 impl Draft {
-    // What the line says.
-    pub(crate) fn judge_open(
+    // The request that the values of a line say.
+    pub(crate) fn say_open(
         &self,
         alloc: Global,
-        version: Version,
-        fields: &Fields,
+        _version: Version,
+        values: &Values,
     ) -> Result<Item, LineFault>
-        ensures { AnswersWithRoom result (judged (open_rule version self.now fields.now) (item.Open (request_said self.now fields.now))) }
-    {
-        Ok(Item::Open(self.judge_request(alloc, version, fields)?))
-    }
-
-    // The request that the line says.
-    fn judge_request(
-        &self,
-        alloc: Global,
-        version: Version,
-        fields: &Fields,
-    ) -> Result<RequestEntry, LineFault>
-        ensures { JudgesWithRoom result (open_rule version self.now fields.now) (request_said self.now fields.now) }
-    {
-        require(is_open_line(version, fields), LineCause::Shape)?;
-        let asked = self.judge_open_fields(fields)?;
-        self.judge_open_limits(alloc, &asked)
-    }
-
-    // The fields after its word, from left to right.
-    fn judge_open_fields(&self, fields: &Fields) -> Result<OpenFields, LineCause>
-        requires least { is_found fields.now ≡ false → 1 ≤ route_hops fields.now }
-        requires most { route_hops fields.now ≤ 16 }
-        ensures judged { Judges result (open_fields_rule self.now fields.now) (open_in self.now fields.now) }
-        ensures nodes { IfOk result (λ asked. HasNodes self.now asked.way) }
-    {
-        let request_name = new_name(fields.at(1), &self.request_names)?;
-        let hops = route_length(fields, 3);
-        let way = self.judge_way_fields(fields, hops)?;
-        let contract = judge_terms(fields, hops)?;
-        let delay = number(after_route(fields, hops, 6), 1, MOST_DELAY)?;
-        let control = judge_control(fields, hops)?;
-        Ok(OpenFields {
-            name: request_name,
-            way,
-            contract,
-            delay,
-            control,
-        })
-    }
-
-    // The request, once its fields pass.
-    fn judge_open_limits(
-        &self,
-        alloc: Global,
-        asked: &OpenFields,
-    ) -> Result<RequestEntry, LineFault>
-        requires { HasNodes self.now asked.now.way }
-        ensures { (fields : List (List ℕ)) → asked.now ≡ open_in self.now fields
-            → JudgesWithRoom result (open_limits_rule self.now fields) (request_said self.now fields) }
+        requires { FitsOne (names_said self.now) (open_forms _version) values.now }
+        ensures { AnswersWithRoom result (open_says self.now values.now) }
     {
         require(self.requests.len() < MOST_REQUESTS, LineCause::Many)?;
-        let contract = asked.contract.ok_or(LineCause::Contract)?;
-        let routed = self.judge_routed(alloc, &asked.way)?;
-        Ok(RequestEntry {
-            name: asked.name,
+        let contract = contract_said(values).ok_or(LineCause::Contract)?;
+        let routed = self.route_said(alloc, values)?;
+        let name = values.ones.name(0).ok_or(LineCause::Shape)?;
+        Ok(Item::Open(RequestEntry {
+            name,
             caller: self.last_caller(),
             request: Request {
                 chan: self.next_channel(),
                 route: routed.route,
                 contract,
-                control: asked.control,
-                delay: asked.delay,
+                control: control_said(values),
+                delay: term(values, 4),
             },
             found: routed.found,
-        })
+        }))
     }
 
     // The last caller.
@@ -212,58 +221,40 @@ impl Draft {
     }
 }
 
-// Whether the line has one of the forms of an open line. A route that is written has then 1 to 16 links.
-#[tactic(auto, using(crate::proofs::kind::RequestForm::open_line_few))]
-fn is_open_line(version: Version, fields: &Fields) -> bool
-    ensures value { result ≡ is_open_line version fields.now }
-    ensures least { IsTrue result → is_found fields.now ≡ false → 1 ≤ route_hops fields.now }
-    ensures most { IsTrue result → route_hops fields.now ≤ 16 }
+// Whether the route is to be found: the line has no links.
+fn is_found(values: &Values) -> bool
+    ensures { result ≡ is_found values.now }
 {
-    has_form(&RATE_FORM, fields)
-        || has_form(&JITTER_FORM, fields)
-        || version.has_found_routes() && is_found_line(fields)
+    values.run.as_slice().is_empty()
 }
 
-fn is_found_line(fields: &Fields) -> bool
-    ensures { result ≡ is_found_line fields.now }
+// The number that stands so many places after the first of the contract. It stands after the name, or after the two nodes of a route
+// that is to be found.
+fn term(values: &Values, place: usize) -> u64
+    requires { place < 6 }
+    ensures { result ≡ term values.now place }
 {
-    has_form(&FOUND_RATE_FORM, fields) || has_form(&FOUND_JITTER_FORM, fields)
+    let first = if is_found(values) { 3 } else { 1 };
+    values.ones.number(first + place)
 }
 
-// The field that stands this many places after the route, from 0: the word `contract` and what follows it.
-fn after_route<'a>(fields: &Fields<'a>, hops: usize, place: usize) -> &'a [u8]
-    requires hops { hops ≡ route_hops fields.now }
-    requires few { hops ≤ 16 }
-    requires near { place ≤ 8 }
-    ensures { result.now ≡ after_route fields.now place }
+// The contract that the four numbers are, None where they aren't one.
+fn contract_said(values: &Values) -> Option<Contract>
+    requires { AreTermsSmall values.now }
+    ensures { result ≡ contract_said values.now }
 {
-    fields.at(3 + hops + place)
-}
-
-// The contract that the four numbers after the route are, None where they aren't one.
-fn judge_terms(fields: &Fields, hops: usize) -> Result<Option<Contract>, LineCause>
-    requires hops { hops ≡ route_hops fields.now }
-    requires few { hops ≤ 16 }
-    ensures { Judges result (terms_rule fields.now) (contract_of (contract_told fields.now)) }
-{
-    let xmin = number(after_route(fields, hops, 1), 1, u64::from(MOST_GAP))?;
-    let xave = number(after_route(fields, hops, 2), 1, u64::from(MOST_GAP))?;
-    let interval = number(after_route(fields, hops, 3), 1, u64::from(MOST_INTERVAL))?;
-    let smax = number(after_route(fields, hops, 4), 1, u64::from(MOST_SIZE))?;
-    Ok(Contract::new(xmin as u32, xave as u32, interval as u32, smax as u32).ok())
+    let (xmin, xave) = (term(values, 0), term(values, 1));
+    let (interval, smax) = (term(values, 2), term(values, 3));
+    Contract::new(xmin as u32, xave as u32, interval as u32, smax as u32).ok()
 }
 
 // Delay-jitter control with its bound, where the line has one, or else rate-jitter control.
-fn judge_control(fields: &Fields, hops: usize) -> Result<Control, LineCause>
-    requires hops { hops ≡ route_hops fields.now }
-    requires few { hops ≤ 16 }
-    ensures { Judges result (jitter_rule fields.now) (control_in fields.now) }
+fn control_said(values: &Values) -> Control
+    ensures { result ≡ control_said values.now }
 {
-    if Keyword::Jitter.is(after_route(fields, hops, 7)) {
-        let bound = number(after_route(fields, hops, 8), 1, MOST_DELAY)?;
-        Ok(Control::Jitter(bound))
-    } else {
-        Ok(Control::Rate)
+    match term(values, 5) {
+        0 => Control::Rate,
+        bound => Control::Jitter(bound),
     }
 }
 

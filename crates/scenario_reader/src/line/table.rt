@@ -3,62 +3,32 @@ ghost use Rattle.std.specs.Prelude.{◌≡◌, OnOk, OnErr, map};
 ghost use Rattle.scenario_reader.specs.Causes.{AnswersWithRoom};
 ghost use Rattle.scenario_reader.specs.Drafts.{has_quotas, with_item};
 ghost use Rattle.scenario_reader.specs.Known.{FitsOne, names_said};
-ghost use Rattle.scenario_reader.specs.line.Table.{may_stand, forms_of, says, read_as, judge_as, is_before_callers, MayAdd, line_word};
+ghost use Rattle.scenario_reader.specs.line.Table.{may_stand, forms_of, says, is_before_callers, MayAdd, line_word};
 
 use crate::cause::{LineCause, LineFault};
 use crate::draft::Draft;
 use crate::item::Item;
 use crate::line::caller::{CALLER_FORM, MEMBER_FORM};
 use crate::line::group::GROUP_FORM;
+use crate::line::link::{BEST_FORM, PLAIN_FORM};
 use crate::line::operation::close::CLOSE_FORM;
 use crate::line::operation::moving::MOVE_FORM;
 use crate::line::operation::pour::POUR_FORM;
 use crate::line::operation::send::SEND_FORM;
 use crate::line::quota::QUOTA_FORM;
+use crate::line::request::{FOUND_JITTER_FORM, FOUND_RATE_FORM, JITTER_FORM, RATE_FORM};
 use crate::line::rounds::{ROUNDS_FORM, TAIL_FORM, say_rounds};
 use crate::line::schedule::{DO_FORM, SCHEDULE_FORM};
 use call_script::{LinkEntry, Version};
-use line_forms::{Fields, Keyword, Part, Reader, Values};
+use line_forms::{Keyword, Part, Values};
 use net_units::OutOfMemory;
 use std::alloc::Global;
 
 impl Draft {
-    pub(crate) fn judge_as(
+    // What the values of a line that begins with this word say.
+    pub(crate) fn say(
         &self,
         alloc: Global,
-        reader: &mut Reader,
-        word: Keyword,
-        version: Version,
-        number: u64,
-        fields: &Fields,
-    ) -> Result<Item, LineFault>
-        ensures { AnswersWithRoom result (judge_as word version self.now number fields.now) }
-    {
-        match word {
-            Keyword::Link => self.judge_link(alloc, version, fields),
-            Keyword::Open => self.judge_open(alloc, version, fields),
-            _ => self.judge_read(reader, word, version, number, fields),
-        }
-    }
-
-    // What the line says, which begins with this word, once its fields were read.
-    fn judge_read(
-        &self,
-        reader: &mut Reader,
-        word: Keyword,
-        version: Version,
-        number: u64,
-        fields: &Fields,
-    ) -> Result<Item, LineFault>
-        ensures { AnswersWithRoom result (read_as self.now (forms_of version word) fields.now (says word version self.now number)) }
-    {
-        reader.read_line(forms_of(version, word), self, fields)?;
-        self.say(word, version, number, reader.values())
-    }
-
-    // What the values of such a line say.
-    fn say(
-        &self,
         word: Keyword,
         version: Version,
         number: u64,
@@ -68,9 +38,11 @@ impl Draft {
         ensures { AnswersWithRoom result (says word version self.now number values.now) }
     {
         match word {
+            Keyword::Link => self.say_link(alloc, version, values),
             Keyword::Group => self.say_group(values),
             Keyword::Quota => self.say_quota(values),
             Keyword::Caller => self.say_caller(version, values),
+            Keyword::Open => self.say_open(alloc, version, values),
             Keyword::Send => self.say_send(values),
             Keyword::Close => self.say_close(values),
             Keyword::Pour => self.say_pour(values),
@@ -152,14 +124,25 @@ fn has_quotas(links: &[LinkEntry]) -> bool
 }
 
 // The forms that a line may have in a version, by the word that begins it.
-fn forms_of(version: Version, word: Keyword) -> &'static [&'static [Part]]
+pub(crate) fn forms_of(version: Version, word: Keyword) -> &'static [&'static [Part]]
     ensures { map (λ form. form.now) result.now ≡ forms_of version word }
 {
     match word {
+        Keyword::Link if version.has_best_effort() => &[&PLAIN_FORM, &BEST_FORM],
+        Keyword::Link => &[&PLAIN_FORM],
         Keyword::Group => &[&GROUP_FORM],
         Keyword::Quota => &[&QUOTA_FORM],
         Keyword::Caller if version.has_groups() => &[&CALLER_FORM, &MEMBER_FORM],
         Keyword::Caller => &[&CALLER_FORM],
+        Keyword::Open if version.has_found_routes() => {
+            &[
+                &RATE_FORM,
+                &JITTER_FORM,
+                &FOUND_RATE_FORM,
+                &FOUND_JITTER_FORM,
+            ]
+        }
+        Keyword::Open => &[&RATE_FORM, &JITTER_FORM],
         Keyword::Send => &[&SEND_FORM],
         Keyword::Close => &[&CLOSE_FORM],
         Keyword::Pour => &[&POUR_FORM],
@@ -172,35 +155,36 @@ fn forms_of(version: Version, word: Keyword) -> &'static [&'static [Part]]
     }
 }
 
+// The words that begin the most lines are tried first.
 pub(crate) fn line_word(field: &[u8]) -> Option<Keyword>
     ensures { result ≡ line_word field.now }
 {
-    if Keyword::Link.is(field) {
-        Some(Keyword::Link)
-    } else if Keyword::Group.is(field) {
-        Some(Keyword::Group)
-    } else if Keyword::Quota.is(field) {
-        Some(Keyword::Quota)
-    } else if Keyword::Caller.is(field) {
-        Some(Keyword::Caller)
-    } else if Keyword::Open.is(field) {
-        Some(Keyword::Open)
+    if Keyword::Do.is(field) {
+        Some(Keyword::Do)
     } else if Keyword::Send.is(field) {
         Some(Keyword::Send)
+    } else if Keyword::Open.is(field) {
+        Some(Keyword::Open)
     } else if Keyword::Close.is(field) {
         Some(Keyword::Close)
     } else if Keyword::Pour.is(field) {
         Some(Keyword::Pour)
     } else if Keyword::Move.is(field) {
         Some(Keyword::Move)
+    } else if Keyword::Caller.is(field) {
+        Some(Keyword::Caller)
+    } else if Keyword::Link.is(field) {
+        Some(Keyword::Link)
+    } else if Keyword::Quota.is(field) {
+        Some(Keyword::Quota)
+    } else if Keyword::Group.is(field) {
+        Some(Keyword::Group)
     } else if Keyword::Rounds.is(field) {
         Some(Keyword::Rounds)
     } else if Keyword::Tail.is(field) {
         Some(Keyword::Tail)
     } else if Keyword::Schedule.is(field) {
         Some(Keyword::Schedule)
-    } else if Keyword::Do.is(field) {
-        Some(Keyword::Do)
     } else {
         None
     }

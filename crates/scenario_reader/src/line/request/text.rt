@@ -1,17 +1,17 @@
 //! The text of a request.
-ghost use Rattle.std.specs.Prelude.{◌≡◌, ◌++◌, [], IfOk, OnOk, string_bytes};
+ghost use Rattle.std.specs.Prelude.{◌≡◌, ◌≤◌, ◌<◌, ◌++◌, [], IfOk, length, string_bytes};
 ghost use Rattle.std.specs.List.{slice_get};
 ghost use Rattle.net_units.specs.Numbers.{link_number};
-ghost use Rattle.scenario_reader.specs.Fields.{spaced};
 ghost use Rattle.text_writer.specs.Lines.{whole_line};
-ghost use Rattle.scenario_reader.specs.line.Request.{route_names, way_fields, with_name, contract_fields, delay_fields, open_fields};
+ghost use Rattle.scenario_reader.specs.line.Request.{open_fields, open_values, link_before, route_values, term_values, open_form};
 
+use crate::line::request::{FOUND_JITTER_FORM, FOUND_RATE_FORM, JITTER_FORM, RATE_FORM};
 use call_script::{LinkEntry, RequestEntry};
 use hop_reservation::Route;
+use line_forms::{FewValues, FieldValue, Part, Values, write_form};
 use net_units::{LinkNo, OutOfMemory};
-use setup_protocol::{Control, Request};
-use std::alloc::{AllocError, Global};
-use traffic_contract::Contract;
+use setup_protocol::Control;
+use std::alloc::Global;
 
 pub(crate) fn open_line(
     alloc: Global,
@@ -20,68 +20,81 @@ pub(crate) fn open_line(
 ) -> Result<String, OutOfMemory>
     ensures { IfOk result (λ line. string_bytes line ≡ whole_line (open_fields links.now entry.now)) }
 {
-    let name = entry.name;
-    let mut line = String::new(alloc);
-    write!(line, "open {name}")?;
-    push_way(&mut line, links, entry)?;
-    push_contract(&mut line, &entry.request.contract)?;
-    push_bound(&mut line, &entry.request)?;
-    writeln!(line)?;
-    Ok(line)
+    write_form(alloc, open_form(entry), &open_values(links, entry))
 }
 
-// The links of the route, or the nodes between which it was found.
-fn push_way(line: &mut String, links: &[LinkEntry], entry: &RequestEntry) -> Result<(), AllocError>
-    ensures { OnOk result (string_bytes line.new ≡ string_bytes line.old ++ spaced (way_fields links.now entry.now.request.route entry.now.found)) }
+// The form of its line.
+fn open_form(entry: &RequestEntry) -> &'static [Part]
+    ensures { result.now ≡ open_form entry.now }
 {
+    match (entry.found, entry.request.control) {
+        (None, Control::Rate) => &RATE_FORM,
+        (None, Control::Jitter(_)) => &JITTER_FORM,
+        (Some(_), Control::Rate) => &FOUND_RATE_FORM,
+        (Some(_), Control::Jitter(_)) => &FOUND_JITTER_FORM,
+    }
+}
+
+// What its line says.
+fn open_values(links: &[LinkEntry], entry: &RequestEntry) -> Values
+    ensures { result ≡ open_values links.now entry.now }
+{
+    let name = FieldValue::Name(entry.name);
     match entry.found {
-        Some((from, to)) => write!(line, " from {from} to {to}"),
-        None => {
-            write!(line, " route")?;
-            push_route(line, links, &entry.request.route)
+        Some((from, to)) => {
+            let front = [name, FieldValue::Name(from), FieldValue::Name(to)];
+            let mut ones = FewValues::of(&front);
+            push_terms(&mut ones, entry);
+            let run = FewValues::none();
+            Values { ones, run }
         }
+        None => {
+            let mut ones = FewValues::of(&[name]);
+            push_terms(&mut ones, entry);
+            let run = route_values(links, &entry.request.route);
+            Values { ones, run }
+        }
+    }
+}
+
+// The numbers of its contract and its bounds.
+fn push_terms(ones: &mut FewValues, entry: &RequestEntry)
+    requires { length ones.old ≤ 3 }
+    ensures { ones.new ≡ ones.old ++ term_values entry.now }
+{
+    let contract = &entry.request.contract;
+    ones.push(FieldValue::Number(u64::from(contract.xmin())));
+    ones.push(FieldValue::Number(u64::from(contract.xave())));
+    ones.push(FieldValue::Number(u64::from(contract.interval())));
+    ones.push(FieldValue::Number(u64::from(contract.smax())));
+    ones.push(FieldValue::Number(entry.request.delay));
+    if let Control::Jitter(bound) = entry.request.control {
+        ones.push(FieldValue::Number(bound));
     }
 }
 
 // The links of a route.
-fn push_route(line: &mut String, links: &[LinkEntry], route: &Route) -> Result<(), AllocError>
-    ensures { OnOk result (string_bytes line.new ≡ string_bytes line.old ++ spaced (route_names links.now route.now)) }
+fn route_values(links: &[LinkEntry], route: &Route) -> FewValues
+    ensures { result ≡ route_values links.now route.now }
 {
+    let mut values = FewValues::none();
     for index in 0..route.len() {
-        push_hop(line, links, route.hop(index + 1).link)?;
+        push_link(&mut values, links, route.hop(index + 1).link);
     }
-    Ok(())
+    values
 }
 
 // A link of a route.
-fn push_hop(line: &mut String, links: &[LinkEntry], link: LinkNo) -> Result<(), AllocError>
-    ensures { OnOk result (string_bytes line.new ≡ string_bytes line.old ++ spaced (with_name (slice_get links.now (link_number link)) [])) }
+fn push_link(values: &mut FewValues, links: &[LinkEntry], link: LinkNo)
+    requires { length values.old < 16 }
+    ensures { values.new ≡ values.old ++ link_before (link_number link) (slice_get links.now (link_number link)) [] }
 {
-    match links.get(usize::from(link.get())) {
-        Some(entry) => {
-            let name = entry.name;
-            write!(line, " {name}")
-        }
-        None => Ok(()),
-    }
-}
-
-// The four numbers of a contract.
-fn push_contract(line: &mut String, contract: &Contract) -> Result<(), AllocError>
-    ensures { OnOk result (string_bytes line.new ≡ string_bytes line.old ++ spaced (contract_fields contract.now)) }
-{
-    let (xmin, xave) = (contract.xmin(), contract.xave());
-    let (interval, smax) = (contract.interval(), contract.smax());
-    write!(line, " contract {xmin} {xave} {interval} {smax}")
-}
-
-// The bound on the delay, and that on the jitter, where there is one.
-fn push_bound(line: &mut String, request: &Request) -> Result<(), AllocError>
-    ensures { OnOk result (string_bytes line.new ≡ string_bytes line.old ++ spaced (delay_fields request.now)) }
-{
-    let delay = request.delay;
-    match request.control {
-        Control::Rate => write!(line, " delay {delay} rate"),
-        Control::Jitter(bound) => write!(line, " delay {delay} jitter {bound}"),
+    let number = usize::from(link.get());
+    match links.get(number) {
+        Some(entry) => values.push(FieldValue::Known {
+            name: entry.name,
+            number,
+        }),
+        None => {}
     }
 }

@@ -1,31 +1,24 @@
 //! The way of a request: the links of its route, or the nodes between which it is to be found.
-ghost use Rattle.std.specs.Prelude.{ℕ, ◌≡◌, ◌≤◌, List, false, true, IfOk, option_map, unwrap_or, []};
-ghost use Rattle.call_script.specs.declared.entries.LinkEntry.{LinkEntry as Linked};
+ghost use Rattle.std.specs.Prelude.{◌≡◌, ◌≤◌, ◌<◌, Some, true, option_map, unwrap_or, length, []};
+ghost use Rattle.std.specs.List.{slice_get};
 ghost use Rattle.call_script.specs.Rules.{meets, is_joined};
-ghost use Rattle.scenario_reader.specs.Causes.{Judges, JudgesWithRoom, States, unless};
-ghost use Rattle.scenario_reader.specs.Drafts.{link_named};
+ghost use Rattle.line_forms.specs.Values.{number_at};
+ghost use Rattle.scenario_reader.specs.Causes.{Judges, JudgesWithRoom, unless};
 ghost use Rattle.scenario_reader.specs.Entries.{hop_of as hop_over};
 ghost use Rattle.scenario_reader.specs.Nodes.{is_node, route_between};
-ghost use Rattle.scenario_reader.specs.line.RequestFields.{routed_in, way_in, HasNodes};
-ghost use Rattle.scenario_reader.specs.line.Request.{is_found, node_rule, way_fields_rule, way_rule, between_rule, route_hops, route_fields, hops_in, route_link_rule, route_names_rule, is_way};
+ghost use Rattle.scenario_reader.specs.line.Request.{AreLinksThere, AreNodes, is_found, nodes_said, nodes_rule, found_said, between_rule, is_way, way_rule, routed_said, hops_said};
 
 use crate::cause::{LineCause, LineFault};
 use crate::draft::Draft;
 use crate::line::request::hops::Hops;
-use crate::line::request::nodes::{is_node, route_between};
-use crate::values::{name, require};
+use crate::line::request::is_found;
+use crate::line::request::nodes::route_between;
+use crate::values::require;
+use call_script::LinkEntry;
 use hop_reservation::{Hop, Route};
-use line_forms::{Fields, Keyword};
-use link_steps::LinkShape;
+use line_forms::{FewValues, Values};
 use net_units::{LinkNo, Name};
 use std::alloc::Global;
-
-// The links of a route, or the nodes between which it is to be found.
-#[derive(Drop)]
-pub(crate) enum Way {
-    Over(Hops),
-    Between(Name, Name),
-}
 
 // The route of a request, and the nodes between which it was found, if it was.
 #[derive(Clone, Copy)]
@@ -35,74 +28,57 @@ pub(crate) struct Routed {
 }
 
 impl Draft {
-    // The links of the route, or the nodes between which it is to be found, each of which is known.
-    pub(crate) fn judge_way_fields(&self, fields: &Fields, hops: usize) -> Result<Way, LineCause>
-        requires hops { hops ≡ route_hops fields.now }
-        requires least { is_found fields.now ≡ false → 1 ≤ hops }
-        requires most { hops ≤ 16 }
-        ensures judged { Judges result (way_fields_rule self.now fields.now) (way_in self.now fields.now) }
-        ensures nodes { IfOk result (λ way. HasNodes self.now way) }
+    // The route over the links of a line, or the least one between its two nodes.
+    pub(crate) fn route_said(&self, alloc: Global, values: &Values) -> Result<Routed, LineFault>
+        requires links { AreLinksThere self.now.links values.now.run }
+        requires nodes { is_found values.now ≡ true → AreNodes self.now.links (nodes_said values.now) }
+        ensures { JudgesWithRoom result (way_rule self.now values.now) (routed_said self.now values.now) }
     {
-        if Keyword::From.is(fields.at(2)) {
-            let from = self.judge_node(fields.at(3))?;
-            let to = self.judge_node(fields.at(5))?;
-            Ok(Way::Between(from, to))
+        if is_found(values) {
+            self.between_said(alloc, values)
         } else {
-            Ok(Way::Over(self.judge_route(fields, hops)?))
+            let hops = self.hops_said(&values.run);
+            let route = self.judge_way(hops.as_slice())?;
+            Ok(Routed { route, found: None })
         }
     }
 
-    // The node that a field names, which is known.
-    fn judge_node(&self, field: &[u8]) -> Result<Name, LineCause>
-        ensures judged { Judges result (node_rule self.now field.now) field.now }
-        ensures known { IfOk result (λ node. is_node self.now.links node ≡ true) }
+    // The hops over the links of a route.
+    fn hops_said(&self, run: &FewValues) -> Hops
+        requires some { 1 ≤ length run.now }
+        requires links { AreLinksThere self.now.links run.now }
+        ensures { result ≡ hops_said self.now.links run.now }
     {
-        let node = name(field)?;
-        require(is_node(&self.links, &node), LineCause::Unknown)?;
-        Ok(node)
-    }
-
-    // The hops over the links of the route, each of which is known.
-    fn judge_route(&self, fields: &Fields, hops: usize) -> Result<Hops, LineCause>
-        requires hops { hops ≡ route_hops fields.now }
-        requires least { 1 ≤ hops }
-        requires most { hops ≤ 16 }
-        ensures { Judges result (route_names_rule self.now (route_fields fields.now)) (hops_in self.now fields.now) }
-    {
-        let mut route = Hops::new(self.judge_hop(fields.at(3))?);
-        for place in 1..hops {
-            route.push(self.judge_hop(fields.at(3 + place))?);
+        let values = run.as_slice();
+        let mut hops = Hops::new(self.hop_said(run, 0));
+        for place in 1..values.len() {
+            hops.push(self.hop_said(run, place));
         }
-        Ok(route)
+        hops
     }
 
-    // The hop over the link that a field names.
-    fn judge_hop(&self, field: &[u8]) -> Result<Hop, LineCause>
-        ensures { States result (route_link_rule self.now field.now) (option_map hop_over (link_named self.now.links field.now)) }
+    // The hop over the link at a place of a route.
+    fn hop_said(&self, run: &FewValues, place: usize) -> Hop
+        requires within { place < length run.now }
+        requires links { AreLinksThere self.now.links run.now }
+        ensures { option_map hop_over (slice_get self.now.links (number_at run.now place)) ≡ Some result }
     {
-        let shape = self.judge_link_named(field)?;
-        Ok(hop_of(&shape))
+        hop_over(&self.links[run.number(place) as usize])
     }
 
-    // The route of these links, or the least one between these nodes.
-    pub(crate) fn judge_routed(&self, alloc: Global, way: &Way) -> Result<Routed, LineFault>
-        requires { HasNodes self.now way.now }
-        ensures { (fields : List (List ℕ)) → way.now ≡ way_in self.now fields
-            → JudgesWithRoom result (way_rule self.now fields) (routed_in self.now fields) }
+    // The least route between the two nodes of a line.
+    fn between_said(&self, alloc: Global, values: &Values) -> Result<Routed, LineFault>
+        requires { AreNodes self.now.links (nodes_said values.now) }
+        ensures { JudgesWithRoom result (nodes_rule self.now (nodes_said values.now)) (record { route = found_said self.now (nodes_said values.now); found = nodes_said values.now }) }
     {
-        match way {
-            Way::Over(hops) => {
-                let route = self.judge_way(hops.as_slice())?;
-                Ok(Routed { route, found: None })
-            }
-            Way::Between(from, to) => {
-                let route = self.judge_found(alloc, from, to)?;
-                Ok(Routed {
-                    route,
-                    found: Some((*from, *to)),
-                })
-            }
-        }
+        let (Some(from), Some(to)) = (values.ones.name(1), values.ones.name(2)) else {
+            return Err(LineFault::Refused(LineCause::Route));
+        };
+        let route = self.judge_found(alloc, &from, &to)?;
+        Ok(Routed {
+            route,
+            found: Some((from, to)),
+        })
     }
 
     // The least route between two nodes.
@@ -155,13 +131,13 @@ impl Draft {
     }
 }
 
-// The hop over a link of this shape.
-fn hop_of(shape: &LinkShape) -> Hop
-    ensures { (entry : Linked) → shape.now ≡ entry.shape → result ≡ hop_over entry }
+// The hop over a link.
+fn hop_over(entry: &LinkEntry) -> Hop
+    ensures { result ≡ hop_over entry.now }
 {
     Hop {
-        link: shape.link,
-        bounds: shape.bounds,
-        prop: shape.prop,
+        link: entry.shape.link,
+        bounds: entry.shape.bounds,
+        prop: entry.shape.prop,
     }
 }
