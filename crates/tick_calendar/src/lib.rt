@@ -1,9 +1,8 @@
 //! A calendar of keys that fall due at ticks to come.
 #![tactic(auto)]
 
-ghost use Rattle.std.specs.Prelude.{◌≡◌, ◌+◌, ◌-◌, ◌<◌, ◌≤◌, ◌↔◌, ◌++◌, ◌∷◌, [], IsOk, OnOk, OnErr, IfOk, IsNone, IfSome, is_some, if◌then◌else◌, All};
-ghost use Rattle.tick_calendar.specs.Calendar.{PunctualIsFirst, Timetable, TakesDue, due_key, left_after};
-ghost use Rattle.tick_calendar.specs.Wheel.{AreAllFrom};
+ghost use Rattle.std.specs.Prelude.{◌≡◌, ◌+◌, ◌-◌, ◌<◌, ◌≤◌, ◌↔◌, ◌++◌, ◌∷◌, [], IsOk, OnOk, OnErr, IfOk, IsNone, IfNone, IfSome, is_some, if◌then◌else◌, option_copied, All, length};
+ghost use Rattle.tick_calendar.specs.Calendar.{PunctualIsFirst, TakesDue, due_key, left_after};
 
 mod place;
 mod wheel;
@@ -17,11 +16,10 @@ use std::marker::Model;
 /// ticks the one that was put earliest.
 ///
 /// A contract sees the list of the entries, a tick and a key each, in the order in which they were put; how
-/// many more entries there is room for, as `spare`; and the tick of the last `take_due`, 0 before the first, as
-/// `clock`.
+/// many more entries there is room for, as `spare`; and the tick to which it has gone on, 0 at first, as `clock`.
 #[derive(Debug, Drop)]
-pub struct Calendar {
-    wheel: Wheel,
+pub struct Calendar<T = u32> {
+    wheel: Wheel<T>,
     // How many entries there are, and how many there is room for: half as many as places, so that a turn that is made
     // to clear the places is paid for by the keys that were taken.
     waiting: usize,
@@ -32,25 +30,27 @@ pub struct Calendar {
 }
 
 /// Where no key is late, the first that was put for this very tick is taken.
-pub fn the_punctual_are_taken_in_their_order()
-    ensures { PunctualIsFirst }
+pub fn the_punctual_are_taken_in_their_order<T>()
+    ensures { PunctualIsFirst T }
 {}
 
-impl Model for Calendar {
+impl<T> Model for Calendar<T> {
     ghost use Rattle.std.specs.Prelude.{◌-◌, vec_capacity};
-    ghost use Rattle.tick_calendar.specs.Calendar.{Timetable};
+    ghost use Rattle.tick_calendar.specs.Calendar.{TimetableOf, timetable_code};
     ghost use Rattle.tick_calendar.specs.Wheel.{entries_in, AreAllFrom, IsKeptWheel};
 
-    ghost Value = { Timetable };
+    ghost Value = { TimetableOf T };
+
+    ghost coded = { timetable_code T.code };
 
     ghost view = { λ c. record { entries = entries_in c.wheel.places.items; spare = c.room - c.waiting; clock = c.clock } };
 
     ghost invariant = { λ c. IsKeptWheel c.wheel.places.items c.wheel.firsts.items c.wheel.lasts.items c.wheel.base c.wheel.slot c.waiting c.room c.clock (vec_capacity c.wheel.places) × AreAllFrom c.next (entries_in c.wheel.places.items) };
 }
 
-impl Calendar {
+impl<T: Copy> Calendar<T> {
     /// A calendar with no entry, without room for one. An `Err` comes only for want of memory.
-    pub fn new(alloc: Global) -> Result<Calendar, OutOfMemory>
+    pub fn new(alloc: Global) -> Result<Calendar<T>, OutOfMemory>
         ensures { IfOk result (λ made. made ≡ record { entries = []; spare = 0; clock = 0 }) }
     {
         Ok(Calendar {
@@ -62,11 +62,13 @@ impl Calendar {
         })
     }
 
-    /// Makes room for `more` more entries at least. Where there is that room already it takes no memory. An `Err`
-    /// changes nothing.
+    /// Makes room for `more` more entries at least. Where there is that room already it does nothing. An `Err` changes
+    /// nothing.
+    #[inline(always)]
     pub fn reserve(&mut self, more: usize) -> Result<(), OutOfMemory>
         ensures room { OnOk result (more ≤ self.new.spare) }
         ensures had_room { more ≤ self.old.spare → IsOk result }
+        ensures nothing { more ≤ self.old.spare → self.new ≡ self.old }
         ensures grows { self.old.spare ≤ self.new.spare }
         ensures kept { self.new ≡ record self.old { spare = self.new.spare } }
         ensures err { OnErr result (self.new ≡ self.old) }
@@ -74,15 +76,26 @@ impl Calendar {
         if more <= self.room - self.waiting {
             return Ok(());
         }
+        self.reserve_more(more)
+    }
+
+    // The same, where there isn't that room. It stands apart, so that the test alone is made where it is called.
+    #[inline(never)]
+    fn reserve_more(&mut self, more: usize) -> Result<(), OutOfMemory>
+        requires { self.old.spare < more }
+        ensures room { OnOk result (more ≤ self.new.spare) }
+        ensures kept { self.new ≡ record self.old { spare = self.new.spare } }
+        ensures err { OnErr result (self.new ≡ self.old) }
+    {
         let room = self.waiting.checked_add(more).ok_or(OutOfMemory)?;
         self.wheel.reserve(room)?;
         self.room = room;
         Ok(())
     }
 
-    /// Puts a key for a tick, which isn't before the last `take_due`. Room for it was reserved, so it takes no
+    /// Puts a key for a tick, which isn't before the clock. Room for it was reserved, so it takes no
     /// memory.
-    pub fn put(&mut self, tick: u64, key: u32)
+    pub fn put(&mut self, tick: u64, key: T)
         requires room { 1 ≤ self.old.spare }
         requires ahead { self.old.clock ≤ tick }
         ensures { self.new ≡ record self.old { entries = self.old.entries ++ (tick, key) ∷ []; spare = self.old.spare - 1 } }
@@ -91,13 +104,24 @@ impl Calendar {
         self.wheel.append(tick, key);
         self.waiting += 1;
         self.next = self.next.min(tick);
+        if tick > self.clock {
+            return;
+        }
+        self.next = self.wheel.stand(tick);
     }
 
     /// The entries, a tick and a key each, in the order in which they were put. An `Err` comes only for want of memory.
-    pub fn entries(&self, alloc: Global) -> Result<Vec<(u64, u32)>, OutOfMemory>
+    pub fn entries(&self, alloc: Global) -> Result<Vec<(u64, T)>, OutOfMemory>
         ensures { IfOk result (λ all. all.items ≡ self.now.entries) }
     {
         self.wheel.entries(alloc)
+    }
+
+    /// How many entries there are.
+    pub fn len(&self) -> usize
+        ensures { result ≡ length self.now.entries }
+    {
+        self.waiting
     }
 
     /// A tick before which no key falls due.
@@ -108,42 +132,59 @@ impl Calendar {
         self.next
     }
 
-    /// The key that `take_due` takes at `now`, which stays. `now` isn't below that of the call before, as there. It takes no
-    /// memory.
+    /// Goes on to tick `now`, which isn't before the clock. It takes no memory.
     #[inline(always)]
-    pub fn look_due(&mut self, now: u64) -> Option<u32>
+    pub fn go_on(&mut self, now: u64)
         requires { self.old.clock ≤ now }
-        ensures key { result ≡ due_key self.old.entries now }
-        ensures kept { self.new ≡ record self.old { clock = now } }
-        ensures none { IsNone result ↔ All (λ entry. now < entry.0) self.old.entries }
-    {
-        if now < self.next {
-            self.clock = now;
-            return None;
-        }
-        let key = self.look_at(now);
-        if key.is_none() {
-            self.next = self.next_due();
-        }
-        key
-    }
-
-    // The same, where one may be due.
-    fn look_at(&mut self, now: u64) -> Option<u32>
-        requires { self.old.clock ≤ now }
-        ensures key { result ≡ due_key self.old.entries now }
-        ensures kept { self.new ≡ record self.old { clock = now } }
-        ensures none { IsNone result ↔ All (λ entry. now < entry.0) self.old.entries }
+        ensures { self.new ≡ record self.old { clock = now } }
     {
         self.clock = now;
-        let first = self.wheel.first_due(now)?;
+        if now < self.next {
+            return;
+        }
+        self.wheel.skip_to(self.next);
+        self.next = self.wheel.stand(now);
+    }
+
+    /// The key that is due at the clock: that with the least tick, and of equal ticks the one that was put earliest. None
+    /// comes exactly where there is no such key.
+    #[inline(always)]
+    pub fn due(&self) -> Option<&T>
+        ensures key { option_copied result ≡ due_key self.now.entries self.now.clock }
+        ensures none { IsNone result ↔ All (λ entry. self.now.clock < entry.0) self.now.entries }
+    {
+        if self.clock < self.next {
+            return None;
+        }
+        let first = self.wheel.standing()?;
         Some(self.wheel.first_key(first))
     }
 
-    /// Takes out the key with the least tick, the earliest put among equals, where that tick is at most `now`. None
-    /// comes exactly where there is no such key. `now` isn't below that of the call before. It takes no memory.
+    /// Takes out the key that is due at the clock. None comes exactly where there is no such key. It takes no memory.
+    pub fn take(&mut self) -> Option<T>
+        ensures key { result ≡ due_key self.old.entries self.old.clock }
+        ensures left { self.new.entries ≡ left_after self.old.entries self.old.clock }
+        ensures spare { self.new.spare ≡ self.old.spare + (if is_some result then 1 else 0) }
+        ensures clock { self.new.clock ≡ self.old.clock }
+
+        ensures none { IsNone result ↔ All (λ entry. self.old.clock < entry.0) self.old.entries }
+        ensures stay { IfNone result (self.new.entries ≡ self.old.entries) }
+        ensures taken { IfSome result (TakesDue self.old.entries self.new.entries self.old.clock) }
+    {
+        let first = self.wheel.standing()?;
+        let key = self.wheel.take(first);
+        self.waiting -= 1;
+        if self.waiting == 0 {
+            self.next = u64::MAX;
+            return Some(key);
+        }
+        self.next = self.wheel.stand(self.clock);
+        Some(key)
+    }
+
+    /// Goes on to tick `now`, which isn't before the clock, and takes out the key that is due, as [`Calendar::take`] does.
     #[inline(always)]
-    pub fn take_due(&mut self, now: u64) -> Option<u32>
+    pub fn take_due(&mut self, now: u64) -> Option<T>
         requires { self.old.clock ≤ now }
 
         ensures key { result ≡ due_key self.old.entries now }
@@ -152,42 +193,23 @@ impl Calendar {
         ensures clock { self.new.clock ≡ now }
 
         ensures none { IsNone result ↔ All (λ entry. now < entry.0) self.old.entries }
+        ensures stay { IfNone result (self.new.entries ≡ self.old.entries) }
         ensures taken { IfSome result (TakesDue self.old.entries self.new.entries now) }
     {
         if now < self.next {
             self.clock = now;
             return None;
         }
-        let key = self.take_at(now);
-        self.next = self.next_due();
-        key
+        self.go_on(now);
+        self.take()
     }
 
-    // The same, where one may be due.
-    fn take_at(&mut self, now: u64) -> Option<u32>
-        requires { self.old.clock ≤ now }
-        ensures key { result ≡ due_key self.old.entries now }
-        ensures left { self.new.entries ≡ left_after self.old.entries now }
-        ensures spare { self.new.spare ≡ self.old.spare + (if is_some result then 1 else 0) }
-        ensures clock { self.new.clock ≡ now }
-        ensures none { IsNone result ↔ All (λ entry. now < entry.0) self.old.entries }
-        ensures taken { IfSome result (TakesDue self.old.entries self.new.entries now) }
+    /// The tick to which it has gone on.
+    #[inline(always)]
+    pub fn clock(&self) -> u64
+        ensures { result ≡ self.now.clock }
     {
-        self.clock = now;
-        let first = self.wheel.first_due(now)?;
-        let key = self.wheel.take(first);
-        self.waiting -= 1;
-        Some(key)
-    }
-
-    // A tick before which no key is due, by the slots.
-    fn next_due(&self) -> u64
-        ensures { AreAllFrom result self.now.entries }
-    {
-        if self.waiting == 0 {
-            return u64::MAX;
-        }
-        self.wheel.first_from()
+        self.clock
     }
 }
 

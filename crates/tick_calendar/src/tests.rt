@@ -14,8 +14,9 @@ fn takes_the_least_tick_and_then_the_earliest_put(rt: HostRuntime) -> Result<(),
     let entries = calendar.entries(rt.alloc())?;
     assert_eq!(rt; entries.as_slice(), [(5, 1), (3, 2), (5, 3)].as_slice());
     assert_eq!(rt; calendar.take_due(2), None);
-    assert_eq!(rt; calendar.look_due(2), None);
-    assert_eq!(rt; calendar.look_due(5), Some(2));
+    assert_eq!(rt; calendar.due().copied(), None);
+    calendar.go_on(5);
+    assert_eq!(rt; calendar.due().copied(), Some(2));
     assert_eq!(rt; calendar.take_due(5), Some(2));
     assert_eq!(rt; calendar.take_due(5), Some(1));
     assert_eq!(rt; calendar.take_due(5), Some(3));

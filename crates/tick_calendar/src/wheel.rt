@@ -1,7 +1,7 @@
 //! The wheel of a calendar: its entries in the order of their puts, with chains of those that are due soon.
-ghost use Rattle.std.specs.Prelude.{◌≡◌, ◌+◌, ◌-◌, ◌^◌, ◌<◌, ◌≤◌, ◌++◌, ◌∷◌, [], suc, true, Some, None, is_some, IfOk, OnOk, IfNone, IfSome, All, length, get_or, drop};
+ghost use Rattle.std.specs.Prelude.{◌≡◌, ℕ, ◌+◌, ◌-◌, ◌^◌, ◌<◌, ◌≤◌, ◌++◌, ◌∷◌, [], suc, true, Some, None, is_some, IfOk, OnOk, IfNone, IfSome, All, length, get_or, drop};
 ghost use Rattle.std.specs.Vec.{vec_capacity};
-ghost use Rattle.tick_calendar.specs.Wheel.{entries_in, IsWheel, IsWheelFrom, AreAllFrom, IsLeastBy};
+ghost use Rattle.tick_calendar.specs.Wheel.{entries_in, IsWheel, IsWheelFrom, AreAllFrom, IsLeastBy, Stands};
 
 use crate::place::Place;
 use net_units::OutOfMemory;
@@ -9,8 +9,8 @@ use std::alloc::Global;
 
 // The entries, and a slot for each of the 1,024 ticks from `base` on, with the first and the last place of its chain.
 #[derive(Debug, Drop)]
-pub(crate) struct Wheel {
-    pub(crate) places: Vec<Place>,
+pub(crate) struct Wheel<T> {
+    pub(crate) places: Vec<Place<T>>,
     pub(crate) firsts: Vec<Option<usize>>,
     pub(crate) lasts: Vec<usize>,
     pub(crate) base: u64,
@@ -18,11 +18,11 @@ pub(crate) struct Wheel {
     pub(crate) slot: usize,
 }
 
-impl Wheel {
+impl<T: Copy> Wheel<T> {
     ghost use Rattle.tick_calendar.specs.Wheel.{RemovesFirst, StandsFirst};
 
     // A wheel with no entry, whose turn begins at tick 0.
-    pub(crate) fn new(alloc: Global) -> Result<Wheel, OutOfMemory>
+    pub(crate) fn new(alloc: Global) -> Result<Wheel<T>, OutOfMemory>
         ensures wheel { IfOk result (λ made. IsWheel made.places.items made.firsts.items made.lasts.items made.base) }
         ensures empty { IfOk result (λ made. made.places.items ≡ []) }
         ensures base { IfOk result (λ made. made.base ≡ 0) }
@@ -38,7 +38,7 @@ impl Wheel {
     }
 
     // The entries, in the order in which they were put.
-    pub(crate) fn entries(&self, alloc: Global) -> Result<Vec<(u64, u32)>, OutOfMemory>
+    pub(crate) fn entries(&self, alloc: Global) -> Result<Vec<(u64, T)>, OutOfMemory>
         ensures { IfOk result (λ all. all.items ≡ entries_in self.now.places.items) }
     {
         let mut entries = Vec::new(alloc);
@@ -90,7 +90,7 @@ impl Wheel {
     }
 
     // Puts an entry after the others. It takes no memory.
-    pub(crate) fn append(&mut self, tick: u64, key: u32)
+    pub(crate) fn append(&mut self, tick: u64, key: T)
         requires wheel { IsWheel self.old.places.items self.old.firsts.items self.old.lasts.items self.old.base }
         requires ahead { self.old.base ≤ tick }
         requires room { length self.old.places.items < vec_capacity self.old.places }
@@ -122,7 +122,7 @@ impl Wheel {
     }
 
     // Takes out the entry that was put first among those of the slot. It takes no memory.
-    pub(crate) fn take(&mut self, first: usize) -> u32
+    pub(crate) fn take(&mut self, first: usize) -> T
         requires wheel { IsWheel self.old.places.items self.old.firsts.items self.old.lasts.items self.old.base }
         requires slot { self.old.slot < 1024 }
         requires first { get_or self.old.firsts.items self.old.slot None ≡ Some first }
@@ -138,19 +138,75 @@ impl Wheel {
         key
     }
 
+    // The place of the entry that was put first among those of the slot.
+    #[inline(always)]
+    pub(crate) fn standing(&self) -> Option<usize>
+        requires slots { length self.now.firsts.items ≡ 1024 }
+        requires slot { self.now.slot < 1024 }
+        ensures { result ≡ get_or self.now.firsts.items self.now.slot None }
+    {
+        self.firsts[self.slot]
+    }
+
     // The key of the entry that was put first among those of the slot.
-    pub(crate) fn first_key(&self, first: usize) -> u32
+    #[inline(always)]
+    pub(crate) fn first_key(&self, first: usize) -> &T
         requires wheel { IsWheel self.now.places.items self.now.firsts.items self.now.lasts.items self.now.base }
         requires slot { self.now.slot < 1024 }
         requires first { get_or self.now.firsts.items self.now.slot None ≡ Some first }
-        ensures { StandsFirst (self.now.base + self.now.slot) self.now.places.items result }
+        ensures { StandsFirst (self.now.base + self.now.slot) self.now.places.items result.now }
     {
-        self.places[first].key
+        &self.places[first].key
+    }
+
+    // Goes on to a tick before which no entry is due, as far as the turn goes, so that the slots between aren't looked at.
+    #[inline(always)]
+    pub(crate) fn skip_to(&mut self, tick: u64)
+        requires wheel { IsWheel self.old.places.items self.old.firsts.items self.old.lasts.items self.old.base }
+        requires slot { self.old.slot < 1024 }
+        requires ahead { AreAllFrom (self.old.base + self.old.slot) (entries_in self.old.places.items) }
+        requires from { AreAllFrom tick (entries_in self.old.places.items) }
+        ensures wheel { IsWheel self.new.places.items self.new.firsts.items self.new.lasts.items self.new.base }
+        ensures slot { self.new.slot < 1024 }
+        ensures begun { (now : ℕ) → tick ≤ now → self.old.base + self.old.slot ≤ now → self.new.base + self.new.slot ≤ now }
+        ensures ahead { AreAllFrom (self.new.base + self.new.slot) (entries_in self.new.places.items) }
+        ensures entries { entries_in self.new.places.items ≡ entries_in self.old.places.items }
+        ensures capacity { vec_capacity self.new.places ≡ vec_capacity self.old.places }
+    {
+        let slot = tick.saturating_sub(self.base).min(1_023) as usize;
+        if slot > self.slot {
+            self.slot = slot;
+        }
+    }
+
+    // Goes on to the first tick with an entry, where that is at most `now`, or else to one from which on nothing is due up to `now`.
+    // Answers a tick before which no entry is due. It takes no memory.
+    pub(crate) fn stand(&mut self, now: u64) -> u64
+        requires wheel { IsWheel self.old.places.items self.old.firsts.items self.old.lasts.items self.old.base }
+        requires slot { self.old.slot < 1024 }
+        requires begun { self.old.base + self.old.slot ≤ now }
+        requires ahead { AreAllFrom (self.old.base + self.old.slot) (entries_in self.old.places.items) }
+        ensures wheel { IsWheel self.new.places.items self.new.firsts.items self.new.lasts.items self.new.base }
+        ensures slot { self.new.slot < 1024 }
+        ensures begun { self.new.base + self.new.slot ≤ now }
+        ensures ahead { AreAllFrom (self.new.base + self.new.slot) (entries_in self.new.places.items) }
+        ensures entries { entries_in self.new.places.items ≡ entries_in self.old.places.items }
+        ensures capacity { vec_capacity self.new.places ≡ vec_capacity self.old.places }
+        ensures stands { Stands self.new.base self.new.slot now (entries_in self.new.places.items) }
+        ensures next { AreAllFrom result (entries_in self.new.places.items) }
+    {
+        if self.standing().is_some() {
+            return self.base + self.slot as u64;
+        }
+        if self.first_due(now).is_some() {
+            return self.base + self.slot as u64;
+        }
+        self.first_from()
     }
 
     // Goes on to the first tick with an entry, where that is at most `now`, by a new turn where this one is over. Answers
     // the place of the entry that was put first among those of that tick. It takes no memory.
-    pub(crate) fn first_due(&mut self, now: u64) -> Option<usize>
+    fn first_due(&mut self, now: u64) -> Option<usize>
         requires wheel { IsWheel self.old.places.items self.old.firsts.items self.old.lasts.items self.old.base }
         requires slot { self.old.slot < 1024 }
         requires begun { self.old.base + self.old.slot ≤ now }
@@ -193,7 +249,7 @@ impl Wheel {
     }
 
     // A tick before which no entry is due: that of the first slot from `slot` on with an entry, or of the last slot.
-    pub(crate) fn first_from(&self) -> u64
+    fn first_from(&self) -> u64
         requires wheel { IsWheel self.now.places.items self.now.firsts.items self.now.lasts.items self.now.base }
         requires slot { self.now.slot < 1024 }
         requires ahead { AreAllFrom (self.now.base + self.now.slot) (entries_in self.now.places.items) }
@@ -205,6 +261,8 @@ impl Wheel {
     // Begins a turn: the slots are those of the ticks from `base` on. The places that keys have left are gone.
     fn turn(&mut self, base: u64)
         requires wheel { IsWheel self.old.places.items self.old.firsts.items self.old.lasts.items self.old.base }
+        requires slot { self.old.slot < 1024 }
+        requires past { AreAllFrom (self.old.base + self.old.slot) (entries_in self.old.places.items) }
         requires ahead { AreAllFrom base (entries_in self.old.places.items) }
         ensures wheel { IsWheel self.new.places.items self.new.firsts.items self.new.lasts.items self.new.base }
         ensures entries { entries_in self.new.places.items ≡ entries_in self.old.places.items }
@@ -214,7 +272,8 @@ impl Wheel {
         ensures slot { self.new.slot ≡ 0 }
     {
         self.places.retain(|place| place.waits);
-        self.firsts.fill(None);
+        // those before the slot at hand name none already
+        clear_from(&mut self.firsts, self.slot);
         self.base = base;
         self.slot = 0;
         let mut index = self.places.len();
@@ -255,8 +314,20 @@ impl Wheel {
     }
 }
 
+// Clears these slots from one on.
+fn clear_from(firsts: &mut Vec<Option<usize>>, from: usize)
+    requires { from ≤ length firsts.old.items }
+    ensures slots { length firsts.new.items ≡ length firsts.old.items }
+    ensures cleared { (slot : ℕ) → from ≤ slot → get_or firsts.new.items slot None ≡ None }
+    ensures before { (slot : ℕ) → slot < from → get_or firsts.new.items slot None ≡ get_or firsts.old.items slot None }
+{
+    for slot in from..firsts.len() {
+        firsts[slot] = None;
+    }
+}
+
 // The least tick of an entry, or `now` where that is less.
-fn least_tick(places: &[Place], now: u64) -> u64
+fn least_tick<T>(places: &[Place<T>], now: u64) -> u64
     ensures { IsLeastBy (entries_in places.now) now result }
 {
     let mut least = now;

@@ -9,19 +9,18 @@ use Rattle.std.proofs.lemmas.List.Sorted.{ranks_by, sorted_far}
 use Rattle.std.proofs.lemmas.List.Elements.{filter-append}
 use Rattle.std.proofs.lemmas.Option.{slice_get_within}
 use Rattle.std.specs.List.{slice_get}
-use Rattle.std.specs.Prelude.{nat_eq, nat_lt, None, Some, Option}
+use Rattle.std.specs.Prelude.{nat_eq, nat_lt, Some}
 use Rattle.std.specs.Ordering.{is_lt, nat_cmp}
 use Rattle.std.specs.declared.cmp.Ordering.TheVariants.{Less, Equal, Greater}
 use Rattle.std.specs.List.Sorted.{IsSortedByKey, IsStableByKey}
-use Rattle.net_units.specs.Numbers.{link_number}
+use Rattle.net_units.specs.Numbers.{link_at, channel_at, link_number}
 use Rattle.link_steps.specs.Lists.{Each}
 use Rattle.link_steps.proofs.SearchAndFilter.{Each-filter, Each-from, Each-if, filter-filter, filter-map, filter-none}
 use Rattle.link_steps.proofs.ListParts.{Each-at, Each-by_index, stands-at}
 use Rattle.link_steps.specs.declared.asks.Ask.{Ask}
 use Rattle.link_steps.specs.declared.asks.Ask.TheVariants.{Arrive, Tick}
-use Rattle.tick_calendar.specs.Calendar.{Entry}
 use Rattle.tick_plane.specs.declared.flight.Flight.{Flight}
-use Rattle.tick_plane.specs.Carried.{flight_at, flight_told, flights_at, in_round}
+use Rattle.tick_plane.specs.Carried.{Way, flight_at, flights_at}
 use Rattle.tick_plane.specs.Coming.{IsDueFrom, Rise, is_before, is_to, AreByLink, AreComing, AreListed, arrivals_in, rounds_in, AreLeft}
 use Rattle.tick_plane.specs.Planes.{Plane, is_due}
 use Rattle.tick_plane.specs.Windows.{arrive_of, is_bound, arrivals_at, rounds_at, tick_left, window_at}
@@ -54,10 +53,14 @@ ties-due round other =
       level : (not (nat_lt round other) && not (nat_lt other round)) ≡ nat_eq other round
       level = grind (arith, nat_tests)
 
+-- a flight of the round, whichever it is
+abbrev some_flight : ℕ → Flight
+some_flight round = record { to = link_at 0; round = round; packet = record { chan = channel_at 0; number = 0; size = 0; due = 0 } }
+
 due-stable : (round : ℕ) (own coming : List Flight) → IsStableByKey round_of nat_cmp own coming → filter (is_due round) coming ≡ filter (is_due round) own
 due-stable round own coming stable =
     let tie : (f : Flight) → (not (is_lt (nat_cmp round f.round)) && not (is_lt (nat_cmp f.round round))) ≡ is_due round f = λ f. ties-due round f.round in
-    ap (λ (test : Flight → Bool). filter test coming) (λ i f. sym (tie f) i) ∙ stable (in_round round (flight_told None))
+    ap (λ (test : Flight → Bool). filter test coming) (λ i f. sym (tie f) i) ∙ stable (some_flight round)
     ∙ ap (λ (test : Flight → Bool). filter test own) (λ i f. tie f i)
 
 -- none is early where none of a round before is among them
@@ -89,9 +92,9 @@ left-sorted from flights sorted ahead up stable = record {
 
 -- ---- before a round
 
-pub flights-before : (slots : List (Option Flight)) (until : ℕ) (entries kept : List Entry) → kept ≡ filter (λ entry. nat_lt entry.0 until) entries → flights_at slots kept ≡ filter (is_before until) (flights_at slots entries)
-flights-before slots until entries kept is =
-    ap (flights_at slots) is ∙ sym (filter-map (flight_at slots) (λ entry. nat_lt entry.0 until) (is_before until) entries (Each-from (λ entry. is_before until (flight_at slots entry) ≡ nat_lt entry.0 until) entries (λ entry. refl)))
+pub flights-before : (until : ℕ) (entries kept : List Way) → kept ≡ filter (λ entry. nat_lt entry.0 until) entries → flights_at kept ≡ filter (is_before until) (flights_at entries)
+flights-before until entries kept is =
+    ap (flights_at) is ∙ sym (filter-map (flight_at) (λ entry. nat_lt entry.0 until) (is_before until) entries (Each-from (λ entry. is_before until (flight_at entry) ≡ nat_lt entry.0 until) entries (λ entry. refl)))
 
 -- ---- link by link
 

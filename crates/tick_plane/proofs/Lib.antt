@@ -1,5 +1,4 @@
 pub mod QuietRounds
-mod FlightPerKey
 mod ComingInOrder
 mod FirstDueFlight
 mod WithoutFirst

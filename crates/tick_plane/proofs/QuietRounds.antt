@@ -8,23 +8,22 @@ use Rattle.link_steps.specs.declared.asks.Ask.{Ask}
 use Rattle.link_steps.specs.declared.asks.Ask.TheVariants.{Tick}
 use Rattle.link_steps.specs.declared.replies.Reply.{Reply}
 use Rattle.link_steps.specs.Lists.{Each}
-use Rattle.tick_calendar.specs.Calendar.{Entry}
 use Rattle.tick_plane.specs.declared.flight.Flight.{Flight}
 use Rattle.tick_plane.specs.QuietRounds.{rounds_later, IsStill, ticks_in, QuietRoundsAreTicksAlone}
-use Rattle.tick_plane.specs.Carried.{IsFrom, flights_at}
+use Rattle.tick_plane.specs.Carried.{Way, IsFrom, flights_at}
 use Rattle.tick_plane.specs.Coming.{IsDueFrom}
 use Rattle.tick_plane.specs.Planes.{Plane, is_due, next_due, tick_made, plane_with, plane_after, plane_ask}
 use Rattle.tick_plane.specs.Rounds.{ticks_from, AskedInTurn}
 
 -- ---- flights by their entries
 
-pub from-entries : (slots : List (Option Flight)) (round : ℕ) (entries : List Entry) → Each (IsFrom round) entries → Each (IsDueFrom round) (flights_at slots entries)
-from-entries slots round [] each = tt
-from-entries slots round (entry ∷ entries) each = (each.0, from-entries slots round entries each.1)
+pub from-entries : (round : ℕ) (entries : List Way) → Each (IsFrom round) entries → Each (IsDueFrom round) (flights_at entries)
+from-entries round [] each = tt
+from-entries round (entry ∷ entries) each = (each.0, from-entries round entries each.1)
 
-pub of-flights : (slots : List (Option Flight)) (round : ℕ) (entries : List Entry) → Each (IsDueFrom round) (flights_at slots entries) → Each (IsFrom round) entries
-of-flights slots round [] each = tt
-of-flights slots round (entry ∷ entries) each = (each.0, of-flights slots round entries each.1)
+pub of-flights : (round : ℕ) (entries : List Way) → Each (IsDueFrom round) (flights_at entries) → Each (IsFrom round) entries
+of-flights round [] each = tt
+of-flights round (entry ∷ entries) each = (each.0, of-flights round entries each.1)
 
 -- none is due in a round before they are
 pub none-yet : (round until : ℕ) (flights : List Flight) → Each (IsDueFrom until) flights → round < until → find (is_due round) flights ≡ None

@@ -12,3 +12,10 @@ pub struct Flight {
     /// The packet.
     pub packet: Packet,
 }
+
+// A flight without its round.
+#[derive(Clone, Copy, Debug)]
+pub(crate) struct OnWay {
+    pub(crate) to: LinkNo,
+    pub(crate) packet: Packet,
+}

@@ -1,10 +1,10 @@
 -- The key that falls due first goes on to the queue of its level.
-use Rattle.std.proofs.Common.{◌≡◌, ℕ, ◌+◌, ◌-◌, ◌<◌, ◌≤◌, Bool, true, false, if◌then◌else◌, nat_eq, List, ◌∷◌, ◌++◌, Option, Some, None, is_some, get_or, length, refl, sym, ap, ◌∙◌, subst, arith}
+use Rattle.std.proofs.Common.{◌≡◌, ℕ, ◌+◌, ◌-◌, ◌<◌, ◌≤◌, Bool, true, false, if◌then◌else◌, nat_eq, List, ◌∷◌, ◌++◌, Option, None, is_some, get_or, length, refl, sym, ap, ◌∙◌, subst, arith}
 use Rattle.std.proofs.lemmas.Bool.{eq-eqb}
 use Rattle.std.proofs.lemmas.List.{map-append, length-append, length-map}
 use Rattle.std.specs.List.{All}
 use Rattle.link_server.proofs.Words.{IsPermutation, Each, HeldPacket}
-use Rattle.tick_calendar.specs.Calendar.{Entry, TakesDue, key_at, without_place}
+use Rattle.tick_calendar.specs.Calendar.{Entry, TakesDue}
 use Rattle.link_server.specs.Keys.{packet_at, packets_at, queues_at, key_of, keys_of, times, count_at_key, IsUnderTick, AreKeyed, AreInOrder}
 use Rattle.link_server.specs.Line.{AreAfter, AreFrom}
 use Rattle.link_server.specs.Queues.{joined, pushed}
@@ -14,11 +14,6 @@ use Rattle.link_server.proofs.Waiting.Order.{order-moved}
 use Rattle.link_steps.proofs.ListParts.{Each-from_All, Each-parts}
 
 -- ---- where none is due
-
--- the entries stay
-pub none-due : (entries : List Entry) (place : Option ℕ) → None ≡ key_at entries place → without_place entries place ≡ entries
-none-due entries None none = refl
-none-due entries (Some place) none = absurd (cc)
 
 pub all-after : (slots : List (Option HeldPacket)) (entries : List Entry) (tick : ℕ) → Each (IsUnderTick slots) entries → All (λ entry. tick < entry.0) entries → AreAfter tick (packets_at slots (keys_of entries))
 all-after slots entries tick under after = under-tick slots (λ t. tick < t) entries under (Each-from_All (λ entry. tick < entry.0) entries after)

@@ -4,4 +4,4 @@ use Rattle.tick_calendar.specs.Wheel.{entries_in, IsLeastBy}
 use Rattle.tick_calendar.proofs.wheel.least_tick.Given as goal
 
 abbrev pub invariant-loop-place : goal.invariant-loop-place
-invariant-loop-place l = IsLeastBy (entries_in (take l.place-index l.places)) l.now l.least
+invariant-loop-place g l = IsLeastBy (entries_in (take l.place-index l.places)) l.now l.least

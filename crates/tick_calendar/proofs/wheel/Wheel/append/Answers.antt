@@ -1,29 +1,24 @@
 -- The entry is put at the end, and after the last of its tick where there is one.
-use Rattle.std.proofs.Common.{◌≡◌, ◌+◌, ◌-◌, ◌<◌, Some, None, true, get_or, ap, sym, refl, ◌∙◌, arith, ℕ, Option, false, not, length}
-use Rattle.std.specs.Option.{is_some}
+use Rattle.std.proofs.Common.{◌≡◌, ◌+◌, ◌-◌, ◌<◌, Some, None, get_or, ap, sym, refl, ◌∙◌, arith, ℕ, not, length}
 use Rattle.std.proofs.lemmas.List.{get_or_read}
-use Rattle.std.proofs.lemmas.Bool.{eq-eqb, true≢false}
+use Rattle.std.proofs.lemmas.Bool.{eq-eqb}
 use Rattle.tick_calendar.proofs.Chains.{entries-put}
 use Rattle.tick_calendar.proofs.WheelStaysRight.{wheel-beyond, wheel-first, append-after, last-within}
 use Rattle.tick_calendar.proofs.wheel.Wheel.append.Goals as goal
-use Rattle.tick_calendar.proofs.Slots.{none-of}
+use Rattle.tick_calendar.proofs.Slots.{none-of, some-of}
 
 pub returns-then-tick-self-ge1024-clause-wheel : goal.returns-then-tick-self-ge1024-clause-wheel
-returns-then-tick-self-ge1024-clause-wheel c =
+returns-then-tick-self-ge1024-clause-wheel g c =
     rw c.push_reserved.ensures.items (wheel-beyond _ _ _ _ _ c.requires.wheel (omega (arith, c.if-tick-self-ge1024.true, c.requires.ahead)) refl)
 
 pub returns-then-tick-self-ge1024-clause-entries : goal.returns-then-tick-self-ge1024-clause-entries
-returns-then-tick-self-ge1024-clause-entries c = rw c.push_reserved.ensures.items (entries-put _ _ refl)
+returns-then-tick-self-ge1024-clause-entries g c = rw c.push_reserved.ensures.items (entries-put _ _ refl)
 
 pub returns-then-is_none-clause-entries : goal.returns-then-is_none-clause-entries
-returns-then-is_none-clause-entries c = rw c.push_reserved.ensures.items (entries-put _ _ refl)
-
-some-of : (r : Option ℕ) → is_some r ≡ true → (x : ℕ) × (r ≡ Some x)
-some-of None some = absurd (true≢false (sym some))
-some-of (Some x) some = (x, refl)
+returns-then-is_none-clause-entries g c = rw c.push_reserved.ensures.items (entries-put _ _ refl)
 
 pub returns-then-is_none-clause-wheel : goal.returns-then-is_none-clause-wheel
-returns-then-is_none-clause-wheel c =
+returns-then-is_none-clause-wheel g c =
     let w = c.requires.wheel in
     let slot : ℕ = c.args.tick - c.args.self.now.base in
     let low : slot < 1024 = omega (arith, c.if-tick-self-ge1024.false) in
@@ -33,7 +28,7 @@ returns-then-is_none-clause-wheel c =
     rw (c.push_reserved.ensures.items, place) (wheel-first c.args.self.now.places.items c.args.self.now.firsts.items c.args.self.now.lasts.items c.args.self.now.base slot _ w low empty (eq-eqb c.args.tick (c.args.self.now.base + slot) back) refl)
 
 pub index_mut-requires-2 : goal.index_mut-requires-2
-index_mut-requires-2 c =
+index_mut-requires-2 g c =
     let w = c.requires.wheel in
     let slot : ℕ = c.args.tick - c.args.self.now.base in
     let low : slot < 1024 = omega (arith, c.if-tick-self-ge1024.false) in
@@ -44,7 +39,7 @@ index_mut-requires-2 c =
     omega (arith, within, last, c.push_reserved.ensures.len, c.args.self.now.places.ok)
 
 pub returns-clause-wheel : goal.returns-clause-wheel
-returns-clause-wheel c =
+returns-clause-wheel g c =
     let w = c.requires.wheel in
     let slot : ℕ = c.args.tick - c.args.self.now.base in
     let low : slot < 1024 = omega (arith, c.if-tick-self-ge1024.false) in
@@ -57,7 +52,7 @@ returns-clause-wheel c =
     (eq-eqb c.args.tick (c.args.self.now.base + slot) back) refl (rw c.push_reserved.ensures.items at c.index_mut-2.ensures.value) refl refl refl refl).0))
 
 pub returns-clause-entries : goal.returns-clause-entries
-returns-clause-entries c =
+returns-clause-entries g c =
     let w = c.requires.wheel in
     let slot : ℕ = c.args.tick - c.args.self.now.base in
     let low : slot < 1024 = omega (arith, c.if-tick-self-ge1024.false) in

@@ -3,7 +3,7 @@ use Rattle.std.proofs.Common.{ap, arith, length}
 use Rattle.tick_calendar.proofs.wheel.Wheel.clear_if_full.Goals as goal
 
 pub returns-clause-room : goal.returns-clause-room
-returns-clause-room c = omega (arith, c.turn.ensures.full, ap length c.turn.ensures.entries, c.turn.ensures.capacity, c.requires.room)
+returns-clause-room g c = omega (arith, c.turn.ensures.full, ap length c.turn.ensures.entries, c.turn.ensures.capacity, c.requires.room)
 
 pub returns-clause-begun : goal.returns-clause-begun
-returns-clause-begun c = omega (arith, c.turn.ensures.base, c.turn.ensures.slot)
+returns-clause-begun g c = omega (arith, c.turn.ensures.base, c.turn.ensures.slot)

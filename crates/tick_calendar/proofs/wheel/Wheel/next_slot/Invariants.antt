@@ -4,4 +4,4 @@ use Rattle.tick_calendar.specs.Wheel.{entries_in, AreAllFrom}
 use Rattle.tick_calendar.proofs.wheel.Wheel.next_slot.Given as goal
 
 abbrev pub invariant-loop-slot : goal.invariant-loop-slot
-invariant-loop-slot l = AreAllFrom (l.self.base + l.slot) (entries_in l.self.places.items)
+invariant-loop-slot g l = AreAllFrom (l.self.base + l.slot) (entries_in l.self.places.items)

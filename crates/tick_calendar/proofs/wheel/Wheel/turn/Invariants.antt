@@ -6,7 +6,7 @@ use Rattle.tick_calendar.specs.Wheel.{entries_in, IsWheelFrom}
 use Rattle.tick_calendar.proofs.wheel.Wheel.turn.Given as goal
 
 abbrev pub invariant-loop-index : goal.invariant-loop-index
-invariant-loop-index l = record {
+invariant-loop-index g l = record {
   wheel : IsWheelFrom l.index (drop l.index l.self.places.items) l.self.firsts.items l.self.lasts.items l.self.base;
   within : l.index ≤ length l.self.places.items;
   waits : All (λ place. place.waits ≡ true) l.self.places.items;
@@ -18,4 +18,4 @@ invariant-loop-index l = record {
 }
 
 abbrev pub decreases-loop-index : goal.decreases-loop-index
-decreases-loop-index l = l.index
+decreases-loop-index g l = l.index

@@ -1,64 +1,34 @@
--- The key of the first flight that is due is taken, and its flight with it.
-use Rattle.std.proofs.Common.{◌≡◌, ℕ, ◌+◌, if◌then◌else◌, is_some, List, Option, sym, ap, ◌∙◌, subst, arith}
+-- What is due first in the calendar is taken out of it.
+use Rattle.std.proofs.Common.{◌≡◌, ◌+◌, if◌then◌else◌, is_some, Option, Some, sym, ap, ◌∙◌, subst}
 use Rattle.std.specs.List.{find}
 use Rattle.std.specs.Prelude.{IsSome}
 use Rattle.link_steps.specs.Lists.{Each, without_first}
-use Rattle.tick_calendar.specs.Calendar.{Entry, Timetable}
+use Rattle.tick_plane.specs.declared.flight.OnWay.{OnWay}
 use Rattle.tick_plane.specs.Planes.{is_due}
-use Rattle.tick_plane.specs.Carried.{AreFlights, AreKeyed, IsFrom, IsDue, flights_at}
-use Rattle.tick_plane.proofs.FlightPerKey.{is-held, keyed-landed, flights-landed}
-use Rattle.tick_plane.proofs.FirstDueFlight.{Lands, some-due, lands-taken, left-landed, from-left, is-due}
+use Rattle.tick_plane.specs.Carried.{AreFlights, IsFrom, flights_at}
+use Rattle.tick_plane.proofs.FirstDueFlight.{Lands, some-due, taken-is, lands-taken, left-landed, from-left}
 use Rattle.tick_plane.proofs.flights.Flights.land.Goals as goal
-use Rattle.tick_plane.proofs.flights.Flights.land.Goals.{After-unwrap-key}
+use Rattle.tick_plane.proofs.flights.Flights.land.Goals.{After-take}
 
-pub unwrap-key-requires : goal.unwrap-key-requires
-unwrap-key-requires c =
-    some-due c.self.inside.carried.slots c.self.inside.round c.self.inside.rounds.entries c.take_due.result c.take_due.ensures.none.0
-    (subst (λ (f : AreFlights). IsSome (find (is_due f.round) f.list)) (sym c.self.view_is) c.requires)
+taken : (c : After-take) → (way : OnWay) × (c.take.result ≡ Some way)
+taken c = taken-is c.take.result (some-due c.self.inside.ways.clock c.self.inside.ways.entries c.take.result c.take.ensures.none.0 (subst (λ (f : AreFlights). IsSome (find (is_due f.round) f.list)) (sym c.self.view_is) c.requires))
 
-landed : (c : After-unwrap-key) → Lands c.self.inside.round c.unwrap-key.result c.self.inside.rounds.entries c.take_due.new.self.entries
-landed c = lands-taken c.self.inside.round c.unwrap-key.result c.self.inside.rounds.entries c.take_due.new.self.entries c.take_due.result c.self.invariant.punctual c.unwrap-key.ensures c.take_due.ensures.taken
-
-pub remove-requires : goal.remove-requires
-remove-requires c =
-    let land = landed (goal.at.remove-requires c).After-unwrap-key in
-    is-held c.self.inside.carried.slots land.before land.after c.self.inside.round c.unwrap-key.result (subst (AreKeyed c.self.inside.carried.slots) land.is c.self.invariant.keyed)
+landed : (c : After-take) → Lands c.self.inside.ways.clock (taken c).0 c.self.inside.ways.entries c.take.new.self.entries
+landed c = lands-taken c.self.inside.ways.clock (taken c).0 c.self.inside.ways.entries c.take.new.self.entries c.take.result c.self.invariant (taken c).1 c.take.ensures.taken
 
 pub invariant_of-self : goal.invariant_of-self
 invariant_of-self c =
-    let land = landed (goal.at.invariant_of-self c).After-unwrap-key in
-    let round = c.self.inside.round in
-    let left : List Entry = c.take_due.new.self.entries in
-    let same = ap (λ (s : Timetable). s.entries) c.look_due-self-inside.ensures.kept in
-    let clock = ap (λ (s : Timetable). s.clock) c.look_due-self-inside.ensures.kept in
-    let spare = ap (λ (s : Timetable). s.spare) c.look_due-self-inside.ensures.kept in
-    let from : Each (IsFrom round) left = from-left round c.unwrap-key.result c.self.inside.rounds.entries left land c.self.invariant.punctual in
-    let more : c.take_due.new.self.spare ≡ c.self.inside.rounds.spare + 1 = c.take_due.ensures.spare ∙ ap (λ (taken : Option ℕ). c.self.inside.rounds.spare + (if is_some taken then 1 else 0)) c.unwrap-key.ensures in
-    let holds = c.self.invariant.holds in
-    let puts = c.self.invariant.puts in
-    record {
-      keyed = subst (AreKeyed c.remove.new.self.slots) (sym (same ∙ land.left_is)) (keyed-landed c.self.inside.carried c.remove.new.self land.before land.after round c.unwrap-key.result (subst (AreKeyed c.self.inside.carried.slots) land.is c.self.invariant.keyed) c.remove.ensures.updates c.remove.ensures.len);
-      punctual = subst (Each (IsFrom round)) (sym same) from;
-      looked = omega (arith, clock);
-      due_is = subst (λ es. IsDue round es c.look_due-self-inside.result) (sym same) (is-due round left c.look_due-self-inside.result from c.look_due-self-inside.ensures.key c.look_due-self-inside.ensures.none.0);
-      fits = omega (arith, c.self.invariant.fits, c.remove.ensures.capacity);
-      holds = omega (arith, holds, c.remove.ensures.capacity, c.remove.ensures.len);
-      puts = omega (arith, puts, spare, more);
-    }
+    let after = (goal.at.invariant_of-self c).After-take in
+    subst (λ t. Each (IsFrom t) c.take.new.self.entries) (sym c.take.ensures.clock) (from-left c.self.inside.ways.clock (taken after).0 c.self.inside.ways.entries c.take.new.self.entries (landed after) c.self.invariant)
 
 pub returns : goal.returns
 returns c =
-    let land = landed (goal.at.returns c).After-unwrap-key in
-    let round = c.self.inside.round in
-    let list = ap (λ (f : AreFlights). f.list) c.self.view_is in
-    let now = ap (λ (f : AreFlights). f.round) c.self.view_is in
+    let after = (goal.at.returns c).After-take in
+    let now : c.take.new.self.clock ≡ c.args.self.now.round = c.take.ensures.clock ∙ ap (λ (f : AreFlights). f.round) c.self.view_is in
     let spare = ap (λ (f : AreFlights). f.spare) c.self.view_is in
-    let same = ap (λ (s : Timetable). s.entries) c.look_due-self-inside.ensures.kept in
-    let flown : flights_at c.remove.new.self.slots c.look_due-self-inside.new.self.entries ≡ without_first (is_due c.args.self.now.round) c.args.self.now.list =
-    ap (flights_at c.remove.new.self.slots) (same ∙ land.left_is)
-    ∙ flights-landed c.self.inside.carried c.remove.new.self land.before land.after round c.unwrap-key.result (subst (AreKeyed c.self.inside.carried.slots) land.is c.self.invariant.keyed) c.remove.ensures.updates
-    ∙ ap (flights_at c.self.inside.carried.slots) (sym land.left_is)
-    ∙ sym (left-landed c.self.inside.carried.slots round c.unwrap-key.result c.self.inside.rounds.entries c.take_due.new.self.entries land)
+    let flown : flights_at c.take.new.self.entries ≡ without_first (is_due c.args.self.now.round) c.args.self.now.list =
+    sym (left-landed c.self.inside.ways.clock (taken after).0 c.self.inside.ways.entries c.take.new.self.entries (landed after))
     ∙ ap (λ (f : AreFlights). without_first (is_due f.round) f.list) c.self.view_is in
-    let more : c.self.inside.room + 1 ≡ c.args.self.now.spare + 1 = ap (λ n. n + 1) spare in
+    let more : c.take.new.self.spare ≡ c.args.self.now.spare + 1 =
+    c.take.ensures.spare ∙ ap (λ (t : Option OnWay). c.self.inside.ways.spare + (if is_some t then 1 else 0)) (taken after).1 ∙ ap (λ n. n + 1) spare in
     λ i. record { list = flown i; round = now i; spare = more i }

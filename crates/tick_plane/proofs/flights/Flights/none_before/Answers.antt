@@ -11,4 +11,4 @@ pub returns : goal.returns
 returns c =
     let until = c.rests_until.result in
     subst (Each (IsDueFrom until)) (ap (λ (f : AreFlights). f.list) c.self.view_is)
-    (from-entries c.self.inside.carried.slots until c.self.inside.rounds.entries (each-all (λ entry. until ≤ entry.0) c.self.inside.rounds.entries c.rests_until.ensures))
+    (from-entries until c.self.inside.ways.entries (each-all (λ entry. until ≤ entry.0) c.self.inside.ways.entries c.rests_until.ensures))

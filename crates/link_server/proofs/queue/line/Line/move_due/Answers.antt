@@ -7,7 +7,7 @@ use Rattle.link_server.specs.Line.{AreAfter}
 use Rattle.link_server.specs.Queues.{joined}
 use Rattle.link_server.specs.Ready.{queues_of}
 use Rattle.link_server.proofs.Waiting.Keys.{is-held, long-packets}
-use Rattle.link_server.proofs.Waiting.Due.{none-due, all-after, due-held, due-one, due-fewer, due-keyed, due-packets, due-order}
+use Rattle.link_server.proofs.Waiting.Due.{all-after, due-held, due-one, due-fewer, due-keyed, due-packets, due-order}
 use Rattle.link_server.proofs.Waiting.Queues.{length-pushed}
 use Rattle.link_server.proofs.queue.line.Line.move_due.Goals as goal
 use Rattle.link_server.proofs.queue.line.Line.move_due.Goals.{After-index}
@@ -15,7 +15,7 @@ use Rattle.link_server.proofs.queue.line.Line.move_due.Goals.{After-index}
 pub returns-in_default-clause-after : goal.returns-in_default-clause-after
 returns-in_default-clause-after c = λ none.
     let slots = c.args.self.now.packets.slots in
-    subst (λ entries. AreAfter c.args.self.now.until (packets_at slots (keys_of entries))) (sym (c.in_default.ensures.left ∙ none-due c.args.self.now.later.entries _ c.in_default.ensures.key))
+    subst (λ entries. AreAfter c.args.self.now.until (packets_at slots (keys_of entries))) (sym c.in_default.ensures.stay)
     (all-after slots c.args.self.now.later.entries c.args.self.now.until c.args.self.now.keyed.under (c.in_default.ensures.none.0 refl))
 
 pub index-requires : goal.index-requires
