@@ -8,7 +8,9 @@ use Rattle.link_steps.specs.Buffer.{held_packets}
 use Rattle.link_steps.specs.Account.{AccountRow, is_account_of, leaves_by}
 use Rattle.link_steps.specs.Lists.{Each}
 use Rattle.link_steps.specs.Service.{Arrival, Start}
+use Rattle.link_server.specs.Packets.{gone_of}
 use Rattle.link_server.specs.SoundProp.{Each-prop}
+use Rattle.link_server.specs.declared.queue.held_packet.Gone.{Gone}
 use Rattle.link_server.specs.declared.table.served_row.ServedRow.{ServedRow}
 
 -- how many packets of a row have departed
@@ -32,17 +34,17 @@ AreCounted here [] (n ∷ departed) = ⊥
 AreCounted here (row ∷ rows) [] = ⊥
 
 -- the packet that leaves the link at the end of tick t, where this one occupies it
-abbrev pub leaver : ℕ → ℕ → Option Start → Option Arrival
+abbrev pub leaver : ℕ → ℕ → Option Start → Option Gone
 leaver rate t None = None
-leaver rate t (Some start) = if leaves_by rate t start then Some start.packet else None
+leaver rate t (Some start) = if leaves_by rate t start then Some (gone_of start.packet) else None
 
 -- how many packets of each row have departed, once this one has: one more of its channel's row, if that has its lead
 -- and a packet here
-abbrev pub departed_after : Option Arrival → List AccountRow → List ℕ → List ℕ
+abbrev pub departed_after : Option Gone → List AccountRow → List ℕ → List ℕ
 departed_after None rows departed = departed
-departed_after (Some p) [] departed = departed
-departed_after (Some p) (row ∷ rows) [] = []
-departed_after (Some p) (row ∷ rows) (n ∷ departed) = (if is_account_of p.chan row && (nat_eq row.lead p.lead && nat_lt n row.taken) then suc n else n) ∷ departed_after (Some p) rows departed
+departed_after (Some gone) [] departed = departed
+departed_after (Some gone) (row ∷ rows) [] = []
+departed_after (Some gone) (row ∷ rows) (n ∷ departed) = (if is_account_of gone.chan row && (nat_eq row.lead gone.lead && nat_lt n row.taken) then suc n else n) ∷ departed_after (Some gone) rows departed
 
 -- ---- there is at most one proof that the rows are counted
 

@@ -2,6 +2,7 @@
 -- arrival, and the one that occupies it.
 use Rattle.std.specs.Prelude.{Option, Some, None, List, map}
 use Rattle.link_steps.specs.Service.{Arrival, Start}
+use Rattle.link_server.specs.declared.queue.held_packet.Gone.{Gone}
 use Rattle.link_server.specs.declared.queue.held_packet.HeldPacket.{HeldPacket}
 use Rattle.link_server.specs.declared.queue.held_packet.Running.{Running}
 
@@ -30,3 +31,7 @@ on_in (Some running) = Some (start_in running)
 -- those that are here
 abbrev pub here_in : List HeldPacket → List Arrival
 here_in packets = map arrival_in packets
+
+-- one that has departed
+abbrev pub gone_of : Arrival → Gone
+gone_of p = record { chan = p.chan; lead = p.lead }

@@ -61,7 +61,12 @@ impl LinkState {
                 size,
             } => Ok(self.submit(*chan, *count, *gap, *size)),
             Ask::Release { chan, upstream } => Ok(self.release(*chan, *upstream)),
-            Ask::Arrive { packet } => Ok(self.arrive(packet)),
+            Ask::Arrive { packet } => {
+                // any reply: the arrival writes its own
+                let mut reply = Reply::Denied;
+                self.arrive(packet, &mut reply);
+                Ok(reply)
+            }
             Ask::Tick => unreachable!(),
             Ask::Pour { count, gap, size } => Ok(self.pour(*count, *gap, *size)),
         }

@@ -33,6 +33,7 @@ pub struct LinkState {
     pub(crate) due: u64,
     ghost of_shape: { table ≡ record table { server = server_of shape; buffer = shape.buffer } },
     ghost same_bounds: { queue.bounds ≡ shape.bounds },
+    ghost same_rate: { queue.rate ≡ shape.rate },
     ghost looked: { (table.looked ≤ clock) × (queue.looked ≤ clock) },
     ghost few: { queue.room < 2 ^ 63 },
     ghost sound: { IsSound shape queue.room (account clock queue table.rows) } by { IsSound-prop shape queue.room (account clock queue table.rows) },
@@ -62,7 +63,7 @@ impl LinkState {
         ensures stands { IfOk result (λ link. LinkStands link []) }
     {
         let places = shape.best + 1;
-        let mut queue = Queue::new(alloc, shape.bounds)?;
+        let mut queue = Queue::new(alloc, &shape)?;
         queue.reserve(places as usize)?;
         Ok(LinkState {
             alloc,
@@ -86,8 +87,8 @@ impl LinkState {
         ensures entered { (h : List Entry) → LinkStands self.old h → LinkStands self.new (record { ask = ask.now; reply = reply.new } ∷ h) }
     {
         match ask {
-            Ask::Arrive { packet } => *reply = self.arrive(packet),
-            _ => *reply = self.make_tick(),
+            Ask::Arrive { packet } => self.arrive(packet, reply),
+            _ => self.make_tick(reply),
         }
     }
 

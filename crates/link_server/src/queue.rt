@@ -1,6 +1,6 @@
 //! The queue of the packets at a link: those that it has taken and that haven't departed, and the one that occupies it.
-ghost use Rattle.std.specs.Prelude.{◌≡◌, ◌+◌, ◌^◌, ◌<◌, ◌≤◌, ◌∷◌, ◌++◌, [], suc, nat_eq, filter, find, length, IsTrue, IsOk, IfOk, OnOk};
-ghost use Rattle.link_server.specs.Packets.{arrival_in, on_in};
+ghost use Rattle.std.specs.Prelude.{◌≡◌, ◌+◌, ◌^◌, ◌<◌, ◌≤◌, ◌∷◌, ◌++◌, [], None, suc, nat_eq, filter, find, length, IsTrue, IsOk, IfOk, OnOk};
+ghost use Rattle.link_server.specs.Packets.{arrival_in};
 ghost use Rattle.link_server.specs.Planned.{left_in};
 
 mod best_effort;
@@ -10,10 +10,10 @@ mod ready;
 
 use crate::planned::Planned;
 use crate::queue::best_effort::{best_in, best_packet};
-use crate::queue::held_packet::{HeldPacket, Running};
+use crate::queue::held_packet::{HeldPacket, Left, Running};
 use crate::queue::line::Line;
-use link_steps::{LinkShape, Sent};
-use net_units::{Bounds, OutOfMemory};
+use link_steps::LinkShape;
+use net_units::{Bounds, OutOfMemory, ceil_div};
 use std::alloc::Global;
 use std::marker::Model;
 
@@ -24,7 +24,8 @@ pub(crate) struct Queue {
     taken: u64,
     // Those that haven't started.
     line: Line,
-    // Those of the link's levels: a best-effort packet is of the level after the last.
+    // What the link sends in a tick, and the bounds of its levels: a best-effort packet is of the level after the last.
+    rate: u32,
     bounds: Bounds,
     // How many best-effort packets are here and haven't started.
     best_waiting: u64,
@@ -48,17 +49,7 @@ impl Model for Queue {
     ghost invariant = { IsQueue };
 }
 
-// What leaves a link at the end of a tick: a packet of a channel, or a best-effort packet, if any.
-#[derive(Drop)]
-pub(crate) struct Left {
-    pub(crate) sent: Option<Sent>,
-    pub(crate) best_sent: bool,
-    // The packet, of either kind.
-    pub(crate) gone: Option<HeldPacket>,
-}
-
 impl Queue {
-    ghost use Rattle.std.specs.Option.{option_map};
     ghost use Rattle.link_steps.specs.BestEffort.{best_packet, best_step};
     ghost use Rattle.link_steps.specs.Account.{served, departs, best_departs, still_on, still_here, waits_here};
     ghost use Rattle.link_steps.specs.Lists.{Each};
@@ -69,14 +60,15 @@ impl Queue {
     ghost use Rattle.link_server.specs.Departed.{leaver};
     ghost use Rattle.link_server.specs.Serving.{CanServe};
 
-    // No packet taken yet, and no room for one, at a link with these bounds.
-    pub(crate) fn new(alloc: Global, bounds: Bounds) -> Result<Queue, OutOfMemory>
-        ensures { IfOk result (λ made. made ≡ record { taken = 0; here = []; on = None; best = []; room = 0; looked = 0; bounds = bounds }) }
+    // No packet taken yet, and no room for one, at a link of this shape.
+    pub(crate) fn new(alloc: Global, shape: &LinkShape) -> Result<Queue, OutOfMemory>
+        ensures { IfOk result (λ made. made ≡ record { taken = 0; here = []; on = None; best = []; room = 0; looked = 0; bounds = shape.now.bounds; rate = shape.now.rate }) }
     {
         Ok(Queue {
             taken: 0,
             line: Line::new(alloc)?,
-            bounds,
+            rate: shape.rate,
+            bounds: shape.bounds,
             best_waiting: 0,
             room: 0,
             on: None,
@@ -133,57 +125,34 @@ impl Queue {
     }
 
     // Takes a packet, after those that are here, which isn't eligible before the tick of the clock. It takes no memory.
-    pub(crate) fn push(&mut self, packet: HeldPacket, clock: u64)
+    pub(crate) fn push(&mut self, packet: &HeldPacket, clock: u64)
         requires room { length self.old.here < self.old.room }
-        requires next { packet.place ≡ self.old.taken + 1 }
+        requires next { packet.now.place ≡ self.old.taken + 1 }
         requires looked { self.old.looked ≤ clock }
-        requires eligible { clock ≤ packet.eligible }
+        requires eligible { clock ≤ packet.now.eligible }
         requires countable { self.old.taken + 1 < 2 ^ 64 }
-        ensures kept { self.new ≡ record self.old { taken = self.old.taken + 1; here = self.old.here ++ arrival_in packet ∷ []; looked = self.new.looked } }
+        ensures kept { self.new ≡ record self.old { taken = self.old.taken + 1; here = self.old.here ++ arrival_in packet.now ∷ []; looked = self.new.looked } }
         ensures looked { self.new.looked ≤ clock }
     {
-        self.best_waiting += best_in(&packet, &self.bounds);
-        self.line.push(&packet, clock);
+        self.best_waiting += best_in(packet, &self.bounds);
+        self.line.push(packet, clock);
         self.taken += 1;
     }
 
-    // The packet that occupies the link in this tick: the one that did, or else the first in line of those here.
-    fn occupant(&mut self, tick: u64) -> Option<Running>
-        requires early { tick < 2 ^ 61 }
-        requires looked { self.old.looked ≤ tick }
-        ensures occupant { on_in result ≡ served tick self.old.here self.old.on }
-        ensures kept { self.new ≡ record self.old { on = on_in result; looked = self.new.looked } }
-        ensures looked { self.new.looked ≤ tick }
-    {
-        if self.on.is_some() {
-            return self.on;
-        }
-        // most ticks of a run find no packet here, and needn't look at the line
-        if self.line.len() == 0 {
-            return None;
-        }
-        let packet = self.line.next(tick)?;
-        self.best_waiting -= best_in(&packet, &self.bounds);
-        self.on = Some(Running { packet, tick });
-        self.on
-    }
-
     // A tick before which no packet starts or departs, and no best-effort packet is planned.
-    pub(crate) fn rests_until(&self, rate: u32) -> u64
-        requires { 1 ≤ rate }
-        ensures service { ServiceRests rate result self.now.here self.now.on }
+    pub(crate) fn rests_until(&self) -> u64
+        ensures service { ServiceRests self.now.rate result self.now.here self.now.on }
         ensures best { Each (IsPlannedFrom result) self.now.best }
     {
-        self.service_rests_until(rate).min(self.best.rests_until())
+        self.service_rests_until().min(self.best.rests_until())
     }
 
     // A tick before which no packet starts or departs.
-    fn service_rests_until(&self, rate: u32) -> u64
-        requires { 1 ≤ rate }
-        ensures { ServiceRests rate result self.now.here self.now.on }
+    fn service_rests_until(&self) -> u64
+        ensures { ServiceRests self.now.rate result self.now.here self.now.on }
     {
         match &self.on {
-            Some(running) => running.leaves_at(rate) - 1,
+            Some(running) => running.leaves - 1,
             None => {
                 if self.line.len() == 0 {
                     u64::MAX
@@ -225,7 +194,8 @@ impl Queue {
             return true;
         }
         let place = self.taken + 1;
-        self.push(best_packet(&shape.bounds, place, size, clock), clock);
+        let packet = best_packet(&shape.bounds, place, size, clock);
+        self.push(&packet, clock);
         false
     }
 
@@ -234,32 +204,56 @@ impl Queue {
     pub(crate) fn serve(&mut self, shape: &LinkShape, clock: u64) -> Left
         requires early { clock < 2 ^ 61 }
         requires looked { self.old.looked ≤ clock }
+        requires rate { self.old.rate ≡ shape.now.rate }
         requires serves { CanServe shape.now clock self.old.on }
         ensures sent { result.sent ≡ departs shape.now clock (served clock self.old.here self.old.on) }
         ensures best_sent { result.best_sent ≡ best_departs shape.now clock (served clock self.old.here self.old.on) }
-        ensures gone { option_map arrival_in result.gone ≡ leaver shape.now.rate clock (served clock self.old.here self.old.on) }
+        ensures gone { result.gone ≡ leaver shape.now.rate clock (served clock self.old.here self.old.on) }
         ensures kept { self.new ≡ record self.old { here = still_here shape.now.rate clock (served clock self.old.here self.old.on) self.old.here; on = still_on shape.now.rate clock (served clock self.old.here self.old.on); looked = self.new.looked } }
         ensures looked { self.new.looked ≤ clock }
     {
-        let Some(running) = self.occupant(clock) else {
-            return Left {
-                sent: None,
-                best_sent: false,
-                gone: None,
-            };
+        let Some(running) = &self.on else {
+            return self.start(shape, clock);
         };
-        if running.leaves_at(shape.rate) > clock + 1 {
-            return Left {
-                sent: None,
-                best_sent: false,
-                gone: None,
-            };
+        if running.leaves > clock + 1 {
+            return Left::NOTHING;
         }
+        let left = running.left(shape);
         self.on = None;
-        Left {
-            sent: running.sent(shape),
-            best_sent: running.is_best(&shape.bounds),
-            gone: Some(running.packet),
+        left
+    }
+
+    // Lets the first in line of those here start in this tick, where the link is free. One whose last tick this is departs at its
+    // end, and is never kept as the one on the link.
+    fn start(&mut self, shape: &LinkShape, clock: u64) -> Left
+        requires early { clock < 2 ^ 61 }
+        requires looked { self.old.looked ≤ clock }
+        requires rate { self.old.rate ≡ shape.now.rate }
+        requires free { self.old.on ≡ None }
+        ensures sent { result.sent ≡ departs shape.now clock (served clock self.old.here None) }
+        ensures best_sent { result.best_sent ≡ best_departs shape.now clock (served clock self.old.here None) }
+        ensures gone { result.gone ≡ leaver shape.now.rate clock (served clock self.old.here None) }
+        ensures kept { self.new ≡ record self.old { here = still_here shape.now.rate clock (served clock self.old.here None) self.old.here; on = still_on shape.now.rate clock (served clock self.old.here None); looked = self.new.looked } }
+        ensures looked { self.new.looked ≤ clock }
+    {
+        // most ticks of a run find no packet here, and needn't look at the line
+        if self.line.len() == 0 {
+            return Left::NOTHING;
         }
+        let Some(packet) = self.line.next(clock) else {
+            return Left::NOTHING;
+        };
+        self.best_waiting -= best_in(&packet, &self.bounds);
+        let leaves = clock + ceil_div(u64::from(packet.size), u64::from(shape.rate));
+        let running = Running {
+            packet,
+            tick: clock,
+            leaves,
+        };
+        if leaves > clock + 1 {
+            self.on = Some(running);
+            return Left::NOTHING;
+        }
+        running.left(shape)
     }
 }

@@ -1,7 +1,6 @@
 //! The table of a link's rows: each row as the link serves it, where a channel's stands, when its next packets are planned, and what
 //! the rows keep together.
 ghost use Rattle.std.specs.Prelude.{◌≡◌, ℕ, ◌+◌, ◌-◌, ◌^◌, ◌<◌, ◌≤◌, ◌∷◌, ◌++◌, [], List, filter, find, length, map, slice_get, None, Some, IfNone, IfSome, IfOk, IfErr, OnOk, OnErr, MatchResult};
-ghost use Rattle.std.specs.Option.{option_map};
 ghost use Rattle.std.specs.Vec.{vec_capacity};
 ghost use Rattle.net_units.specs.Limits.{most_bound};
 ghost use Rattle.net_units.specs.LevelBounds.{last_bound};
@@ -32,7 +31,7 @@ mod sources;
 use crate::keyed_list::KeyedList;
 use crate::planned::Planned;
 use crate::queue::Queue;
-use crate::queue::held_packet::HeldPacket;
+use crate::queue::held_packet::{Gone, HeldPacket};
 use crate::table::expiry::{expire, put_hold};
 use crate::table::keeping::Keeping;
 use crate::table::plans::{Plans, put_plan};
@@ -40,7 +39,7 @@ use crate::table::row_index::RowIndex;
 use crate::table::rows::{held_key, key_of, take_out};
 use crate::table::served_row::ServedRow;
 use crate::table::sources::take_turns;
-use link_steps::{LinkShape, Packet};
+use link_steps::{LinkShape, Packet, Refusal, Why};
 use net_units::{Bounds, ChanNo, Level, OutOfMemory};
 use rcsp_admission::{LevelSums, NoLevel};
 use std::alloc::Global;
@@ -79,9 +78,8 @@ impl Model for Table {
 }
 
 impl Table {
-    ghost use Rattle.link_server.specs.Changes.{HasRow, IsRowAtHop, MayCommit, MayPlan, MayClose, MayTake, MayAdd};
+    ghost use Rattle.link_server.specs.Changes.{HasRow, IsRowAtHop, MayCommit, MayPlan, MayClose, MayAdd, AreSoonWith, TakesAs, arrive_rule};
     ghost use Rattle.link_server.specs.Sound.{all_places_of};
-    ghost use Rattle.link_server.specs.Strays.{stray};
 
     // The table of no rows, at a link of this shape.
     pub(crate) fn new(alloc: Global, shape: &LinkShape) -> Result<Table, OutOfMemory>
@@ -246,23 +244,36 @@ impl Table {
         self.looked = clock;
     }
 
-    // The packet's row takes it from the link before, where it isn't stray, in the tick of the clock. The packet has `number`, the
-    // next arrival number of the link.
-    pub(crate) fn take(&mut self, packet: &Packet, number: u64, clock: u64) -> HeldPacket
+    // The packet's row takes it from the link before, or refuses it, in the tick of the clock. The packet has `number`, the next arrival
+    // number of the link.
+    pub(crate) fn take(
+        &mut self,
+        packet: &Packet,
+        number: u64,
+        clock: u64,
+    ) -> Result<HeldPacket, Refusal>
         requires looked { self.old.looked ≤ clock }
         requires early { clock < 2 ^ 61 }
         requires size { 1 ≤ packet.now.size }
         requires due { packet.now.due < 2 ^ 62 }
-        requires may { HasRow (MayTake clock number packet.now) packet.now.chan self.old.rows }
-        ensures packet { IfSome (find (is_account_of packet.now.chan) self.old.rows) (λ row. arrival_in result ≡ account_arrived clock number packet.now row) }
-        ensures table { self.new ≡ record self.old { rows = change_first (is_account_of packet.now.chan) (account_arrived_row clock number packet.now) self.old.rows; looked = clock } }
+        requires ready { Each (IsReady clock) self.old.rows }
+        requires soon { AreSoonWith clock number packet.now self.old }
+        ensures refused { IfErr result (λ refusal. (here : List Arrival) → AreCounted here self.old.rows self.old.departed → Some refusal ≡ arrive_rule self.old.server.bounds here packet.now (find (is_account_of packet.now.chan) self.old.rows)) }
+        ensures same { OnErr result (self.new ≡ self.old) }
+        ensures taken { IfOk result (λ taken. HasRow (TakesAs clock number packet.now self.old (arrival_in taken)) packet.now.chan self.old.rows) }
+        ensures table { OnOk result (self.new ≡ record self.old { rows = change_first (is_account_of packet.now.chan) (account_arrived_row clock number packet.now) self.old.rows; looked = clock }) }
     {
-        let key = held_key(&self.rows, &self.index, packet.chan);
+        let Some(key) = key_of(&self.rows, &self.index, packet.chan) else {
+            return Err(Refusal::Stray { why: Why::NoRow });
+        };
+        if let Some(refusal) = self.rows[key].arrive_refusal(packet, &self.bounds) {
+            return Err(refusal);
+        }
         let row = &mut self.rows[key];
         let taken = row.take(packet.size, packet.due, number, clock);
         put_hold(&mut self.holds, row, &self.bounds, clock);
         self.looked = clock;
-        taken
+        Ok(taken)
     }
 
     // Takes out the rows whose hold has ended by this tick. It looks only at those of which the calendar says so.
@@ -308,17 +319,17 @@ impl Table {
     }
 
     // The packet that leaves the link, if one does, departs: its row counts it, if that is still held.
-    pub(crate) fn depart(&mut self, gone: &Option<HeldPacket>)
-        ensures { self.new ≡ record self.old { departed = departed_after (option_map arrival_in gone.now) self.old.rows self.old.departed } }
+    pub(crate) fn depart(&mut self, left: Option<Gone>)
+        ensures { self.new ≡ record self.old { departed = departed_after left self.old.rows self.old.departed } }
     {
-        let Some(packet) = gone else {
+        let Some(gone) = left else {
             return;
         };
-        let Some(key) = key_of(&self.rows, &self.index, packet.chan) else {
+        let Some(key) = key_of(&self.rows, &self.index, gone.chan) else {
             return;
         };
         let row = &mut self.rows[key];
-        row.depart(packet.lead);
+        row.depart(gone.lead);
     }
 
     // A tick before which no row's hold ends and no packet of one is planned.

@@ -25,35 +25,38 @@ impl LinkState {
         if self.clock < self.due {
             return Ok(self.rest_once());
         }
-        Ok(self.make_tick())
+        // any reply: the tick writes its own
+        let mut reply = Reply::Denied;
+        self.make_tick(&mut reply);
+        Ok(reply)
     }
 
     // Makes a tick in which something may fall due: rows whose hold has ended expire, the source packets that are planned for it
-    // arrive, then the best-effort packet, and the link serves the packets here. It never wants memory.
+    // arrive, then the best-effort packet, and the link serves the packets here. It never wants memory. The reply is written in its
+    // place.
     #[inline(never)]
-    pub(crate) fn make_tick(&mut self) -> Reply
+    pub(crate) fn make_tick(&mut self, reply: &mut Reply)
         requires early { self.old.clock < 2 ^ 61 }
         ensures shape { self.new.shape ≡ self.old.shape }
         ensures clock { self.new.clock ≡ suc self.old.clock }
-        ensures reply { result ≡ account_reply (whole self.old.shape) (account_in self.old) AskTick }
-        ensures kept { account_in self.new ≡ account_after self.old.shape (account_in self.old) AskTick result }
+        ensures reply { reply.new ≡ account_reply (whole self.old.shape) (account_in self.old) AskTick }
+        ensures kept { account_in self.new ≡ account_after self.old.shape (account_in self.old) AskTick reply.new }
     {
         let clock = self.clock;
-        let shape = self.shape;
         self.table.expire(clock);
-        let fits = self.queue.best_fits(&shape, clock);
+        let fits = self.queue.best_fits(&self.shape, clock);
         let full = self.table.take_source_packets(&mut self.queue, clock);
-        let best_lost = self.queue.take_best(fits, &shape, clock);
-        let left = self.queue.serve(&shape, clock);
-        self.table.depart(&left.gone);
+        let best_lost = self.queue.take_best(fits, &self.shape, clock);
+        let left = self.queue.serve(&self.shape, clock);
+        self.table.depart(left.gone);
         self.clock += 1;
-        self.due = next_due(&self.table, &self.queue, &shape);
-        Reply::Ticked {
+        self.due = next_due(&self.table, &self.queue);
+        *reply = Reply::Ticked {
             clock,
             full,
             sent: left.sent,
             best_sent: left.best_sent,
             best_lost,
-        }
+        };
     }
 }

@@ -4,6 +4,7 @@ use Rattle.link_server.proofs.Words.{nat_eq, nat_lt, if◌then◌else◌, remove
 use Rattle.link_steps.specs.Lists.{change_first}
 use Rattle.std.proofs.lemmas.Bool.{cond_both}
 use Rattle.link_server.specs.Departed.{AreCounted, IsCounted, departed_after, departed_in}
+use Rattle.link_server.specs.declared.queue.held_packet.Gone.{Gone}
 
 module _ (here : List Arrival) where
   -- one row is changed
@@ -39,23 +40,23 @@ module _ (here : List Arrival) where
 -- ---- a packet departs
 
 -- of no row
-pub none-departs : (p : Arrival) (rows : List ServedRow) → IsAbsent p.chan rows → map departed_in rows ≡ departed_after (Some p) (map row_in rows) (map departed_in rows)
-none-departs p [] absent = refl
-none-departs p (row ∷ rows) absent =
-    let rest = none-departs p rows (λ k d inside. absent (suc k) d (omega (arith, inside))) in
+pub none-departs : (gone : Gone) (rows : List ServedRow) → IsAbsent gone.chan rows → map departed_in rows ≡ departed_after (Some gone) (map row_in rows) (map departed_in rows)
+none-departs gone [] absent = refl
+none-departs gone (row ∷ rows) absent =
+    let rest = none-departs gone rows (λ k d inside. absent (suc k) d (omega (arith, inside))) in
     rw (absent 0 row (omega arith)) (ap (λ all. row.departed ∷ all) rest)
 
 -- of the row at a place, the only one of its channel, if it has its lead and one here
-pub one-departs : (p : Arrival) (rows : List ServedRow) (i : ℕ) (new d : ServedRow) → i < length rows → is_served_row_of p.chan (get_or rows i d) ≡ true
-    → ((k : ℕ) (d : ServedRow) → k < length rows → (k ≡ i → ⊥) → is_served_row_of p.chan (get_or rows k d) ≡ false)
-    → new.departed ≡ (if nat_eq (get_or rows i d).lead p.lead && nat_lt (get_or rows i d).departed (get_or rows i d).taken then suc (get_or rows i d).departed else (get_or rows i d).departed)
-    → map departed_in (set rows i new) ≡ departed_after (Some p) (map row_in rows) (map departed_in rows)
-one-departs p [] i new d inside own others counts = absurd (omega arith)
-one-departs p (row ∷ rows) zero new d inside own others counts =
-    let rest = none-departs p rows (λ k e within. others (suc k) e (omega (arith, within)) (λ same. absurd (omega (arith, same)))) in
-    rw own (ap (λ n. n ∷ map departed_in rows) counts ∙ ap (λ all. (if nat_eq row.lead p.lead && nat_lt row.departed row.taken then suc row.departed else row.departed) ∷ all) rest)
-one-departs p (row ∷ rows) (suc i) new d inside own others counts =
-    let rest = one-departs p rows i new d (omega (arith, inside)) own (λ k e within other. others (suc k) e (omega (arith, within)) (λ same. other (omega (arith, same)))) counts in
+pub one-departs : (gone : Gone) (rows : List ServedRow) (i : ℕ) (new d : ServedRow) → i < length rows → is_served_row_of gone.chan (get_or rows i d) ≡ true
+    → ((k : ℕ) (d : ServedRow) → k < length rows → (k ≡ i → ⊥) → is_served_row_of gone.chan (get_or rows k d) ≡ false)
+    → new.departed ≡ (if nat_eq (get_or rows i d).lead gone.lead && nat_lt (get_or rows i d).departed (get_or rows i d).taken then suc (get_or rows i d).departed else (get_or rows i d).departed)
+    → map departed_in (set rows i new) ≡ departed_after (Some gone) (map row_in rows) (map departed_in rows)
+one-departs gone [] i new d inside own others counts = absurd (omega arith)
+one-departs gone (row ∷ rows) zero new d inside own others counts =
+    let rest = none-departs gone rows (λ k e within. others (suc k) e (omega (arith, within)) (λ same. absurd (omega (arith, same)))) in
+    rw own (ap (λ n. n ∷ map departed_in rows) counts ∙ ap (λ all. (if nat_eq row.lead gone.lead && nat_lt row.departed row.taken then suc row.departed else row.departed) ∷ all) rest)
+one-departs gone (row ∷ rows) (suc i) new d inside own others counts =
+    let rest = one-departs gone rows i new d (omega (arith, inside)) own (λ k e within other. others (suc k) e (omega (arith, within)) (λ same. other (omega (arith, same)))) counts in
     rw (others 0 row (omega arith) (λ same. absurd (omega (arith, same)))) (ap (λ all. row.departed ∷ all) rest)
 
 -- ---- a link

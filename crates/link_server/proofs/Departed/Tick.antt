@@ -10,6 +10,7 @@ use Rattle.link_steps.specs.Account.{brought, account_after, account_after_tick,
 use Rattle.link_steps.proofs.SearchAndFilter.{Each-filter, Each-find, Each-if}
 use Rattle.link_steps.proofs.RowPackets.{IsLedUpTo}
 use Rattle.link_server.specs.Departed.{AreCounted, IsCounted, IsOwn, departed_after, leaver}
+use Rattle.link_server.specs.Packets.{gone_of}
 use Rattle.link_server.specs.Sound.{AreNumberedWithin, IsRunning, IsSound, IsSoundPacket, IsSoundRow, has_arrival_number, with_brought}
 use Rattle.link_server.proofs.Departed.Packets.{counted-brought, still-counted}
 use Rattle.link_server.proofs.Sound.Packets.{numbered-above}
@@ -61,7 +62,7 @@ left-counted start here taken row n numbered found counted =
     ]
 
 all-left : (start : Start) (here : List Arrival) (taken : ℕ) (rows : List AccountRow) (ns : List ℕ) → AreNumberedWithin 0 here taken → find (has_arrival_number start.packet.place) here ≡ Some start.packet → AreCounted here rows ns
-    → AreCounted (filter (is_other start) here) rows (departed_after (Some start.packet) rows ns)
+    → AreCounted (filter (is_other start) here) rows (departed_after (Some (gone_of start.packet)) rows ns)
 all-left start here taken [] [] numbered found each = tt
 all-left start here taken (row ∷ rows) (n ∷ ns) numbered found each = (left-counted start here taken row n numbered found each.0, all-left start here taken rows ns numbered found each.1)
 all-left start here taken [] (n ∷ ns) numbered found each = absurd each
@@ -72,7 +73,7 @@ pub counted-left : (rate t : ℕ) (on : Option Start) (here : List Arrival) (tak
     → AreCounted (still_here rate t on here) rows (departed_after (leaver rate t on) rows ns)
 counted-left rate t None here taken rows ns numbered running each = each
 counted-left rate t (Some start) here taken rows ns numbered running each =
-    elim (leaves_by rate t start) as (λ b. AreCounted (if b then filter (is_other start) here else here) rows (departed_after (if b then Some start.packet else None) rows ns)) [
+    elim (leaves_by rate t start) as (λ b. AreCounted (if b then filter (is_other start) here else here) rows (departed_after (if b then Some (gone_of start.packet) else None) rows ns)) [
       | true ↦ all-left start here taken rows ns numbered (running start refl).is_here each
       | false ↦ each
     ]

@@ -1,5 +1,5 @@
 -- The answers to an arrive, case by case.
-use Rattle.std.proofs.Common.{◌≡◌, ℕ, suc, ◌+◌, ◌<◌, ◌^◌, [], ◌∷◌, ◌++◌, List, Some, None, length, refl, sym, ap, ◌∙◌, subst, arith}
+use Rattle.std.proofs.Common.{◌≡◌, ℕ, suc, ◌+◌, ◌<◌, ◌^◌, [], ◌∷◌, ◌++◌, List, Option, Some, None, length, refl, sym, ap, ◌∙◌, subst, arith}
 use Rattle.std.proofs.lemmas.Bool.{eqb-true}
 use Rattle.std.proofs.lemmas.List.{length-append}
 use Rattle.link_server.proofs.Words.{nat_eq, find, Arrive, Packet, Refusal, Reply, LinkShape, held_packets, slots_of, whole, Each, Reservation, newest, Arrival, account, HeldPacket, QueueAccount}
@@ -14,7 +14,9 @@ use Rattle.link_steps.proofs.Account.{same-kept}
 use Rattle.link_steps.proofs.RulesPassed.{unless-none}
 use Rattle.link_server.specs.Packets.{arrival_in}
 use Rattle.link_server.specs.Sound.{IsSound}
-use Rattle.link_server.specs.Strays.{first_rule, stray}
+use Rattle.std.proofs.lemmas.Option.{same_Some}
+use Rattle.link_server.specs.Changes.{arrive_rule}
+use Rattle.link_server.specs.Strays.{arrive_refusal, first_rule, stray}
 use Rattle.link_steps.specs.Lists.{change_first}
 use Rattle.link_server.proofs.RowsOfTable.Placed.{each-changed}
 use Rattle.link_server.proofs.Sound.Numbers.{rows-upto}
@@ -33,45 +35,52 @@ rules-kept [] more reply none = refl
 rules-kept (None ∷ rules) more reply none = rules-kept rules more reply none
 rules-kept (Some other ∷ rules) more reply none = cc
 
--- the reply to a packet of a channel without a row
-pub arrive-absent : (shape : LinkShape) (k : Account) (packet : Packet) → find (is_account_of packet.chan) k.rows ≡ None → Refused (Stray NoRow) ≡ account_reply (whole shape) k (Arrive packet)
-unfolding account_reply
-arrive-absent shape k packet absent = rw absent refl
+-- the rules before and after: where none of the first applies, the first of those after is the refusal of all
+pub rule-first : (rules more : List RefusalRule) (refusal : Refusal) → Some refusal ≡ first_rule rules → Some refusal ≡ first_rule (rules ++ more)
+rule-first [] more refusal first = cc
+rule-first (None ∷ rules) more refusal first = rule-first rules more refusal first
+rule-first (Some other ∷ rules) more refusal first = first
 
--- or else it is that of the row at the place: its rules on strays come first, and then its slots
-abbrev pub slots-rule : LinkShape → List Arrival → AccountRow → RefusalRule
-slots-rule shape here row = full (held_packets row.lead here) (slots_of shape.bounds row.terms)
+pub rule-after : (rules more : List RefusalRule) → None ≡ first_rule rules → first_rule more ≡ first_rule (rules ++ more)
+rule-after [] more none = refl
+rule-after (None ∷ rules) more none = rule-after rules more none
+rule-after (Some other ∷ rules) more none = cc
+
+pub rule-one : (rule : RefusalRule) → rule ≡ first_rule (rule ∷ [])
+rule-one None = refl
+rule-one (Some refusal) = refl
+
+rules-before : (rules more : List RefusalRule) → None ≡ first_rule (rules ++ more) → None ≡ first_rule rules
+rules-before [] more none = refl
+rules-before (None ∷ rules) more none = rules-before rules more none
+rules-before (Some other ∷ rules) more none = cc
+
+-- a packet that isn't refused is no stray
+pub placed-stray : (bounds : List ℕ) (packet : Packet) (terms : Reservation) (taken held : ℕ) → None ≡ arrive_refusal bounds packet terms taken held → None ≡ stray packet terms taken
+placed-stray bounds packet terms taken held none = rules-before (stray_rules packet terms taken) (full held (slots_of bounds terms) ∷ []) none
+
+-- the rules on a packet at a row, and the reply where none applies
+abbrev all-rules : LinkShape → List Arrival → Packet → AccountRow → List RefusalRule
+all-rules shape here packet row = stray_rules packet row.terms row.taken ++ full (held_packets row.lead here) (slots_of shape.bounds row.terms) ∷ []
 
 abbrev taken-reply : ℕ → Packet → AccountRow → Reply
 taken-reply t packet row = Taken t (eligible_next row.terms row.recent t packet.due)
 
-arrive-found : (shape : LinkShape) (k : Account) (packet : Packet) (row : AccountRow) → find (is_account_of packet.chan) k.rows ≡ Some row
-    → account_reply (whole shape) k (Arrive packet) ≡ first_refusal (stray_rules packet row.terms row.taken ++ slots-rule shape k.here row ∷ []) (taken-reply k.clock packet row)
+-- the reply to a packet that is refused, and to one that is taken
+pub arrive-refused : (shape : LinkShape) (k : Account) (packet : Packet) (refusal : Refusal) → Some refusal ≡ arrive_rule shape.bounds k.here packet (find (is_account_of packet.chan) k.rows) → Refused refusal ≡ account_reply (whole shape) k (Arrive packet)
 unfolding account_reply arrive_reply
-arrive-found shape k packet row found = ap (account_arrive shape k.clock k.here packet) found
+arrive-refused shape k packet refusal first = refused (find (is_account_of packet.chan) k.rows) first where
+  refused : (row : Option AccountRow) → Some refusal ≡ arrive_rule shape.bounds k.here packet row → Refused refusal ≡ account_arrive shape k.clock k.here packet row
+  refused None first = ap Refused (same_Some refusal (Stray NoRow) first)
+  refused (Some row) first = rule-applies (all-rules shape k.here packet row) [] (taken-reply k.clock packet row) refusal first
 
--- a packet without a place, one that finds each slot taken, and one that is taken
-pub arrive-stray : (shape : LinkShape) (k : Account) (packet : Packet) (row : AccountRow) (refusal : Refusal) → find (is_account_of packet.chan) k.rows ≡ Some row → Some refusal ≡ stray packet row.terms row.taken → Refused refusal ≡ account_reply (whole shape) k (Arrive packet)
-arrive-stray shape k packet row refusal found first = rule-applies (stray_rules packet row.terms row.taken) (slots-rule shape k.here row ∷ []) (taken-reply k.clock packet row) refusal first ∙ sym (arrive-found shape k packet row found)
-
-pub arrive-full : (shape : LinkShape) (k : Account) (packet : Packet) (row : AccountRow) (refusal : Refusal) → find (is_account_of packet.chan) k.rows ≡ Some row → None ≡ stray packet row.terms row.taken
-    → Some refusal ≡ slots-rule shape k.here row → Refused refusal ≡ account_reply (whole shape) k (Arrive packet)
-arrive-full shape k packet row refusal found none holds =
-    rule-applies (slots-rule shape k.here row ∷ []) [] (taken-reply k.clock packet row) refusal (one-rule (slots-rule shape k.here row) refusal holds)
-    ∙ rules-kept (stray_rules packet row.terms row.taken) (slots-rule shape k.here row ∷ []) (taken-reply k.clock packet row) none ∙ sym (arrive-found shape k packet row found) where
-      one-rule : (rule : RefusalRule) (refusal : Refusal) → Some refusal ≡ rule → Some refusal ≡ first_rule (rule ∷ [])
-      one-rule None refusal same = same
-      one-rule (Some other) refusal same = same
-
-pub arrive-taken : (shape : LinkShape) (k : Account) (packet : Packet) (row : AccountRow) (e : ℕ) → find (is_account_of packet.chan) k.rows ≡ Some row → None ≡ stray packet row.terms row.taken
-    → None ≡ slots-rule shape k.here row → e ≡ eligible_next row.terms row.recent k.clock packet.due → Taken k.clock e ≡ account_reply (whole shape) k (Arrive packet)
-arrive-taken shape k packet row e found none free tick =
+pub arrive-taken : (shape : LinkShape) (k : Account) (packet : Packet) (row : AccountRow) (e : ℕ) → find (is_account_of packet.chan) k.rows ≡ Some row → None ≡ arrive_rule shape.bounds k.here packet (Some row) → e ≡ eligible_next row.terms row.recent k.clock packet.due
+    → Taken k.clock e ≡ account_reply (whole shape) k (Arrive packet)
+unfolding account_reply arrive_reply
+arrive-taken shape k packet row e found none tick =
     ap (Taken k.clock) tick
-    ∙ rule-none (slots-rule shape k.here row) (taken-reply k.clock packet row) free
-    ∙ rules-kept (stray_rules packet row.terms row.taken) (slots-rule shape k.here row ∷ []) (taken-reply k.clock packet row) none ∙ sym (arrive-found shape k packet row found) where
-      rule-none : (rule : RefusalRule) (reply : Reply) → None ≡ rule → reply ≡ first_refusal (rule ∷ []) reply
-      rule-none None reply none = refl
-      rule-none (Some other) reply none = cc
+    ∙ rules-kept (all-rules shape k.here packet row) [] (taken-reply k.clock packet row) none
+    ∙ ap (account_arrive shape k.clock k.here packet) (sym found)
 
 -- a refusal changes nothing
 pub arrive-same : (shape : LinkShape) (k : Account) (packet : Packet) (refusal : Refusal) → k ≡ account_after shape k (Arrive packet) (Refused refusal)

@@ -86,7 +86,7 @@ stepped-queue bounds clock queue step looked =
 nothing-taken : (bounds : List ℕ) (clock : ℕ) (queue : QueueAccount) (left : List SourcePacket) → left ≡ left_at (clock + 1) queue.best → record queue { best = left } ≡ stepped-queue bounds clock queue Rests queue.looked
 nothing-taken bounds clock queue left over =
     let same : queue.taken ≡ queue.taken + 0 = omega arith in
-    queue-same (record queue { best = left }) (stepped-queue bounds clock queue Rests queue.looked) same (sym (append-nil queue.here)) refl over refl refl refl
+    queue-same (record queue { best = left }) (stepped-queue bounds clock queue Rests queue.looked) same (sym (append-nil queue.here)) refl over refl refl refl refl
 
 pub rests-queue : (bounds : List ℕ) (clock : ℕ) (queue : QueueAccount) (left : List SourcePacket) (step : SourceStep) → step ≡ Rests → left ≡ left_at (clock + 1) queue.best → record queue { best = left } ≡ stepped-queue bounds clock queue step queue.looked
 rests-queue bounds clock queue left step is over = rw is (nothing-taken bounds clock queue left over)
@@ -99,4 +99,4 @@ pub brings-queue : (bounds : List ℕ) (clock size looked : ℕ) (queue : QueueA
 brings-queue bounds clock size looked queue left step packet is over made =
     let next : queue.taken + 1 ≡ suc queue.taken = omega arith in
     let put : queue.here ++ packet ∷ [] ≡ queue.here ++ best_arrival bounds (suc queue.taken) size clock ∷ [] = ap (λ p. queue.here ++ p ∷ []) (made ∙ ap (λ n. best_arrival bounds n size clock) next) in
-    rw is (queue-same (record queue { taken = queue.taken + 1; here = queue.here ++ packet ∷ []; best = left; looked = looked }) (stepped-queue bounds clock queue (Brings size) looked) refl put refl over refl refl refl)
+    rw is (queue-same (record queue { taken = queue.taken + 1; here = queue.here ++ packet ∷ []; best = left; looked = looked }) (stepped-queue bounds clock queue (Brings size) looked) refl put refl over refl refl refl refl)

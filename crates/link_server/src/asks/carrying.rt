@@ -9,7 +9,7 @@ ghost use Rattle.link_server.specs.State.{account_in};
 use crate::link_state::LinkState;
 use crate::planned::Planned;
 use crate::table::served_row::busy_with;
-use link_steps::{Packet, Refusal, Reply, Why};
+use link_steps::{Packet, Refusal, Reply};
 use net_units::ChanNo;
 
 impl LinkState {
@@ -66,33 +66,27 @@ impl LinkState {
         Reply::Closing { count, cancelled }
     }
 
-    // Takes a packet from the link before.
-    pub(crate) fn arrive(&mut self, packet: &Packet) -> Reply
+    // Takes a packet from the link before. The reply is written in its place.
+    pub(crate) fn arrive(&mut self, packet: &Packet, reply: &mut Reply)
         requires fits { PacketFits packet.now }
         requires early { self.old.clock < 2 ^ 61 }
         ensures shape { self.new.shape ≡ self.old.shape }
         ensures clock { self.new.clock ≡ self.old.clock }
-        ensures reply { result ≡ account_reply (whole self.old.shape) (account_in self.old) (AskArrive packet.now) }
-        ensures kept { account_in self.new ≡ account_after self.old.shape (account_in self.old) (AskArrive packet.now) result }
+        ensures reply { reply.new ≡ account_reply (whole self.old.shape) (account_in self.old) (AskArrive packet.now) }
+        ensures kept { account_in self.new ≡ account_after self.old.shape (account_in self.old) (AskArrive packet.now) reply.new }
     {
-        let Some(row) = self.table.row_of(packet.chan) else {
-            return Reply::Refused(Refusal::Stray { why: Why::NoRow });
-        };
-        if let Some(refusal) = row.stray(packet) {
-            return Reply::Refused(refusal);
-        }
-        let bounds = self.shape.bounds;
-        if let Some(refusal) = row.full(&bounds) {
-            return Reply::Refused(refusal);
-        }
-        self.due = 0;
         let clock = self.clock;
         let number = self.queue.taken() + 1;
-        let taken = self.table.take(packet, number, clock);
-        self.queue.push(taken, clock);
-        Reply::Taken {
-            clock,
-            eligible: taken.eligible,
+        match self.table.take(packet, number, clock) {
+            Ok(taken) => {
+                self.due = 0;
+                self.queue.push(&taken, clock);
+                *reply = Reply::Taken {
+                    clock,
+                    eligible: taken.eligible,
+                };
+            }
+            Err(refusal) => *reply = Reply::Refused(refusal),
         }
     }
 

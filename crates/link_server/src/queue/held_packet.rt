@@ -1,8 +1,8 @@
-//! A packet that a link has taken, and one that has started.
+//! A packet that a link has taken, one that has started, and what leaves the link.
 ghost use Rattle.std.specs.Prelude.{◌≡◌, ◌^◌, ◌<◌, ◌≤◌, if◌then◌else◌};
 
 use link_steps::{LinkShape, Packet, Sent};
-use net_units::{Bounds, ChanNo, Level, LinkNo, ceil_div};
+use net_units::{Bounds, ChanNo, Level, LinkNo};
 
 // A packet that the link has taken.
 #[derive(Clone, Copy)]
@@ -27,12 +27,39 @@ pub(crate) struct HeldPacket {
     ghost has_most: { level ≤ 9 },
 }
 
-// A packet that has started, and the tick at which it did.
+// A packet that has started, the tick at which it did, and that at which it departs.
 #[derive(Clone, Copy)]
 pub(crate) struct Running {
     pub(crate) packet: HeldPacket,
     pub(crate) tick: u64,
-    ghost early: { tick < 2 ^ 61 },
+    pub(crate) leaves: u64,
+    ghost later: { tick < leaves },
+    ghost early: { leaves < 2 ^ 62 },
+}
+
+// What leaves a link at the end of a tick: a packet of a channel, or a best-effort packet, if any.
+#[derive(Clone, Copy)]
+pub(crate) struct Left {
+    pub(crate) sent: Option<Sent>,
+    pub(crate) best_sent: bool,
+    // The packet, of either kind.
+    pub(crate) gone: Option<Gone>,
+}
+
+// A packet that has departed, as its row counts it: by its channel and its lead.
+#[derive(Clone, Copy)]
+pub(crate) struct Gone {
+    pub(crate) chan: ChanNo,
+    pub(crate) lead: u64,
+}
+
+impl Left {
+    // No packet leaves.
+    pub(crate) const NOTHING: Left = Left {
+        sent: None,
+        best_sent: false,
+        gone: None,
+    };
 }
 
 impl Running {
@@ -40,27 +67,37 @@ impl Running {
     ghost use Rattle.link_steps.specs.BestEffort.{is_best};
     ghost use Rattle.link_steps.specs.Replies.{sent_of};
     ghost use Rattle.link_steps.specs.Service.{leaves_at};
-    ghost use Rattle.link_server.specs.Packets.{start_in};
+    ghost use Rattle.link_server.specs.Packets.{gone_of, start_in};
 
-    // The tick at which it departs, on a link of this rate.
-    pub(crate) fn leaves_at(&self, rate: u32) -> u64
-        requires { 1 ≤ rate }
-        ensures value { result ≡ leaves_at rate (start_in self.now) }
-        ensures small { result < 2 ^ 62 }
+    // What leaves a link of this shape when the packet departs.
+    pub(crate) fn left(&self, shape: &LinkShape) -> Left
+        requires early { self.now.packet.eligible < 2 ^ 61 }
+        requires leaves { self.now.leaves ≡ leaves_at shape.now.rate (start_in self.now) }
+        ensures sent { result.sent ≡ (if is_best shape.now.bounds (start_in self.now).packet then None else Some (sent_of shape.now (start_in self.now))) }
+        ensures best_sent { result.best_sent ≡ is_best shape.now.bounds (start_in self.now).packet }
+        ensures gone { result.gone ≡ Some (gone_of (start_in self.now).packet) }
     {
-        self.tick + ceil_div(u64::from(self.packet.size), u64::from(rate))
+        Left {
+            sent: self.sent(shape),
+            best_sent: self.is_best(&shape.bounds),
+            gone: Some(Gone {
+                chan: self.packet.chan,
+                lead: self.packet.lead,
+            }),
+        }
     }
 
     // Whether it is a best-effort packet.
-    pub(crate) fn is_best(&self, bounds: &Bounds) -> bool
+    fn is_best(&self, bounds: &Bounds) -> bool
         ensures { result ≡ is_best bounds.now (start_in self.now).packet }
     {
         self.packet.level > bounds.len()
     }
 
     // The packet as it leaves the link, if it is one of a channel.
-    pub(crate) fn sent(&self, shape: &LinkShape) -> Option<Sent>
+    fn sent(&self, shape: &LinkShape) -> Option<Sent>
         requires early { self.now.packet.eligible < 2 ^ 61 }
+        requires leaves { self.now.leaves ≡ leaves_at shape.now.rate (start_in self.now) }
         ensures { result ≡ (if is_best shape.now.bounds (start_in self.now).packet then None else Some (sent_of shape.now (start_in self.now))) }
     {
         if self.is_best(&shape.bounds) {
@@ -79,7 +116,7 @@ impl Running {
             },
             at: packet.at,
             eligible: packet.eligible,
-            arrives: self.leaves_at(shape.rate) + prop,
+            arrives: self.leaves + prop,
             next: packet.next,
         })
     }

@@ -89,7 +89,7 @@ impl ServedRow {
     ghost use Rattle.link_server.specs.Packets.{arrival_in};
     ghost use Rattle.link_server.specs.Planned.{left_in, size_of, IsPlannedAhead};
     ghost use Rattle.link_server.specs.Rows.{reservation_in, row_in, is_served_at_hop, IsWithinLevels};
-    ghost use Rattle.link_server.specs.Strays.{stray};
+    ghost use Rattle.link_server.specs.Strays.{arrive_refusal, stray};
 
     // A tentative reservation at the offered level. It takes all memory that it will ever need.
     pub(crate) fn new(
@@ -246,7 +246,7 @@ impl ServedRow {
     }
 
     // The refusal of a packet from the link before that has no place here.
-    pub(crate) fn stray(&self, packet: &Packet) -> Option<Refusal>
+    fn stray(&self, packet: &Packet) -> Option<Refusal>
         requires { self.now.taken + 1 < 2 ^ 64 }
         ensures { result ≡ stray packet.now (reservation_in self.now) self.now.taken }
     {
@@ -270,7 +270,7 @@ impl ServedRow {
     }
 
     // The refusal of a packet where each slot holds one.
-    pub(crate) fn full(&self, bounds: &Bounds) -> Option<Refusal>
+    fn full(&self, bounds: &Bounds) -> Option<Refusal>
         requires { IsWithinLevels (length bounds.now) self.now }
         ensures { result ≡ full (self.now.taken - self.now.departed) (slots_of bounds.now (reservation_in self.now)) }
     {
@@ -280,6 +280,18 @@ impl ServedRow {
             return None;
         }
         Some(Refusal::Full { held, slots })
+    }
+
+    // The refusal of a packet from the link before, if there is one.
+    pub(crate) fn arrive_refusal(&self, packet: &Packet, bounds: &Bounds) -> Option<Refusal>
+        requires few { self.now.taken + 1 < 2 ^ 64 }
+        requires within { IsWithinLevels (length bounds.now) self.now }
+        ensures { result ≡ arrive_refusal bounds.now packet.now (reservation_in self.now) self.now.taken (self.now.taken - self.now.departed) }
+    {
+        match self.stray(packet) {
+            Some(refusal) => Some(refusal),
+            None => self.full(bounds),
+        }
     }
 
     // The size of the packet that is planned for this tick, if there is one. Then it is no longer left.

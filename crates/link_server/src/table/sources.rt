@@ -71,6 +71,6 @@ fn take_source_packet(row: &mut ServedRow, queue: &mut Queue, bounds: &Bounds, c
         return true;
     }
     let packet = row.take(size, 0, queue.taken() + 1, clock);
-    queue.push(packet, clock);
+    queue.push(&packet, clock);
     false
 }

@@ -12,7 +12,7 @@ ghost use Rattle.link_steps.specs.Quiet.{IsPlannedFrom, RestsUntil, RowRests, Se
 use crate::link_state::LinkState;
 use crate::queue::Queue;
 use crate::table::Table;
-use link_steps::{LinkShape, Reply};
+use link_steps::Reply;
 
 impl LinkState {
     /// A tick before which nothing falls due: no row's hold ends, no packet is planned, and none starts or departs.
@@ -22,7 +22,7 @@ impl LinkState {
         if self.clock < self.due {
             return self.due;
         }
-        next_due(&self.table, &self.queue, &self.shape)
+        next_due(&self.table, &self.queue)
     }
 
     /// Whether it rests in its next tick, as far as it knows without a look at its rows and packets.
@@ -67,11 +67,11 @@ impl LinkState {
     }
 }
 
-// A tick before which nothing falls due at a link of this shape with these rows and packets.
-pub(crate) fn next_due(table: &Table, queue: &Queue, shape: &LinkShape) -> u64
+// A tick before which nothing falls due at a link with these rows and packets.
+pub(crate) fn next_due(table: &Table, queue: &Queue) -> u64
     ensures rows { (clock : ℕ) → table.now.looked ≤ clock → Each (RowRests table.now.server.bounds clock result) table.now.rows }
     ensures best { Each (IsPlannedFrom result) queue.now.best }
-    ensures service { ServiceRests shape.now.rate result queue.now.here queue.now.on }
+    ensures service { ServiceRests queue.now.rate result queue.now.here queue.now.on }
 {
-    queue.rests_until(shape.rate).min(table.rests_until())
+    queue.rests_until().min(table.rests_until())
 }

@@ -47,6 +47,7 @@ invariant_of-self c =
       looked = (subst (λ t. t ≤ link.clock) (sym (ap (λ (table : TableAccount). table.looked) c.remove.ensures.rows)) link.looked.0, link.looked.1);
       few = link.few;
       same_bounds = link.same_bounds;
+      same_rate = link.same_rate;
       sound = subst (IsSound link.shape link.queue.room) (sym (kept after)) (sound-deny link.shape link.queue.room (account_in link) c.args.chan Denied link.sound);
       stood = still-stood link (Deny c.args.chan) Denied _ tt (replied after) (kept after);
       counted = c.remove.ensures.counted link.queue.here link.counted;

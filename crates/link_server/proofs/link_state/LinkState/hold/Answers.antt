@@ -52,6 +52,7 @@ invariant_of-self c =
       looked = (link.looked.0, let was = link.looked.1 in let looked = ap (λ (queue : QueueAccount). queue.looked) kept in omega (arith, was, looked));
       few = c.reserve.ensures.small link.few;
       same_bounds = ap (λ (queue : QueueAccount). queue.bounds) kept ∙ link.same_bounds;
+      same_rate = ap (λ (queue : QueueAccount). queue.rate) kept ∙ link.same_rate;
       sound = subst (λ (queue : QueueAccount). IsSound link.shape c.reserve.new.self.room (account link.clock queue link.table.rows)) (sym kept) (sound-larger link.shape link.queue.room c.reserve.new.self.room (account_in link) c.reserve.ensures.grows link.sound);
       stood = subst (λ (queue : QueueAccount). IsStood link.shape (account link.clock queue link.table.rows)) (sym kept) link.stood;
       counted = counted-still link c.reserve.new.self link.table (ap (λ (queue : QueueAccount). queue.here) kept) refl;
@@ -91,6 +92,7 @@ invariant_of-self-2 c =
       );
       few = c.reserve.ensures.small link.few;
       same_bounds = ap (λ (queue : QueueAccount). queue.bounds) kept ∙ link.same_bounds;
+      same_rate = ap (λ (queue : QueueAccount). queue.rate) kept ∙ link.same_rate;
       sound = subst (IsSound link.shape room) (sym after) (sound-held link.shape room (account_in link) c.args.wanted.now c.args.offer.now (row_in row) c.requires.fits larger c.requires.may c.in_ok-row.ensures.row enough);
       stood = subst (IsStood link.shape) (sym after) (stood-offered link.shape (account_in link) c.args.wanted.now c.args.offer.now (rows-have link) c.requires.fits c.requires.may link.stood);
       counted =
@@ -126,6 +128,7 @@ invariant_of-self-in-Break-branch-3 c =
       );
       few = c.reserve.ensures.small link.few;
       same_bounds = ap (λ (queue : QueueAccount). queue.bounds) kept ∙ link.same_bounds;
+      same_rate = ap (λ (queue : QueueAccount). queue.rate) kept ∙ link.same_rate;
       sound = subst (IsSound link.shape c.reserve.new.self.room) (sym both) (sound-larger link.shape link.queue.room c.reserve.new.self.room (account_in link) c.reserve.ensures.grows link.sound);
       stood = subst (IsStood link.shape) (sym both) link.stood;
       counted = counted-still link c.reserve.new.self c.add.new.self (ap (λ (queue : QueueAccount). queue.here) kept) same;

@@ -7,11 +7,10 @@ use Rattle.link_server.proofs.Replies.Pour.{best-step-is, waiting-is}
 use Rattle.link_server.proofs.Sound.Sources.{from_best}
 use Rattle.link_steps.specs.declared.replies.Reply.TheVariants.{Ticked}
 use Rattle.link_server.specs.Departed.{AreCounted, departed_after, leaver}
-use Rattle.link_server.specs.Packets.{arrival_in}
-use Rattle.std.specs.Option.{option_map}
 use Rattle.link_server.proofs.Departed.Tick.{here-after, tick-counted}
 use Rattle.link_steps.specs.Account.{Account, from_sources, held_rows, occupies, present, still_here, account_dropped, account_rows_after, account_reply, account_after}
 use Rattle.link_server.specs.Serving.{CanServe}
+use Rattle.link_steps.specs.Quiet.{ServiceRests}
 use Rattle.link_server.specs.Sound.{IsSound}
 use Rattle.link_server.proofs.Sound.Numbers.{best-room, brought-room, ahead-from}
 use Rattle.link_server.proofs.Sound.Serves.{sound-serves}
@@ -82,6 +81,12 @@ serve-left-requires-clause-serves c =
     subst (λ on. CanServe link.shape link.clock on) (sym (ap (λ (q : QueueAccount). q.on) c.take_best-best_lost.ensures.kept ∙ ap (λ (q : QueueAccount). q.on) queue))
     (sound-serves link.shape link.queue.room (account_in link) link.sound)
 
+pub serve-left-requires-clause-rate : goal.serve-left-requires-clause-rate
+serve-left-requires-clause-rate c =
+    let link = c.args.self.now in
+    let queue = brought (goal.at.serve-left-requires-clause-rate c).After-take_source_packets-full in
+    ap (λ (q : QueueAccount). q.rate) c.take_best-best_lost.ensures.kept ∙ ap (λ (q : QueueAccount). q.rate) queue ∙ link.same_rate
+
 pub serve-left-requires-clause-looked : goal.serve-left-requires-clause-looked
 serve-left-requires-clause-looked c =
     let looked = c.args.self.now.looked.1 in
@@ -110,7 +115,7 @@ stay-counted c =
     (subst (λ rows. AreCounted link.queue.here rows c.expire.new.self.departed) (at-shape (λ bounds rows. rows) link c.expire.new.self c.expire.ensures.rows) (c.expire.ensures.counted link.queue.here link.counted))
 
 -- the packet that leaves is the one that occupies the link by the account, if it leaves by then
-leaves : (c : After-serve-left) → IsServedAs c.args.self.now.shape (account_in c.args.self.now) c.take_best-best_lost.new.self → option_map arrival_in c.serve-left.result.gone ≡ leaver c.args.self.now.shape.rate c.args.self.now.clock (occupies c.args.self.now.shape (account_in c.args.self.now))
+leaves : (c : After-serve-left) → IsServedAs c.args.self.now.shape (account_in c.args.self.now) c.take_best-best_lost.new.self → c.serve-left.result.gone ≡ leaver c.args.self.now.shape.rate c.args.self.now.clock (occupies c.args.self.now.shape (account_in c.args.self.now))
 leaves c came = c.serve-left.ensures.gone ∙ ap (leaver c.args.self.now.shape.rate c.args.self.now.clock) came.occupant
 
 kept : (c : After-depart) → IsServedAs c.args.self.now.shape (account_in c.args.self.now) c.take_best-best_lost.new.self
@@ -141,6 +146,7 @@ invariant_of-self c =
     let took = c.take_source_packets-full.ensures.table in
     let left = c.depart.ensures in
     let room = ap (λ (q : QueueAccount). q.room) c.serve-left.ensures.kept ∙ ap (λ (q : QueueAccount). q.room) c.take_best-best_lost.ensures.kept ∙ ap (λ (q : QueueAccount). q.room) queue in
+    let rate = ap (λ (q : QueueAccount). q.rate) c.serve-left.ensures.kept ∙ ap (λ (q : QueueAccount). q.rate) c.take_best-best_lost.ensures.kept ∙ ap (λ (q : QueueAccount). q.rate) queue in
     let bounds = ap (λ (q : QueueAccount). q.bounds) c.serve-left.ensures.kept ∙ ap (λ (q : QueueAccount). q.bounds) c.take_best-best_lost.ensures.kept ∙ ap (λ (q : QueueAccount). q.bounds) queue in
     let few = link.few in
     let gone = leaver link.shape.rate link.clock (occupies link.shape (account_in link)) in
@@ -155,6 +161,7 @@ invariant_of-self c =
           (subst (IsSound link.shape link.queue.room) (sym after) (sound-tick link.shape link.queue.room (account_in link) reply link.sound));
       few = omega (arith, few, room);
       same_bounds = bounds ∙ link.same_bounds;
+      same_rate = rate ∙ link.same_rate;
       stood = still-stood link Tick reply _ tt (replied at.After-serve-left (ap (λ (q : QueueAccount). q.best) queue) served) after;
       counted =
           subst (λ here. AreCounted here c.depart.new.self.rows c.depart.new.self.departed) (sym (ap (λ (kept : Account). kept.here) after ∙ here-after link.shape (account_in link) reply))
@@ -168,7 +175,7 @@ invariant_of-self c =
             (ap (λ (t : TableAccount). t.server.bounds) left ∙ ap (λ (t : TableAccount). t.server.bounds) took ∙ at-shape (λ bounds rows. bounds) link c.expire.new.self c.expire.ensures.rows)
             (c.next_due-self.ensures.rows (link.clock + 1) (let looked = ap (λ (t : TableAccount). t.looked) left ∙ ap (λ (t : TableAccount). t.looked) took in omega (arith, looked)));
         best = c.next_due-self.ensures.best;
-        service = c.next_due-self.ensures.service;
+        service = subst (λ rate. ServiceRests rate c.next_due-self.result c.serve-left.new.self.here c.serve-left.new.self.on) (rate ∙ link.same_rate) c.next_due-self.ensures.service;
       };
     }
 

@@ -14,7 +14,7 @@ use Rattle.link_server.proofs.link_state.LinkState.new.Goals.{In_ok-new}
 
 nothing : (c : In_ok-new) → account 0 c.reserve.new.self c.in_ok-new.field-0.rows ≡ empty_account
 nothing c =
-    account-nothing c.reserve.new.self.room c.args.shape.bounds c.reserve.new.self c.in_ok-new.field-0.rows
+    account-nothing c.reserve.new.self.room c.args.shape.rate c.args.shape.bounds c.reserve.new.self c.in_ok-new.field-0.rows
     (c.reserve.ensures.kept ∙ ap (λ (queue : QueueAccount). record queue { room = c.reserve.new.self.room }) c.in_ok-queue.ensures)
     (ap (λ (table : TableAccount). table.rows) c.in_ok-new.ensures)
 
@@ -44,6 +44,9 @@ invariant_of-result-clause-looked c =
 
 pub invariant_of-result-clause-same_bounds : goal.invariant_of-result-clause-same_bounds
 invariant_of-result-clause-same_bounds c = ap (λ (queue : QueueAccount). queue.bounds) c.reserve.ensures.kept ∙ ap (λ (queue : QueueAccount). queue.bounds) c.in_ok-queue.ensures
+
+pub invariant_of-result-clause-same_rate : goal.invariant_of-result-clause-same_rate
+invariant_of-result-clause-same_rate c = ap (λ (queue : QueueAccount). queue.rate) c.reserve.ensures.kept ∙ ap (λ (queue : QueueAccount). queue.rate) c.in_ok-queue.ensures
 
 pub invariant_of-result-clause-rests : goal.invariant_of-result-clause-rests
 invariant_of-result-clause-rests c = due-now _ _

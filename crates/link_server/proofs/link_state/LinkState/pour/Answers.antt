@@ -53,6 +53,7 @@ invariant_of-self c =
       sound = subst (λ n. IsSound l.shape n (account l.clock c.plan_best.new.self l.table.rows)) (sym room) sound;
       few = omega (arith, few, room);
       same_bounds = ap (λ (queue : QueueAccount). queue.bounds) c.plan_best.ensures ∙ l.same_bounds;
+      same_rate = ap (λ (queue : QueueAccount). queue.rate) c.plan_best.ensures ∙ l.same_rate;
       stood = stood;
       counted = counted-still l c.plan_best.new.self l.table (ap (λ (queue : QueueAccount). queue.here) c.plan_best.ensures) refl;
       rests = due-now _ _;

@@ -76,6 +76,7 @@ invariant_of-self c =
       looked = (subst (λ t. t ≤ link.clock) (sym (ap (λ (table : TableAccount). table.looked) c.commit.ensures)) link.looked.0, link.looked.1);
       few = link.few;
       same_bounds = link.same_bounds;
+      same_rate = link.same_rate;
       sound = subst (IsSound link.shape link.queue.room) (sym (kept after)) (sound-relax link.shape link.queue.room (account_in link) c.args.chan c.args.level c.args.up_bound (Relaxed link.clock) c.requires.fits link.sound (replied after));
       stood = still-stood link (Relax c.args.chan c.args.level c.args.up_bound) (Relaxed link.clock) _ c.requires.fits (replied after) (kept after);
       counted = counted-changed link c.commit.new.self _ c.args.chan (account_relaxed c.args.level c.args.up_bound) (λ row n is. record { taken = is.taken; own = is.own }) c.commit.ensures;

@@ -70,6 +70,7 @@ invariant_of-self c =
       looked = (subst (λ t. t ≤ link.clock) (sym (ap (λ (table : TableAccount). table.looked) c.close.ensures)) (omega arith), link.looked.1);
       few = link.few;
       same_bounds = link.same_bounds;
+      same_rate = link.same_rate;
       sound = subst (IsSound link.shape link.queue.room) (sym (closed after is)) (sound-release link.shape link.queue.room (account_in link) c.args.chan c.args.upstream (Closing c.count_at_release-count.result c.cancelled_at_release-cancelled.result) link.sound (answered after (found at.In-Some)));
       stood = still-stood link (Release c.args.chan c.args.upstream) ((Closing c.count_at_release-count.result c.cancelled_at_release-cancelled.result)) _ tt (answered after (found at.In-Some)) (closed after is);
       counted = counted-changed link c.close.new.self _ c.args.chan (account_closed c.count_at_release-count.result) (λ row n is. record { taken = is.taken; own = is.own }) c.close.ensures;

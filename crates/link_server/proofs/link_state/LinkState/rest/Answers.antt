@@ -15,6 +15,7 @@ invariant_of-self c =
       looked = (let looked = link.looked.0 in omega (arith, looked), let looked = link.looked.1 in omega (arith, looked));
       few = link.few;
       same_bounds = link.same_bounds;
+      same_rate = link.same_rate;
       sound = later-sound link.shape link.queue.room rests.0 c.args.ticks (account_in link) rests.1.0 rests.1.1 link.sound;
       stood = later-stood link.shape rests.0 c.args.ticks (account_in link) (rows-have link) rests.1.0 rests.1.1 link.stood;
       counted = link.counted;

@@ -72,6 +72,7 @@ invariant_of-self c =
       looked = (subst (λ t. t ≤ link.clock) (sym (ap (λ (table : TableAccount). table.looked) c.plan.ensures)) link.looked.0, link.looked.1);
       few = link.few;
       same_bounds = link.same_bounds;
+      same_rate = link.same_rate;
       sound = subst (IsSound link.shape link.queue.room) (sym (kept after)) (sound-submit link.shape link.queue.room (account_in link) c.args.chan c.args.count c.args.gap c.args.size (Planned link.clock) c.requires.fits link.sound (replied after));
       stood = still-stood link (Submit c.args.chan c.args.count c.args.gap c.args.size) (Planned link.clock) _ c.requires.fits (replied after) (kept after);
       counted = counted-changed link c.plan.new.self _ c.args.chan (account_planned c.args.self.now.clock c.args.count c.args.gap c.args.size) (λ row n is. record { taken = is.taken; own = is.own }) c.plan.ensures;

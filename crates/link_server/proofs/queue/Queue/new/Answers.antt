@@ -1,5 +1,6 @@
 -- None are here, and none are planned.
 use Rattle.std.proofs.Common.{length, refl, sym, ap, subst, arith}
+use Rattle.std.proofs.lemmas.Option.{none-some}
 use Rattle.link_steps.specs.Rows.{planned_from}
 use Rattle.link_server.specs.Arrived.{arrived, HaveOwnNumbers, AreNumberedUpTo}
 use Rattle.link_server.specs.Packets.{here_in}
@@ -14,7 +15,8 @@ invariant_of-result-2 c =
       numbered = subst (λ packets. AreNumberedUpTo 0 (here_in packets)) (sym none) tt;
       fits = (let long = ap (λ packets. length (here_in packets)) none in omega (arith, long));
       lines_up = omega arith;
-      best_counted = ap (λ packets. length (filter (is_best c.args.bounds) (here_in packets))) (sym none);
+      best_counted = ap (λ packets. length (filter (is_best c.args.shape.now.bounds) (here_in packets))) (sym none);
+      leaving = λ running on. absurd (none-some running on);
     }
 
 pub returns : goal.returns

@@ -25,15 +25,15 @@ free c =
     omega (arith, here, long, room, c.requires.room)
 
 -- and it is the next one
-next : (c : After-self) → c.args.packet.place ≡ c.self.inside.taken + 1
+next : (c : After-self) → c.args.packet.now.place ≡ c.self.inside.taken + 1
 next c = c.requires.next ∙ ap (λ (queue : QueueAccount). queue.taken + 1) (sym c.self.view_is)
 
 -- those that wait arrived before it
-newest : (c : After-self) → IsNewest (waiting_in c.self.inside.line) c.args.packet
+newest : (c : After-self) → IsNewest (waiting_in c.self.inside.line) c.args.packet.now
 newest c =
     let q = c.self.inside in
     let next = next c in
-    Each-if (λ s. IsNumbered q.taken (arrival_in s)) (λ s. s.place < c.args.packet.place) (waiting_in q.line) (λ s is. let most = is.most in omega (arith, most, next))
+    Each-if (λ s. IsNumbered q.taken (arrival_in s)) (λ s. s.place < c.args.packet.now.place) (waiting_in q.line) (λ s is. let most = is.most in omega (arith, most, next))
     (Each-mapped (IsNumbered q.taken) arrival_in (waiting_in q.line) (here-waiting (IsNumbered q.taken) (on_in q.on) (here_in (waiting_in q.line)) c.self.invariant.numbered))
 
 -- no more packets wait than are here
@@ -72,23 +72,23 @@ pub overflow_add-self-2 : goal.overflow_add-self-2
 overflow_add-self-2 c = (let taken = ap (λ (queue : QueueAccount). queue.taken) c.self.view_is in omega (arith, taken, c.requires.countable))
 
 -- those here with it
-came : (c : After-push) → IsPermutation (arrival_in c.args.packet ∷ packets_of c.self.inside) (all_here (on_in c.self.inside.on) (here_in (waiting_in c.push.new.self)))
+came : (c : After-push) → IsPermutation (arrival_in c.args.packet.now ∷ packets_of c.self.inside) (all_here (on_in c.self.inside.on) (here_in (waiting_in c.push.new.self)))
 came c =
     let q = c.self.inside in
-    all-came (on_in q.on) (arrival_in c.args.packet) (here_in (waiting_in q.line)) (here_in (waiting_in c.push.new.self)) (IsPermutation-map arrival_in (c.args.packet ∷ waiting_in q.line) (waiting_in c.push.new.self) c.push.ensures.waiting)
+    all-came (on_in q.on) (arrival_in c.args.packet.now) (here_in (waiting_in q.line)) (here_in (waiting_in c.push.new.self)) (IsPermutation-map arrival_in (c.args.packet.now ∷ waiting_in q.line) (waiting_in c.push.new.self) c.push.ensures.waiting)
 
 pub invariant_of-self : goal.invariant_of-self
 invariant_of-self c =
     let q = c.self.inside in
     let at = goal.at.invariant_of-self c in
-    let p = arrival_in c.args.packet in
+    let p = arrival_in c.args.packet.now in
     let here = packets_of q in
     let came = came at.After-push in
     let free = free at.After-self in
     let next = next at.After-self in
     let lines_up = c.self.invariant.lines_up in
     let longer = length_permutation (p ∷ here) _ came in
-    let best = count-same (is_best q.bounds) _ _ (IsPermutation-map arrival_in (c.args.packet ∷ waiting_in q.line) (waiting_in c.push.new.self) c.push.ensures.waiting) in
+    let best = count-same (is_best q.bounds) _ _ (IsPermutation-map arrival_in (c.args.packet.now ∷ waiting_in q.line) (waiting_in c.push.new.self) c.push.ensures.waiting) in
     record {
       own = own-same (p ∷ here) _ came (own-came p here q.taken c.self.invariant.numbered c.self.invariant.own (omega (arith, next)));
       numbered = Each-permuted (IsNumbered (q.taken + 1)) (p ∷ here) _ came (
@@ -100,15 +100,16 @@ invariant_of-self c =
       best_counted =
           ap (λ n. n + c.best_in.result) c.self.invariant.best_counted ∙ ap (λ n. length (filter (is_best q.bounds) (here_in (waiting_in q.line))) + n) c.best_in.ensures.value
           ∙ sym (one-more (is_best q.bounds) p (here_in (waiting_in q.line))) ∙ sym best;
+      leaving = c.self.invariant.leaving;
     }
 
 pub returns-clause-kept : goal.returns-clause-kept
 returns-clause-kept c =
     let q = c.self.inside in
     let at = goal.at.returns-clause-kept c in
-    let p = arrival_in c.args.packet in
+    let p = arrival_in c.args.packet.now in
     let next = next at.After-self in
     let last : arrived (all_here (on_in q.on) (here_in (waiting_in c.push.new.self))) (q.taken + 1) ≡ arrived (packets_of q) q.taken ++ p ∷ [] =
     sym (arrived-same (p ∷ packets_of q) _ (q.taken + 1) (came at.After-push) (own-came p (packets_of q) q.taken c.self.invariant.numbered c.self.invariant.own (omega (arith, next))))
     ∙ arrived-came p (packets_of q) q.taken c.self.invariant.numbered next in
-    rw (← c.self.view_is) (queue-same _ _ refl last refl refl refl refl refl)
+    rw (← c.self.view_is) (queue-same _ _ refl last refl refl refl refl refl refl)

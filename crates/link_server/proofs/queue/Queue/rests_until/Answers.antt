@@ -7,7 +7,7 @@ use Rattle.link_server.proofs.queue.Queue.rests_until.Goals as goal
 
 pub returns-clause-service : goal.returns-clause-service
 returns-clause-service c =
-    service-from c.args.rate c.min.result c.service_rests_until.result c.args.self.now.here c.args.self.now.on (omega (arith, c.min.ensures)) c.service_rests_until.ensures
+    service-from c.args.self.now.rate c.min.result c.service_rests_until.result c.args.self.now.here c.args.self.now.on (omega (arith, c.min.ensures)) c.service_rests_until.ensures
 
 pub returns-clause-best : goal.returns-clause-best
 returns-clause-best c =

@@ -38,5 +38,5 @@ returns-clause-kept c =
     let found = find (is_for c.args.clock) (left_in c.self.inside.best) in
     rw (← c.self.view_is)
     (c.push.ensures.kept
-    ∙ brings-queue c.args.shape.now.bounds c.args.clock c.in-Some.size c.push.new.self.looked (queue_seen c.self.inside) (left_in c.take_at.new.self) (source_step c.args.fits found) (arrival_in c.best_packet.result)
-    (best-brings c.args.fits found c.in-Some.size c.in-Some.ensures.size c.if-not-fits.false) c.take_at.ensures.left c.best_packet.ensures)
+    ∙ brings-queue c.args.shape.now.bounds c.args.clock c.in-Some.size c.push.new.self.looked (queue_seen c.self.inside) (left_in c.take_at.new.self) (source_step c.args.fits found) (arrival_in c.best_packet-packet.result)
+    (best-brings c.args.fits found c.in-Some.size c.in-Some.ensures.size c.if-not-fits.false) c.take_at.ensures.left c.best_packet-packet.ensures)

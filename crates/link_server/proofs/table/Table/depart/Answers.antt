@@ -6,7 +6,6 @@ use Rattle.link_server.specs.KeyedList.{position}
 use Rattle.link_server.proofs.Words.{if◌then◌else◌, nat_eq, nat_lt, whole_of, reservation_in, row_in, ServedRow}
 use Rattle.link_server.specs.Holds.{AreListed}
 use Rattle.link_server.specs.Keeping.{IsKeeping}
-use Rattle.link_server.specs.Packets.{arrival_in}
 use Rattle.link_server.specs.Plans.{ArePlanned}
 use Rattle.link_server.specs.TableParts.{table_seen}
 use Rattle.link_server.proofs.Departed.Rows.{none-departs, one-departs}
@@ -18,7 +17,7 @@ use Rattle.link_server.proofs.table.Table.depart.Goals.{After-depart}
 pub returns-in_default-key_of : goal.returns-in_default-key_of
 returns-in_default-key_of c =
     rw (← c.self.view_is) (rw c.in-Some.is
-    (ap (λ departed. record (table_seen c.self.inside) { departed = departed }) (none-departs (arrival_in c.in-Some.packet) c.self.inside.rows.items c.in_default-key_of.ensures.none)))
+    (ap (λ departed. record (table_seen c.self.inside) { departed = departed }) (none-departs c.in-Some.gone c.self.inside.rows.items c.in_default-key_of.ensures.none)))
 
 -- the row tells the same, but for that
 same : (c : After-depart) → row_in c.depart.new.self ≡ row_in (get_or c.self.inside.rows.items (position c.self.inside.rows.keys c.in-Some-key_of.key) c.index_mut-row.result.now)
@@ -56,10 +55,10 @@ returns c =
     let t = c.self.inside in
     let i = (position c.self.inside.rows.keys c.in-Some-key_of.key) in
     let d = c.index_mut-row.result.now in
-    let p = arrival_in c.in-Some.packet in
+    let gone = c.in-Some.gone in
     let found = c.in-Some-key_of.ensures.some in
     rw (← c.self.view_is) (rw c.in-Some.is
     (table-same _ _ (seen (goal.at.returns c).After-depart)
-    (one-departs p t.rows.items i c.depart.new.self d found.inside (found.here d) (index-others t.index.keys.items t.rows.keys t.rows.items i p.chan d c.self.invariant.indexed found.inside (found.here d))
-    (c.depart.ensures.departed ∙ ap (λ (row : ServedRow). if nat_eq row.lead p.lead && nat_lt row.departed row.taken then suc row.departed else row.departed) c.index_mut-row.ensures.value))
+    (one-departs gone t.rows.items i c.depart.new.self d found.inside (found.here d) (index-others t.index.keys.items t.rows.keys t.rows.items i gone.chan d c.self.invariant.indexed found.inside (found.here d))
+    (c.depart.ensures.departed ∙ ap (λ (row : ServedRow). if nat_eq row.lead gone.lead && nat_lt row.departed row.taken then suc row.departed else row.departed) c.index_mut-row.ensures.value))
     refl refl refl))

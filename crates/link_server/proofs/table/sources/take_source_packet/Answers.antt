@@ -16,7 +16,7 @@ use Rattle.link_server.proofs.table.sources.take_source_packet.Goals.{After-has_
 same-kept : (queue : QueueAccount) → queue ≡ record queue { taken = queue.taken + 0; here = queue.here ++ []; looked = queue.looked }
 same-kept queue =
     let same : queue.taken ≡ queue.taken + 0 = omega arith in
-    queue-same queue (record queue { taken = queue.taken + 0; here = queue.here ++ [] }) same (sym (append-nil queue.here)) refl refl refl refl refl
+    queue-same queue (record queue { taken = queue.taken + 0; here = queue.here ++ [] }) same (sym (append-nil queue.here)) refl refl refl refl refl refl
 
 rests : (c : goal.In_default) → own_step c.args.bounds.now c.args.clock c.args.row.now ≡ Rests
 rests c = step-rests c.args.bounds.now c.args.clock c.args.row.now c.in_default.ensures.size

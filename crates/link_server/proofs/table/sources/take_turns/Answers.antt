@@ -139,6 +139,7 @@ still-kept first old new taken here before kept =
     (ap (λ (queue : QueueAccount). queue.best) kept ∙ ap (λ (queue : QueueAccount). queue.best) before)
     (ap (λ (queue : QueueAccount). queue.room) kept ∙ ap (λ (queue : QueueAccount). queue.room) before) refl
     (ap (λ (queue : QueueAccount). queue.bounds) kept ∙ ap (λ (queue : QueueAccount). queue.bounds) before)
+    (ap (λ (queue : QueueAccount). queue.rate) kept ∙ ap (λ (queue : QueueAccount). queue.rate) before)
 
 pub loop-place-preserved : goal.loop-place-preserved
 loop-place-preserved c =

@@ -20,4 +20,4 @@ pub returns-clause-best : goal.returns-clause-best
 returns-clause-best c = plans-from c.min.result c.rests_until.result c.args.queue.now.best (omega (arith, c.min.ensures)) c.rests_until.ensures.best
 
 pub returns-clause-service : goal.returns-clause-service
-returns-clause-service c = service-from c.args.shape.now.rate c.min.result c.rests_until.result c.args.queue.now.here c.args.queue.now.on (omega (arith, c.min.ensures)) c.rests_until.ensures.service
+returns-clause-service c = service-from c.args.queue.now.rate c.min.result c.rests_until.result c.args.queue.now.here c.args.queue.now.on (omega (arith, c.min.ensures)) c.rests_until.ensures.service
