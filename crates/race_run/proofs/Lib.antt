@@ -21,7 +21,6 @@ mod PlaneSteps
 mod PlaneWithPass
 mod RacePieces
 mod GivenUp
-mod OpenedOneByOne
 mod RaceSizes
 mod EarlierRounds
 mod TailComesLast

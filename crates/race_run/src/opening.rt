@@ -1,34 +1,16 @@
 //! What the network of a plan is opened with.
-ghost use Rattle.std.specs.Prelude.{◌≡◌, suc, ◌+◌, [], IfOk, length, map};
-ghost use Rattle.link_steps.specs.Lists.{Each};
-ghost use Rattle.link_quota.specs.Any.{any_rules, AnyStands};
+ghost use Rattle.std.specs.Prelude.{◌≡◌, suc, ◌+◌, IfOk, length, map};
 ghost use Rattle.step_stamp.specs.Opening.{AreLinks, ArePasses};
 ghost use Rattle.step_stamp.specs.Seats.{stamps_table};
-ghost use Rattle.call_script.specs.Tasks.{network_of};
 ghost use Rattle.call_script.specs.Plans.{IsPlan};
 ghost use Rattle.race_run.specs.Callers.{caller_of};
 ghost use Rattle.tick_plane.specs.Planes.{plane_start};
 
 use call_script::Plan;
-use link_quota::AnyLink;
 use net_units::{ActorNo, OutOfMemory};
-use run_engine::new_link;
 use std::alloc::Global;
 use step_stamp::{LinkSeat, PassSeat, Stamps};
 use tick_plane::Plane;
-
-/// The links of a plan, which have made no step.
-pub(crate) fn links_of(alloc: Global, plan: &Plan) -> Result<Vec<AnyLink>, OutOfMemory>
-    ensures links { IfOk result (λ links. map any_rules links.items ≡ (network_of plan.now).links) }
-    ensures stand { IfOk result (λ links. Each (λ link. AnyStands link []) links.items) }
-{
-    let entries = plan.links();
-    let mut links = Vec::with_capacity(alloc, entries.len())?;
-    for entry in entries {
-        links.push(new_link(alloc, plan, entry)?)?;
-    }
-    Ok(links)
-}
 
 /// The owner of each channel: the caller that opens its request.
 pub(crate) fn owners_of(alloc: Global, plan: &Plan) -> Result<Vec<ActorNo>, OutOfMemory>

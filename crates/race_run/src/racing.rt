@@ -13,7 +13,7 @@ ghost use Rattle.race_run.specs.Pieces.{AreNew};
 ghost use Rattle.race_run.specs.Tail.{TailIsLast, own_in};
 ghost use Rattle.race_run.specs.Whole.{HasMadeAll, IsWhole};
 
-use crate::opening::{links_of, owners_of, plane_of, stamps_of};
+use crate::opening::{owners_of, plane_of, stamps_of};
 use crate::pieces::{make_pieces, passes_of, pieces_of};
 use crate::tail::make_tail;
 use call_script::Plan;
@@ -21,6 +21,7 @@ use link_ledger::{Home, Pass};
 use link_quota::AnyLink;
 use link_steps::LinkStep;
 use net_units::{ActorNo, Gate, OutOfMemory};
+use run_engine::new_links;
 use shared_network::{Closed, Network};
 use std::alloc::Global;
 use std::marker::Brand;
@@ -45,7 +46,7 @@ pub fn race<R: Threads + Wait + Sync, G: Gate + Sync>(
     ensures whole { IfOk result (λ closed. IsWhole (network_of plan.now) closed.passes closed.journals) }
     ensures tail { IfOk result (λ closed. TailIsLast plan.now (map own_in closed.passes)) }
 {
-    let links = links_of(alloc, plan)?;
+    let links = new_links(alloc, plan)?;
     let owners = owners_of(alloc, plan)?;
     let opened = stamps_of(alloc, plan)?;
     race_over::<AnyLink, Brand, R, G>(rt, alloc, plan, gate, opened, links, owners)

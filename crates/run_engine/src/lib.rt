@@ -17,7 +17,7 @@ pub mod watching;
 pub use actors::actor_of;
 pub use callers::{Callers, replay, replay_watched};
 pub use engine::Engine;
-pub use links::new_link;
+pub use links::new_links;
 pub use playing::{PlayFault, play_watched};
 pub use quiet::plane_of;
 pub use rounds::{make_plane_step, play_plane};

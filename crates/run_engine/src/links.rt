@@ -1,12 +1,11 @@
 //! The links of a run, as they are kept.
-ghost use Rattle.std.specs.Prelude.{◌≡◌, ◌≢◌, ◌^◌, ◌+◌, ◌<◌, ◌≤◌, ◌∷◌, [], ℕ, List, Some, IfOk, OnErr, length};
+ghost use Rattle.std.specs.Prelude.{◌≡◌, ◌≢◌, ◌^◌, ◌+◌, ◌<◌, ◌≤◌, ◌∷◌, [], ℕ, List, Some, IfOk, OnErr, length, map};
 ghost use Rattle.std.specs.List.{slice_get};
 ghost use Rattle.call_script.specs.Plans.{IsPlan};
 ghost use Rattle.net_units.specs.Numbers.{link_number};
 ghost use Rattle.call_script.specs.Splits.{entry_link, groups_in};
 ghost use Rattle.call_script.specs.Tasks.{network_of};
 ghost use Rattle.run_engine.specs.schedules.Resting.{RestsBy, HaveRested};
-ghost use Rattle.run_engine.specs.schedules.Standing.{LinksStand};
 ghost use Rattle.link_quota.specs.Any.{any_rules, any_clock, AnyStands};
 ghost use Rattle.link_quota.specs.declared.any_link.AnyLink.{AnyLink as Kept};
 ghost use Rattle.link_server.specs.Asks.{IsArriveOrTick};
@@ -24,9 +23,11 @@ use link_steps::{Ask, LinkStep, Reply};
 use net_units::OutOfMemory;
 use std::alloc::Global;
 
-// The links of a plan, before they have made a step.
-pub(crate) fn new_links(alloc: Global, plan: &Plan) -> Result<Vec<AnyLink>, OutOfMemory>
-    ensures stand { IfOk result (λ links. LinksStand (network_of plan.now).links links.items []) }
+/// The links of a plan, before they have made a step: split where the plan has quotas for them, with the group of each channel. An
+/// `Err` comes only for want of memory.
+pub fn new_links(alloc: Global, plan: &Plan) -> Result<Vec<AnyLink>, OutOfMemory>
+    ensures rules { IfOk result (λ links. map any_rules links.items ≡ (network_of plan.now).links) }
+    ensures stand { IfOk result (λ links. Each (λ link. AnyStands link []) links.items) }
     ensures plan { IsPlan plan.now }
 {
     let entries = plan.links();
@@ -37,9 +38,8 @@ pub(crate) fn new_links(alloc: Global, plan: &Plan) -> Result<Vec<AnyLink>, OutO
     Ok(links)
 }
 
-/// A link of a plan, before it has made a step: split where it has quotas, with the group of each channel. An `Err` comes only
-/// for want of memory.
-pub fn new_link(alloc: Global, plan: &Plan, entry: &LinkEntry) -> Result<AnyLink, OutOfMemory>
+// The link of this entry of a plan, before it has made a step.
+fn new_link(alloc: Global, plan: &Plan, entry: &LinkEntry) -> Result<AnyLink, OutOfMemory>
     requires { slice_get plan.now.links (link_number entry.now.shape.link) ≡ Some entry.now }
     ensures rules { IfOk result (λ link. any_rules link ≡ entry_link (groups_in plan.now) entry.now) }
     ensures stands { IfOk result (λ link. AnyStands link []) }

@@ -36,7 +36,7 @@ IsOver request outcome run at = (outcome_in request.chan at.outcomes ≡ outcome
 accepted-later : (network : Network) (request : Request) (owner : ℕ) (done : Done) (past : List Done) → NetworkFits network → RequestFits network.links request → OwnedFully network request owner → IsRun network past → IsNext network past done → AcceptedIn network request owner past → AcceptedIn network request owner (done ∷ past)
 accepted-later network request owner done past fits sound full run next was tasks found =
     let before = was tasks found in
-    let others = goes-others network request past _ _ _ (Accepts before.levels before.delay) ((run-goes network request owner past fits sound (owned-once network request owner full) run).at tasks found) before.is in
+    let others = goes-others network request past _ _ _ (Accepts before.levels before.delay) ((run-goes network request owner fits sound (owned-once network request owner full) past run).at tasks found) before.is in
     let now : IsOver request (Some (Accepts before.levels before.delay)) (done ∷ past) (standing tasks (replies_to owner (done ∷ past))) = entry-kept network owner tasks found (IsOver request (Some (Accepts before.levels before.delay))) (λ past' done' at run' next' other over. over)
     (λ past' done' task rest replies outcomes step over. (resumed-kept request outcomes task rest (replies ++ done'.reply ∷ []) over.1.0 ∙ over.0, each-resumed (IsNoOpeningOf (channel_number request.chan)) (ready-other (channel_number request.chan)) outcomes (task ∷ rest) (replies ++ done'.reply ∷ []) over.1))
     past done run next (before.is, others) in
@@ -82,7 +82,7 @@ settles-done request replies (Forth left upto whole none is) done = relaxed-sett
 module _ (network : Network) (request : Request) (owner : ℕ) (first : HopAt network request 0) where
   -- so a request whose first hop is committed is accepted
   pub committed-accepted : (run : List Done) → NetworkFits network → RequestFits network.links request → OwnedFully network request owner → IsRun network run → (terms : Reservation) → held_at_hop network request 0 first run ≡ Some terms → terms.phase ≡ Ph.Committed → AcceptedIn network request owner run
-  committed-accepted run fits sound full is terms held phase tasks found = by ((run-goes network request owner run fits sound (owned-once network request owner full) is).at tasks found) where
+  committed-accepted run fits sound full is terms held phase tasks found = by ((run-goes network request owner fits sound (owned-once network request owner full) run is).at tasks found) where
     at : Standing
     at = standing tasks (replies_to owner run)
 

@@ -41,24 +41,6 @@ open-or-not (Some terms) = by-phase terms.phase refl where
 tick-tells : (c least count : ℕ) (ask : Ask) → ask ≡ Tick → TellsAll c least count ask
 tick-tells c least count ask is = subst (TellsAll c least count) (sym is) tt
 
-fates-next : (network : Network) (request : Request) (first : HopAt network request 0) (done : Done) (past : List Done) → NetworkFits network → RequestFits network.links request → ((run : List Done) → IsRun network run → ChannelAsked request run) → IsRun network past → (next : IsNext network past done) → Chain network request first past
-    → ((i : ℕ) (at : HopAt network request i) → link_number done.link ≡ link_number at.hop.link → TellsAll (channel_number request.chan) (count_at network request 0 first past) (count_at network request i at past) done.ask)
-    → 1 ≤ count_at network request 0 first (done ∷ past) → (i : ℕ) (at : HopAt network request i) → Fate (count_at network request 0 first (done ∷ past)) (count_at network request i at (done ∷ past)) (held_at_hop network request i at (done ∷ past))
-fates-next network request first done past fits sound asked run next was tells some i at =
-    elim (is-tick done.ask) [
-      | inl tick ↦ elim (open-or-not (held_at_hop network request 0 first past)) [
-        | inl opened ↦
-            (let comm = (was.whole opened.0 opened.1 opened.2).1 i at (omega arith) in
-            hop-fate network request i at done past (count_at network request 0 first (done ∷ past)) fits sound asked run next some (λ on. tick-tells (channel_number request.chan) _ _ done.ask tick) (FateOpen comm.terms comm.is comm.phase))
-        | inr quiet ↦ kept (first-same network request first done past fits (asked past run) run next (λ _. quiet))
-      ]
-      | inr other ↦ kept (first-same network request first done past fits (asked past run) run next (λ tick. absurd (other tick)))
-    ] where
-      kept : count_at network request 0 first (done ∷ past) ≡ count_at network request 0 first past → Fate (count_at network request 0 first (done ∷ past)) (count_at network request i at (done ∷ past)) (held_at_hop network request i at (done ∷ past))
-      kept same =
-          subst (λ n. Fate n (count_at network request i at (done ∷ past)) (held_at_hop network request i at (done ∷ past))) (sym same)
-          (hop-fate network request i at done past (count_at network request 0 first past) fits sound asked run next (subst (λ n. 1 ≤ n) same some) (tells i at) (was.fates (subst (λ n. 1 ≤ n) same some) i at))
-
 off-tells : (c least count : ℕ) (ask : Ask) → IsOff c ask → TellsAll c least count ask
 off-tells c least count (Release chan upstream) off = λ same. absurd (off same)
 off-tells c least count _ off = tt
@@ -81,26 +63,6 @@ first-none : (replies : List Reply) → first_count replies ≡ None → replies
 first-none [] is = refl
 first-none (reply ∷ replies) is = cc
 
--- a release tells all that the first hop has taken
-close-tells : (network : Network) (request : Request) (first : HopAt network request 0) (done : Done) (past : List Done) (replies : List Reply) (k : ℕ) (here : HopAt network request k) → RequestFits network.links request → link_number done.link ≡ link_number here.hop.link → done.ask ≡ Release request.chan (first_count replies) → (replies ≡ [] → k ≡ 0) → ((told : ℕ) → first_count replies ≡ Some told → Frozen network request first past told)
-    → (i : ℕ) (at : HopAt network request i) → link_number done.link ≡ link_number at.hop.link → TellsAll (channel_number request.chan) (count_at network request 0 first past) (count_at network request i at past) done.ask
-close-tells network request first done past replies k here sound on is zeroth frozen i at at-link =
-    subst (TellsAll (channel_number request.chan) (count_at network request 0 first past) (count_at network request i at past)) (sym is) (λ same. by-first (first_count replies) refl) where
-      by-first : (upstream : Option ℕ) → first_count replies ≡ upstream → count_at network request 0 first past ≤ count_at_release upstream (count_at network request i at past)
-      by-first None none =
-          (let index : i ≡ k = index-apart request.route i k at.hop here.hop sound.route at.stands here.stands (sym at-link ∙ on) in
-          let e = zeroth (first-none replies none) in
-          let same = first-hop-count network request first i at past (omega (arith, index, e)) in omega (arith, same))
-      by-first (Some told) some = (let upto = (frozen told some).upto in omega (arith, upto))
-
--- ---- the first hop committed
-
-mild-whole : (network : Network) (request : Request) (first : HopAt network request 0) (done : Done) (past : List Done) → NetworkFits network → IsRun network past → IsMild (channel_number request.chan) done.ask → Chain network request first past → ((levels : List ℕ) → AllComm network request levels 0 past → AllComm network request levels 0 (done ∷ past))
-    → (terms : Reservation) → held_at_hop network request 0 first (done ∷ past) ≡ Some terms → terms.phase ≡ Ph.Committed → (levels : List ℕ) × AllComm network request levels 0 (done ∷ past)
-mild-whole network request first done past fits run mild was later terms held phase =
-    let before = committed-comes terms (held_at_hop network request 0 first past) phase (hop-comes network request 0 first done past terms fits run mild held) in
-    let all = was.whole terms before phase in (all.0, later all.0 all.1)
-
 setup-whole : (network : Network) (request : Request) (first : HopAt network request 0) (run : List Done) (offers : List ℕ) (p : Progress) → ((i : ℕ) (at : HopAt network request i) → HopStands None Some request offers p i (held_at_hop network request i at run)) → (terms : Reservation) → held_at_hop network request 0 first run ≡ Some terms → terms.phase ≡ Ph.Committed → (levels : List ℕ) × AllComm network request levels 0 run
 setup-whole network request first run offers p stands terms held phase =
     elim (cases_lt 0 (reserved_of offers p)) [
@@ -122,90 +84,119 @@ record FirstReleased (network : Network) (request : Request) (first : HopAt netw
   held : held_at_hop network request 0 first (done ∷ past) ≡ Some terms
   phase : terms.phase ≡ Ph.Closing
 
-first-released : (network : Network) (request : Request) (first : HopAt network request 0) (done : Done) (past : List Done) (levels : List ℕ) → NetworkFits network → ChannelAsked request past → IsRun network past → (next : IsNext network past done) → link_number done.link ≡ link_number first.hop.link → done.ask ≡ Release request.chan None → IsComm Some request levels 0 (held_at_hop network request 0 first past) → FirstReleased network request first done past
-unfolding reply_at after
-first-released network request first done past levels fits asked run next on is comm =
-    let reply : done.reply ≡ release_to (clock_of (part_of (link_number first.hop.link) past)) None (find (is_row_at_hop request.chan true) (scan_of first.link.shape (part_of (link_number first.hop.link) past)).rows) = hop-reply network request 0 first done past next on ∙ ap (reply_at first.link (clock_of (part_of (link_number first.hop.link) past)) (scan_of first.link.shape (part_of (link_number first.hop.link) past))) is in
-    by-reply done.reply refl reply (subst IsReleased (sym reply) (release-committed (clock_of (part_of (link_number first.hop.link) past)) None request.chan _ comm.terms comm.is comm.first comm.phase)) where
-      by-reply : (r : Reply) → done.reply ≡ r → done.reply ≡ release_to (clock_of (part_of (link_number first.hop.link) past)) None (find (is_row_at_hop request.chan true) (scan_of first.link.shape (part_of (link_number first.hop.link) past)).rows) → IsReleased done.reply → FirstReleased network request first done past
-      by-reply (Is.Closing count cancelled) same reply released =
-          let from = released-count (clock_of (part_of (link_number first.hop.link) past)) None (find (is_row_at_hop request.chan true) (scan_of first.link.shape (part_of (link_number first.hop.link) past)).rows) count cancelled (sym same ∙ reply) in
-          let chan : channel_of from.row ≡ channel_number request.chan = Rattle.channel_laws.proofs.ChannelRows.row-at-hop request.chan true from.row (find-passes (is_row_at_hop request.chan true) from.row _ from.is) in
-          let tells = hop-tells network request 0 first past from.row (is_row_at_hop request.chan true) fits run asked from.is chan in
-          record {
-            count = count;
-            cancelled = cancelled;
-            reply = same;
-            counts = from.count_is ∙ sym (own-count from.row.ticks _ tells.eligible);
-            terms = closing count comm.terms;
-            held = held-here network request 0 first done past on ∙ ap (λ a. held_by request.chan (after first.link.shape (clock_of (part_of (link_number first.hop.link) past)) (scan_of first.link.shape (part_of (link_number first.hop.link) past)) a done.reply).rows) is ∙ ap (λ r. held_by request.chan (after first.link.shape (clock_of (part_of (link_number first.hop.link) past)) (scan_of first.link.shape (part_of (link_number first.hop.link) past)) (Release request.chan None) r).rows) same ∙ held-released request.chan true (clock_of (part_of (link_number first.hop.link) past)) count _ comm.terms comm.is comm.first;
-            phase = refl;
-          }
-      by-reply _ same reply released = absurd (subst IsReleased same released)
-
--- the first hop is frozen after a release
-close-frozen : (network : Network) (request : Request) (first : HopAt network request 0) (done : Done) (past : List Done) (levels : List ℕ) (replies : List Reply) (k : ℕ) (here : HopAt network request k) (told : ℕ) → NetworkFits network → ChannelAsked request past → IsRun network past → (next : IsNext network past done) → link_number done.link ≡ link_number here.hop.link → done.ask ≡ Release request.chan (first_count replies) → (replies ≡ [] → k ≡ 0) → IsComm Some request levels k (held_at_hop network request k here past) → ((given : ℕ) → first_count replies ≡ Some given → Frozen network request first past given)
-    → first_count (replies ++ done.reply ∷ []) ≡ Some told → Frozen network request first (done ∷ past) told
-close-frozen network request first done past levels [] k here told fits asked run next on is zeroth comm frozen tells =
-    let hop : here.hop ≡ first.hop = same_Some here.hop first.hop (sym here.stands ∙ ap (slice_get request.route) (zeroth refl) ∙ first.stands) in
-    let own = first-released network request first done past levels fits asked run next (on ∙ ap link_of hop) is (subst (λ n. IsComm Some request levels n (held_at_hop network request 0 first past)) (zeroth refl) (subst (IsComm Some request levels k) (same-held network request k 0 here first past (zeroth refl)) comm)) in
-    let given : own.count ≡ told = same_Some own.count told (ap (λ r. Some (told_count r)) (sym own.reply) ∙ tells) in
-    let same = first-same network request first done past fits asked run next (λ tick. absurd (let clash : Release request.chan None ≡ Tick = sym is ∙ tick in cc)) in
-    record {
-      upto = (let counts = own.counts in omega (arith, counts, given, same));
-      closes = λ terms held. ap (λ k. k.phase) (sym (same_Some own.terms terms (sym own.held ∙ held))) ∙ own.phase;
-    }
-close-frozen network request first done past levels (reply ∷ replies) k here told fits asked run next on is zeroth comm frozen tells =
-    frozen-later network request first done past told fits asked run next (subst (IsMild (channel_number request.chan)) (sym is) tt) (frozen told tells)
-
-close-whole : (network : Network) (request : Request) (first : HopAt network request 0) (done : Done) (past : List Done) (levels : List ℕ) (replies : List Reply) (k : ℕ) (here : HopAt network request k) → NetworkFits network → ChannelAsked request past → IsRun network past → (next : IsNext network past done) → link_number done.link ≡ link_number here.hop.link → done.ask ≡ Release request.chan (first_count replies) → (replies ≡ [] → k ≡ 0) → IsComm Some request levels k (held_at_hop network request k here past) → ((given : ℕ) → first_count replies ≡ Some given → Frozen network request first past given)
-    → (terms : Reservation) → held_at_hop network request 0 first (done ∷ past) ≡ Some terms → terms.phase ≡ Ph.Committed → ⊥
-close-whole network request first done past levels replies k here fits asked run next on is zeroth comm frozen terms held phase =
-    by-first (first_count (replies ++ done.reply ∷ [])) refl where
-      some-first : (rs : List Reply) → first_count (rs ++ done.reply ∷ []) ≡ None → ⊥
-      some-first [] none = cc
-      some-first (r ∷ rs) none = cc
-
-      by-first : (found : Option ℕ) → first_count (replies ++ done.reply ∷ []) ≡ found → ⊥
-      by-first None none = some-first replies none
-      by-first (Some told) some =
-          let closes = (close-frozen network request first done past levels replies k here told fits asked run next on is zeroth comm frozen some).closes terms held in
-          let clash : Ph.Committed ≡ Ph.Closing = sym phase ∙ closes in cc
-
--- ---- one entry more
-
 -- what the owner's entry leaves, by the task that asked
 record OwnLeaves (network : Network) (request : Request) (first : HopAt network request 0) (run : List Done) (done : Done) (past : List Done) (task : Task) (replies : List Reply) : Type 0 where
   tells : (i : ℕ) (at : HopAt network request i) → link_number done.link ≡ link_number at.hop.link → TellsAll (channel_number request.chan) (count_at network request 0 first past) (count_at network request i at past) done.ask
   told : (given : ℕ) → IsLeaving request task → first_count (replies ++ done.reply ∷ []) ≡ Some given → Frozen network request first run given
   whole : (terms : Reservation) → held_at_hop network request 0 first run ≡ Some terms → terms.phase ≡ Ph.Committed → (levels : List ℕ) × AllComm network request levels 0 run
 
-own-leaves : (network : Network) (request : Request) (first : HopAt network request 0) (done : Done) (past : List Done) (task : Task) (replies : List Reply) → NetworkFits network → RequestFits network.links request → ((run : List Done) → IsRun network run → ChannelAsked request run) → IsRun network past → (next : IsNext network past done) → Chain network request first past → ((given : ℕ) → IsLeaving request task → first_count replies ≡ Some given → Frozen network request first past given) → OwnKind network request done past task replies → OwnLeaves network request first (done ∷ past) done past task replies
-own-leaves network request first done past task replies fits sound asked run next was frozen (OwnOff other off) = record {
-  tells = λ i at on. off-tells (channel_number request.chan) _ _ done.ask off;
-  told = λ given is some. absurd (other is);
-  whole = mild-whole network request first done past fits run (off-mild (channel_number request.chan) done.ask off) was (λ levels comm. comm-later network request levels 0 done past fits run off comm);
-}
-own-leaves network request first done past task replies fits sound asked run next was frozen (OwnSetup later made own rows setup) = record {
-  tells = λ i at on. setup-tells (channel_number request.chan) _ _ done.ask setup;
-  told = λ given is some. absurd (opens-stay request task own is);
-  whole = setup-whole network request first (done ∷ past) _ _ rows.hops;
-}
-own-leaves network request first done past task replies fits sound asked run next was frozen (OwnSend count gap size own is) = record {
-  tells = λ i at on. subst (TellsAll (channel_number request.chan) (count_at network request 0 first past) (count_at network request i at past)) (sym is) tt;
-  told = λ given leaving some. absurd (own leaving);
-  whole = mild-whole network request first done past fits run (subst (IsMild (channel_number request.chan)) (sym is) tt) was (λ levels comm. send-later network request done past count gap size levels is comm);
-}
-own-leaves network request first done past task replies fits sound asked run next was frozen (OwnClose levels leaving k here on is zeroth comm) = record {
-  tells = close-tells network request first done past replies k here sound on is zeroth (λ given some. frozen given leaving some);
-  told = λ given closes some. close-frozen network request first done past levels replies k here given fits (asked past run) run next on is zeroth comm (λ g s. frozen g leaving s) some;
-  whole = λ terms held phase. absurd (close-whole network request first done past levels replies k here fits (asked past run) run next on is zeroth comm (λ g s. frozen g leaving s) terms held phase);
-}
-own-leaves network request first done past task replies fits sound asked run next was frozen (OwnAside reply one off) = record {
-  tells = λ i at on. off-tells (channel_number request.chan) _ _ done.ask off;
-  told = λ given leaving some. frozen-later network request first done past given fits (asked past run) run next (off-mild (channel_number request.chan) done.ask off) (frozen given leaving (ap first_count one ∙ sym (ap (λ rs. first_count (rs ++ done.reply ∷ [])) one) ∙ some));
-  whole = mild-whole network request first done past fits run (off-mild (channel_number request.chan) done.ask off) was (λ levels comm. comm-later network request levels 0 done past fits run off comm);
-}
+module _ (network : Network) (request : Request) (first : HopAt network request 0) (done : Done) (past : List Done) (fits : NetworkFits network) (sound : RequestFits network.links request) (asked : (run : List Done) → IsRun network run → ChannelAsked request run) (run : IsRun network past) (next : IsNext network past done) (was : Chain network request first past) where
+  fates-next : ((i : ℕ) (at : HopAt network request i) → link_number done.link ≡ link_number at.hop.link → TellsAll (channel_number request.chan) (count_at network request 0 first past) (count_at network request i at past) done.ask) → 1 ≤ count_at network request 0 first (done ∷ past) → (i : ℕ) (at : HopAt network request i) → Fate (count_at network request 0 first (done ∷ past)) (count_at network request i at (done ∷ past)) (held_at_hop network request i at (done ∷ past))
+  fates-next tells some i at =
+      elim (is-tick done.ask) [
+        | inl tick ↦ elim (open-or-not (held_at_hop network request 0 first past)) [
+          | inl opened ↦
+              (let comm = (was.whole opened.0 opened.1 opened.2).1 i at (omega arith) in
+              hop-fate network request i at done past (count_at network request 0 first (done ∷ past)) fits sound asked run next some (λ on. tick-tells (channel_number request.chan) _ _ done.ask tick) (FateOpen comm.terms comm.is comm.phase))
+          | inr quiet ↦ kept (first-same network request first done past fits (asked past run) run next (λ _. quiet))
+        ]
+        | inr other ↦ kept (first-same network request first done past fits (asked past run) run next (λ tick. absurd (other tick)))
+      ] where
+        kept : count_at network request 0 first (done ∷ past) ≡ count_at network request 0 first past → Fate (count_at network request 0 first (done ∷ past)) (count_at network request i at (done ∷ past)) (held_at_hop network request i at (done ∷ past))
+        kept same =
+            subst (λ n. Fate n (count_at network request i at (done ∷ past)) (held_at_hop network request i at (done ∷ past))) (sym same)
+            (hop-fate network request i at done past (count_at network request 0 first past) fits sound asked run next (subst (λ n. 1 ≤ n) same some) (tells i at) (was.fates (subst (λ n. 1 ≤ n) same some) i at))
+
+  -- a release tells all that the first hop has taken
+  close-tells : (replies : List Reply) (k : ℕ) (here : HopAt network request k) → link_number done.link ≡ link_number here.hop.link → done.ask ≡ Release request.chan (first_count replies) → (replies ≡ [] → k ≡ 0) → ((told : ℕ) → first_count replies ≡ Some told → Frozen network request first past told) → (i : ℕ) (at : HopAt network request i) → link_number done.link ≡ link_number at.hop.link → TellsAll (channel_number request.chan) (count_at network request 0 first past) (count_at network request i at past) done.ask
+  close-tells replies k here on is zeroth frozen i at at-link =
+      subst (TellsAll (channel_number request.chan) (count_at network request 0 first past) (count_at network request i at past)) (sym is) (λ same. by-first (first_count replies) refl) where
+        by-first : (upstream : Option ℕ) → first_count replies ≡ upstream → count_at network request 0 first past ≤ count_at_release upstream (count_at network request i at past)
+        by-first None none =
+            (let index : i ≡ k = index-apart request.route i k at.hop here.hop sound.route at.stands here.stands (sym at-link ∙ on) in
+            let e = zeroth (first-none replies none) in
+            let same = first-hop-count network request first i at past (omega (arith, index, e)) in omega (arith, same))
+        by-first (Some told) some = (let upto = (frozen told some).upto in omega (arith, upto))
+
+  mild-whole : IsMild (channel_number request.chan) done.ask → ((levels : List ℕ) → AllComm network request levels 0 past → AllComm network request levels 0 (done ∷ past)) → (terms : Reservation) → held_at_hop network request 0 first (done ∷ past) ≡ Some terms → terms.phase ≡ Ph.Committed → (levels : List ℕ) × AllComm network request levels 0 (done ∷ past)
+  mild-whole mild later terms held phase =
+      let before = committed-comes terms (held_at_hop network request 0 first past) phase (hop-comes network request done past fits run 0 first terms mild held) in
+      let all = was.whole terms before phase in (all.0, later all.0 all.1)
+
+  first-released : (levels : List ℕ) → link_number done.link ≡ link_number first.hop.link → done.ask ≡ Release request.chan None → IsComm Some request levels 0 (held_at_hop network request 0 first past) → FirstReleased network request first done past
+  unfolding reply_at after
+  first-released levels on is comm =
+      let reply : done.reply ≡ release_to (clock_of (part_of (link_number first.hop.link) past)) None (find (is_row_at_hop request.chan true) (scan_of first.link.shape (part_of (link_number first.hop.link) past)).rows) = hop-reply network request 0 first done past next on ∙ ap (reply_at first.link (clock_of (part_of (link_number first.hop.link) past)) (scan_of first.link.shape (part_of (link_number first.hop.link) past))) is in
+      by-reply done.reply refl reply (subst IsReleased (sym reply) (release-committed (clock_of (part_of (link_number first.hop.link) past)) None request.chan _ comm.terms comm.is comm.first comm.phase)) where
+        by-reply : (r : Reply) → done.reply ≡ r → done.reply ≡ release_to (clock_of (part_of (link_number first.hop.link) past)) None (find (is_row_at_hop request.chan true) (scan_of first.link.shape (part_of (link_number first.hop.link) past)).rows) → IsReleased done.reply → FirstReleased network request first done past
+        by-reply (Is.Closing count cancelled) same reply released =
+            let from = released-count (clock_of (part_of (link_number first.hop.link) past)) None (find (is_row_at_hop request.chan true) (scan_of first.link.shape (part_of (link_number first.hop.link) past)).rows) count cancelled (sym same ∙ reply) in
+            let chan : channel_of from.row ≡ channel_number request.chan = Rattle.channel_laws.proofs.ChannelRows.row-at-hop request.chan true from.row (find-passes (is_row_at_hop request.chan true) from.row _ from.is) in
+            let tells = hop-tells network request 0 first past from.row (is_row_at_hop request.chan true) fits run (asked past run) from.is chan in
+            record {
+              count = count;
+              cancelled = cancelled;
+              reply = same;
+              counts = from.count_is ∙ sym (own-count from.row.ticks _ tells.eligible);
+              terms = closing count comm.terms;
+              held = held-here network request 0 first done past on ∙ ap (λ a. held_by request.chan (after first.link.shape (clock_of (part_of (link_number first.hop.link) past)) (scan_of first.link.shape (part_of (link_number first.hop.link) past)) a done.reply).rows) is ∙ ap (λ r. held_by request.chan (after first.link.shape (clock_of (part_of (link_number first.hop.link) past)) (scan_of first.link.shape (part_of (link_number first.hop.link) past)) (Release request.chan None) r).rows) same ∙ held-released request.chan true (clock_of (part_of (link_number first.hop.link) past)) count _ comm.terms comm.is comm.first;
+              phase = refl;
+            }
+        by-reply _ same reply released = absurd (subst IsReleased same released)
+
+  -- the first hop is frozen after a release
+  close-frozen : (levels : List ℕ) (replies : List Reply) (k : ℕ) (here : HopAt network request k) (told : ℕ) → link_number done.link ≡ link_number here.hop.link → done.ask ≡ Release request.chan (first_count replies) → (replies ≡ [] → k ≡ 0) → IsComm Some request levels k (held_at_hop network request k here past) → ((given : ℕ) → first_count replies ≡ Some given → Frozen network request first past given) → first_count (replies ++ done.reply ∷ []) ≡ Some told → Frozen network request first (done ∷ past) told
+  close-frozen levels [] k here told on is zeroth comm frozen tells =
+      let hop : here.hop ≡ first.hop = same_Some here.hop first.hop (sym here.stands ∙ ap (slice_get request.route) (zeroth refl) ∙ first.stands) in
+      let own = first-released levels (on ∙ ap link_of hop) is (subst (λ n. IsComm Some request levels n (held_at_hop network request 0 first past)) (zeroth refl) (subst (IsComm Some request levels k) (same-held network request k 0 here first past (zeroth refl)) comm)) in
+      let given : own.count ≡ told = same_Some own.count told (ap (λ r. Some (told_count r)) (sym own.reply) ∙ tells) in
+      let same = first-same network request first done past fits (asked past run) run next (λ tick. absurd (let clash : Release request.chan None ≡ Tick = sym is ∙ tick in cc)) in
+      record {
+        upto = (let counts = own.counts in omega (arith, counts, given, same));
+        closes = λ terms held. ap (λ k. k.phase) (sym (same_Some own.terms terms (sym own.held ∙ held))) ∙ own.phase;
+      }
+  close-frozen levels (reply ∷ replies) k here told on is zeroth comm frozen tells =
+      frozen-later network request first done past told fits (asked past run) run next (subst (IsMild (channel_number request.chan)) (sym is) tt) (frozen told tells)
+
+  close-whole : (levels : List ℕ) (replies : List Reply) (k : ℕ) (here : HopAt network request k) → link_number done.link ≡ link_number here.hop.link → done.ask ≡ Release request.chan (first_count replies) → (replies ≡ [] → k ≡ 0) → IsComm Some request levels k (held_at_hop network request k here past) → ((given : ℕ) → first_count replies ≡ Some given → Frozen network request first past given) → (terms : Reservation) → held_at_hop network request 0 first (done ∷ past) ≡ Some terms → terms.phase ≡ Ph.Committed → ⊥
+  close-whole levels replies k here on is zeroth comm frozen terms held phase =
+      by-first (first_count (replies ++ done.reply ∷ [])) refl where
+        some-first : (rs : List Reply) → first_count (rs ++ done.reply ∷ []) ≡ None → ⊥
+        some-first [] none = cc
+        some-first (r ∷ rs) none = cc
+
+        by-first : (found : Option ℕ) → first_count (replies ++ done.reply ∷ []) ≡ found → ⊥
+        by-first None none = some-first replies none
+        by-first (Some told) some =
+            let closes = (close-frozen levels replies k here told on is zeroth comm frozen some).closes terms held in
+            let clash : Ph.Committed ≡ Ph.Closing = sym phase ∙ closes in cc
+
+  own-leaves : (task : Task) (replies : List Reply) → ((given : ℕ) → IsLeaving request task → first_count replies ≡ Some given → Frozen network request first past given) → OwnKind network request done past task replies → OwnLeaves network request first (done ∷ past) done past task replies
+  own-leaves task replies frozen (OwnOff other off) = record {
+    tells = λ i at on. off-tells (channel_number request.chan) _ _ done.ask off;
+    told = λ given is some. absurd (other is);
+    whole = mild-whole (off-mild (channel_number request.chan) done.ask off) (λ levels comm. comm-later network request levels 0 done past fits run off comm);
+  }
+  own-leaves task replies frozen (OwnSetup later made own rows setup) = record {
+    tells = λ i at on. setup-tells (channel_number request.chan) _ _ done.ask setup;
+    told = λ given is some. absurd (opens-stay request task own is);
+    whole = setup-whole network request first (done ∷ past) _ _ rows.hops;
+  }
+  own-leaves task replies frozen (OwnSend count gap size own is) = record {
+    tells = λ i at on. subst (TellsAll (channel_number request.chan) (count_at network request 0 first past) (count_at network request i at past)) (sym is) tt;
+    told = λ given leaving some. absurd (own leaving);
+    whole = mild-whole (subst (IsMild (channel_number request.chan)) (sym is) tt) (λ levels comm. send-later network request done past count gap size levels is comm);
+  }
+  own-leaves task replies frozen (OwnClose levels leaving k here on is zeroth comm) = record {
+    tells = close-tells replies k here on is zeroth (λ given some. frozen given leaving some);
+    told = λ given closes some. close-frozen levels replies k here given on is zeroth comm (λ g s. frozen g leaving s) some;
+    whole = λ terms held phase. absurd (close-whole levels replies k here on is zeroth comm (λ g s. frozen g leaving s) terms held phase);
+  }
+  own-leaves task replies frozen (OwnAside reply one off) = record {
+    tells = λ i at on. off-tells (channel_number request.chan) _ _ done.ask off;
+    told = λ given leaving some. frozen-later network request first done past given fits (asked past run) run next (off-mild (channel_number request.chan) done.ask off) (frozen given leaving (ap first_count one ∙ sym (ap (λ rs. first_count (rs ++ done.reply ∷ [])) one) ∙ some));
+    whole = mild-whole (off-mild (channel_number request.chan) done.ask off) (λ levels comm. comm-later network request levels 0 done past fits run off comm);
+  }
 
 -- ---- every run
 
@@ -224,7 +215,7 @@ module _ (network : Network) (request : Request) (owner : ℕ) (first : HopAt ne
       record {
         chain = record {
           fates = fates-next network request first done past fits sound asked run next was.chain (λ i here on. off-tells (channel_number request.chan) _ _ done.ask off);
-          whole = mild-whole network request first done past fits run mild was.chain (λ levels comm. comm-later network request levels 0 done past fits run off comm);
+          whole = mild-whole network request first done past fits sound asked run next was.chain mild (λ levels comm. comm-later network request levels 0 done past fits run off comm);
         };
         told = λ task rest told same leaving given. frozen-later network request first done past told fits (asked past run) run next mild (was.told task rest told same leaving given);
       }
@@ -232,7 +223,7 @@ module _ (network : Network) (request : Request) (owner : ℕ) (first : HopAt ne
   leaves : (script : List Task) (past : List Done) (done : Done) (task : Task) (rest : List Task) (replies : List Reply) (outcomes : List Learnt) → OwnStep network owner script past done task rest replies outcomes → ChainAt network request first past (record { tasks = task ∷ rest; replies = replies; outcomes = outcomes })
       → OwnLeaves network request first (done ∷ past) done past task replies
   leaves script past done task rest replies outcomes step was =
-      own-leaves network request first done past task replies fits sound asked step.run step.next was.chain (λ given leaving some. was.told task rest given refl leaving some) (step-kind network request owner script past done task rest replies outcomes fits sound full step)
+      own-leaves network request first done past fits sound asked step.run step.next was.chain task replies (λ given leaving some. was.told task rest given refl leaving some) (step-kind network request owner script past done task rest replies outcomes fits sound full step)
 
   own-chain : (script : List Task) (past : List Done) (done : Done) (task : Task) (rest : List Task) (replies : List Reply) (outcomes : List Learnt) → OwnStep network owner script past done task rest replies outcomes → ChainAt network request first past (record { tasks = task ∷ rest; replies = replies; outcomes = outcomes }) → Chain network request first (done ∷ past)
   own-chain script past done task rest replies outcomes step was =

@@ -93,5 +93,5 @@ closing-comes terms before closes (Closed old count is closed) = ap (λ k. k.pha
 pub frozen-later : (network : Network) (request : Request) (first : HopAt network request 0) (done : Done) (past : List Done) (told : ℕ) → NetworkFits network → ChannelAsked request past → IsRun network past → (next : IsNext network past done) → IsMild (channel_number request.chan) done.ask → Frozen network request first past told → Frozen network request first (done ∷ past) told
 frozen-later network request first done past told fits asked run next mild was = record {
   upto = (let same = first-same network request first done past fits asked run next (λ tick terms held phase. (let clash : Ph.Committed ≡ Ph.Closing = sym phase ∙ was.closes terms held in cc)) in let upto = was.upto in omega (arith, same, upto));
-  closes = λ terms held. closing-comes terms (held_at_hop network request 0 first past) was.closes (hop-comes network request 0 first done past terms fits run mild held);
+  closes = λ terms held. closing-comes terms (held_at_hop network request 0 first past) was.closes (hop-comes network request done past fits run 0 first terms mild held);
 }

@@ -57,84 +57,90 @@ still-here shape clock starts q few left here =
 in-window : (t prop near far d : ℕ) → t < d + near + prop + far → d + prop < t → is_in_window (t - prop - (near + far)) (near + far) d ≡ true
 in-window t prop near far d late early = and_from (nat_le (t - prop - (near + far)) d) (nat_lt d (t - prop - (near + far) + (near + far))) (le-leb (t - prop - (near + far)) d (omega arith)) (lt-ltb d (t - prop - (near + far) + (near + far)) (omega arith))
 
--- the packets of the channel that are here, and one that arrives, are no more than the contract lets into the window
-pub fits-window : (network : Network) (request : Request) (i : ℕ) (two : TwoHops network request i) (past : List Done) (done : Done) (packet : Packet) (row : Row) (level : ℕ) → NetworkFits network → RequestFits network.links request → ((run : List Done) → IsRun network run → ChannelAsked request run) → IsRun network past → (next : IsNext network past done) → done.ask ≡ Arrive packet → link_number done.link ≡ link_number two.after.link
-    → Each (λ p. p.level ≡ level) (channel_packets (channel_number request.chan) (packets_on two.near (link_number two.hop.link) past))
-    → find (is_row_of packet.chan) (scan_of two.far.shape (part_of (link_number two.after.link) past)).rows ≡ Some row
-    → channel_number packet.chan ≡ channel_number request.chan
-    → packet.number ≡ suc (length row.ticks)
-    → 1 ≤ bound_at two.far.shape.bounds (level_number row.terms.level)
-    → length (filter (is_here two.far.shape.rate (starts_below two.far.shape.rate (packets_on two.far (link_number two.after.link) past) (clock_of (part_of (link_number two.after.link) past))) (clock_of (part_of (link_number two.after.link) past))) (channel_packets (channel_number request.chan) (packets_on two.far (link_number two.after.link) past)))
-    < most_in request.contract (bound_at two.near.shape.bounds level + bound_at two.far.shape.bounds (level_number row.terms.level))
-unfolding count_in
-fits-window network request i two past done packet row level fits sound asked run next is at levels found chan numbered some =
-    let comes = arrive-comes network past done packet fits run next is in
-    let near = from-near network request i two past done packet fits sound run (asked past run) comes chan at in
-    let tells = far-row-at network request i two past packet row fits sound run (asked past run) found chan in
-    let own : Among near.taken (channel_packets (channel_number request.chan) (packets_on two.near (link_number two.hop.link) past)) = Among-passes (is_of_channel (channel_number request.chan)) near.taken (packets_on two.near (link_number two.hop.link) past) near.own near.among in
-    let row-at = packet-offered network request past (link_number two.hop.link) two.near near.taken fits run (asked past run) sound two.linked near.own near.among in
-    let near-tells = row-at.row.tells in
-    let place = place-of 0 _ near.taken near-tells.numbered own in
-    let timed = hop-law network request i two fits sound asked past run level levels in
-    let qs : List Arrival = channel_packets (channel_number request.chan) (packets_on two.far (link_number two.after.link) past) in
-    let count : length (channel_packets (channel_number request.chan) (packets_on two.far (link_number two.after.link) past)) ≡ length row.ticks = sym (length-map (channel_packets (channel_number request.chan) (packets_on two.far (link_number two.after.link) past)) tick_of_packet) ∙ ap length (sym tells.eligible) ∙ length-reverse row.ticks in
-    let index : place.index ≡ length (channel_packets (channel_number request.chan) (packets_on two.far (link_number two.after.link) past)) = (let a = place.number in let b = near.number in omega (arith, a, b, numbered, count)) in
-    let tick : get_or (near_ticks network request i two past) (length (channel_packets (channel_number request.chan) (packets_on two.far (link_number two.after.link) past))) 0 ≡ near.taken.eligible = ap (λ k. get_or (near_ticks network request i two past) k 0) (sym index) ∙ place.tick in
-    let same : near.taken.level ≡ level = Each-among (λ p. p.level ≡ level) near.taken _ levels own in
-    let shift : bound_at two.near.shape.bounds near.taken.level ≡ bound_at two.near.shape.bounds level = ap (bound_at two.near.shape.bounds) same in
-    let due = near.due in
-    let now = comes.now in
-    let in_time = comes.from.in_time in
-    let passed = near.passed in
-    let due-same : comes.flight.packet.due ≡ packet.due = ap (λ p. p.due) comes.same in
-    let clock-same : clock_of (part_of (link_number done.link) past) ≡ clock_of (part_of (link_number two.after.link) past) = ap (λ m. clock_of (part_of m past)) at in
-    let shorter : length (channel_packets (channel_number request.chan) (packets_on two.far (link_number two.after.link) past)) < length (near_ticks network request i two past) = (let w = place.within in let l = length-map (channel_packets (channel_number request.chan) (packets_on two.near (link_number two.hop.link) past)) tick_of_packet in omega (arith, w, index, l)) in
-    let legal = part-admissible network past (link_number two.after.link) two.far fits run two.far_linked in
-    let left = Each-filter (HasLeftInTime two.far.shape (clock_of (part_of (link_number two.after.link) past)) (starts_of two.far.shape (part_of (link_number two.after.link) past))) (is_of_channel (channel_number request.chan)) _ (guaranteed two.far.shape (part_of (link_number two.after.link) past) legal).in_time in
-    let numbers = Each-filter (HasNumber two.far.shape.bounds) (is_of_channel (channel_number request.chan)) _ (packets-have_numbers two.far.shape (part_of (link_number two.after.link) past) legal) in
-    let mine = Each-passes (is_of_channel (channel_number request.chan)) (packets_on two.far (link_number two.after.link) past) in
-    let covers = covers-from
-    (is_here two.far.shape.rate (starts_below two.far.shape.rate (packets_on two.far (link_number two.after.link) past) (clock_of (part_of (link_number two.after.link) past))) (clock_of (part_of (link_number two.after.link) past)))
-    (is_in_window (clock_of (part_of (link_number two.after.link) past) - two.near.shape.prop - (bound_at two.near.shape.bounds level + bound_at two.far.shape.bounds (level_number row.terms.level))) (bound_at two.near.shape.bounds level + bound_at two.far.shape.bounds (level_number row.terms.level)))
-    (channel_packets (channel_number request.chan) (packets_on two.far (link_number two.after.link) past)) (near_ticks network request i two past) shorter
-    (λ k q at-k here.
-    let t-at = tick-at (channel_packets (channel_number request.chan) (packets_on two.far (link_number two.after.link) past)) k q at-k in
-    let few = channel-few two.far.shape (channel_number request.chan) q (Each-at (HasNumber two.far.shape.bounds) _ k q numbers at-k) (Each-at (λ p. is_of_channel (channel_number request.chan) p ≡ true) _ k q mine at-k) in
-    let before = still-here two.far.shape (clock_of (part_of (link_number two.after.link) past)) _ q few (Each-at (HasLeftInTime two.far.shape (clock_of (part_of (link_number two.after.link) past)) (starts_of two.far.shape (part_of (link_number two.after.link) past))) _ k q left at-k) here in
-    let own-level : bound_at two.far.shape.bounds q.level ≡ bound_at two.far.shape.bounds (level_number row.terms.level) = ap (bound_at two.far.shape.bounds) (Each-at (λ p. p.level ≡ level_number row.terms.level) _ k q tells.levels at-k) in
-    let after = timed.after.after k t-at.0 in
-    let gone = timed.passed k t-at.0 in
-    let e = t-at.1 in
-    in-window (clock_of (part_of (link_number two.after.link) past)) two.near.shape.prop (bound_at two.near.shape.bounds level) (bound_at two.far.shape.bounds (level_number row.terms.level)) (get_or (near_ticks network request i two past) k 0) (omega (arith, before, own-level, after, e)) gone)
-    (in-window (clock_of (part_of (link_number two.after.link) past)) two.near.shape.prop (bound_at two.near.shape.bounds level) (bound_at two.far.shape.bounds (level_number row.terms.level)) (get_or (near_ticks network request i two past) (length (channel_packets (channel_number request.chan) (packets_on two.far (link_number two.after.link) past))) 0)
-    (omega (arith, tick, due, shift, now, in_time, due-same, clock-same, some)) (omega (arith, tick, passed, now, clock-same))) in
-    let counted = covered-count _ _ _ _ covers in
-    let keeps : Keeps request.contract (near_ticks network request i two past) = row-keeps _ _ row-at.row.row _ near-tells in
-    let most = count_in-le request.contract (near_ticks network request i two past) (clock_of (part_of (link_number two.after.link) past) - two.near.shape.prop - (bound_at two.near.shape.bounds level + bound_at two.far.shape.bounds (level_number row.terms.level))) (bound_at two.near.shape.bounds level + bound_at two.far.shape.bounds (level_number row.terms.level)) sound.contract keeps in
-    omega (arith, counted, most)
+module _ (network : Network) (request : Request) (i : ℕ) (two : TwoHops network request i) (past : List Done) (done : Done) (packet : Packet) (row : Row) (level : ℕ) where
+  -- the channel's packets at both hops, and all at the far one; its clock; and the bounds of the two
+  abbrev near_own : List Arrival
+  near_own = channel_packets (channel_number request.chan) (packets_on two.near (link_number two.hop.link) past)
 
--- so its slot is free, where the row reckons with the bound of the hop before
-pub slot-free : (network : Network) (request : Request) (i : ℕ) (two : TwoHops network request i) (past : List Done) (done : Done) (packet : Packet) (row : Row) (level : ℕ) → NetworkFits network → RequestFits network.links request → ((run : List Done) → IsRun network run → ChannelAsked request run) → IsRun network past → (next : IsNext network past done) → done.ask ≡ Arrive packet → link_number done.link ≡ link_number two.after.link
-    → Each (λ p. p.level ≡ level) (channel_packets (channel_number request.chan) (packets_on two.near (link_number two.hop.link) past))
-    → find (is_row_of packet.chan) (scan_of two.far.shape (part_of (link_number two.after.link) past)).rows ≡ Some row
-    → channel_number packet.chan ≡ channel_number request.chan
-    → packet.number ≡ suc (length row.ticks)
-    → 1 ≤ bound_at two.far.shape.bounds (level_number row.terms.level)
-    → (row.terms.phase ≡ Tentative → ⊥) → bound_at two.near.shape.bounds level ≤ row.terms.up_bound
-    → held_packets row.lead (here_at two.far.shape.rate (packets_on two.far (link_number two.after.link) past) (clock_of (part_of (link_number two.after.link) past))) < slots_of two.far.shape.bounds row.terms
-unfolding slots_of
-slot-free network request i two past done packet row level fits sound asked run next is at levels found chan numbered some settled reckons =
-    let few = fits-window network request i two past done packet row level fits sound asked run next is at levels found chan numbered some in
-    let held = held-channel two.far.shape (part_of (link_number two.after.link) past) (clock_of (part_of (link_number two.after.link) past)) (is_row_of packet.chan) row (part-admissible network past (link_number two.after.link) two.far fits run two.far_linked) found in
-    let own : channel_of row ≡ channel_number request.chan = row-of packet.chan row (find-passes (is_row_of packet.chan) row _ found) ∙ chan in
-    let held' = subst (λ c. held_packets row.lead (here_at two.far.shape.rate (packets_on two.far (link_number two.after.link) past) (clock_of (part_of (link_number two.after.link) past))) ≤ length (filter (is_here two.far.shape.rate (starts_below two.far.shape.rate (packets_on two.far (link_number two.after.link) past) (clock_of (part_of (link_number two.after.link) past))) (clock_of (part_of (link_number two.after.link) past))) (channel_packets c (packets_on two.far (link_number two.after.link) past)))) own held in
-    let tells = far-row-at network request i two past packet row fits sound run (asked past run) found chan in
-    let contract : row.terms.contract ≡ request.contract = tells.contract_is in
-    let stay : stay_of two.far.shape.bounds row.terms ≡ row.terms.up_bound + bound_at two.far.shape.bounds (level_number row.terms.level) = by-phase row.terms.phase refl settled in
-    let more = most_in-mono request.contract (bound_at two.near.shape.bounds level + bound_at two.far.shape.bounds (level_number row.terms.level)) (row.terms.up_bound + bound_at two.far.shape.bounds (level_number row.terms.level)) sound.contract (omega (arith, reckons)) in
-    let slots : most_in row.terms.contract (stay_of two.far.shape.bounds row.terms) ≡ most_in request.contract (row.terms.up_bound + bound_at two.far.shape.bounds (level_number row.terms.level)) = ap (λ k. most_in k (stay_of two.far.shape.bounds row.terms)) contract ∙ ap (most_in request.contract) stay in
-    omega (arith, few, held', more, slots) where
-      by-phase : (phase : Phase) → row.terms.phase ≡ phase → (row.terms.phase ≡ Tentative → ⊥) → stay_of two.far.shape.bounds row.terms ≡ row.terms.up_bound + bound_at two.far.shape.bounds (level_number row.terms.level)
-      by-phase Tentative is' off = absurd (off is')
-      by-phase Committed is' off = rw is' refl
-      by-phase Closing is' off = rw is' refl
+  abbrev far_packets : List Arrival
+  far_packets = packets_on two.far (link_number two.after.link) past
+
+  abbrev far_own : List Arrival
+  far_own = channel_packets (channel_number request.chan) far_packets
+
+  abbrev clock : ℕ
+  clock = clock_of (part_of (link_number two.after.link) past)
+
+  abbrev near_bound : ℕ
+  near_bound = bound_at two.near.shape.bounds level
+
+  abbrev far_bound : ℕ
+  far_bound = bound_at two.far.shape.bounds (level_number row.terms.level)
+
+  module _ (fits : NetworkFits network) (sound : RequestFits network.links request) (asked : (run : List Done) → IsRun network run → ChannelAsked request run) (run : IsRun network past) (next : IsNext network past done) (is : done.ask ≡ Arrive packet) (at : link_number done.link ≡ link_number two.after.link) (levels : Each (λ p. p.level ≡ level) near_own) (found : find (is_row_of packet.chan) (scan_of two.far.shape (part_of (link_number two.after.link) past)).rows ≡ Some row) (chan : channel_number packet.chan ≡ channel_number request.chan) (numbered : packet.number ≡ suc (length row.ticks)) (some : 1 ≤ far_bound) where
+    -- the packets of the channel that are here, and one that arrives, are no more than the contract lets into the window
+    pub fits-window : length (filter (is_here two.far.shape.rate (starts_below two.far.shape.rate far_packets clock) clock) far_own) < most_in request.contract (near_bound + far_bound)
+    unfolding count_in
+    fits-window =
+        let comes = arrive-comes network past done packet fits run next is in
+        let near = from-near network request i two past done packet fits sound run (asked past run) comes chan at in
+        let tells = far-row-at network request i two past packet row fits sound run (asked past run) found chan in
+        let own : Among near.taken near_own = Among-passes (is_of_channel (channel_number request.chan)) near.taken (packets_on two.near (link_number two.hop.link) past) near.own near.among in
+        let row-at = packet-offered network request past (link_number two.hop.link) two.near near.taken fits run (asked past run) sound two.linked near.own near.among in
+        let near-tells = row-at.row.tells in
+        let place = place-of 0 _ near.taken near-tells.numbered own in
+        let timed = hop-law network request i two fits sound asked past run level levels in
+        let count : length far_own ≡ length row.ticks = sym (length-map far_own tick_of_packet) ∙ ap length (sym tells.eligible) ∙ length-reverse row.ticks in
+        let index : place.index ≡ length far_own = (let a = place.number in let b = near.number in omega (arith, a, b, numbered, count)) in
+        let tick : get_or (near_ticks network request i two past) (length far_own) 0 ≡ near.taken.eligible = ap (λ k. get_or (near_ticks network request i two past) k 0) (sym index) ∙ place.tick in
+        let same : near.taken.level ≡ level = Each-among (λ p. p.level ≡ level) near.taken _ levels own in
+        let shift : bound_at two.near.shape.bounds near.taken.level ≡ near_bound = ap (bound_at two.near.shape.bounds) same in
+        let due = near.due in
+        let now = comes.now in
+        let in_time = comes.from.in_time in
+        let passed = near.passed in
+        let due-same : comes.flight.packet.due ≡ packet.due = ap (λ p. p.due) comes.same in
+        let clock-same : clock_of (part_of (link_number done.link) past) ≡ clock = ap (λ m. clock_of (part_of m past)) at in
+        let shorter : length far_own < length (near_ticks network request i two past) = (let w = place.within in let l = length-map near_own tick_of_packet in omega (arith, w, index, l)) in
+        let legal = part-admissible network past (link_number two.after.link) two.far fits run two.far_linked in
+        let left = Each-filter (HasLeftInTime two.far.shape clock (starts_of two.far.shape (part_of (link_number two.after.link) past))) (is_of_channel (channel_number request.chan)) _ (guaranteed two.far.shape (part_of (link_number two.after.link) past) legal).in_time in
+        let numbers = Each-filter (HasNumber two.far.shape.bounds) (is_of_channel (channel_number request.chan)) _ (packets-have_numbers two.far.shape (part_of (link_number two.after.link) past) legal) in
+        let mine = Each-passes (is_of_channel (channel_number request.chan)) far_packets in
+        let covers = covers-from
+        (is_here two.far.shape.rate (starts_below two.far.shape.rate far_packets clock) clock)
+        (is_in_window (clock - two.near.shape.prop - (near_bound + far_bound)) (near_bound + far_bound))
+        far_own (near_ticks network request i two past) shorter
+        (λ k q at-k here.
+        let t-at = tick-at far_own k q at-k in
+        let few = channel-few two.far.shape (channel_number request.chan) q (Each-at (HasNumber two.far.shape.bounds) _ k q numbers at-k) (Each-at (λ p. is_of_channel (channel_number request.chan) p ≡ true) _ k q mine at-k) in
+        let before = still-here two.far.shape clock _ q few (Each-at (HasLeftInTime two.far.shape clock (starts_of two.far.shape (part_of (link_number two.after.link) past))) _ k q left at-k) here in
+        let own-level : bound_at two.far.shape.bounds q.level ≡ far_bound = ap (bound_at two.far.shape.bounds) (Each-at (λ p. p.level ≡ level_number row.terms.level) _ k q tells.levels at-k) in
+        let after = timed.after.after k t-at.0 in
+        let gone = timed.passed k t-at.0 in
+        let e = t-at.1 in
+        in-window clock two.near.shape.prop near_bound far_bound (get_or (near_ticks network request i two past) k 0) (omega (arith, before, own-level, after, e)) gone)
+        (in-window clock two.near.shape.prop near_bound far_bound (get_or (near_ticks network request i two past) (length far_own) 0)
+        (omega (arith, tick, due, shift, now, in_time, due-same, clock-same, some)) (omega (arith, tick, passed, now, clock-same))) in
+        let counted = covered-count _ _ _ _ covers in
+        let keeps : Keeps request.contract (near_ticks network request i two past) = row-keeps _ _ row-at.row.row _ near-tells in
+        let most = count_in-le request.contract (near_ticks network request i two past) (clock - two.near.shape.prop - (near_bound + far_bound)) (near_bound + far_bound) sound.contract keeps in
+        omega (arith, counted, most)
+
+    -- so its slot is free, where the row reckons with the bound of the hop before
+    pub slot-free : (row.terms.phase ≡ Tentative → ⊥) → near_bound ≤ row.terms.up_bound → held_packets row.lead (here_at two.far.shape.rate far_packets clock) < slots_of two.far.shape.bounds row.terms
+    unfolding slots_of
+    slot-free settled reckons =
+        let few = fits-window in
+        let held = held-channel two.far.shape (part_of (link_number two.after.link) past) clock (is_row_of packet.chan) row (part-admissible network past (link_number two.after.link) two.far fits run two.far_linked) found in
+        let own : channel_of row ≡ channel_number request.chan = row-of packet.chan row (find-passes (is_row_of packet.chan) row _ found) ∙ chan in
+        let held' = subst (λ c. held_packets row.lead (here_at two.far.shape.rate far_packets clock) ≤ length (filter (is_here two.far.shape.rate (starts_below two.far.shape.rate far_packets clock) clock) (channel_packets c far_packets))) own held in
+        let tells = far-row-at network request i two past packet row fits sound run (asked past run) found chan in
+        let contract : row.terms.contract ≡ request.contract = tells.contract_is in
+        let stay : stay_of two.far.shape.bounds row.terms ≡ row.terms.up_bound + far_bound = by-phase row.terms.phase refl settled in
+        let more = most_in-mono request.contract (near_bound + far_bound) (row.terms.up_bound + far_bound) sound.contract (omega (arith, reckons)) in
+        let slots : most_in row.terms.contract (stay_of two.far.shape.bounds row.terms) ≡ most_in request.contract (row.terms.up_bound + far_bound) = ap (λ k. most_in k (stay_of two.far.shape.bounds row.terms)) contract ∙ ap (most_in request.contract) stay in
+        omega (arith, few, held', more, slots) where
+          by-phase : (phase : Phase) → row.terms.phase ≡ phase → (row.terms.phase ≡ Tentative → ⊥) → stay_of two.far.shape.bounds row.terms ≡ row.terms.up_bound + far_bound
+          by-phase Tentative is' off = absurd (off is')
+          by-phase Committed is' off = rw is' refl
+          by-phase Closing is' off = rw is' refl

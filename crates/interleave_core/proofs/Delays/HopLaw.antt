@@ -70,7 +70,7 @@ due-comes network past done packet (Some flight) stands flights inside due asks 
 
 pub arrive-comes : (network : Network) (past : List Done) (done : Done) (packet : Packet) → NetworkFits network → IsRun network past → (next : IsNext network past done) → done.ask ≡ Arrive packet → ArriveComes network past done packet
 arrive-comes network past done packet fits run next is =
-    let asks = arrive-due network past done packet fits run next is in
+    let asks = arrive-due network past done fits run next packet is in
     due-comes network past done packet (next_due (plane_at network past)) (run-stands network past fits run) (run-flights network past fits run) (slice_get_within network.links (link_number done.link) next.link next.linked) refl asks.asks is
 
 -- ---- two hops

@@ -217,7 +217,7 @@ module _ (network : Network) (request : Request) (i : ℕ) (two : TwoHops networ
   -- an arrive of the channel at the far hop has the number after those taken there
   pub arrive-in-turn : (done : Done) (past : List Done) (packet : Packet) → NetworkFits network → IsRun network past → (next : IsNext network past done) → done.ask ≡ Arrive packet → channel_number packet.chan ≡ channel_number request.chan → link_number done.link ≡ link_number two.after.link → LegStands network request i two past → packet.number ≡ suc (far_count network request i two past)
   arrive-in-turn done past packet fits run next arrives chan at is =
-      let asks = arrive-due network past done packet fits run next arrives in
+      let asks = arrive-due network past done fits run next packet arrives in
       due-number (plane_at network past) (next_due (plane_at network past)) done past packet (run-punctual network past fits run) refl asks.asks arrives chan at is
 
   -- and a size within the contract

@@ -10,7 +10,7 @@ use Rattle.interleave_core.proofs.Moves.MoveLaw.{MoveTold, Was, Now, move-told, 
 use Rattle.interleave_core.proofs.Moves.MoveSteps.{move-fits}
 use Rattle.interleave_core.proofs.Moves.MoveTotal.{begins-not, run-shifted}
 use Rattle.interleave_core.proofs.Moves.TotalLaw.{both-zero, none-lost}
-use Rattle.run_engine.proofs.Replies.Replying.{moves-plan}
+use Rattle.run_engine.proofs.Moves.JoinedPlans.{moves-plan}
 use Rattle.run_engine.proofs.Runs.RunLegal.{part-admissible}
 use Rattle.run_engine.proofs.Runs.EachRun.{each-run-resumed, OwnStep}
 use Rattle.run_engine.proofs.Tasks.TaskAsks.{off-standing}
@@ -175,7 +175,7 @@ module _ (network : Network) (request : Request) (owner : ℕ) (first : HopAt ne
       let quiet = first-move script past done old new gap size rest replies outcomes step chan was in
       let before : given_in network (channel_number request.chan) past ≡ given_by replies = was.none quiet ∙ rw (eq-eqb (channel_number old.chan) (channel_number request.chan) chan) refl in
       let now = step-gives (channel_number request.chan) (given_in network (channel_number request.chan) past) old new gap size rest replies done.link done.ask done.reply chan before
-      (λ count submit. (_, (moves-plan network owner script past done old new gap size rest replies outcomes count fits all step submit).0))
+      (λ count submit. (_, (moves-plan network owner script past done fits all old new gap size rest replies outcomes count step submit).0))
       (move-asks (move_between old new gap size) replies done.link done.ask step.asks) in
       more replies fit.of_new.route.least quiet now where
         more : (rs : List Reply) → 1 ≤ length new.route → moved_off request.chan outcomes ≡ None → given_with (channel_number request.chan) (given_in network (channel_number request.chan) past) (Moves old new gap size ∷ rest) done.ask done.reply ≡ given_by (rs ++ done.reply ∷ [])

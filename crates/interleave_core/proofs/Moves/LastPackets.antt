@@ -7,7 +7,7 @@ use Rattle.channel_move.proofs.AskByStage.{HopAsked, MoveAsks, AsksFirst, AsksSu
 use Rattle.link_steps.specs.declared.replies.Reply.TheVariants as Is
 use Rattle.setup_protocol.proofs.HopAsks.{of-hop}
 use Rattle.run_engine.proofs.Tasks.SingleAskTask.{once-asked}
-use Rattle.run_engine.proofs.Replies.Replying.{moves-plan}
+use Rattle.run_engine.proofs.Moves.JoinedPlans.{moves-plan}
 use Rattle.run_engine.proofs.Replies.ClosingStands.{off-unsent, setup-unsent}
 use Rattle.run_engine.proofs.Replies.RunCloses.{others-off}
 use Rattle.run_engine.proofs.Runs.RunLegal.{run-stands, part-on, by-part}
@@ -203,7 +203,7 @@ module _ (network : Network) (request : Request) (owner : ℕ) (first : HopAt ne
     by-ask (AsksFirst none at release) = still past done (Moves old new gap size) tasks replies outcomes (subst (IsUnsent (channel_number request.chan)) (sym release) tt) (ap (λ rs. learnt_by request.chan (Moves old new gap size ∷ tasks) (rs ++ done.reply ∷ [])) none ∙ sym (ap (learnt_by request.chan (Moves old new gap size ∷ tasks)) none))
     by-ask (AsksRest told made stage at release) = still past done (Moves old new gap size) tasks replies outcomes (subst (IsUnsent (channel_number request.chan)) (sym release) tt) (rest-learnt request.chan old new gap size tasks replies done.reply told made stage)
     by-ask (AsksSubmit reply one some at submit) =
-        (let plans = moves-plan network owner script past done old new gap size tasks replies outcomes (shifted_in reply) fits all step submit in
+        (let plans = moves-plan network owner script past done fits all old new gap size tasks replies outcomes (shifted_in reply) step submit in
         subst (λ rs. GoesOn past done (Moves old new gap size) tasks rs outcomes) (sym one) (join-goes past done old new gap size tasks outcomes reply some names at submit (_, plans.0)))
 
   own-goes : (script : List Task) (past : List Done) (done : Done) (task : Task) (tasks : List Task) (replies : List Reply) (outcomes : List Learnt) → OwnStep network owner script past done task tasks replies outcomes → GoesOn past done task tasks replies outcomes

@@ -10,7 +10,7 @@ use Rattle.run_engine.proofs.Runs.EachRun.{KeptBySteps, each-run, OwnStep, from-
 use Rattle.run_engine.proofs.Tasks.EachSetup.{Before, Under, After}
 use Rattle.run_engine.proofs.Tasks.TaskAsks.{off-mild, mild-tasks}
 use Rattle.run_engine.proofs.Tasks.OwnTasks.{OwnTask, own-task}
-use Rattle.run_engine.proofs.Replies.OwnerKinds.{IsLeaving, told-kept}
+use Rattle.run_engine.proofs.Replies.OwnerKinds.{request_left, IsLeaving, told-kept}
 use Rattle.run_engine.proofs.Keeping.Lookups.{head-same}
 use Rattle.run_engine.proofs.Tasks.TaskNotes.{once-over}
 
@@ -47,12 +47,12 @@ established-known chan (Settles own outcome ∷ outcomes) is =
       | inl on ↦ rw on (outcome, refl)
       | inr off ↦ rw off (established-known chan outcomes (rw off at is))
     ]
-established-known chan (PlannedOn own gap size ∷ outcomes) is = established-known chan outcomes is
 established-known chan (MovedTo old new told gap size ∷ outcomes) is =
     elim (cases_Bool (is_that chan old)) [
       | inl on ↦ (let clash : false ≡ true = rw on at is in cc)
       | inr off ↦ established-known chan outcomes (rw off at is)
     ]
+established-known chan (_ ∷ outcomes) is = established-known chan outcomes is
 
 -- one note more
 settled-sound : (own : ChanNo) (outcome : Outcome) (outcomes : List Learnt) → NotesSound outcomes → NotesSound (Settles own outcome ∷ outcomes)
@@ -72,8 +72,7 @@ unfolding outcome_in
 same-known chan own outcomes same known = subst (λ n. (outcome : Outcome) × (newest (λ note. settled_at n note) outcomes ≡ Some outcome)) (eqb-true (channel_number own) (channel_number chan) same) known where
   settled_at : ℕ → Learnt → Option Outcome
   settled_at n (Settles c outcome) = if nat_eq (channel_number c) n then Some outcome else None
-  settled_at n (PlannedOn c gap size) = None
-  settled_at n (MovedTo old new told gap size) = None
+  settled_at n _ = None
 
 moved-sound : (old new : ChanNo) (own : Shifted) (gap size : ℕ) (outcomes : List Learnt) → is_established old outcomes ≡ true → NotesSound outcomes → NotesSound (MovedTo old new own gap size ∷ outcomes)
 unfolding moved_off outcome_in newest
@@ -114,9 +113,7 @@ standing-sound network owner script run found is = each-run network owner script
 
 -- a move from the channel is the request's
 pub move-own : (request old new : Request) (gap size : ℕ) (task : Task) → OwnTask request task → task ≡ Moves old new gap size → channel_number old.chan ≡ channel_number request.chan → IsLeaving request task
-move-own request old new gap size task own same chan =
-    let both = (subst (OwnTask request) same own).leaves chan in
-    inr (record { new = new; gap = gap; size = size; is = same ∙ ap (λ r. Moves r new gap size) both.0; other = both.1 })
+move-own request old new gap size task own same chan = ap request_left same ∙ ap Some ((subst (OwnTask request) same own).leaves chan).0
 
 -- ---- what a task's notes tell of moves from the channel
 
@@ -164,7 +161,7 @@ module _ (network : Network) (request : Request) (owner : ℕ) (first : HopAt ne
   was-moved : (script : List Task) (past : List Done) (done : Done) (task : Task) (rest : List Task) (replies : List Reply) (outcomes : List Learnt) → OwnStep network owner script past done task rest replies outcomes → MovesKept past outcomes → MovesKept (done ∷ past) outcomes
   was-moved script past done task rest replies outcomes step was told moved =
       let notes = subst (λ (s : Standing). NotesSound s.outcomes) step.stands (standing-sound network owner script past step.found step.run).notes in
-      let goes = step-goes network request owner script past done task rest replies outcomes fits sound (owned-once network request owner full) step in
+      let goes = step-goes network request owner fits sound (owned-once network request owner full) script past done task rest replies outcomes step in
       frozen-later network request first done past told.kept fits (asked past step.run) step.run step.next (asks-mild network request done past (task ∷ rest) replies outcomes told notes moved step.asks goes) (was told moved)
 
   -- and one that is told of now

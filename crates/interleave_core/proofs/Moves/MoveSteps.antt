@@ -1,5 +1,5 @@
 -- Each step of a move releases a hop of the channel that is left, or plans on the other channel what the first release has cancelled.
-use Rattle.std.proofs.Common.{◌≡◌, ℕ, zero, suc, ◌+◌, ◌≤◌, false, List, [], ◌∷◌, ◌++◌, Some, None, refl, sym, ap, ◌∙◌, subst, inr, arith}
+use Rattle.std.proofs.Common.{◌≡◌, ℕ, zero, suc, ◌+◌, ◌≤◌, false, List, [], ◌∷◌, ◌++◌, Some, None, refl, sym, ap, ◌∙◌, subst, arith}
 use Rattle.run_engine.proofs.Words.{eqb-false, same_Some, slice_get_within, slice_get, nat_eq, link_number, channel_number, link_of, shifted_in, stage_after, Releasing, Release, Reply, Each, RequestFits, first_count, Request, NetworkFits, TaskFits, MoveFits, OwnedFully, AllOwned, Learnt, Standing, move_between, standing, ask_at, Network, Task, Moves, replies_to, Done, IsRun, cancelled_with, HopAt}
 use Rattle.channel_move.proofs.AskByStage.{HopAsked, MoveAsks, AsksFirst, AsksSubmit, AsksRest, move-asks, rest-length}
 use Rattle.interleave_core.specs.channels.Shifting.{MoveStep, Leaves, Joins, Frees, EveryMovePlansTheShifted}
@@ -7,11 +7,11 @@ use Rattle.interleave_core.proofs.Channels.ChainLaw.{leaves-frozen}
 use Rattle.run_engine.proofs.Channels.HopsAt.{hop-at}
 use Rattle.interleave_core.proofs.Moves.LastPackets.{moves-take-last}
 use Rattle.interleave_core.proofs.Moves.MoveTotal.{cancelled_at, own-release, entry-cancels, first-cancels, run-shifted}
-use Rattle.run_engine.proofs.Replies.Replying.{moves-plan}
+use Rattle.run_engine.proofs.Moves.JoinedPlans.{moves-plan}
 use Rattle.run_engine.proofs.Replies.RunCloses.{step-kind, fully-asked}
 use Rattle.run_engine.proofs.Runs.RunLegal.{run-stands, owner-asks}
 use Rattle.run_engine.proofs.Runs.EachRun.{OwnStep}
-use Rattle.run_engine.proofs.Replies.OwnerKinds.{IsLeaving, stage-told}
+use Rattle.run_engine.proofs.Replies.OwnerKinds.{stage-told}
 
 -- two hops at one place
 hop-link : (network : Network) (request : Request) (k : ℕ) (at : HopAt network request k) (to : _) → HopAsked request.route k to → link_number to ≡ link_number at.hop.link
@@ -21,14 +21,11 @@ hop-link network request k at to own = ap link_number own.at ∙ ap link_of (sam
 under-way : (at : Standing) (old new : Request) (gap size : ℕ) (rest : List Task) → at.tasks ≡ Moves old new gap size ∷ rest → at ≡ record { tasks = Moves old new gap size ∷ rest; replies = at.replies; outcomes = at.outcomes }
 under-way at old new gap size rest same = ap (λ ts. record { tasks = ts; replies = at.replies; outcomes = at.outcomes }) same
 
--- the move's task fits, and leaves its channel
+-- the move's task fits
 pub move-fits : (network : Network) (run : List Done) (owner gap size : ℕ) (tasks rest : List Task) (old new : Request) → NetworkFits network → IsRun network run → slice_get network.scripts owner ≡ Some tasks → (standing tasks (replies_to owner run)).tasks ≡ Moves old new gap size ∷ rest → MoveFits network.links old new gap size
 move-fits network run owner gap size tasks rest old new fits is found first = head (subst (Each (TaskFits network.links)) first ((run-stands network run fits is).callers owner tasks found).tasks) where
   head : Each (TaskFits network.links) (Moves old new gap size ∷ rest) → MoveFits network.links old new gap size
   head each = each.0
-
-pub is-leaving : (links : List _) (old new : Request) (gap size : ℕ) → MoveFits links old new gap size → IsLeaving old (Moves old new gap size)
-is-leaving links old new gap size fit = inr (record { new = new; gap = gap; size = size; is = refl; other = λ same. fit.apart (sym same) })
 
 -- the first reply, with more of them
 stays-told : (replies : List Reply) (more : List Reply) (kept : ℕ) → first_count replies ≡ Some kept → first_count (replies ++ more) ≡ Some kept
@@ -54,23 +51,20 @@ module _ (network : Network) (past : List Done) (done : Done) (owner gap size : 
   fit : MoveFits network.links old new gap size
   fit = move-fits network past owner gap size script rest old new fits step.run step.found at-tasks
 
-  leaving : IsLeaving old (Moves old new gap size)
-  leaving = is-leaving network.links old new gap size fit
-
   step-of : MoveAsks (move_between old new gap size) replies done.link done.ask → MoveStep network past done step.next old new first
   step-of (AsksFirst none own release) =
       let on = hop-link network old 0 first done.link own in
       let kind = step-kind network old owner script past done (Moves old new gap size) rest replies outcomes fits sound full step in
-      let now = first-cancels network old first done past (Moves old new gap size) replies fits (fully-asked network old owner fits sound full past step.run) step.run step.next leaving none kind in
+      let now = first-cancels network old first done past (Moves old new gap size) replies fits (fully-asked network old owner fits sound full past step.run) step.run step.next refl none kind in
       Leaves on release (none-before network old first done past on release now)
   step-of (AsksSubmit reply one some own submit) =
       let to = hop-at network new 0 fit.of_new (slice_get_within new.route 0 own.hop own.stands) in
-      let plans = moves-plan network owner script past done old new gap size rest replies outcomes (shifted_in reply) fits all step submit in
+      let plans = moves-plan network owner script past done fits all old new gap size rest replies outcomes (shifted_in reply) step submit in
       Joins (shifted_in reply) gap size (record {
         to = to;
         on = hop-link network new 0 to done.link own;
         asked = submit;
-        shifted = sym ((run-shifted network old owner first fits sound full past step.run script step.found).way (Moves old new gap size) rest reply [] at-tasks leaving (ap (λ (s : Standing). s.replies) step.stands ∙ one));
+        shifted = sym ((run-shifted network old owner first fits sound full past step.run script step.found).way (Moves old new gap size) rest reply [] at-tasks refl (ap (λ (s : Standing). s.replies) step.stands ∙ one));
         some = some-more (shifted_in reply) some;
         like = moves-take-last network old new owner gap size first past script rest fits all sound full step.run step.found at-tasks;
         planned = plans.0;
@@ -81,7 +75,7 @@ module _ (network : Network) (past : List Done) (done : Done) (owner gap size : 
     later zero at hop = absurd (let least = (rest-length replies told zero at).1 in omega (arith, least))
     later (suc i) at hop =
         let here = hop-at network old (suc i) sound (slice_get_within old.route (suc i) hop.hop hop.stands) in
-        let frozen = leaves-frozen network old owner first fits sound full script past done (Moves old new gap size) rest replies outcomes told.kept step leaving (stays-told replies (done.reply ∷ []) told.kept (stage-told replies told (suc i) at)) in
+        let frozen = leaves-frozen network old owner first fits sound full script past done (Moves old new gap size) rest replies outcomes told.kept step refl (stays-told replies (done.reply ∷ []) told.kept (stage-told replies told (suc i) at)) in
         Frees i told.kept here (hop-link network old (suc i) here done.link hop) release frozen.upto
 
 pub moves-step : EveryMovePlansTheShifted

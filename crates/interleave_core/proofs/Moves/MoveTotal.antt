@@ -1,6 +1,6 @@
 -- Once packets of a channel have moved off, those that its source has offered and those that were shifted are all that its submits
 -- planned: the first hop's release has cancelled as many as were shifted, and none is left.
-use Rattle.std.proofs.Common.{◌≡◌, ℕ, ◌+◌, Bool, true, false, List, [], ◌∷◌, ◌++◌, length, Option, Some, None, refl, sym, ap, ◌∙◌, subst, inl, inr, arith}
+use Rattle.std.proofs.Common.{◌≡◌, ℕ, ◌+◌, Bool, true, false, List, [], ◌∷◌, ◌++◌, length, Option, Some, None, refl, sym, ap, ◌∙◌, subst, arith}
 use Rattle.run_engine.proofs.Words.{eq-eqb, ne_eqb, same_Some, slice_get, find, nat_eq, if◌then◌else◌, link_number, channel_number, ChanNo, link_of, shifted_in, told_by, first_told, Shifted, Ask, Release, Entry, Reply, LinkShape, MayAnswer, release_to, reply_at, Reservation, is_phase, Row, left_at, clock_of, scan_of, is_row_at_hop, RequestFits, first_count, Request, MayReplyTo, IsOff, held_by, NetworkFits, OwnedFully, Learnt, Standing, standing, moved_off, Network, Task, replies_to, part_of, Done, IsNext, IsRun, terms_at, ChannelAsked, cancelled_with, cancelled_in, AMoveLeavesNoPacketBehind, HopAt}
 use Rattle.link_steps.specs.declared.replies.Phase.TheVariants as Ph
 use Rattle.link_steps.specs.declared.replies.Reply.TheVariants as Is
@@ -13,7 +13,7 @@ use Rattle.run_engine.proofs.Runs.RunLegal.{part-on, part-admissible, by-part}
 use Rattle.interleave_core.proofs.Moves.TotalLaw.{none-lost, release-cancels}
 use Rattle.run_engine.proofs.Runs.EachRun.{KeptBySteps, KeptByOthers, each-run, OwnStep}
 use Rattle.run_engine.proofs.Tasks.OwnTasks.{own-task}
-use Rattle.run_engine.proofs.Replies.OwnerKinds.{NoRelease, IsLeaving, OwnKind, OwnOff, OwnAside, OwnSetup, OwnSend, OwnClose}
+use Rattle.run_engine.proofs.Replies.OwnerKinds.{NoRelease, IsLeaving, OwnKind, OwnOff, OwnAside, OwnSetup, OwnSend, OwnClose, opens-stay}
 use Rattle.run_engine.proofs.Keeping.Lookups.{head-same}
 
 -- ---- what an entry cancels
@@ -77,8 +77,7 @@ module _ (network : Network) (request : Request) (first : HopAt network request 
       → cancelled_at network request first (done ∷ past) ≡ shifted_in done.reply
   first-cancels replies fits asked run next leaving none (OwnOff own off) = absurd (own leaving)
   first-cancels replies fits asked run next leaving none (OwnAside reply one off) = absurd (let clash : [] ≡ reply ∷ [] = sym none ∙ one in cc)
-  first-cancels replies fits asked run next (inl closes) none (OwnSetup later made own rows setup) = absurd (let clash = sym closes ∙ own in cc)
-  first-cancels replies fits asked run next (inr move) none (OwnSetup later made own rows setup) = absurd (let clash = sym move.is ∙ own in cc)
+  first-cancels replies fits asked run next leaving none (OwnSetup later made own rows setup) = absurd (opens-stay request task own leaving)
   first-cancels replies fits asked run next leaving none (OwnSend count gap size own is) = absurd (own leaving)
   first-cancels replies fits asked run next leaving none (OwnClose levels own k here on is zeroth comm) =
       let place = same-place network request k first here (zeroth none) in
@@ -122,8 +121,7 @@ module _ (network : Network) (request : Request) (first : HopAt network request 
   pub begins-not : Frozen network request first past kept → IsLeaving request task → replies ≡ [] → OwnKind network request done past task replies → ⊥
   begins-not frozen leaving none (OwnOff own off) = own leaving
   begins-not frozen leaving none (OwnAside reply one off) = (let clash : [] ≡ reply ∷ [] = sym none ∙ one in cc)
-  begins-not frozen (inl closes) none (OwnSetup later made own rows setup) = (let clash = sym closes ∙ own in cc)
-  begins-not frozen (inr move) none (OwnSetup later made own rows setup) = (let clash = sym move.is ∙ own in cc)
+  begins-not frozen leaving none (OwnSetup later made own rows setup) = opens-stay request task own leaving
   begins-not frozen leaving none (OwnSend count gap size own is) = own leaving
   begins-not frozen leaving none (OwnClose levels own k here on is zeroth comm) =
       let place = same-place network request k first here (zeroth none) in

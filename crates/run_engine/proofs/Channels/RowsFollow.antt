@@ -29,32 +29,33 @@ SetupRows network request replies run = RouteStands None Some request (HopAt net
 
 -- ---- the parts of a run
 
-pub held-elsewhere : (network : Network) (request : Request) (i : ℕ) (at : HopAt network request i) (done : Done) (past : List Done) → link_number done.link ≢ link_number at.hop.link → held_at_hop network request i at (done ∷ past) ≡ held_at_hop network request i at past
-held-elsewhere network request i at done past other = ap (λ h. held_by request.chan (scan_of at.link.shape h).rows) (part-off (link_number at.hop.link) done past other)
+module _ (network : Network) (request : Request) (i : ℕ) (at : HopAt network request i) (done : Done) (past : List Done) where
+  pub held-elsewhere : link_number done.link ≢ link_number at.hop.link → held_at_hop network request i at (done ∷ past) ≡ held_at_hop network request i at past
+  held-elsewhere other = ap (λ h. held_by request.chan (scan_of at.link.shape h).rows) (part-off (link_number at.hop.link) done past other)
 
-pub held-here : (network : Network) (request : Request) (i : ℕ) (at : HopAt network request i) (done : Done) (past : List Done) → link_number done.link ≡ link_number at.hop.link → held_at_hop network request i at (done ∷ past) ≡ held_by request.chan (after at.link.shape (clock_of (part_of (link_number at.hop.link) past)) (scan_of at.link.shape (part_of (link_number at.hop.link) past)) done.ask done.reply).rows
-unfolding scan_of
-held-here network request i at done past on = ap (λ h. held_by request.chan (scan_of at.link.shape h).rows) (part-on (link_number at.hop.link) done past on)
+  pub held-here : link_number done.link ≡ link_number at.hop.link → held_at_hop network request i at (done ∷ past) ≡ held_by request.chan (after at.link.shape (clock_of (part_of (link_number at.hop.link) past)) (scan_of at.link.shape (part_of (link_number at.hop.link) past)) done.ask done.reply).rows
+  unfolding scan_of
+  held-here on = ap (λ h. held_by request.chan (scan_of at.link.shape h).rows) (part-on (link_number at.hop.link) done past on)
+
+  -- the reply of the link of a hop
+  pub hop-reply : (next : IsNext network past done) → link_number done.link ≡ link_number at.hop.link → done.reply ≡ reply_at at.link (clock_of (part_of (link_number at.hop.link) past)) (scan_of at.link.shape (part_of (link_number at.hop.link) past)) done.ask
+  unfolding reply_to
+  hop-reply next on =
+      let link : next.link ≡ at.link = same_Some next.link at.link (sym next.linked ∙ ap (slice_get network.links) on ∙ at.linked) in
+      next.answered ∙ ap (λ l. reply_to l (part_of (link_number done.link) past) done.ask) link ∙ ap (λ m. reply_to at.link (part_of m past) done.ask) on
+
+  -- and it may be given
+  pub hop-may : NetworkFits network → IsRun network past → (next : IsNext network past done) → link_number done.link ≡ link_number at.hop.link → MayReplyTo at.link.shape (part_of (link_number at.hop.link) past) done.ask done.reply
+  hop-may fits run next on =
+      let link : next.link ≡ at.link = same_Some next.link at.link (sym next.linked ∙ ap (slice_get network.links) on ∙ at.linked) in
+      let moved : (n : ℕ) (l : Link) → link_number done.link ≡ n → next.link ≡ l → MayReplyTo l.shape (part_of n past) done.ask done.reply = λ n l number same. subst (λ m. MayReplyTo l.shape (part_of m past) done.ask done.reply) number (subst (λ x. MayReplyTo x.shape (part_of (link_number done.link) past) done.ask done.reply) same (answered-may network past done fits run next)) in
+      moved (link_number at.hop.link) at.link on link
 
 pub same-held : (network : Network) (request : Request) (i k : ℕ) (at : HopAt network request i) (own : HopAt network request k) (run : List Done) → i ≡ k → held_at_hop network request i at run ≡ held_at_hop network request k own run
 same-held network request i k at own run e =
     let hop : at.hop ≡ own.hop = same_Some at.hop own.hop (sym at.stands ∙ ap (slice_get request.route) e ∙ own.stands) in
     let link : at.link ≡ own.link = same_Some at.link own.link (sym at.linked ∙ ap (λ h. slice_get network.links (link_number h.link)) hop ∙ own.linked) in
     ap (λ l. held_by request.chan (scan_of l.shape (part_of (link_number at.hop.link) run)).rows) link ∙ ap (λ h. held_by request.chan (scan_of own.link.shape (part_of (link_number h.link) run)).rows) hop
-
--- the reply of the link of a hop
-pub hop-reply : (network : Network) (request : Request) (i : ℕ) (at : HopAt network request i) (done : Done) (past : List Done) → (next : IsNext network past done) → link_number done.link ≡ link_number at.hop.link → done.reply ≡ reply_at at.link (clock_of (part_of (link_number at.hop.link) past)) (scan_of at.link.shape (part_of (link_number at.hop.link) past)) done.ask
-unfolding reply_to
-hop-reply network request i at done past next on =
-    let link : next.link ≡ at.link = same_Some next.link at.link (sym next.linked ∙ ap (slice_get network.links) on ∙ at.linked) in
-    next.answered ∙ ap (λ l. reply_to l (part_of (link_number done.link) past) done.ask) link ∙ ap (λ m. reply_to at.link (part_of m past) done.ask) on
-
--- and it may be given
-pub hop-may : (network : Network) (request : Request) (i : ℕ) (at : HopAt network request i) (done : Done) (past : List Done) → NetworkFits network → IsRun network past → (next : IsNext network past done) → link_number done.link ≡ link_number at.hop.link → MayReplyTo at.link.shape (part_of (link_number at.hop.link) past) done.ask done.reply
-hop-may network request i at done past fits run next on =
-    let link : next.link ≡ at.link = same_Some next.link at.link (sym next.linked ∙ ap (slice_get network.links) on ∙ at.linked) in
-    let moved : (n : ℕ) (l : Link) → link_number done.link ≡ n → next.link ≡ l → MayReplyTo l.shape (part_of n past) done.ask done.reply = λ n l number same. subst (λ m. MayReplyTo l.shape (part_of m past) done.ask done.reply) number (subst (λ x. MayReplyTo x.shape (part_of (link_number done.link) past) done.ask done.reply) same (answered-may network past done fits run next)) in
-    moved (link_number at.hop.link) at.link on link
 
 -- another hop is over another link
 pub other-hop : (network : Network) (request : Request) (i k : ℕ) (at : HopAt network request i) (own : HopAt network request k) (done : Done) → IsRoute request.route → link_number done.link ≡ link_number own.hop.link → i ≢ k → link_number done.link ≢ link_number at.hop.link
@@ -154,13 +155,13 @@ module _ (network : Network) (request : Request) (replies : List Reply) (done : 
     by-reply (Is.Refused refusal) told usual = refused-goes None Some request (HopAt network request) now later replies done.reply rows alone is refusal told usual (changes-at n here ask (Is.Refused refusal) None on own.is told none)
     by-reply _ told reserved_so = absurd reserved_so
 
--- every reply to a setup
-pub setup-goes : (network : Network) (request : Request) (replies : List Reply) (done : Done) (past : List Done) → NetworkFits network → RequestFits network.links request → IsRun network past → (next : IsNext network past done) → AreLevels request.route (offers_in replies) → SetupRows network request replies past → next_ask request replies ≡ Some (done.link, done.ask) → SetupGoes network request replies done past
-setup-goes network request replies done past fits sound run next are rows asks = by-ask (setup-asks request replies done.link done.ask sound.bounds are asks) where
-  by-ask : SetupAsks request replies done.link done.ask → SetupGoes network request replies done past
-  by-ask (Reserves fewer alone is own) = is-reserved network request replies done past fits sound run next rows fewer alone is own
-  by-ask (GivesBack k deny is own) = gives-back network request replies done past fits sound run next rows k deny is own
-  by-ask (Relaxes k levels less within is own) = is-relaxed network request replies done past fits sound run next rows k levels less within is own
+  -- every reply to a setup
+  pub setup-goes : AreLevels request.route (offers_in replies) → next_ask request replies ≡ Some (done.link, done.ask) → SetupGoes network request replies done past
+  setup-goes are asks = by-ask (setup-asks request replies done.link done.ask sound.bounds are asks) where
+    by-ask : SetupAsks request replies done.link done.ask → SetupGoes network request replies done past
+    by-ask (Reserves fewer alone is own) = is-reserved fewer alone is own
+    by-ask (GivesBack k deny is own) = gives-back k deny is own
+    by-ask (Relaxes k levels less within is own) = is-relaxed k levels less within is own
 
 -- ---- after the last reply
 

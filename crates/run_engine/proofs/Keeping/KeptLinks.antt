@@ -1,10 +1,11 @@
 -- The links of a run, as they are kept: before any step, and with one more step. Their clocks are small.
-use Rattle.std.proofs.Common.{◌≡◌, ◌≢◌, ℕ, ◌+◌, ◌<◌, ◌≤◌, ◌^◌, Some, List, [], ◌∷◌, ◌++◌, length, map, sym, ap, ◌∙◌, subst, inl, inr, option_map, nat_lt, arith}
-use Rattle.run_engine.proofs.Words.{cases_Bool, eqb-true, eqb-false, length-map, slice_get_within, slice_get-map, slice_get, nat_eq, actor_number, any_rules, any_clock, AnyStands, any-clock-is, AnyLink, clock_of, Link, NetworkFits, entry_link, Network, plane_no, plane_at, IsRun, replies_to, part_of, Done, Plane, plane_of}
-use Rattle.call_script.specs.declared.entries.LinkEntry.{LinkEntry}
+use Rattle.std.proofs.Common.{◌≡◌, ◌≢◌, ℕ, ◌+◌, ◌<◌, ◌≤◌, ◌^◌, Some, List, [], ◌∷◌, length, map, sym, ap, ◌∙◌, subst, inl, inr, option_map, nat_lt, arith}
+use Rattle.run_engine.proofs.Words.{cases_Bool, eqb-true, eqb-false, length-map, slice_get_within, slice_get-map, slice_get, nat_eq, actor_number, any_rules, any_clock, AnyStands, any-clock-is, AnyLink, clock_of, Link, NetworkFits, Network, plane_no, plane_at, IsRun, replies_to, part_of, Done, Plane, plane_of}
+use Rattle.link_steps.proofs.ListParts.{Each-at}
+use Rattle.link_steps.specs.Lists.{Each}
 use Rattle.tick_plane.proofs.AskedInWindow.{window-holds}
 use Rattle.run_engine.specs.schedules.Standing.{LinksStand}
-use Rattle.run_engine.proofs.Keeping.Lookups.{get-push, held}
+use Rattle.run_engine.proofs.Keeping.Lookups.{held}
 use Rattle.run_engine.proofs.Runs.PartLaws.{clocks-follow}
 use Rattle.run_engine.proofs.Runs.RunLegal.{plane-next, plane-by, plane-off}
 
@@ -70,27 +71,10 @@ links-with network old new number run more long others same parts at stand = rec
 
 -- ---- before any step
 
--- so many links of these entries are made
-pub record LinksMade (groups : List ℕ) (entries : List LinkEntry) (links : List AnyLink) : Type 0 where
-  pub linked : (n : ℕ) (link : AnyLink) → slice_get links n ≡ Some link → slice_get (map (entry_link groups) entries) n ≡ Some (any_rules link)
-  pub fresh : (n : ℕ) (link : AnyLink) → slice_get links n ≡ Some link → AnyStands link []
-
-pub one-made : (groups : List ℕ) (entries : List LinkEntry) (links : List AnyLink) (entry : LinkEntry) (link : AnyLink) → LinksMade groups entries links → slice_get entries (length links) ≡ Some entry → any_rules link ≡ entry_link groups entry → AnyStands link [] → LinksMade groups entries (links ++ link ∷ [])
-one-made groups entries links entry link made found shape stands = record {
-  linked = λ n at is.
-      elim (get-push links link n at is) [
-        | inl before ↦ made.linked n at before
-        | inr last ↦
-            slice_get-map (entry_link groups) entries n ∙ ap (λ m. option_map (entry_link groups) (slice_get entries m)) last.0 ∙ ap (option_map (entry_link groups)) found
-            ∙ ap (λ (l : Link). Some l) (sym shape) ∙ ap (λ (l : AnyLink). Some (any_rules l)) (sym last.1)
-      ];
-  fresh = λ n at is.
-      elim (get-push links link n at is) [
-        | inl before ↦ made.fresh n at before
-        | inr last ↦ subst (λ (l : AnyLink). AnyStands l []) (sym last.1) stands
-      ];
-}
-
-pub all-made : (groups : List ℕ) (entries : List LinkEntry) (links : List AnyLink) → length links ≡ length entries → LinksMade groups entries links → LinksStand (map (entry_link groups) entries) links []
+pub links-new : (network : List Link) (links : List AnyLink) → map any_rules links ≡ network → Each (λ (link : AnyLink). AnyStands link []) links → LinksStand network links []
 unfolding part_of
-all-made groups entries links long made = record { same = long ∙ sym (length-map entries (entry_link groups)); linked = made.linked; parts = made.fresh }
+links-new network links rules stand = record {
+  same = sym (length-map links any_rules) ∙ ap length rules;
+  linked = λ n link found. ap (λ (ls : List Link). slice_get ls n) (sym rules) ∙ slice_get-map any_rules links n ∙ ap (option_map any_rules) found;
+  parts = λ n link found. Each-at (λ (l : AnyLink). AnyStands l []) links n link stand found;
+}

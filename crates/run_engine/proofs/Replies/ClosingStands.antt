@@ -66,7 +66,7 @@ ClosesAt network request run (task ∷ rest) replies established = UnderWay netw
 
 pub comm-later : (network : Network) (request : Request) (levels : List ℕ) (from : ℕ) (done : Done) (past : List Done) → NetworkFits network → IsRun network past → IsOff (channel_number request.chan) done.ask → AllComm network request levels from past → AllComm network request levels from (done ∷ past)
 comm-later network request levels from done past fits run off comm i at upto =
-    (let own = comm i at upto in subst (IsComm Some request levels i) (sym (held-later network request i at done past fits run off (open-comm request levels i (held_at_hop network request i at past) own))) own)
+    (let own = comm i at upto in subst (IsComm Some request levels i) (sym (held-later network request done past fits run i at off (open-comm request levels i (held_at_hop network request i at past) own))) own)
 
 -- a submit on the channel leaves what is held
 pub send-later : (network : Network) (request : Request) (done : Done) (past : List Done) (count gap size : ℕ) (levels : List ℕ) → done.ask ≡ Submit request.chan count gap size → AllComm network request levels 0 past → AllComm network request levels 0 (done ∷ past)

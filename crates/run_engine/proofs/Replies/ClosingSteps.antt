@@ -33,16 +33,16 @@ IfPlanned _ reply = Unit {0}
 -- the replies of sends, closes and moves are theirs; the submit of a move is planned where its packets are no larger than the
 -- other channel's contract has them
 abbrev pub IsUsualReply : Request → Task → Ask → Reply → Type 0
-IsUsualReply request (Opens r) ask reply = Unit {0}
 IsUsualReply request (Sends link chan count gap size) ask reply = (PacketsOff (channel_number request.chan) chan → ⊥) → IsSendReply reply
 IsUsualReply request (Closes r) ask reply = channel_number r.chan ≡ channel_number request.chan → IsReleased reply
 IsUsualReply request (Moves old new gap size) ask reply = (channel_number old.chan ≡ channel_number request.chan → IfReleased ask reply) × (channel_number new.chan ≡ channel_number request.chan → size ≤ request.contract.smax → IfPlanned ask reply)
+IsUsualReply request _ ask reply = Unit {0}
 
 off-usual : (request : Request) (task : Task) (ask : Ask) (reply : Reply) → TaskOff (channel_number request.chan) task → IsUsualReply request task ask reply
-off-usual request (Opens r) ask reply off = tt
 off-usual request (Sends link chan count gap size) ask reply off = λ named. absurd (named off)
 off-usual request (Closes r) ask reply off = λ same. absurd (off same)
 off-usual request (Moves old new gap size) ask reply off = (λ same. absurd (off.0 same), λ same. absurd (off.1 same))
+off-usual request _ ask reply off = tt
 
 pub record OneReply (network : Network) (request : Request) (done : Done) (past : List Done) (task : Task) (rest : List Task) (replies : List Reply) (established : Bool) : Type 0 where
   pub usual : IsUsualReply request task done.ask done.reply
@@ -145,7 +145,7 @@ module _ (network : Network) (request : Request) (owner : ℕ) (script : List Ta
   opening : (rest : List Task) (replies : List Reply) (outcomes : List Learnt) → UsedOnce request rest → is_established request.chan outcomes ≡ false → Unsent request past → Goes (Opens request) rest replies outcomes
   opening rest replies outcomes used none unsent step = record {
     usual = tt;
-    kind = OwnSetup (replies ++ done.reply ∷ []) refl refl (step-setup network request owner script past done rest replies outcomes fits sound once step).stands (setup-keeps request (progress_of request replies) done.link done.ask step.asks);
+    kind = OwnSetup (replies ++ done.reply ∷ []) refl refl (step-setup network request owner fits sound once script past done rest replies outcomes step).stands (setup-keeps request (progress_of request replies) done.link done.ask step.asks);
     later = Opening refl used none (unsent-more request done past (setup-unsent request replies done.link done.ask (channel_number request.chan) step.asks) unsent);
   }
 
@@ -171,7 +171,7 @@ module _ (network : Network) (request : Request) (owner : ℕ) (script : List Ta
       let count : suc (length replies) ≡ length (replies ++ done.reply ∷ []) = omega (arith, length_push replies done.reply) in
       record {
         usual = λ same. left.reply;
-        kind = OwnClose levels (inl refl) (length replies) left.here left.on own.is (λ none. ap length none) left.held;
+        kind = OwnClose levels refl (length replies) left.here left.on own.is (λ none. ap length none) left.held;
         later = Closing levels refl others (subst (λ n. AllComm network request levels n (done ∷ past)) count left.later);
       }
 
@@ -186,7 +186,7 @@ module _ (network : Network) (request : Request) (owner : ℕ) (script : List Ta
         let left = is-left network request levels i upstream past done sound step.next (subst (λ n. AllComm network request levels n past) was comm) at is named in
         record {
           usual = (λ same. subst (λ a. IfReleased a done.reply) (sym is) left.reply, λ same. absurd (other same));
-          kind = OwnClose levels (inr own) i left.here left.on (is ∙ ap (λ c. Release request.chan c) (sym count)) zeroth left.held;
+          kind = OwnClose levels refl i left.here left.on (is ∙ ap (λ c. Release request.chan c) (sym count)) zeroth left.held;
           later = MovingFrom levels own closes (subst (λ n. AllComm network request levels n (done ∷ past)) (sym now) left.later);
         }
 

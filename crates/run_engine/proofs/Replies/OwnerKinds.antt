@@ -1,25 +1,31 @@
 -- What kinds of entry the owner of a channel makes: one of another channel, one of its setup, a submit on it, or a release of it.
-use Rattle.std.proofs.Common.{◌≡◌, ◌≢◌, ◌⊎◌, ℕ, suc, List, [], ◌∷◌, ◌++◌, length, Some, refl, ap, ◌∙◌, subst, inl, inr, sym}
-use Rattle.run_engine.proofs.Words.{cases_Bool, nat_eq, link_number, channel_number, ChanNo, LinkNo, Ask, Submit, Release, Reply, IsOff, kept_in, shifted_in, told_by, stage_after, joining_after, Leaving, Releasing, Shifted, Progress, asked, first_count, told_count, Request, TaskOff, IsMoveFrom, Network, Task, Opens, Sends, Closes, Moves, Done, HopAt}
+use Rattle.std.proofs.Common.{◌≡◌, ◌≢◌, ℕ, suc, List, [], ◌∷◌, ◌++◌, length, Option, Some, None, refl, ap, ◌∙◌, inl, inr, sym}
+use Rattle.run_engine.proofs.Words.{cases_Bool, same_Some, nat_eq, link_number, channel_number, ChanNo, LinkNo, Ask, Submit, Release, Reply, IsOff, kept_in, shifted_in, told_by, stage_after, joining_after, Leaving, Releasing, Shifted, Progress, asked, first_count, told_count, Request, TaskOff, Network, Task, Opens, Sends, Closes, Moves, Done, HopAt}
 use Rattle.link_steps.specs.declared.replies.Reply.TheVariants as Is
 use Rattle.setup_protocol.proofs.HopAsks.{of-setup}
 use Rattle.setup_protocol.proofs.HopHolds.{IsComm}
 use Rattle.run_engine.proofs.Channels.RowsFollow.{held_at_hop, SetupRows}
 
-pub not-own : (request : Request) (task own : Task) → TaskOff (channel_number request.chan) task → task ≡ own → (TaskOff (channel_number request.chan) own → ⊥) → ⊥
-not-own request task own off same none = none (subst (TaskOff (channel_number request.chan)) same off)
-
 abbrev pub NoRelease : Ask → Type 0
 NoRelease (Release chan upstream) = ⊥
 NoRelease _ = Unit {0}
 
--- the task leaves the channel: it closes it, or moves from it
+-- the request whose channel a task leaves: it closes it, or moves from it
+abbrev pub request_left : Task → Option Request
+request_left (Closes request) = Some request
+request_left (Moves old new gap size) = Some old
+request_left _ = None
+
 abbrev pub IsLeaving : Request → Task → Type 0
-IsLeaving request task = (task ≡ Closes request) ⊎ IsMoveFrom request task
+IsLeaving request task = request_left task ≡ Some request
+
+same-channel : (own request : Request) → Some own ≡ Some request → channel_number own.chan ≡ channel_number request.chan
+same-channel own request same = ap (λ (r : Request). channel_number r.chan) (same_Some own request same)
 
 pub off-leaving : (request : Request) (task : Task) → TaskOff (channel_number request.chan) task → IsLeaving request task → ⊥
-off-leaving request task off (inl is) = not-own request task (Closes request) off is (λ other. other refl)
-off-leaving request task off (inr own) = not-own request task (Moves request own.new own.gap own.size) off own.is (λ other. other.0 refl)
+off-leaving request (Closes own) off is = off (same-channel own request is)
+off-leaving request (Moves old new gap size) off is = off.0 (same-channel old request is)
+off-leaving request _ off is = cc
 
 pub data OwnKind (network : Network) (request : Request) (done : Done) (past : List Done) (task : Task) (replies : List Reply) : Type 0 where
   OwnOff : (IsLeaving request task → ⊥) → IsOff (channel_number request.chan) done.ask → OwnKind network request done past task replies
@@ -30,19 +36,13 @@ pub data OwnKind (network : Network) (request : Request) (done : Done) (past : L
 
 -- an opening doesn't leave it, nor does a send, nor a move onto it
 pub opens-stay : (request : Request) (task : Task) → task ≡ Opens request → IsLeaving request task → ⊥
-opens-stay request task own (inl closes) = (let clash : Opens request ≡ Closes request = sym own ∙ closes in cc)
-opens-stay request task own (inr moves) = (let clash : Opens request ≡ Moves request moves.new moves.gap moves.size = sym own ∙ moves.is in cc)
+opens-stay request task own is = (let clash : None ≡ Some request = sym (ap request_left own) ∙ is in cc)
 
 pub send-stays : (request : Request) (link : LinkNo) (chan : ChanNo) (count gap size : ℕ) → IsLeaving request (Sends link (Some chan) count gap size) → ⊥
-send-stays request link chan count gap size (inl closes) = (let clash : Sends link (Some chan) count gap size ≡ Closes request = closes in cc)
-send-stays request link chan count gap size (inr own) = (let clash : Sends link (Some chan) count gap size ≡ Moves request own.new own.gap own.size = own.is in cc)
+send-stays request link chan count gap size is = cc
 
 pub onto-stays : (request old : Request) (gap size : ℕ) → channel_number old.chan ≢ channel_number request.chan → IsLeaving request (Moves old request gap size) → ⊥
-onto-stays request old gap size other (inl closes) = (let clash : Moves old request gap size ≡ Closes request = closes in cc)
-onto-stays request old gap size other (inr own) = other (ap chan-left own.is) where
-  chan-left : Task → ℕ
-  chan-left (Moves left joined own_gap own_size) = channel_number left.chan
-  chan-left _ = channel_number old.chan
+onto-stays request old gap size other is = other (same-channel old request is)
 
 -- an ask of a setup is no release
 pub setup-keeps : (request : Request) (p : Progress) (to : LinkNo) (ask : Ask) → asked request p ≡ Some (to, ask) → NoRelease ask

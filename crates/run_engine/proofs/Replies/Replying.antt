@@ -1,14 +1,9 @@
 -- In every run of a network whose channels each have one owner, each reply is one that its actor expects.
-use Rattle.std.proofs.Common.{◌++◌, Bool, arith, ◌≡◌, ℕ, true, List, [], ◌∷◌, length, Option, Some, None, refl, sym, ap, ◌∙◌, subst, inl, inr}
-use Rattle.run_engine.proofs.Words.{slice_get_within, same_Some, find, nat_le, ◌≤◌, nat_eq, link_of, held_by, IsSendReply, IsReleased, IsArriveReply, Committed, LinkShape, change_first, Each, submit_reply, submit_to, tick_reply, reply_at, reply_to, Reservation, is_phase, Row, left_at, planned_from, Scan, plan_row, after, is_row_at_hop, clock_of, scan_of, RequestFits, IsPlanned, ChanNo, answers, answers_next, next_of_move, OwnedFully, TaskOff, AllOwned, move_between, Standing, packets_ask, once_next, standing, answers_submit, first_expects, Learnt, is_established, cases_Bool, eqb-true, eqb-false, slice_get, link_number, actor_number, channel_number, LinkNo, next_levels, Ask, Submit, Release, Arrive, Tick, Entry, Reply, Link, Progress, Reserving, Undoing, Relaxing, Settled, answers_reserve, answers_deny, answers_relax, is_expected, asked, next_ask, progress_of, is_closing, next_release, Request, NetworkFits, Network, Task, Opens, Sends, Closes, Moves, plane_no, plane_at, IsNext, IsRun, replies_to, part_of, Done, next_due, ask_due, answers_arrive, answers_tick, plane_expects, Flight, plan_in, plan_at}
-use Rattle.channel_move.proofs.AskByStage.{HopAsked, MoveAsks, AsksFirst, AsksSubmit, AsksRest, move-asks, move-ask-is}
-use Rattle.channel_laws.proofs.ChannelRows.{find-passes}
-use Rattle.channel_laws.proofs.SendReplies.{found-at-hop, best-answered, of-released}
-use Rattle.setup_protocol.proofs.HopHolds.{IsComm}
-use Rattle.run_engine.proofs.Channels.HopsAt.{hop-at}
-use Rattle.channel_laws.proofs.UnsentPlans.{unsent-left}
-use Rattle.run_engine.proofs.Replies.ClosingStands.{AllComm, Unsent, IsUnjoined, Closing, MovingFrom, MovingOnto, UnderWay, Aside, Opening, Sending}
-use Rattle.run_engine.proofs.Runs.RunLegal.{part-on, plane-next, caller-next}
+use Rattle.std.proofs.Common.{◌≡◌, ℕ, true, List, ◌∷◌, length, Option, Some, None, refl, sym, ap, ◌∙◌, subst, inl, inr}
+use Rattle.run_engine.proofs.Words.{◌≤◌, nat_eq, IsSendReply, IsReleased, IsArriveReply, Each, tick_reply, reply_to, clock_of, scan_of, IsPlanned, ChanNo, answers, answers_next, next_of_move, OwnedFully, TaskOff, AllOwned, move_between, Standing, packets_ask, once_next, standing, answers_submit, first_expects, Learnt, cases_Bool, eqb-true, eqb-false, slice_get, link_number, actor_number, channel_number, LinkNo, next_levels, Ask, Submit, Release, Arrive, Tick, Entry, Reply, Link, Progress, Reserving, Undoing, Relaxing, Settled, answers_reserve, answers_deny, answers_relax, is_expected, asked, next_ask, progress_of, is_closing, next_release, Request, NetworkFits, Network, Task, Opens, Sends, Closes, Moves, plane_no, plane_at, IsNext, IsRun, replies_to, part_of, Done, next_due, ask_due, answers_arrive, answers_tick, plane_expects, Flight}
+use Rattle.channel_move.proofs.AskByStage.{move-ask-is}
+use Rattle.channel_laws.proofs.SendReplies.{best-answered, of-released}
+use Rattle.run_engine.proofs.Runs.RunLegal.{plane-next, caller-next}
 use Rattle.run_engine.proofs.Moves.SizesKept.{first-small}
 use Rattle.link_steps.specs.declared.replies.Refusal.TheVariants as Why
 use Rattle.link_steps.specs.declared.replies.Reply.TheVariants as Is
@@ -17,7 +12,7 @@ use Rattle.channel_laws.proofs.ArriveReplies.{arrive-told, of-arrive}
 use Rattle.run_engine.specs.replies.Answers.{IsReserveReply, IsRelaxed, IsTicked, IsReplyOf}
 use Rattle.run_engine.specs.runs.Laws.{EveryReplyIsExpected, EveryAskIsAnswered}
 use Rattle.run_engine.proofs.Replies.ClosingSteps.{IsUsualReply, IfReleased, IfPlanned}
-use Rattle.run_engine.proofs.Replies.RunCloses.{owned-once, step-usual, step-under}
+use Rattle.run_engine.proofs.Replies.RunCloses.{owned-once, step-usual}
 use Rattle.run_engine.proofs.Replies.RunGoes.{step-setup}
 use Rattle.setup_protocol.proofs.HopAsks.{of-hop}
 use Rattle.channel_laws.proofs.SentInTime.{tick-answer}
@@ -93,57 +88,54 @@ moves-expected old new gap size rest replies to ask reply same released planned 
 
 -- ---- each reply to a caller
 
-module _ (network : Network) (owner : ℕ) (script : List Task) (past : List Done) (done : Done) (task : Task) (rest : List Task) (replies : List Reply) (outcomes : List Learnt) (fits : NetworkFits network) (all : AllOwned network) (step : OwnStep network owner script past done task rest replies outcomes) where
+module _ (network : Network) (owner : ℕ) (script : List Task) (past : List Done) (done : Done) (fits : NetworkFits network) (all : AllOwned network) where
   -- where its task names a channel, the caller owns it
-  named-own : (c : ℕ) → (TaskOff c task → ⊥) → OwnerIs network c owner
-  named-own c named = owner-is network c owner script all step.found (λ off. named (head (subst (λ (s : Standing). Each (TaskOff c) s.tasks) step.stands (off-standing c script (replies_to owner past) off)))) where
+  pub named-own : {task : Task} {rest : List Task} {replies : List Reply} {outcomes : List Learnt} → OwnStep network owner script past done task rest replies outcomes → (c : ℕ) → (TaskOff c task → ⊥) → OwnerIs network c owner
+  named-own {task} {rest} step c named = owner-is network c owner script all step.found (λ off. named (head (subst (λ (s : Standing). Each (TaskOff c) s.tasks) step.stands (off-standing c script (replies_to owner past) off)))) where
     head : Each (TaskOff c) (task ∷ rest) → TaskOff c task
     head each = each.0
 
-  own-step : (c : ℕ) → (is : OwnerIs network c owner) → OwnStep network is.own.owner script past done task rest replies outcomes
-  own-step c is = subst (λ o. OwnStep network o script past done task rest replies outcomes) is.same step
+  pub own-step : {task : Task} {rest : List Task} {replies : List Reply} {outcomes : List Learnt} → OwnStep network owner script past done task rest replies outcomes → (c : ℕ) → (is : OwnerIs network c owner) → OwnStep network is.own.owner script past done task rest replies outcomes
+  own-step {task} {rest} {replies} {outcomes} step c is = subst (λ o. OwnStep network o script past done task rest replies outcomes) is.same step
 
-  usual-reply : (c : ℕ) → (is : OwnerIs network c owner) → IsUsualReply is.own.request task done.ask done.reply
-  usual-reply c is = step-usual network is.own.request is.own.owner script past done task rest replies outcomes fits is.own.sound is.own.full (own-step c is)
+  pub usual-reply : {task : Task} {rest : List Task} {replies : List Reply} {outcomes : List Learnt} → OwnStep network owner script past done task rest replies outcomes → (c : ℕ) → (is : OwnerIs network c owner) → IsUsualReply is.own.request task done.ask done.reply
+  usual-reply {task} {rest} {replies} {outcomes} step c is = step-usual network is.own.request is.own.owner script past done task rest replies outcomes fits is.own.sound is.own.full (own-step step c is)
 
-open-reply : (network : Network) (owner : ℕ) (script : List Task) (past : List Done) (done : Done) (request : Request) (rest : List Task) (replies : List Reply) (outcomes : List Learnt) → NetworkFits network → AllOwned network → OwnStep network owner script past done (Opens request) rest replies outcomes → is_expected request (progress_of request replies) done.reply ≡ true
-open-reply network owner script past done request rest replies outcomes fits all step =
-    let is = named-own network owner script past done (Opens request) rest replies outcomes fits all step (channel_number request.chan) (λ off. off refl) in
-    let own = own-step network owner script past done (Opens request) rest replies outcomes fits all step (channel_number request.chan) is in
-    let same : request ≡ is.own.request = (own-task network is.own.request is.own.owner script past done (Opens request) rest replies outcomes is.own.full own) (sym is.own.chan) in
-    subst (λ r. is_expected r (progress_of r replies) done.reply ≡ true) (sym same)
-    (step-setup network is.own.request is.own.owner script past done rest replies outcomes fits is.own.sound (owned-once network is.own.request is.own.owner is.own.full) (subst (λ r. OwnStep network is.own.owner script past done (Opens r) rest replies outcomes) same own)).expected
+  open-reply : (request : Request) (rest : List Task) (replies : List Reply) (outcomes : List Learnt) → OwnStep network owner script past done (Opens request) rest replies outcomes → is_expected request (progress_of request replies) done.reply ≡ true
+  open-reply request rest replies outcomes step =
+      let is = named-own step (channel_number request.chan) (λ off. off refl) in
+      let own = own-step step (channel_number request.chan) is in
+      let same : request ≡ is.own.request = (own-task network is.own.request is.own.owner script past done (Opens request) rest replies outcomes is.own.full own) (sym is.own.chan) in
+      subst (λ r. is_expected r (progress_of r replies) done.reply ≡ true) (sym same)
+      (step-setup network is.own.request is.own.owner fits is.own.sound (owned-once network is.own.request is.own.owner is.own.full) script past done rest replies outcomes (subst (λ r. OwnStep network is.own.owner script past done (Opens r) rest replies outcomes) same own)).expected
 
--- the packets of a move are no larger than the contract of the channel that it joins
-moved-small : (network : Network) (owner : ℕ) (script : List Task) (past : List Done) (done : Done) (old new : Request) (gap size : ℕ) (rest : List Task) (replies : List Reply) (outcomes : List Learnt) → NetworkFits network → AllOwned network → OwnStep network owner script past done (Moves old new gap size) rest replies outcomes → (own : OwnerIs network (channel_number new.chan) owner) → size ≤ own.own.request.contract.smax
-moved-small network owner script past done old new gap size rest replies outcomes fits all step own =
-    first-small network past owner script old new gap size rest own.own.request fits all step.run step.found (subst (OwnedFully network own.own.request) (sym own.same) own.own.full) (sym own.own.chan) (ap (λ (s : Standing). s.tasks) step.stands)
+  -- the packets of a move are no larger than the contract of the channel that it joins
+  pub moved-small : (old new : Request) (gap size : ℕ) (rest : List Task) (replies : List Reply) (outcomes : List Learnt) → OwnStep network owner script past done (Moves old new gap size) rest replies outcomes → (own : OwnerIs network (channel_number new.chan) owner) → size ≤ own.own.request.contract.smax
+  moved-small old new gap size rest replies outcomes step own =
+      first-small network past owner script old new gap size rest own.own.request fits all step.run step.found (subst (OwnedFully network own.own.request) (sym own.same) own.own.full) (sym own.own.chan) (ap (λ (s : Standing). s.tasks) step.stands)
 
-step-expected : (network : Network) (owner : ℕ) (script : List Task) (past : List Done) (done : Done) (task : Task) (rest : List Task) (replies : List Reply) (outcomes : List Learnt) → NetworkFits network → AllOwned network → OwnStep network owner script past done task rest replies outcomes → Expected (task ∷ rest) replies done.ask done.reply
-step-expected network owner script past done (Opens request) rest replies outcomes fits all step =
-    opens-expected request rest replies done.link done.ask done.reply step.asks (open-reply network owner script past done request rest replies outcomes fits all step)
-step-expected network owner script past done (Sends link (Some chan) count gap size) rest replies outcomes fits all step =
-    let task : Task = Sends link (Some chan) count gap size in
-    let own = named-own network owner script past done task rest replies outcomes fits all step (channel_number chan) (λ off. off refl) in
-    sends-expected link (Some chan) count gap size rest replies done.link done.ask done.reply step.asks (usual-reply network owner script past done task rest replies outcomes fits all step (channel_number chan) own (λ off. off (sym own.own.chan)))
-step-expected network owner script past done (Sends link None count gap size) rest replies outcomes fits all step =
-    sends-expected link None count gap size rest replies done.link done.ask done.reply step.asks
-    (subst IsSendReply (sym step.next.answered) (best-reply step.next.link (part_of (link_number done.link) past) done.ask count gap size (sym (once-asked link (packets_ask None count gap size) replies done.link done.ask step.asks).is)))
-step-expected network owner script past done (Closes request) rest replies outcomes fits all step =
-    let own = named-own network owner script past done (Closes request) rest replies outcomes fits all step (channel_number request.chan) (λ off. off refl) in
-    closes-expected request rest replies done.link done.ask done.reply step.asks (usual-reply network owner script past done (Closes request) rest replies outcomes fits all step (channel_number request.chan) own (sym own.own.chan))
-step-expected network owner script past done (Moves old new gap size) rest replies outcomes fits all step =
-    let task : Task = Moves old new gap size in
-    let own-old = named-own network owner script past done task rest replies outcomes fits all step (channel_number old.chan) (λ off. off.0 refl) in
-    let own-new = named-own network owner script past done task rest replies outcomes fits all step (channel_number new.chan) (λ off. off.1 refl) in
-    let released = (usual-reply network owner script past done task rest replies outcomes fits all step (channel_number old.chan) own-old).0 (sym own-old.own.chan) in
-    let planned = (usual-reply network owner script past done task rest replies outcomes fits all step (channel_number new.chan) own-new).1 (sym own-new.own.chan) (moved-small network owner script past done old new gap size rest replies outcomes fits all step own-new) in
-    moves-expected old new gap size rest replies done.link done.ask done.reply step.asks released planned
+  step-expected : (task : Task) (rest : List Task) (replies : List Reply) (outcomes : List Learnt) → OwnStep network owner script past done task rest replies outcomes → Expected (task ∷ rest) replies done.ask done.reply
+  step-expected (Opens request) rest replies outcomes step = opens-expected request rest replies done.link done.ask done.reply step.asks (open-reply request rest replies outcomes step)
+  step-expected (Sends link (Some chan) count gap size) rest replies outcomes step =
+      let own = named-own step (channel_number chan) (λ off. off refl) in
+      sends-expected link (Some chan) count gap size rest replies done.link done.ask done.reply step.asks (usual-reply step (channel_number chan) own (λ off. off (sym own.own.chan)))
+  step-expected (Sends link None count gap size) rest replies outcomes step =
+      sends-expected link None count gap size rest replies done.link done.ask done.reply step.asks
+      (subst IsSendReply (sym step.next.answered) (best-reply step.next.link (part_of (link_number done.link) past) done.ask count gap size (sym (once-asked link (packets_ask None count gap size) replies done.link done.ask step.asks).is)))
+  step-expected (Closes request) rest replies outcomes step =
+      let own = named-own step (channel_number request.chan) (λ off. off refl) in
+      closes-expected request rest replies done.link done.ask done.reply step.asks (usual-reply step (channel_number request.chan) own (sym own.own.chan))
+  step-expected (Moves old new gap size) rest replies outcomes step =
+      let own-old = named-own step (channel_number old.chan) (λ off. off.0 refl) in
+      let own-new = named-own step (channel_number new.chan) (λ off. off.1 refl) in
+      let released = (usual-reply step (channel_number old.chan) own-old).0 (sym own-old.own.chan) in
+      let planned = (usual-reply step (channel_number new.chan) own-new).1 (sym own-new.own.chan) (moved-small old new gap size rest replies outcomes step own-new) in
+      moves-expected old new gap size rest replies done.link done.ask done.reply step.asks released planned
 
 caller-expected : (network : Network) (past : List Done) (done : Done) (tasks : List Task) → NetworkFits network → AllOwned network → IsRun network past → IsNext network past done → slice_get network.scripts (actor_number done.actor) ≡ Some tasks
     → Expected (standing tasks (replies_to (actor_number done.actor) past)).tasks (standing tasks (replies_to (actor_number done.actor) past)).replies done.ask done.reply
 caller-expected network past done tasks fits all run next found =
-    at-step network (actor_number done.actor) tasks past done run next refl found (λ at. Expected at.tasks at.replies done.ask done.reply) (λ task rest replies outcomes step. step-expected network (actor_number done.actor) tasks past done task rest replies outcomes fits all step)
+    at-step network (actor_number done.actor) tasks past done run next refl found (λ at. Expected at.tasks at.replies done.ask done.reply) (λ task rest replies outcomes step. step-expected network (actor_number done.actor) tasks past done fits all task rest replies outcomes step)
 
 -- ---- each reply to the plane
 
@@ -179,98 +171,3 @@ asks-answered network past done fits all run next =
           let asks = caller-next network past done next other in
           (caller-expected network past done asks.tasks fits all run next asks.found).answered)
     ]
-
--- ---- the submit of a move
-
--- a move onto the request: it is established at all hops, and nothing was submitted on it
-record IsJoined (network : Network) (new request : Request) (run : List Done) : Type 0 where
-  same : new ≡ request
-  levels : List ℕ
-  comm : AllComm network request levels 0 run
-  unsent : Unsent request run
-
-moved-onto : (a b c d : Request) (g s h t : ℕ) → Moves a b g s ≡ Moves c d h t → b ≡ d
-moved-onto a b c d g s h t is = cc
-
-move-joins-unsent : (network : Network) (request old new : Request) (gap size : ℕ) (rest : List Task) (run : List Done) (replies : List Reply) (established : Bool) → channel_number new.chan ≡ channel_number request.chan → IsUnjoined replies → UnderWay network request run (Moves old new gap size) rest replies established → IsJoined network new request run
-move-joins-unsent network request old new gap size rest run replies established chan early (Aside other left) = absurd (other.1 chan)
-move-joins-unsent network request old new gap size rest run replies established chan early (Opening own used none unsent) = absurd (let clash : Moves old new gap size ≡ Opens request = own in cc)
-move-joins-unsent network request old new gap size rest run replies established chan early (Sending levels own sends comm) = absurd (let clash : Moves old new gap size ≡ Sends own.hop.link (Some request.chan) own.count own.gap own.size = own.is in cc)
-move-joins-unsent network request old new gap size rest run replies established chan early (Closing levels own others comm) = absurd (let clash : Moves old new gap size ≡ Closes request = own in cc)
-move-joins-unsent network request old new gap size rest run replies established chan early (MovingFrom levels own closes comm) =
-    absurd (own.other (ap (λ r. channel_number r.chan) (sym (moved-onto old new request own.new gap size own.gap own.size own.is)) ∙ chan))
-move-joins-unsent network request old new gap size rest run replies established chan early (MovingOnto levels own sends comm unsent) = record {
-  same = moved-onto old new own.old request gap size own.gap own.size own.is;
-  levels = levels;
-  comm = comm;
-  unsent = unsent early;
-}
-
--- a submit that is planned appends its packets to the plan
-find-changed : (test : Row → Bool) (change : Row → Row) (rows : List Row) (row : Row) → test (change row) ≡ true → find test rows ≡ Some row → find test (change_first test change rows) ≡ Some (change row)
-unfolding change_first
-find-changed test change [] row holds found = cc
-find-changed test change (r ∷ rows) row holds found =
-    elim (cases_Bool (test r)) [
-      | inl yes_it ↦ (let same : r ≡ row = same_Some r row (rw yes_it at found) in rw yes_it (rw (ap (λ x. test (change x)) same ∙ holds) (ap (λ x. Some (change x)) same)))
-      | inr other ↦ (let rest = find-changed test change rows row holds (rw other at found) in rw (other, other) rest)
-    ]
-
-plan-planned : (shape : LinkShape) (t count gap size clock : ℕ) (chan : ChanNo) (scan : Scan) (row : Row) → find (is_row_at_hop chan true) scan.rows ≡ Some row → row.plan ≡ [] → plan_in (find (is_row_at_hop chan true) (after shape t scan (Submit chan count gap size) (Is.Planned clock)).rows) ≡ planned_from t gap size count
-unfolding after
-plan-planned shape t count gap size clock chan scan row found empty =
-    ap plan_in (find-changed (is_row_at_hop chan true) (plan_row t count gap size) scan.rows row (find-passes (is_row_at_hop chan true) row scan.rows found) found) ∙ ap (λ plan. plan ++ planned_from t gap size count) empty
-
-planned-clock : (t size : ℕ) (terms : Reservation) (left : ℕ) → IsPlanned (submit_reply t size terms left) → submit_reply t size terms left ≡ Is.Planned t
-unfolding submit_reply
-planned-clock t size terms left is =
-    elim (cases_Bool (is_phase terms.phase Committed)) [
-      | inl phase ↦ elim (cases_Bool (nat_eq left 0)) [
-        | inl free ↦ elim (cases_Bool (nat_le size terms.contract.smax)) [
-          | inl small ↦ rw (phase, free, small) refl
-          | inr large ↦ absurd (rw (phase, free, large) at is)
-        ]
-        | inr busy ↦ absurd (rw (phase, busy) at is)
-      ]
-      | inr other ↦ absurd (rw other at is)
-    ]
-
--- where the channel is committed at the first hop and nothing was submitted
-joined-plans : (network : Network) (past : List Done) (done : Done) (new request : Request) (gap size count : ℕ) → NetworkFits network → RequestFits network.links request → IsRun network past → (next : IsNext network past done) → IsJoined network new request past → HopAsked request.route 0 done.link → done.ask ≡ Submit new.chan count gap size → IsPlanned done.reply
-    → (done.reply ≡ Is.Planned (clock_of (part_of (link_number done.link) past))) × (plan_at new.chan next.link.shape (part_of (link_number done.link) (done ∷ past)) ≡ planned_from (clock_of (part_of (link_number done.link) past)) gap size count)
-unfolding reply_to reply_at scan_of
-joined-plans network past done new request gap size count fits sound run next joined at asked planned =
-    let t = clock_of (part_of (link_number done.link) past) in
-    let here = hop-at network request 0 sound (slice_get_within request.route 0 at.hop at.stands) in
-    let on : link_number done.link ≡ link_number here.hop.link = ap link_number at.at ∙ ap link_of (same_Some at.hop here.hop (sym at.stands ∙ here.stands)) in
-    let link : here.link ≡ next.link = same_Some here.link next.link (sym here.linked ∙ ap (slice_get network.links) (sym on) ∙ next.linked) in
-    let comm : IsComm Some request joined.levels 0 (held_by request.chan (scan_of next.link.shape (part_of (link_number done.link) past)).rows) = subst (λ n. IsComm Some request joined.levels 0 (held_by request.chan (scan_of next.link.shape (part_of n past)).rows)) (sym on) (subst (λ (l : Link). IsComm Some request joined.levels 0 (held_by request.chan (scan_of l.shape (part_of (link_number here.hop.link) past)).rows)) link (joined.comm 0 here (omega arith))) in
-    let found = found-at-hop request.chan true (scan_of next.link.shape (part_of (link_number done.link) past)).rows comm.terms comm.is comm.first in
-    let empty = unsent-left next.link.shape request.chan (part_of (link_number done.link) past) found.0 (joined.unsent (link_number done.link)) found.1 in
-    let own : done.ask ≡ Submit request.chan count gap size = asked ∙ ap (λ r. Submit r.chan count gap size) joined.same in
-    let reply : done.reply ≡ submit_reply (clock_of (part_of (link_number done.link) past)) size found.0.terms (length (left_at (clock_of (part_of (link_number done.link) past)) found.0.plan)) = next.answered ∙ ap (reply_to next.link (part_of (link_number done.link) past)) own ∙ ap (submit_to (clock_of (part_of (link_number done.link) past)) size) found.1 in
-    let clock : done.reply ≡ Is.Planned (clock_of (part_of (link_number done.link) past)) = reply ∙ planned-clock (clock_of (part_of (link_number done.link) past)) size found.0.terms _ (subst IsPlanned reply planned) in (
-      clock,
-      ap (λ r. plan_at r.chan next.link.shape (part_of (link_number done.link) (done ∷ past))) joined.same
-          ∙ ap (plan_at request.chan next.link.shape) (part-on (link_number done.link) done past refl)
-          ∙ ap (λ a. plan_in (find (is_row_at_hop request.chan true) (after next.link.shape (clock_of (part_of (link_number done.link) past)) (scan_of next.link.shape (part_of (link_number done.link) past)) a done.reply).rows)) own
-          ∙ ap (λ r. plan_in (find (is_row_at_hop request.chan true) (after next.link.shape (clock_of (part_of (link_number done.link) past)) (scan_of next.link.shape (part_of (link_number done.link) past)) (Submit request.chan count gap size) r).rows)) clock
-          ∙ plan-planned next.link.shape (clock_of (part_of (link_number done.link) past)) count gap size (clock_of (part_of (link_number done.link) past)) request.chan (scan_of next.link.shape (part_of (link_number done.link) past)) found.0 found.1 empty,
-    )
-
--- the submit of a move is planned, and then its channel's plan has exactly its packets
-pub moves-plan : (network : Network) (owner : ℕ) (script : List Task) (past : List Done) (done : Done) (old new : Request) (gap size : ℕ) (rest : List Task) (replies : List Reply) (outcomes : List Learnt) (count : ℕ) → NetworkFits network → AllOwned network → (step : OwnStep network owner script past done (Moves old new gap size) rest replies outcomes) → done.ask ≡ Submit new.chan count gap size
-    → (done.reply ≡ Is.Planned (clock_of (part_of (link_number done.link) past))) × (plan_at new.chan step.next.link.shape (part_of (link_number done.link) (done ∷ past)) ≡ planned_from (clock_of (part_of (link_number done.link) past)) gap size count)
-moves-plan network owner script past done old new gap size rest replies outcomes count fits all step asked =
-    let task : Task = Moves old new gap size in
-    let own = named-own network owner script past done task rest replies outcomes fits all step (channel_number new.chan) (λ off. off.1 refl) in
-    let under = step-under network own.own.request own.own.owner script past done task rest replies outcomes fits own.own.sound own.own.full (own-step network owner script past done task rest replies outcomes fits all step (channel_number new.chan) own) in
-    let planned : IfPlanned done.ask done.reply = (usual-reply network owner script past done task rest replies outcomes fits all step (channel_number new.chan) own).1 (sym own.own.chan) (moved-small network owner script past done old new gap size rest replies outcomes fits all step own) in
-    by own under (subst (λ a. IfPlanned a done.reply) asked planned) (move-asks (move_between old new gap size) replies done.link done.ask step.asks) where
-      by : (own : OwnerIs network (channel_number new.chan) owner) → UnderWay network own.own.request past (Moves old new gap size) rest replies (is_established own.own.request.chan outcomes) → IsPlanned done.reply → MoveAsks (move_between old new gap size) replies done.link done.ask
-          → (done.reply ≡ Is.Planned (clock_of (part_of (link_number done.link) past))) × (plan_at new.chan step.next.link.shape (part_of (link_number done.link) (done ∷ past)) ≡ planned_from (clock_of (part_of (link_number done.link) past)) gap size count)
-      by own under planned (AsksFirst none at is) = absurd (let clash : Release old.chan None ≡ Submit new.chan count gap size = sym is ∙ asked in cc)
-      by own under planned (AsksRest told made stage at is) = absurd (let clash : Release old.chan (Some told.kept) ≡ Submit new.chan count gap size = sym is ∙ asked in cc)
-      by own under planned (AsksSubmit reply one some at is) =
-          (let joined = move-joins-unsent network own.own.request old new gap size rest past replies (is_established own.own.request.chan outcomes) (sym own.own.chan) (inr (reply, one)) under in
-          joined-plans network past done new own.own.request gap size count fits own.own.sound step.run step.next joined (subst (λ r. HopAsked r.route 0 done.link) joined.same at) asked planned)

@@ -71,7 +71,7 @@ module _ (network : Network) (request : Request) (owner : ℕ) (fits : NetworkFi
         settles : task ≡ Opens request → Settles network request (replies ++ done.reply ∷ []) (done ∷ past)
         settles own =
             setup-settles network request (replies ++ done.reply ∷ []) (done ∷ past)
-            (step-setup network request owner script past done rest replies outcomes fits sound (owned-once network request owner full) (subst (λ t. OwnStep network owner script past done t rest replies outcomes) own step)).stands
+            (step-setup network request owner fits sound (owned-once network request owner full) script past done rest replies outcomes (subst (λ t. OwnStep network owner script past done t rest replies outcomes) own step)).stands
             (subst (λ t. task_ask t (replies ++ done.reply ∷ []) ≡ None) own none)
 
   closes-keeps : (script : List Task) → slice_get network.scripts owner ≡ Some script → KeptBySteps network owner script Between At

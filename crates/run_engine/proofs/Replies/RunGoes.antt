@@ -36,21 +36,6 @@ owned-asked network request owner fits sound once run is = channel-asked network
 
 -- ---- what entries leave
 
-pub held-later : (network : Network) (request : Request) (i : ℕ) (at : HopAt network request i) (done : Done) (past : List Done) → NetworkFits network → IsRun network past → IsOff (channel_number request.chan) done.ask → IsOpen (held_at_hop network request i at past) → held_at_hop network request i at (done ∷ past) ≡ held_at_hop network request i at past
-unfolding scan_of
-held-later network request i at done past fits run off opened =
-    by-part (λ h. held_by request.chan (scan_of at.link.shape h).rows ≡ held_at_hop network request i at past) (link_number at.hop.link) done past
-    (λ on. held-off at.link.shape request.chan (clock_of (part_of (link_number at.hop.link) past)) (scan_of at.link.shape (part_of (link_number at.hop.link) past)) done.ask done.reply off opened (legal-channels at.link.shape (part_of (link_number at.hop.link) past) (part-admissible network past (link_number at.hop.link) at.link fits run at.linked)))
-    (λ away. refl)
-
--- a mild entry keeps or closes a reservation
-pub hop-comes : (network : Network) (request : Request) (i : ℕ) (at : HopAt network request i) (done : Done) (past : List Done) (terms : Reservation) → NetworkFits network → IsRun network past → IsMild (channel_number request.chan) done.ask → held_at_hop network request i at (done ∷ past) ≡ Some terms → ComesOf terms (held_at_hop network request i at past)
-unfolding scan_of
-hop-comes network request i at done past terms fits run mild =
-    by-part (λ h. held_by request.chan (scan_of at.link.shape h).rows ≡ Some terms → ComesOf terms (held_at_hop network request i at past)) (link_number at.hop.link) done past
-    (λ on held. comes-mild at.link.shape request.chan (clock_of (part_of (link_number at.hop.link) past)) (scan_of at.link.shape (part_of (link_number at.hop.link) past)) done.ask done.reply terms mild (legal-channels at.link.shape (part_of (link_number at.hop.link) past) (part-admissible network past (link_number at.hop.link) at.link fits run at.linked)) held)
-    (λ away held. Stays held)
-
 abbrev pub NoneHeld : Network → Request → List Done → Type 0
 NoneHeld network request run = (i : ℕ) (at : HopAt network request i) → held_at_hop network request i at run ≡ None
 
@@ -79,17 +64,10 @@ none-comes-of : (terms : Reservation) (before : Option Reservation) → before �
 none-comes-of terms before none (Stays is) = (let clash : None ≡ Some terms = sym none ∙ is in cc)
 none-comes-of terms before none (Closed old count is same) = (let clash : None ≡ Some old = sym none ∙ is in cc)
 
-none-later : (network : Network) (request : Request) (done : Done) (past : List Done) → NetworkFits network → IsRun network past → IsMild (channel_number request.chan) done.ask → NoneHeld network request past → NoneHeld network request (done ∷ past)
-none-later network request done past fits run mild none i at = by (held_at_hop network request i at (done ∷ past)) refl where
-  by : (held : Option Reservation) → held_at_hop network request i at (done ∷ past) ≡ held → held ≡ None
-  by None is = refl
-  by (Some terms) is = absurd (none-comes-of terms (held_at_hop network request i at past) (none i at) (hop-comes network request i at done past terms fits run mild is))
-
-rows-later : (network : Network) (request : Request) (replies : List Reply) (done : Done) (past : List Done) → NetworkFits network → IsRun network past → IsOff (channel_number request.chan) done.ask → SetupRows network request replies past → SetupRows network request replies (done ∷ past)
-rows-later network request replies done past fits run off rows = record {
-  hops = λ i at. subst (HopStands None Some request (offers_in replies) (progress_of request replies) i) (sym (held-later network request i at done past fits run off (open-stands request (offers_in replies) (progress_of request replies) i (held_at_hop network request i at past) (rows.hops i at)))) (rows.hops i at);
-  up = rows.up;
-}
+kept-comes : (request : Request) (levels : List ℕ) (i : ℕ) (terms : Reservation) (before : Option Reservation) → ComesOf terms before → ((old : Reservation) → before ≡ Some old → KeptTerms request levels i old) → KeptTerms request levels i terms
+kept-comes request levels i terms before (Stays is) kept = kept terms is
+kept-comes request levels i terms before (Closed old count is same) kept =
+    (let was = kept old is in subst (KeptTerms request levels i) (sym same) (record { settled = λ tentative. (let clash : Closing ≡ Tentative = tentative in cc); level = was.level; up_bound = was.up_bound }))
 
 pub rows-none : (network : Network) (request : Request) (run : List Done) → 1 ≤ length request.route → NoneHeld network request run → SetupRows network request [] run
 unfolding offers_in reach_after
@@ -98,17 +76,38 @@ rows-none network request run some none = record {
   up = λ alone. refl;
 }
 
--- ---- after the setup
+module _ (network : Network) (request : Request) (done : Done) (past : List Done) (fits : NetworkFits network) (run : IsRun network past) where
+  pub held-later : (i : ℕ) (at : HopAt network request i) → IsOff (channel_number request.chan) done.ask → IsOpen (held_at_hop network request i at past) → held_at_hop network request i at (done ∷ past) ≡ held_at_hop network request i at past
+  unfolding scan_of
+  held-later i at off opened =
+      by-part (λ h. held_by request.chan (scan_of at.link.shape h).rows ≡ held_at_hop network request i at past) (link_number at.hop.link) done past
+      (λ on. held-off at.link.shape request.chan (clock_of (part_of (link_number at.hop.link) past)) (scan_of at.link.shape (part_of (link_number at.hop.link) past)) done.ask done.reply off opened (legal-channels at.link.shape (part_of (link_number at.hop.link) past) (part-admissible network past (link_number at.hop.link) at.link fits run at.linked)))
+      (λ away. refl)
 
-kept-comes : (request : Request) (levels : List ℕ) (i : ℕ) (terms : Reservation) (before : Option Reservation) → ComesOf terms before → ((old : Reservation) → before ≡ Some old → KeptTerms request levels i old) → KeptTerms request levels i terms
-kept-comes request levels i terms before (Stays is) kept = kept terms is
-kept-comes request levels i terms before (Closed old count is same) kept =
-    (let was = kept old is in subst (KeptTerms request levels i) (sym same) (record { settled = λ tentative. (let clash : Closing ≡ Tentative = tentative in cc); level = was.level; up_bound = was.up_bound }))
+  -- a mild entry keeps or closes a reservation
+  pub hop-comes : (i : ℕ) (at : HopAt network request i) (terms : Reservation) → IsMild (channel_number request.chan) done.ask → held_at_hop network request i at (done ∷ past) ≡ Some terms → ComesOf terms (held_at_hop network request i at past)
+  unfolding scan_of
+  hop-comes i at terms mild =
+      by-part (λ h. held_by request.chan (scan_of at.link.shape h).rows ≡ Some terms → ComesOf terms (held_at_hop network request i at past)) (link_number at.hop.link) done past
+      (λ on held. comes-mild at.link.shape request.chan (clock_of (part_of (link_number at.hop.link) past)) (scan_of at.link.shape (part_of (link_number at.hop.link) past)) done.ask done.reply terms mild (legal-channels at.link.shape (part_of (link_number at.hop.link) past) (part-admissible network past (link_number at.hop.link) at.link fits run at.linked)) held)
+      (λ away held. Stays held)
 
-pub after-later : (network : Network) (request : Request) (levels : List ℕ) (done : Done) (past : List Done) → NetworkFits network → IsRun network past → IsMild (channel_number request.chan) done.ask → AfterRows network request levels past → AfterRows network request levels (done ∷ past)
-after-later network request levels done past fits run mild rows = record {
-  kept = λ i at terms held. kept-comes request levels i terms (held_at_hop network request i at past) (hop-comes network request i at done past terms fits run mild held) (rows.kept i at);
-}
+  none-later : IsMild (channel_number request.chan) done.ask → NoneHeld network request past → NoneHeld network request (done ∷ past)
+  none-later mild none i at = by (held_at_hop network request i at (done ∷ past)) refl where
+    by : (held : Option Reservation) → held_at_hop network request i at (done ∷ past) ≡ held → held ≡ None
+    by None is = refl
+    by (Some terms) is = absurd (none-comes-of terms (held_at_hop network request i at past) (none i at) (hop-comes i at terms mild is))
+
+  rows-later : (replies : List Reply) → IsOff (channel_number request.chan) done.ask → SetupRows network request replies past → SetupRows network request replies (done ∷ past)
+  rows-later replies off rows = record {
+    hops = λ i at. subst (HopStands None Some request (offers_in replies) (progress_of request replies) i) (sym (held-later i at off (open-stands request (offers_in replies) (progress_of request replies) i (held_at_hop network request i at past) (rows.hops i at)))) (rows.hops i at);
+    up = rows.up;
+  }
+
+  pub after-later : (levels : List ℕ) → IsMild (channel_number request.chan) done.ask → AfterRows network request levels past → AfterRows network request levels (done ∷ past)
+  after-later levels mild rows = record {
+    kept = λ i at terms held. kept-comes request levels i terms (held_at_hop network request i at past) (hop-comes i at terms mild held) (rows.kept i at);
+  }
 
 -- ---- the levels of its packets
 
@@ -168,6 +167,9 @@ recorded-settled network request replies run settles = by-verdict settles.accept
 pub step-stands : (network : Network) (owner : ℕ) (script : List Task) (past : List Done) (done : Done) (task : Task) (rest : List Task) (replies : List Reply) (outcomes : List Learnt) → NetworkFits network → OwnStep network owner script past done task rest replies outcomes → StandingFits network.links (record { tasks = task ∷ rest; replies = replies; outcomes = outcomes })
 step-stands network owner script past done task rest replies outcomes fits step = subst (StandingFits network.links) step.stands ((run-stands network past fits step.run).callers owner script step.found)
 
+pub record RunGoes (network : Network) (request : Request) (owner : ℕ) (run : List Done) : Type 0 where
+  pub at : (tasks : List Task) → slice_get network.scripts owner ≡ Some tasks → GoesAt network request run (standing tasks (replies_to owner run)).tasks (standing tasks (replies_to owner run)).replies (standing tasks (replies_to owner run)).outcomes
+
 -- ---- every run
 
 module _ (network : Network) (request : Request) (owner : ℕ) (fits : NetworkFits network) (sound : RequestFits network.links request) (once : OwnedOnce network request owner) where
@@ -196,7 +198,7 @@ module _ (network : Network) (request : Request) (owner : ℕ) (fits : NetworkFi
 
   later : (past : List Done) (done : Done) (outcome : Option Outcome) → IsRun network past → IsNext network past done → IsMild (channel_number request.chan) done.ask → IsAfter network request past outcome → IsAfter network request (done ∷ past) outcome
   later past done outcome run next mild was =
-      let rows = after-later network request was.levels done past fits run mild was.rows in
+      let rows = after-later network request done past fits run was.levels mild was.rows in
       let is = run-more network past done run next in
       record {
         levels = was.levels;
@@ -212,34 +214,31 @@ module _ (network : Network) (request : Request) (owner : ℕ) (fits : NetworkFi
     none = none-held;
     before = λ past done run next mild none. none-later network request done past fits run mild none;
     starts = λ run is none. rows-none network request run sound.route.least none;
-    under = λ past done rest replies outcomes step rows. (setup-goes network request replies done past fits sound step.run step.next (setup-offers script past done rest replies outcomes step) rows step.asks).stands;
-    aside = λ past done replies run next other mild rows. rows-later network request replies done past fits run (entry-off network (channel_number request.chan) past done next (λ tasks. once.others (actor_number done.actor) tasks other)) rows;
+    under = λ past done rest replies outcomes step rows. (setup-goes network request replies done past fits sound step.run step.next rows (setup-offers script past done rest replies outcomes step) step.asks).stands;
+    aside = λ past done replies run next other mild rows. rows-later network request done past fits run replies (entry-off network (channel_number request.chan) past done next (λ tasks. once.others (actor_number done.actor) tasks other)) rows;
     settles = settled;
     after = later;
   }
 
-pub record RunGoes (network : Network) (request : Request) (owner : ℕ) (run : List Done) : Type 0 where
-  pub at : (tasks : List Task) → slice_get network.scripts owner ≡ Some tasks → GoesAt network request run (standing tasks (replies_to owner run)).tasks (standing tasks (replies_to owner run)).replies (standing tasks (replies_to owner run)).outcomes
+  pub run-goes : (run : List Done) → IsRun network run → RunGoes network request owner run
+  run-goes run is = record {
+    at = λ tasks found. each-setup network request owner tasks found (opens-once network request owner once) (NoneHeld network request) (λ past rs. SetupRows network request rs past) (IsAfter network request) (goes-keeps tasks) run is;
+  }
 
-pub run-goes : (network : Network) (request : Request) (owner : ℕ) (run : List Done) → NetworkFits network → RequestFits network.links request → OwnedOnce network request owner → IsRun network run → RunGoes network request owner run
-run-goes network request owner run fits sound once is = record {
-  at = λ tasks found. each-setup network request owner tasks found (opens-once network request owner once) (NoneHeld network request) (λ past rs. SetupRows network request rs past) (IsAfter network request) (goes-keeps network request owner fits sound once tasks) run is;
-}
+  pub step-goes : (script : List Task) (past : List Done) (done : Done) (task : Task) (rest : List Task) (replies : List Reply) (outcomes : List Learnt) → OwnStep network owner script past done task rest replies outcomes → GoesAt network request past (task ∷ rest) replies outcomes
+  step-goes script past done task rest replies outcomes step =
+      subst (λ (s : Standing). GoesAt network request past s.tasks s.replies s.outcomes) step.stands ((run-goes past step.run).at script step.found)
 
-pub step-goes : (network : Network) (request : Request) (owner : ℕ) (script : List Task) (past : List Done) (done : Done) (task : Task) (rest : List Task) (replies : List Reply) (outcomes : List Learnt) → NetworkFits network → RequestFits network.links request → OwnedOnce network request owner → OwnStep network owner script past done task rest replies outcomes → GoesAt network request past (task ∷ rest) replies outcomes
-step-goes network request owner script past done task rest replies outcomes fits sound once step =
-    subst (λ (s : Standing). GoesAt network request past s.tasks s.replies s.outcomes) step.stands ((run-goes network request owner past fits sound once step.run).at script step.found)
-
--- one more reply to a setup
-pub step-setup : (network : Network) (request : Request) (owner : ℕ) (script : List Task) (past : List Done) (done : Done) (rest : List Task) (replies : List Reply) (outcomes : List Learnt) → NetworkFits network → RequestFits network.links request → OwnedOnce network request owner → OwnStep network owner script past done (Opens request) rest replies outcomes → SetupGoes network request replies done past
-step-setup network request owner script past done rest replies outcomes fits sound once step =
-    let rows = goes-rows network request past rest replies outcomes sound.route.least (step-goes network request owner script past done (Opens request) rest replies outcomes fits sound once step) in
-    setup-goes network request replies done past fits sound step.run step.next (setup-offers network request owner fits sound once script past done rest replies outcomes step) rows step.asks
+  -- one more reply to a setup
+  pub step-setup : (script : List Task) (past : List Done) (done : Done) (rest : List Task) (replies : List Reply) (outcomes : List Learnt) → OwnStep network owner script past done (Opens request) rest replies outcomes → SetupGoes network request replies done past
+  step-setup script past done rest replies outcomes step =
+      let rows = goes-rows network request past rest replies outcomes sound.route.least (step-goes script past done (Opens request) rest replies outcomes step) in
+      setup-goes network request replies done past fits sound step.run step.next rows (setup-offers script past done rest replies outcomes step) step.asks
 
 -- the levels of an accepted request are those of its packets at each hop
 pub accepted-levels : (network : Network) (request : Request) (owner : ℕ) (run : List Done) (tasks : List Task) (levels : List ℕ) (delay : ℕ) → NetworkFits network → RequestFits network.links request → OwnedOnce network request owner → IsRun network run → slice_get network.scripts owner ≡ Some tasks
     → outcome_in request.chan (standing tasks (replies_to owner run)).outcomes ≡ Some (Accepts levels delay) → HaveLevelsAt network request levels run × AfterRows network request levels run
-accepted-levels network request owner run tasks levels delay fits sound once is found accepted = by-goes ((run-goes network request owner run fits sound once is).at tasks found) where
+accepted-levels network request owner run tasks levels delay fits sound once is found accepted = by-goes ((run-goes network request owner fits sound once run is).at tasks found) where
   by-goes : GoesAt network request run (standing tasks (replies_to owner run)).tasks (standing tasks (replies_to owner run)).replies (standing tasks (replies_to owner run)).outcomes → HaveLevelsAt network request levels run × AfterRows network request levels run
   by-goes (Before opened begun quiet none) = absurd (let clash : None ≡ Some (Accepts levels delay) = sym quiet ∙ accepted in cc)
   by-goes (Under rest same others quiet to more rows) = absurd (let clash : None ≡ Some (Accepts levels delay) = sym quiet ∙ accepted in cc)

@@ -108,50 +108,6 @@ owner-asks network past done owner tasks next by found =
     let own : asks.tasks ≡ tasks = same_Some asks.tasks tasks (sym asks.found ∙ ap (slice_get network.scripts) by ∙ found) in
     subst (λ ts. ask_at (standing ts (replies_to owner past)) ≡ Some (done.link, done.ask)) own (subst (λ a. ask_at (standing asks.tasks (replies_to a past)) ≡ Some (done.link, done.ask)) by asks.asks)
 
--- ---- the parts are admissible
-
-pub part-may : (network : Network) (run : List Done) (n : ℕ) (link : Link) → NetworkFits network → RunStands network run → slice_get network.links n ≡ Some link → IsAdmissible link.shape (part_of n run)
-part-may network run n link fits stands found = legal-admissible link (part_of n run) (Each-at SplitFits network.links n link fits.splits found) (stands.legal n link found)
-
-pub next-may : (network : Network) (past : List Done) (done : Done) → NetworkFits network → RunStands network past → (next : IsNext network past done) → MayReplyTo next.link.shape (part_of (link_number done.link) past) done.ask done.reply
-unfolding reply_to
-next-may network past done fits stands next =
-    let split = Each-at SplitFits network.links (link_number done.link) next.link fits.splits next.linked in
-    let has = legal-has next.link (part_of (link_number done.link) past) split (stands.legal (link_number done.link) next.link next.linked) in
-    may-answer next.link (clock_of (part_of (link_number done.link) past)) (scan_of next.link.shape (part_of (link_number done.link) past)) done.ask done.reply split has.within next.answered
-
--- ---- the ask meets its conditions
-
-due-fits : (network : Network) (plane : Plane) (shape : LinkShape) (found : Option Flight) (to : LinkNo) (ask : Ask) → Each FlightFits plane.flights → next_due plane ≡ found → ask_due plane.ticked found ≡ (to, ask) → AskFits shape ask
-due-fits network plane shape None to ask flights is same = subst (AskFits shape) (ap (λ pair. pair.1) same) tt
-due-fits network plane shape (Some flight) to ask flights is same =
-    subst (AskFits shape) (ap (λ pair. pair.1) same) (Each-find FlightFits (is_due plane.round) plane.flights flight flights is)
-
--- what a caller asks is a caller's to ask, and meets its conditions
-pub caller-asks : (network : Network) (past : List Done) (done : Done) → RunStands network past → AsksOf network past (actor_number done.actor) done.link done.ask → AsksLink network.links done.link done.ask
-caller-asks network past done stands asks =
-    standing-asks network.links (standing asks.tasks (replies_to (actor_number done.actor) past)) done.link done.ask (stands.callers (actor_number done.actor) asks.tasks asks.found) asks.asks
-
-next-fits : (network : Network) (past : List Done) (done : Done) → RunStands network past → (next : IsNext network past done) → AskFits next.link.shape done.ask
-next-fits network past done stands next =
-    elim (cases_Bool (nat_eq (actor_number done.actor) (plane_no network))) [
-      | inl plane ↦
-          (let asks = plane-next network past done next (eqb-true (actor_number done.actor) (plane_no network) plane) in
-          due-fits network (plane_at network past) next.link.shape (next_due (plane_at network past)) done.link done.ask stands.flights refl asks.asks)
-      | inr caller ↦ (caller-asks network past done stands (caller-next network past done next (eqb-false (actor_number done.actor) (plane_no network) caller))).fits next.link next.linked
-    ]
-
-legal-next : (network : Network) (past : List Done) (done : Done) → RunStands network past → (next : IsNext network past done) → (n : ℕ) (link : Link) → slice_get network.links n ≡ Some link → IsLegal link (part_of n (done ∷ past))
-unfolding IsLegal
-legal-next network past done stands next n link found =
-    by-part (IsLegal link) n done past
-    (λ on.
-    let is : next.link ≡ link = same_Some next.link link (sym next.linked ∙ ap (slice_get network.links) on ∙ found) in
-    let answered : done.reply ≡ reply_to link (part_of n past) done.ask = next.answered ∙ ap (λ l. reply_to l (part_of (link_number done.link) past) done.ask) is ∙ ap (λ m. reply_to link (part_of m past) done.ask) on in
-    let fits : AskFits link.shape done.ask = subst (λ l. AskFits l.shape done.ask) is (next-fits network past done stands next) in
-    (stands.legal n link found, record { fits = fits; answered = answered }))
-    (λ off. stands.legal n link found)
-
 -- ---- the clocks
 
 callers-clock : (ask : Ask) (t : ℕ) → IsCallers ask → clock_with ask t ≡ t
@@ -186,11 +142,69 @@ plane-clocks network plane None n done past few within inside asks before =
       | inr off ↦ (let other : n ≢ plane.ticked = eqb-false n plane.ticked off in ap clock_of (part-off n done past (λ e. other (sym e ∙ number))) ∙ before ∙ other-clocks (length network.links) n plane (flight_in done.reply) within inside other)
     ]
 
-clocks-next : (network : Network) (past : List Done) (done : Done) → NetworkFits network → RunStands network past → (next : IsNext network past done) → (n : ℕ) → n < length network.links → clock_of (part_of n (done ∷ past)) ≡ clock_at (plane_at network (done ∷ past)) n
-clocks-next network past done fits stands next n inside =
-    by-actor (λ p. clock_of (part_of n (done ∷ past)) ≡ clock_at p n) network done past next
-    (λ asks. plane-clocks network (plane_at network past) (next_due (plane_at network past)) n done past fits.few stands.ticked inside asks.asks (stands.clocks n inside))
-    (λ asks. clock-still n done past (λ t. callers-clock done.ask t (caller-asks network past done stands asks).callers) ∙ stands.clocks n inside)
+-- ---- an entry more
+
+pub part-may : (network : Network) (run : List Done) (n : ℕ) (link : Link) → NetworkFits network → RunStands network run → slice_get network.links n ≡ Some link → IsAdmissible link.shape (part_of n run)
+part-may network run n link fits stands found = legal-admissible link (part_of n run) (Each-at SplitFits network.links n link fits.splits found) (stands.legal n link found)
+
+due-fits : (network : Network) (plane : Plane) (shape : LinkShape) (found : Option Flight) (to : LinkNo) (ask : Ask) → Each FlightFits plane.flights → next_due plane ≡ found → ask_due plane.ticked found ≡ (to, ask) → AskFits shape ask
+due-fits network plane shape None to ask flights is same = subst (AskFits shape) (ap (λ pair. pair.1) same) tt
+due-fits network plane shape (Some flight) to ask flights is same =
+    subst (AskFits shape) (ap (λ pair. pair.1) same) (Each-find FlightFits (is_due plane.round) plane.flights flight flights is)
+
+-- what a caller asks is a caller's to ask, and meets its conditions
+pub caller-asks : (network : Network) (past : List Done) (done : Done) → RunStands network past → AsksOf network past (actor_number done.actor) done.link done.ask → AsksLink network.links done.link done.ask
+caller-asks network past done stands asks =
+    standing-asks network.links (standing asks.tasks (replies_to (actor_number done.actor) past)) done.link done.ask (stands.callers (actor_number done.actor) asks.tasks asks.found) asks.asks
+
+module _ (network : Network) (past : List Done) (done : Done) (fits : NetworkFits network) (stands : RunStands network past) (next : IsNext network past done) where
+  pub next-may : MayReplyTo next.link.shape (part_of (link_number done.link) past) done.ask done.reply
+  unfolding reply_to
+  next-may =
+      let split = Each-at SplitFits network.links (link_number done.link) next.link fits.splits next.linked in
+      let has = legal-has next.link (part_of (link_number done.link) past) split (stands.legal (link_number done.link) next.link next.linked) in
+      may-answer next.link (clock_of (part_of (link_number done.link) past)) (scan_of next.link.shape (part_of (link_number done.link) past)) done.ask done.reply split has.within next.answered
+
+  next-fits : AskFits next.link.shape done.ask
+  next-fits =
+      elim (cases_Bool (nat_eq (actor_number done.actor) (plane_no network))) [
+        | inl plane ↦
+            (let asks = plane-next network past done next (eqb-true (actor_number done.actor) (plane_no network) plane) in
+            due-fits network (plane_at network past) next.link.shape (next_due (plane_at network past)) done.link done.ask stands.flights refl asks.asks)
+        | inr caller ↦ (caller-asks network past done stands (caller-next network past done next (eqb-false (actor_number done.actor) (plane_no network) caller))).fits next.link next.linked
+      ]
+
+  legal-next : (n : ℕ) (link : Link) → slice_get network.links n ≡ Some link → IsLegal link (part_of n (done ∷ past))
+  unfolding IsLegal
+  legal-next n link found =
+      by-part (IsLegal link) n done past
+      (λ on.
+      let is : next.link ≡ link = same_Some next.link link (sym next.linked ∙ ap (slice_get network.links) on ∙ found) in
+      let answered : done.reply ≡ reply_to link (part_of n past) done.ask = next.answered ∙ ap (λ l. reply_to l (part_of (link_number done.link) past) done.ask) is ∙ ap (λ m. reply_to link (part_of m past) done.ask) on in
+      let own : AskFits link.shape done.ask = subst (λ l. AskFits l.shape done.ask) is next-fits in
+      (stands.legal n link found, record { fits = own; answered = answered }))
+      (λ off. stands.legal n link found)
+
+  clocks-next : (n : ℕ) → n < length network.links → clock_of (part_of n (done ∷ past)) ≡ clock_at (plane_at network (done ∷ past)) n
+  clocks-next n inside =
+      by-actor (λ p. clock_of (part_of n (done ∷ past)) ≡ clock_at p n) network done past next
+      (λ asks. plane-clocks network (plane_at network past) (next_due (plane_at network past)) n done past fits.few stands.ticked inside asks.asks (stands.clocks n inside))
+      (λ asks. clock-still n done past (λ t. callers-clock done.ask t (caller-asks network past done stands asks).callers) ∙ stands.clocks n inside)
+
+  callers-next : (actor : ℕ) (tasks : List Task) → slice_get network.scripts actor ≡ Some tasks → StandingFits network.links (standing tasks (replies_to actor (done ∷ past)))
+  unfolding standing
+  callers-next actor tasks found =
+      elim (cases_Bool (nat_eq (actor_number done.actor) actor)) [
+        | inl by ↦
+            (let e : actor_number done.actor ≡ actor = eqb-true (actor_number done.actor) actor by in
+            let asked = owner-asks network past done actor tasks next e found in
+            subst (λ rs. StandingFits network.links (standing tasks rs)) (sym (replies-by actor done past e))
+            (replied-fits network.links (standing tasks (replies_to actor past)) done.reply done.link done.ask next.link (part_of (link_number done.link) past) (stands.callers actor tasks found) asked next.linked next-may (if-few done.ask next-may)))
+        | inr off ↦ subst (λ rs. StandingFits network.links (standing tasks rs)) (sym (replies-off actor done past (eqb-false (actor_number done.actor) actor off))) (stands.callers actor tasks found)
+      ] where
+        if-few : (ask : Ask) → MayReplyTo next.link.shape (part_of (link_number done.link) past) ask done.reply → IfRelease ask (FewShifted done.reply)
+        if-few (Release chan upstream) may = few-told done.reply (few-cancelled next.link.shape (part_of (link_number done.link) past) (Release chan upstream) done.reply chan upstream (part-may network past (link_number done.link) next.link fits stands next.linked) refl may)
+        if-few _ may = tt
 
 -- ---- the flights
 
@@ -216,28 +230,11 @@ flights-next network plane done past fits stands next is asks flights = flights-
       let same : clock_of (part_of (link_number done.link) past) ≡ clock_at plane (link_number done.link) = clock ∙ ap (λ p. clock_at p (link_number done.link)) (sym is) in
       new-flights next.link.shape (part_of (link_number done.link) past) done.reply (omega (arith, same, most-clock, early, fits.rounds)) (part-may network past (link_number done.link) next.link fits stands next.linked) (next.answered ∙ ap (reply_to next.link (part_of (link_number done.link) past)) (sym tick) ∙ tick-answer next.link (part_of (link_number done.link) past))
 
--- ---- the callers
-
-callers-next : (network : Network) (past : List Done) (done : Done) → NetworkFits network → RunStands network past → (next : IsNext network past done) → (actor : ℕ) (tasks : List Task) → slice_get network.scripts actor ≡ Some tasks → StandingFits network.links (standing tasks (replies_to actor (done ∷ past)))
-unfolding standing
-callers-next network past done fits stands next actor tasks found =
-    elim (cases_Bool (nat_eq (actor_number done.actor) actor)) [
-      | inl by ↦
-          (let e : actor_number done.actor ≡ actor = eqb-true (actor_number done.actor) actor by in
-          let asked = owner-asks network past done actor tasks next e found in
-          subst (λ rs. StandingFits network.links (standing tasks rs)) (sym (replies-by actor done past e))
-          (replied-fits network.links (standing tasks (replies_to actor past)) done.reply done.link done.ask next.link (part_of (link_number done.link) past) (stands.callers actor tasks found) asked next.linked (next-may network past done fits stands next) (if-few done.ask (next-may network past done fits stands next))))
-      | inr off ↦ subst (λ rs. StandingFits network.links (standing tasks rs)) (sym (replies-off actor done past (eqb-false (actor_number done.actor) actor off))) (stands.callers actor tasks found)
-    ] where
-      if-few : (ask : Ask) → MayReplyTo next.link.shape (part_of (link_number done.link) past) ask done.reply → IfRelease ask (FewShifted done.reply)
-      if-few (Release chan upstream) may = few-told done.reply (few-cancelled next.link.shape (part_of (link_number done.link) past) (Release chan upstream) done.reply chan upstream (part-may network past (link_number done.link) next.link fits stands next.linked) refl may)
-      if-few _ may = tt
-
 -- ---- all together
 
 stands-next : (network : Network) (past : List Done) (done : Done) → NetworkFits network → RunStands network past → IsNext network past done → RunStands network (done ∷ past)
 stands-next network past done fits stands next = record {
-  legal = legal-next network past done stands next;
+  legal = legal-next network past done fits stands next;
   clocks = clocks-next network past done fits stands next;
   ticked = by-actor (λ p. p.ticked < length network.links) network done past next (λ asks. ticked-with (length network.links) (plane_at network past) (next_due (plane_at network past)) done.reply fits.some stands.ticked) (λ asks. stands.ticked);
   flights = by-actor (λ p. Each FlightFits p.flights) network done past next (λ asks. flights-next network (plane_at network past) done past fits stands next refl asks stands.flights) (λ asks. stands.flights);
@@ -259,17 +256,6 @@ unfolding IsRun
 run-stands network [] fits is = stands-none network fits
 run-stands network (done ∷ past) fits is = stands-next network past done fits (run-stands network past fits is.0) is.1
 
--- the plane alone asks what is no caller's to ask: that packets arrive, say
-pub plane-due : (network : Network) (past : List Done) (done : Done) → NetworkFits network → IsRun network past → IsNext network past done → (IsCallers done.ask → ⊥) → AsksDue network.rounds (plane_at network past) done.link done.ask
-plane-due network past done fits run next none =
-    elim (cases_Bool (nat_eq (actor_number done.actor) (plane_no network))) [
-      | inl plane ↦ plane-next network past done next (eqb-true (actor_number done.actor) (plane_no network) plane)
-      | inr caller ↦ absurd (none (caller-asks network past done (run-stands network past fits run) (caller-next network past done next (eqb-false (actor_number done.actor) (plane_no network) caller))).callers)
-    ]
-
-pub arrive-due : (network : Network) (past : List Done) (done : Done) (packet : Packet) → NetworkFits network → IsRun network past → IsNext network past done → done.ask ≡ Arrive packet → AsksDue network.rounds (plane_at network past) done.link done.ask
-arrive-due network past done packet fits run next is = plane-due network past done fits run next (λ callers. subst IsCallers is callers)
-
 -- the part on each link is legal there
 pub part-legal : (network : Network) (run : List Done) (n : ℕ) (link : Link) → NetworkFits network → IsRun network run → slice_get network.links n ≡ Some link → IsLegal link (part_of n run)
 part-legal network run n link fits is found = (run-stands network run fits is).legal n link found
@@ -277,10 +263,22 @@ part-legal network run n link fits is found = (run-stands network run fits is).l
 pub part-admissible : (network : Network) (run : List Done) (n : ℕ) (link : Link) → NetworkFits network → IsRun network run → slice_get network.links n ≡ Some link → IsAdmissible link.shape (part_of n run)
 part-admissible network run n link fits is found = part-may network run n link fits (run-stands network run fits is) found
 
--- and so is each reply
-pub answered-may : (network : Network) (past : List Done) (done : Done) → NetworkFits network → IsRun network past → (next : IsNext network past done) → MayReplyTo next.link.shape (part_of (link_number done.link) past) done.ask done.reply
-answered-may network past done fits is next = next-may network past done fits (run-stands network past fits is) next
+module _ (network : Network) (past : List Done) (done : Done) (fits : NetworkFits network) (run : IsRun network past) (next : IsNext network past done) where
+  -- the plane alone asks what is no caller's to ask: that packets arrive, say
+  pub plane-due : (IsCallers done.ask → ⊥) → AsksDue network.rounds (plane_at network past) done.link done.ask
+  plane-due none =
+      elim (cases_Bool (nat_eq (actor_number done.actor) (plane_no network))) [
+        | inl plane ↦ plane-next network past done next (eqb-true (actor_number done.actor) (plane_no network) plane)
+        | inr caller ↦ absurd (none (caller-asks network past done (run-stands network past fits run) (caller-next network past done next (eqb-false (actor_number done.actor) (plane_no network) caller))).callers)
+      ]
 
--- each ask of a run meets its conditions
-pub asked-fits : (network : Network) (past : List Done) (done : Done) → NetworkFits network → IsRun network past → (next : IsNext network past done) → AskFits next.link.shape done.ask
-asked-fits network past done fits is next = next-fits network past done (run-stands network past fits is) next
+  pub arrive-due : (packet : Packet) → done.ask ≡ Arrive packet → AsksDue network.rounds (plane_at network past) done.link done.ask
+  arrive-due packet is = plane-due (λ callers. subst IsCallers is callers)
+
+  -- each reply may be given
+  pub answered-may : MayReplyTo next.link.shape (part_of (link_number done.link) past) done.ask done.reply
+  answered-may = next-may network past done fits (run-stands network past fits run) next
+
+  -- each ask of a run meets its conditions
+  pub asked-fits : AskFits next.link.shape done.ask
+  asked-fits = next-fits network past done fits (run-stands network past fits run) next

@@ -1,84 +1,24 @@
 -- Every ask of a run goes to a link of the network. A caller asks hops of its routes, and links at which it pours; the plane
 -- ticks links of the network, and lets packets arrive at the next links of rows, which reserves have named.
-use Rattle.channel_move.proofs.AskByStage.{HopAsked, MoveAsks, AsksFirst, AsksSubmit, AsksRest, move-asks}
-use Rattle.std.proofs.Common.{◌≡◌, ℕ, suc, ◌-◌, ◌<◌, List, [], ◌∷◌, length, Option, Some, None, refl, sym, ap, ◌∙◌, subst, inl, inr, option_map, arith}
-use Rattle.run_engine.proofs.Words.{move_between, packets_ask, first_ask, ask_at, script_ask, standing, task_ask, cases_Bool, eqb-true, eqb-false, slice_get_cases, slice_get, nat_eq, link_number, actor_number, link_at, LinkNo, Hop, Ask, Tick, Entry, Reply, LinkShape, Each, tick_reply, reply_to, Scan, clock_of, scan_of, Link, Progress, Reserving, Undoing, Relaxing, Settled, asked, asked_of, hop_link, progress_of, Request, TaskFits, NetworkFits, IsHopOf, Network, Task, Opens, Sends, Closes, Moves, Plane, is_due, next_due, ask_due, flight_in, plane_with, plane_of, Flight, replies_to, part_of, Done, plane_no, plane_at, IsNext, IsRun}
+use Rattle.std.proofs.Common.{◌≡◌, ℕ, ◌<◌, List, [], ◌∷◌, length, Option, Some, None, refl, sym, ap, ◌∙◌, subst, inl, inr, arith}
+use Rattle.run_engine.proofs.Words.{ask_at, script_ask, standing, cases_Bool, eqb-true, eqb-false, slice_get_cases, slice_get, nat_eq, link_number, actor_number, link_at, LinkNo, Ask, Tick, Entry, Reply, LinkShape, Each, tick_reply, reply_to, Scan, clock_of, scan_of, Link, NetworkFits, Network, Task, Plane, is_due, next_due, ask_due, flight_in, plane_with, plane_of, Flight, replies_to, part_of, Done, plane_no, plane_at, IsNext, IsRun}
 use Rattle.link_steps.proofs.SearchAndFilter.{Each-find}
 use Rattle.run_engine.specs.runs.Linked.{IsLinkThere, EveryAskGoesToALink}
-use Rattle.link_steps.proofs.ListParts.{Each-at}
 use Rattle.run_engine.proofs.Runs.RunLegal.{asked-plane, asked-caller, caller-next, plane-next, link_at-number, run-stands, by-part, by-actor}
 use Rattle.channel_laws.proofs.NextLinks.{NamesNext, NextsAre, after-nexts, sent-next}
-use Rattle.setup_protocol.proofs.HopAsks.{asked-at}
 use Rattle.tick_plane.proofs.PlaneFlights.{asks-due, flight-in, flights-with}
 use Rattle.channel_laws.proofs.SentInTime.{tick-answer}
-use Rattle.run_engine.proofs.Tasks.SingleAskTask.{once-asked, packets-hold}
+use Rattle.run_engine.proofs.Tasks.CallerAsksFit.{NextLinked, standing-asks}
 
--- a link that comes next, if there is one, is there
-abbrev NextLinked : List Link → Option LinkNo → Type 0
-NextLinked links None = Unit {0}
-NextLinked links (Some to) = IsLinkThere links to
-
--- ---- what a caller asks
-
+-- an ask of a link that is there; where it names a next link, that is there, too
 record AsksThere (links : List Link) (to : LinkNo) (ask : Ask) : Type 0 where
   linked : IsLinkThere links to
   next : NamesNext (NextLinked links) ask
 
-module _ (links : List Link) where
-  hop-linked : (hop : Hop) → IsHopOf links hop → IsLinkThere links hop.link
-  hop-linked hop is = record { link = is.link; found = is.linked }
-
-  found-hop : (route : List Hop) (i : ℕ) (found : Option Hop) → Each (IsHopOf links) route → slice_get route i ≡ found → NextLinked links (option_map hop_link found)
-  found-hop route i None hops is = tt
-  found-hop route i (Some hop) hops is = hop-linked hop (Each-at (IsHopOf links) route i hop hops is)
-
-  asks-hop : (route : List Hop) (i : ℕ) (own : Hop → Ask) (to : LinkNo) (ask : Ask) → Each (IsHopOf links) route → ((hop : Hop) → NamesNext (NextLinked links) (own hop)) → asked_of (slice_get route i) own ≡ Some (to, ask) → AsksThere links to ask
-  asks-hop route i own to ask hops next same =
-      let at = asked-at route i own to ask same in
-      record {
-        linked = subst (IsLinkThere links) (sym at.at) (hop-linked at.hop (Each-at (IsHopOf links) route i at.hop hops at.stands));
-        next = subst (NamesNext (NextLinked links)) (sym at.is) (next at.hop);
-      }
-
-  setup-there : (request : Request) (progress : Progress) (to : LinkNo) (ask : Ask) → Each (IsHopOf links) request.route → asked request progress ≡ Some (to, ask) → AsksThere links to ask
-  setup-there request (Reserving offers reach) to ask hops same =
-      asks-hop request.route (length offers) _ to ask hops
-      (λ hop. found-hop request.route (suc (length offers)) (slice_get request.route (suc (length offers))) hops refl) same
-  setup-there request (Undoing left deny) to ask hops same = asks-hop request.route (left - 1) _ to ask hops (λ hop. tt) same
-  setup-there request (Relaxing left levels) to ask hops same = asks-hop request.route (left - 1) _ to ask hops (λ hop. tt) same
-  setup-there request (Settled outcome) to ask hops same = cc
-
-  task-there : (task : Task) (replies : List Reply) (to : LinkNo) (ask : Ask) → TaskFits links task → task_ask task replies ≡ Some (to, ask) → AsksThere links to ask
-  task-there (Opens request) replies to ask fits same = setup-there request (progress_of request replies) to ask fits.hops same
-  task-there (Sends at chan count gap size) replies to ask fits same =
-      let once = once-asked at (packets_ask chan count gap size) replies to ask same in
-      record {
-        linked = subst (IsLinkThere links) once.at (record { link = fits.link; found = fits.linked });
-        next = subst (NamesNext (NextLinked links)) once.is (packets-hold (NamesNext (NextLinked links)) chan count gap size (λ own. tt) tt);
-      }
-  task-there (Closes request) replies to ask fits same = asks-hop request.route (length replies) _ to ask fits.hops (λ hop. tt) same
-  task-there (Moves old new gap size) replies to ask fits same = by (move-asks (move_between old new gap size) replies to ask same) where
-    at-hop : (route : List Hop) (n : ℕ) (own : Ask) → Each (IsHopOf links) route → NamesNext (NextLinked links) own → HopAsked route n to → ask ≡ own → AsksThere links to ask
-    at-hop route n own hops next at is = record {
-      linked = subst (IsLinkThere links) (sym at.at) (hop-linked at.hop (Each-at (IsHopOf links) route n at.hop hops at.stands));
-      next = subst (NamesNext (NextLinked links)) (sym is) next;
-    }
-
-    by : MoveAsks (move_between old new gap size) replies to ask → AsksThere links to ask
-    by (AsksFirst none at is) = at-hop old.route 0 _ fits.of_old.hops tt at is
-    by (AsksSubmit first one some at is) = at-hop new.route 0 _ fits.of_new.hops tt at is
-    by (AsksRest told made stage at is) = at-hop old.route made _ fits.of_old.hops tt at is
-
-  tasks-there : (tasks : List Task) (replies : List Reply) (to : LinkNo) (ask : Ask) → Each (TaskFits links) tasks → first_ask tasks replies ≡ Some (to, ask) → AsksThere links to ask
-  tasks-there [] replies to ask fits same = cc
-  tasks-there (task ∷ tasks) replies to ask fits same = task-there task replies to ask fits.0 same
-
-  -- ---- flights
-
-  -- the flight of a tick's reply
-  tick-flight : (shape : LinkShape) (t : ℕ) (scan : Scan) (reply : Reply) → reply ≡ tick_reply shape t scan → NextsAre (NextLinked links) scan → Each (λ flight. IsLinkThere links flight.to) (flight_in reply)
-  tick-flight shape t scan reply same nexts =
-      flight-in (λ flight. IsLinkThere links flight.to) reply (λ clock full sent best_sent best_lost to told next. subst (NextLinked links) next (sent-next (NextLinked links) tt shape t scan clock full sent best_sent best_lost nexts (told ∙ same)))
+-- the flight of a tick's reply
+tick-flight : (links : List Link) (shape : LinkShape) (t : ℕ) (scan : Scan) (reply : Reply) → reply ≡ tick_reply shape t scan → NextsAre (NextLinked links) scan → Each (λ flight. IsLinkThere links flight.to) (flight_in reply)
+tick-flight links shape t scan reply same nexts =
+    flight-in (λ flight. IsLinkThere links flight.to) reply (λ clock full sent best_sent best_lost to told next. subst (NextLinked links) next (sent-next (NextLinked links) tt shape t scan clock full sent best_sent best_lost nexts (told ∙ same)))
 
 -- ---- every run
 
@@ -88,7 +28,8 @@ record RunLinked (network : Network) (run : List Done) : Type 0 where
 
 caller-there : (network : Network) (past : List Done) (actor : ℕ) (tasks : List Task) (to : LinkNo) (ask : Ask) → NetworkFits network → IsRun network past → slice_get network.scripts actor ≡ Some tasks → ask_at (standing tasks (replies_to actor past)) ≡ Some (to, ask) → AsksThere network.links to ask
 caller-there network past actor tasks to ask fits run found asks =
-    tasks-there network.links (standing tasks (replies_to actor past)).tasks (standing tasks (replies_to actor past)).replies to ask ((run-stands network past fits run).callers actor tasks found).tasks asks
+    let own = standing-asks network.links (standing tasks (replies_to actor past)) to ask ((run-stands network past fits run).callers actor tasks found) asks in
+    record { linked = own.linked; next = own.next }
 
 due-there : (network : Network) (plane : Plane) (found : Option Flight) (to : LinkNo) (ask : Ask) → NetworkFits network → plane.ticked < length network.links → Each (λ flight. IsLinkThere network.links flight.to) plane.flights → next_due plane ≡ found → ask_due plane.ticked found ≡ (to, ask) → AsksThere network.links to ask
 due-there network plane None to ask fits within flights is same =

@@ -1,6 +1,6 @@
 -- Each task of the owner of a request, in its script and where it stands, if it names the request's channel, is one of the request's own: its
 -- opening, a send at its first hop, its closing, a move from it or a move onto it.
-use Rattle.std.proofs.Common.{◌≡◌, ◌≢◌, ℕ, List, [], ◌∷◌, Some, sym, subst, inl, inr, refl, None, ◌⊎◌}
+use Rattle.std.proofs.Common.{◌≡◌, ◌≢◌, ℕ, List, [], ◌∷◌, Some, sym, subst, inl, inr, refl, ◌⊎◌}
 use Rattle.run_engine.proofs.Words.{slice_get, channel_number, Reply, Each, Request, TaskOff, IsSendOn, IsMoveFrom, IsMoveOnto, ClosesOnce, SendsOnce, UsedOnce, FullScript, OwnedFully, IsOwned, IsUnnamed, AllOwned, Learnt, Standing, standing, ready, Network, replies_to, Done, Task, Opens, Sends, Closes, Moves, cases_Bool, eqb-true, eqb-false, nat_eq}
 use Rattle.link_steps.proofs.SearchAndFilter.{Each-if}
 use Rattle.run_engine.proofs.Runs.EachRun.{each-standing, OwnStep}
@@ -13,18 +13,20 @@ pub record MoveIs (request old new : Request) : Type 0 where
 
 abbrev pub OwnTask : Request → Task → Type 0
 OwnTask request (Opens own) = channel_number own.chan ≡ channel_number request.chan → own ≡ request
-OwnTask request (Sends link None count gap size) = Unit {0}
 OwnTask request (Sends link (Some chan) count gap size) = channel_number chan ≡ channel_number request.chan → IsSendOn request (Sends link (Some chan) count gap size)
 OwnTask request (Closes own) = channel_number own.chan ≡ channel_number request.chan → own ≡ request
 OwnTask request (Moves old new gap size) = MoveIs request old new
+OwnTask request _ = Unit {0}
 
 module _ (request : Request) where
   -- ---- the tasks of a script
 
   off-own : (task : Task) → TaskOff (channel_number request.chan) task → OwnTask request task
-  off-own (Sends link None count gap size) off = tt
+  off-own (Opens own) off = λ same. absurd (off same)
+  off-own (Sends link (Some chan) count gap size) off = λ same. absurd (off same)
+  off-own (Closes own) off = λ same. absurd (off same)
   off-own (Moves old new gap size) off = record { leaves = λ same. absurd (off.0 same); joins = λ same. absurd (off.1 same) }
-  off-own _ off = λ same. absurd (off same)
+  off-own _ off = tt
 
   send-own : (task : Task) → IsSendOn request task → OwnTask request task
   send-own task own = subst (OwnTask request) (sym own.is) (λ same. record { hop = own.hop; count = own.count; gap = own.gap; size = own.size; stands = own.stands; is = refl })

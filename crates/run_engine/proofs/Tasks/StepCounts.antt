@@ -1,7 +1,7 @@
 -- How many steps an actor of a plan makes in all: 32 to open a request, 16 to close one, 17 to move one's packets to another and one
 -- to send packets, and two for each link and round of the plane. So it is at most 1,048,576.
 use Rattle.std.proofs.Common.{◌≡◌, ℕ, eqb, ◌+◌, ◌*◌, ◌-◌, ◌<◌, ◌≤◌, Some, None, Option, List, [], ◌∷◌, length, map, refl, sym, ap, ◌∙◌, subst, inl, inr, arith}
-use Rattle.run_engine.proofs.Words.{cases_Bool, and_parts, eqb-true, eqb-false, leb-true, length-map, same_Some, slice_get-map, slice_get, nat_le, actor_number, channel_number, ChanNo, Hop, Request, total, NetworkFits, PlanParts, openings_in, HasTerms, IsPlan, standing, standing_of, entry_link, groups_in, Network, move_for, network_of, request_of, script_of, send_on, task_for, tasks_of, with_task, Task, Opens, Sends, Closes, plane_no, next_for, IsRun, step, is_by, replies_to, Done, plane_of}
+use Rattle.run_engine.proofs.Words.{cases_Bool, and_parts, eqb-true, eqb-false, leb-true, length-map, same_Some, slice_get-map, slice_get, nat_le, actor_number, channel_number, Hop, Request, total, NetworkFits, PlanParts, openings_in, HasTerms, IsPlan, standing, standing_of, entry_link, groups_in, Network, move_for, network_of, request_of, script_of, send_on, task_for, tasks_of, with_task, Task, Opens, Sends, Closes, plane_no, next_for, IsRun, step, is_by, replies_to, Done, plane_of}
 use Rattle.std.specs.Prelude.{option_map}
 use Rattle.net_units.specs.Limits.{most_steps}
 use Rattle.link_steps.proofs.ListParts.{Each-at}
@@ -12,7 +12,7 @@ use Rattle.call_script.specs.declared.entries.RequestEntry.{RequestEntry}
 use Rattle.call_script.specs.declared.operations.Op.{Op}
 use Rattle.call_script.specs.declared.operations.Op.TheVariants.{Open, Send, Close, Move}
 use Rattle.call_script.specs.declared.roles.Role.TheVariants as role
-use Rattle.run_engine.specs.runs.Turns.{caller_most, most_left, most_over}
+use Rattle.run_engine.specs.runs.Turns.{caller_most, most_left, most_over, most_steps as steps_of}
 use Rattle.run_engine.proofs.Tasks.OpsFew.{carries, channels_in, kinds-few}
 use Rattle.run_engine.proofs.Schedules.PlayedTurns.{step-some}
 use Rattle.run_engine.proofs.Runs.RunOf.{step-is}
@@ -23,25 +23,15 @@ use Rattle.run_engine.proofs.Tasks.StepsRunOut.{from-step-most, steps-end}
 ShortRoutes : List Request → Type 0
 ShortRoutes requests = (k : ℕ) (request : Request) → slice_get requests k ≡ Some request → length request.route ≤ 16
 
--- the tasks of one operation, with those of the others
-open-most : (requests : List Request) (found : Option Request) (tasks : List Task) → ((request : Request) → found ≡ Some request → length request.route ≤ 16) → most_over (with_task (option_map (λ (r : Request). Opens r) found) tasks) ≤ 32 + most_over tasks
+-- the task of one operation, if there is one, with those of the others
+one-most : {X : Type 0} (own : X → Task) (most : ℕ) (found : Option X) (tasks : List Task) → ((x : X) → found ≡ Some x → steps_of (own x) ≤ most) → most_over (with_task (option_map own found) tasks) ≤ most + most_over tasks
 unfolding most_over
-open-most requests None tasks short = omega arith
-open-most requests (Some request) tasks short = (let few = short request refl in omega (arith, few))
-
-close-most : (requests : List Request) (found : Option Request) (tasks : List Task) → ((request : Request) → found ≡ Some request → length request.route ≤ 16) → most_over (with_task (option_map (λ (r : Request). Closes r) found) tasks) ≤ 16 + most_over tasks
-unfolding most_over
-close-most requests None tasks short = omega arith
-close-most requests (Some request) tasks short = (let few = short request refl in omega (arith, few))
-
-hop-most : (found : Option Hop) (chan : ChanNo) (count gap size : ℕ) (tasks : List Task) → most_over (with_task (option_map (λ (hop : Hop). Sends hop.link (Some chan) count gap size) found) tasks) ≤ 1 + most_over tasks
-unfolding most_over
-hop-most None chan count gap size tasks = omega arith
-hop-most (Some hop) chan count gap size tasks = omega arith
+one-most own most None tasks each = omega arith
+one-most own most (Some x) tasks each = (let few = each x refl in omega (arith, few))
 
 send-most : (found : Option Request) (count gap size : ℕ) (tasks : List Task) → most_over (with_task (task_for (send_on count gap size) found) tasks) ≤ 1 + most_over tasks
 send-most None count gap size tasks = omega arith
-send-most (Some request) count gap size tasks = hop-most (slice_get request.route 0) request.chan count gap size tasks
+send-most (Some request) count gap size tasks = one-most (λ (hop : Hop). Sends hop.link (Some request.chan) count gap size) 1 (slice_get request.route 0) tasks (λ hop there. omega arith)
 
 move-most : (old new : Option Request) (tasks : List Task) → ((request : Request) → old ≡ Some request → length request.route ≤ 16) → most_over (with_task (move_for old new) tasks) ≤ 17 + most_over tasks
 unfolding most_over
@@ -55,7 +45,7 @@ unfolding ShortRoutes tasks_of openings_in most_over
 tasks-most requests n [] short = omega arith
 tasks-most requests n (Open chan ∷ ops) short =
     let rest = tasks-most requests n ops short in
-    let here = open-most requests (slice_get requests (channel_number chan)) (tasks_of requests ops) (short (channel_number chan)) in
+    let here = one-most (λ (r : Request). Opens r) 32 (slice_get requests (channel_number chan)) (tasks_of requests ops) (λ request there. (let few = short (channel_number chan) request there in omega (arith, few))) in
     omega (arith, rest, here)
 tasks-most requests n (Send chan count gap size ∷ ops) short =
     let rest = tasks-most requests n ops short in
@@ -63,7 +53,7 @@ tasks-most requests n (Send chan count gap size ∷ ops) short =
     omega (arith, rest, here)
 tasks-most requests n (Close chan ∷ ops) short =
     let rest = tasks-most requests n ops short in
-    let here = close-most requests (slice_get requests (channel_number chan)) (tasks_of requests ops) (short (channel_number chan)) in
+    let here = one-most (λ (r : Request). Closes r) 16 (slice_get requests (channel_number chan)) (tasks_of requests ops) (short (channel_number chan)) in
     omega (arith, rest, here)
 tasks-most requests n (Move old new ∷ ops) short =
     let rest = tasks-most requests n ops short in

@@ -1,9 +1,10 @@
 -- An actor's steps come to an end: the greatest number of steps that it may have left falls with each step that it makes.
 use Rattle.channel_move.proofs.AskByStage.{MoveAsks, AsksFirst, AsksSubmit, AsksRest, move-asks, rest-length}
 use Rattle.std.proofs.Common.{◌≡◌, ◌≢◌, ℕ, zero, suc, ◌+◌, ◌*◌, ◌-◌, ◌<◌, ◌≤◌, Bool, Option, Some, None, IsSome, List, [], ◌∷◌, ◌++◌, length, find, refl, sym, ap, ◌∙◌, subst, inl, inr, arith}
-use Rattle.run_engine.proofs.Words.{TaskFits, NetworkFits, Each, without_first, move_between, last_packets, ready, Learnt, standing, standing_of, resumed, continued, from_step, takes_step, outcome_by, task_ask, first_ask, ask_at, cases_Bool, cases_lt, cond_both, eqb-true, eqb-false, eq-eqb, ne_eqb, length-append, slice_get_within, slice_get, nat_eq, link_number, actor_number, ActorNo, LinkNo, AreLevels, Hop, Ask, Reply, Sent, reply_to, Link, offers_in, after_offers, undoing, relaxing, on_the_way, after_test, asked, asked_of, next_ask, Request, Network, Task, Opens, Sends, Closes, Moves, plane_no, plane_at, next_for, IsNext, IsRun, done_at, stepped, step, replies_to, part_of, Done, Plane, is_due, next_due, flight_to, flight_in, plane_with, Flight}
+use Rattle.run_engine.proofs.Words.{TaskFits, NetworkFits, Each, without_first, move_between, ready, Learnt, standing, standing_of, resumed, continued, from_step, takes_step, outcome_by, task_ask, first_ask, ask_at, cases_Bool, cases_lt, cond_both, eqb-true, eqb-false, eq-eqb, ne_eqb, length-append, slice_get_within, slice_get, nat_eq, link_number, actor_number, ActorNo, LinkNo, AreLevels, Hop, Ask, Reply, Sent, reply_to, Link, offers_in, after_offers, undoing, relaxing, on_the_way, after_test, asked, asked_of, next_ask, Request, Network, Task, Opens, Sends, Closes, Moves, plane_no, plane_at, next_for, IsNext, IsRun, done_at, stepped, step, replies_to, part_of, Done, Plane, is_due, next_due, flight_to, flight_in, plane_with, Flight}
 use Rattle.std.proofs.Math.Nat.{suc-mul}
 use Rattle.hop_reservation.proofs.OneMoreOffer.{levels-fit}
+use Rattle.call_script.proofs.TaskBegins.{ready-keeps}
 use Rattle.link_steps.specs.declared.replies.Reply.TheVariants as Is
 use Rattle.relaxation.specs.declared.EndDenial.{EndDenial}
 use Rattle.setup_protocol.specs.declared.verdict.Deny.{Deny}
@@ -67,12 +68,8 @@ task-few links (Moves old new gap size) replies to ask fits are same = by (move-
   by (AsksSubmit first one some at is) = (let e : length replies ≡ 1 = ap length one in let least = fits.of_old.route.least in omega (arith, e, least))
   by (AsksRest told made stage at is) = (let few = rest-length replies told made stage in let inside = slice_get_within old.route made at.hop at.stands in omega (arith, few.0, inside))
 
-moves-most : (old new : Request) (gap size other_gap other_size : ℕ) → most_steps (Moves old new gap size) ≡ most_steps (Moves old new other_gap other_size)
-moves-most old new gap size other_gap other_size = refl
-
 ready-most : (outcomes : List Learnt) (task : Task) → most_steps (ready outcomes task) ≡ most_steps task
-ready-most outcomes (Moves old new gap size) = moves-most old new (last_packets old.chan outcomes).gap (last_packets old.chan outcomes).size gap size
-ready-most outcomes _ = refl
+ready-most outcomes task = ready-keeps (λ t. most_steps t ≡ most_steps task) (λ old new gap size other_gap other_size same. same) outcomes task refl
 
 pub from-step-most : (outcomes : List Learnt) (tasks : List Task) → most_over (from_step outcomes tasks) ≤ most_over tasks
 unfolding from_step most_over
@@ -154,29 +151,30 @@ most-caller network actor run other = rw (ne_eqb actor (plane_no network) other)
 fewer-by : (old new one two : ℕ) → old ≡ one → new ≡ two → two < one → new < old
 fewer-by old new one two is_old is_new less = omega (arith, is_old, is_new, less)
 
-plane-fewer : (network : Network) (past : List Done) (done : Done) → NetworkFits network → IsRun network past → IsNext network past done → actor_number done.actor ≡ plane_no network → most_left network (actor_number done.actor) (done ∷ past) < most_left network (actor_number done.actor) past
-plane-fewer network past done fits run next same =
-    let early = (plane-next network past done next same).early in
-    let within = (run-stands network past fits run).ticked in
-    fewer-by _ _ _ _ (most-plane network (actor_number done.actor) past same)
-    (most-plane network (actor_number done.actor) (done ∷ past) same ∙ ap (plane_most (length network.links) network.rounds) (plane-by network done past same))
-    (with-fewer (length network.links) network.rounds (plane_at network past) (next_due (plane_at network past)) done.reply refl within early)
+module _ (network : Network) (past : List Done) (done : Done) (fits : NetworkFits network) (run : IsRun network past) (next : IsNext network past done) where
+  plane-fewer : actor_number done.actor ≡ plane_no network → most_left network (actor_number done.actor) (done ∷ past) < most_left network (actor_number done.actor) past
+  plane-fewer same =
+      let early = (plane-next network past done next same).early in
+      let within = (run-stands network past fits run).ticked in
+      fewer-by _ _ _ _ (most-plane network (actor_number done.actor) past same)
+      (most-plane network (actor_number done.actor) (done ∷ past) same ∙ ap (plane_most (length network.links) network.rounds) (plane-by network done past same))
+      (with-fewer (length network.links) network.rounds (plane_at network past) (next_due (plane_at network past)) done.reply refl within early)
 
-caller-fewer : (network : Network) (past : List Done) (done : Done) → NetworkFits network → IsRun network past → IsNext network past done → actor_number done.actor ≢ plane_no network → most_left network (actor_number done.actor) (done ∷ past) < most_left network (actor_number done.actor) past
-caller-fewer network past done fits run next other =
-    let asks = caller-next network past done next other in
-    let own = actor_number done.actor in
-    let stands = (run-stands network past fits run).callers own asks.tasks asks.found in
-    fewer-by _ _ _ _ (most-caller network own past other ∙ ap (λ script. caller_most (standing_of script (replies_to own past))) asks.found)
-    (most-caller network own (done ∷ past) other ∙ ap (λ script. caller_most (standing_of script (replies_to own (done ∷ past)))) asks.found ∙ ap (λ replies. caller_most (standing asks.tasks replies)) (replies-by own done past refl))
-    (standing-fewer network.links asks.tasks done.reply (replies_to own past) done.link done.ask stands asks.asks)
+  caller-fewer : actor_number done.actor ≢ plane_no network → most_left network (actor_number done.actor) (done ∷ past) < most_left network (actor_number done.actor) past
+  caller-fewer other =
+      let asks = caller-next network past done next other in
+      let own = actor_number done.actor in
+      let stands = (run-stands network past fits run).callers own asks.tasks asks.found in
+      fewer-by _ _ _ _ (most-caller network own past other ∙ ap (λ script. caller_most (standing_of script (replies_to own past))) asks.found)
+      (most-caller network own (done ∷ past) other ∙ ap (λ script. caller_most (standing_of script (replies_to own (done ∷ past)))) asks.found ∙ ap (λ replies. caller_most (standing asks.tasks replies)) (replies-by own done past refl))
+      (standing-fewer network.links asks.tasks done.reply (replies_to own past) done.link done.ask stands asks.asks)
 
-next-fewer : (network : Network) (past : List Done) (done : Done) → NetworkFits network → IsRun network past → IsNext network past done → most_left network (actor_number done.actor) (done ∷ past) < most_left network (actor_number done.actor) past
-next-fewer network past done fits run next =
-    elim (cases_Bool (nat_eq (actor_number done.actor) (plane_no network))) [
-      | inl plane ↦ plane-fewer network past done fits run next (eqb-true (actor_number done.actor) (plane_no network) plane)
-      | inr caller ↦ caller-fewer network past done fits run next (eqb-false (actor_number done.actor) (plane_no network) caller)
-    ]
+  next-fewer : most_left network (actor_number done.actor) (done ∷ past) < most_left network (actor_number done.actor) past
+  next-fewer =
+      elim (cases_Bool (nat_eq (actor_number done.actor) (plane_no network))) [
+        | inl plane ↦ plane-fewer (eqb-true (actor_number done.actor) (plane_no network) plane)
+        | inr caller ↦ caller-fewer (eqb-false (actor_number done.actor) (plane_no network) caller)
+      ]
 
 -- ---- the step of an actor with a step left
 

@@ -1,7 +1,7 @@
 use Rattle.std.proofs.Common.{map, ap, ◌∙◌, arith}
 use Rattle.std.proofs.lemmas.List.{take_all}
 use Rattle.race_run.specs.Callers.{caller_of}
-use Rattle.race_run.proofs.OpenedOneByOne.{taken-more}
+use Rattle.run_engine.proofs.Keeping.OneByOne.{taken-more}
 use Rattle.race_run.proofs.opening.owners_of.Goals as goal
 
 pub loop-entry-preserved : goal.loop-entry-preserved
