@@ -1,7 +1,8 @@
--- What the table of a run tells of the delays of a channel's packets: in every run those that its report tells. The rows of a packet stand together, in the order of its hops; so where a
--- packet has departed from the last hop, the nearest row of a first hop, at this row or before it, is its own. A packet is
--- delivered when it has departed from the last hop. Its delay is the ticks from its arrival at the first hop to its arrival at the
--- destination, which is its last departure plus the last link's propagation. Rows are listed here from the last one to the first.
+-- What the table of a run tells of the delays of a channel's packets: in every run those that its report tells. The rows of a
+-- packet stand together, in the order of its hops; so where a packet has departed from the last hop, the nearest row of a first
+-- hop, at this row or before it, is its own. A packet is delivered when it has departed from the last hop. Its delay is the ticks
+-- from its arrival at the first hop to its arrival at the destination, which is its last departure plus the last link's
+-- propagation. Rows are listed here from the last one to the first.
 use Rattle.std.specs.Prelude.{◌≡◌, ℕ, ◌+◌, ◌-◌, Bool, nat_eq, ◌&&◌, if◌then◌else◌, Option, Some, None, List, [], ◌∷◌, ◌++◌, length, reverse}
 use Rattle.std.specs.List.{slice_get}
 use Rattle.net_units.specs.Numbers.{channel_number}
