@@ -14,10 +14,10 @@ use Rattle.link_ledger.specs.Owners.{IsOwner}
 use Rattle.link_ledger.specs.Tokens.{Token}
 use Rattle.setup_protocol.specs.Hops.{IsHopOf}
 use Rattle.shared_network.specs.Gathering.{AreAll}
-use Rattle.shared_network.proofs.ActorOrder.{actors-in_order}
+use Rattle.shared_network.proofs.Numbering.ActorOrder.{actors-in_order}
 use Rattle.shared_network.specs.Ready.{IsNew}
 use Rattle.shared_network.specs.Worked.{IsWorkedLink}
-use Rattle.shared_network.proofs.LinkNumbers.{numbered-length}
+use Rattle.shared_network.proofs.Numbering.LinkNumbers.{numbered-length}
 use Rattle.shared_network.proofs.WorkedNetworks.{first-actor, first-new, owner-is, planes-first, second-actor, second-new}
 use Rattle.step_stamp.specs.Lists.{up_to}
 use Rattle.step_stamp.specs.Opening.{ArePasses}

@@ -25,7 +25,7 @@ use Rattle.call_script.specs.declared.entries.CallerEntry.{CallerEntry}
 use Rattle.call_script.specs.declared.version.Version.{Version}
 use Rattle.call_script.proofs.GroupRulesStay.{none-unused}
 use Rattle.race_run.specs.Whole.{IsWhole}
-use Rattle.race_run.proofs.WeaveIsRun.{whole-length}
+use Rattle.race_run.proofs.Weave.WeaveIsRun.{whole-length}
 use Rattle.race_run_tests.specs.Worked.{AreMovers, EachWithNumber, IsMovedRequest, IsWorkedCaller, IsWorkedHop, IsWorkedLink, IsWorkedRequest}
 
 pub numbered-more : {X : Type 0} (P : ℕ → X → Type 0) (n : ℕ) (xs : List X) (x : X) → EachWithNumber P n xs → P (n + length xs) x → EachWithNumber P n (xs ++ x ∷ [])

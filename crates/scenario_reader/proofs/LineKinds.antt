@@ -18,8 +18,8 @@ use Rattle.scenario_reader.specs.declared.item.Item.{Item}
 use Rattle.scenario_reader.specs.declared.judge.LineKind.{LineKind}
 use Rattle.scenario_reader.specs.declared.judge.LineKind.TheVariants as kind
 use Rattle.scenario_reader.specs.line.Table.{MayAdd, forms_of, line_word, may_stand, once_read, says}
-use Rattle.scenario_reader.proofs.PassedLinesAdd.{may-add}
-use Rattle.scenario_reader.proofs.ReadByForms.{read_fits, forms_are}
+use Rattle.scenario_reader.proofs.Passing.PassedLinesAdd.{may-add}
+use Rattle.scenario_reader.proofs.Passing.ReadByForms.{read_fits, forms_are}
 
 -- ---- a line by its word
 

@@ -61,7 +61,7 @@ fn group_number(groups: &[Name], name: &Name) -> Option<usize>
 }
 
 // The place of a name among these, from 0.
-#[tactic(auto, using(crate::proofs::NameLookup::place_there))]
+#[tactic(auto, using(crate::proofs::Finding::NameLookup::place_there))]
 fn place_of(names: &[Name], name: &Name) -> Option<usize>
     ensures place { result ≡ position (is_named name.now) names.now }
     ensures within { IfSome result (λ place. place < length names.now) }

@@ -40,7 +40,7 @@ impl Names {
     }
 
     /// The number of a name, None exactly where it isn't one of them.
-    #[tactic(auto, using(crate::proofs::NameLookup::place_there, crate::proofs::NameLookup::known_there))]
+    #[tactic(auto, using(crate::proofs::Finding::NameLookup::place_there, crate::proofs::Finding::NameLookup::known_there))]
     pub fn number_of(&self, name: &Name) -> Option<usize>
         ensures place { result ≡ position (is_named name.now) self.now }
         ensures known { is_some result ≡ is_among self.now name.now }
@@ -50,7 +50,7 @@ impl Names {
     }
 
     /// Adds a name that isn't one of them. There have to be fewer than 1,024 so far.
-    #[tactic(auto, using(crate::proofs::NameLookup::not_there))]
+    #[tactic(auto, using(crate::proofs::Finding::NameLookup::not_there))]
     pub fn add(&mut self, name: Name)
         requires fresh { is_among self.old name ≡ false }
         requires room { length self.old < 1024 }

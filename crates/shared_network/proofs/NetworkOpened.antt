@@ -7,7 +7,7 @@ use Rattle.step_stamp.specs.declared.seats.PassSeat.{PassSeat}
 use Rattle.shared_network.specs.Holds.{hold_from}
 use Rattle.shared_network.specs.Ready.{KnowsLink, MayStep, IsNew}
 use Rattle.shared_network.specs.Sight.{IsUnusedLink}
-use Rattle.shared_network.proofs.NumbersFromZero.{up_to-length, up_to-next, get-after}
+use Rattle.shared_network.proofs.Numbering.NumbersFromZero.{up_to-length, up_to-next, get-after}
 
 -- ---- locking the links
 

@@ -12,9 +12,9 @@ use Rattle.link_ledger.proofs.JournalGrowth.{journal-told, told-append, past_aft
 use Rattle.link_ledger.proofs.OwnStaysExact.{get-left}
 use Rattle.shared_network.specs.Closing.{number_of, StandsIn, IsOfOne, IsClosed}
 use Rattle.shared_network.specs.Gathering.{token_actor, all_drawn, IsPartOf, AreAll, AreGathered, IsSettled, AreSettled}
-use Rattle.shared_network.proofs.ActorOrder.{actors-differ, one-place}
+use Rattle.shared_network.proofs.Numbering.ActorOrder.{actors-differ, one-place}
 use Rattle.shared_network.specs.Ready.{MayStep}
-use Rattle.shared_network.proofs.LinkNumbers.{numbered-at, numbered-length}
+use Rattle.shared_network.proofs.Numbering.LinkNumbers.{numbered-at, numbered-length}
 use Rattle.link_steps.proofs.ListParts.{mapped-at, Each-at, comes-from, stands-at}
 
 -- ---- lists

@@ -9,13 +9,13 @@ use Rattle.tick_plane.specs.PlaneAccount.{PlaneAccount}
 use Rattle.shared_network.specs.Added.{Adds}
 use Rattle.shared_network.specs.Calls.{HasNone, Follows, IsEstablished, SetsUp}
 use Rattle.shared_network.specs.Shifts.{NoneSubmitted, WerePlanned}
-use Rattle.shared_network.proofs.SubmitsOfCalls.{unsent-stays, none-planned, setup-unsent, one-unsent, one-planned}
+use Rattle.shared_network.proofs.CallSteps.SubmitsOfCalls.{unsent-stays, none-planned, setup-unsent, one-unsent, one-planned}
 use Rattle.shared_network.specs.Gathering.{AreAll}
-use Rattle.shared_network.proofs.ActorOrder.{actors-in_order}
+use Rattle.shared_network.proofs.Numbering.ActorOrder.{actors-in_order}
 use Rattle.shared_network.specs.Planes.{IsPlanes}
 use Rattle.shared_network.specs.Ready.{MayStep, IsNew}
 use Rattle.shared_network.specs.Worked.{IsWorkedLink, IsOverLink, IsJob, MayPlan, MayMove}
-use Rattle.shared_network.proofs.LinkNumbers.{numbered-at, numbered-length}
+use Rattle.shared_network.proofs.Numbering.LinkNumbers.{numbered-at, numbered-length}
 use Rattle.net_units.proofs.KnownByNumber.{same-actor}
 
 pub over-hops : (links : List Link) (l : ℕ) (link : Link) (route : List Hop) → IsLink links l link → IsWorkedLink link.shape → Each (IsOverLink l) route → Each (IsHopOf links) route

@@ -11,7 +11,7 @@ use Rattle.race_run.specs.Turns.{BeginsOtherThan, Alternate, IsUnwritten, AreMax
 use Rattle.run_record.specs.declared.done.Done.{Done}
 use Rattle.shared_network.specs.declared.closing.Closed.{Closed}
 use Rattle.tenet_app.specs.Racing.{IsRaceOf, race_text}
-use Rattle.race_run.proofs.OneMoreTurn.{turns-first, turns-nothing}
+use Rattle.race_run.proofs.PieceSteps.OneMoreTurn.{turns-first, turns-nothing}
 
 -- ---- a list of turns
 

@@ -11,15 +11,15 @@ use Rattle.call_script.specs.declared.schedule.Schedule.{Schedule}
 use Rattle.channel_report.specs.Report.{report_of}
 use Rattle.run_engine.specs.schedules.Schedules.{turns_of, repeated, FollowsTurns, PlayedBy, IsPlayed}
 use Rattle.race_run.specs.Turns.{IsWritable}
-use Rattle.race_run.proofs.OneMoreTurn.{turns-first}
+use Rattle.race_run.proofs.PieceSteps.OneMoreTurn.{turns-first}
 use Rattle.run_record.specs.declared.done.Done.{Done}
 use Rattle.scenario_reader.specs.BothWays.{SameSchedule, ReadsAs, unnumbered}
 use Rattle.scenario_reader.specs.Kept.{IsDo, IsScheduleOf}
 use Rattle.scenario_reader.specs.PlanText.{plan_text}
 use Rattle.scenario_reader.specs.Reading.{PlanRead, reading}
 use Rattle.scenario_reader.specs.declared.reader.TheConstants.{MOST_BYTES}
-use Rattle.scenario_reader.proofs.ReadNames.{what-is-readable}
-use Rattle.scenario_reader.proofs.TextBack.{text-is-read}
+use Rattle.scenario_reader.proofs.Passing.ReadNames.{what-is-readable}
+use Rattle.scenario_reader.proofs.Back.TextBack.{text-is-read}
 use Rattle.tenet_app.specs.Again.{EveryRaceIsPlayedAgain, RacesArePlayedAgain}
 use Rattle.tenet_app.specs.Playing.{IsDueFor, Reports}
 use Rattle.tenet_app.specs.declared.status.Status.TheVariants as status

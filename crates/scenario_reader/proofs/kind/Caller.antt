@@ -38,12 +38,12 @@ use Rattle.scenario_reader.specs.declared.item.Item.TheVariants as item
 use Rattle.scenario_reader.specs.line.Caller.{caller_form, member_form, caller_forms, caller_of, caller_says, fields_of_member, caller_fields}
 use Rattle.scenario_reader.specs.line.Group.{group_name}
 use Rattle.scenario_reader.specs.line.Table.{line_word, MayAdd}
-use Rattle.scenario_reader.proofs.NameLookup.{no-place, new-without-place}
-use Rattle.scenario_reader.proofs.PassingLines.{unless-passes, stated-ok, not-said}
-use Rattle.scenario_reader.proofs.ReadBefore.{headed-is, some-items}
-use Rattle.scenario_reader.proofs.ReadByForms.{first-form, later-form, line-reads}
-use Rattle.scenario_reader.proofs.RulesBack.{unless-holds, stated-back}
-use Rattle.scenario_reader.proofs.SaysBack.{Reads, front, not-none}
+use Rattle.scenario_reader.proofs.Finding.NameLookup.{no-place, new-without-place}
+use Rattle.scenario_reader.proofs.Passing.PassingLines.{unless-passes, stated-ok, not-said}
+use Rattle.scenario_reader.proofs.Passing.ReadBefore.{headed-is, some-items}
+use Rattle.scenario_reader.proofs.Passing.ReadByForms.{first-form, later-form, line-reads}
+use Rattle.scenario_reader.proofs.Back.RulesBack.{unless-holds, stated-back}
+use Rattle.scenario_reader.proofs.Back.SaysBack.{Reads, front, not-none}
 use Rattle.scenario_reader.proofs.kind.Group.{GroupsStand, group-here, group-there}
 
 -- ---- what a line says may be added

@@ -23,11 +23,11 @@ use Rattle.scenario_reader.specs.declared.item.Item.TheVariants as item
 use Rattle.scenario_reader.specs.line.Close.{close_form, close_of, close_for, close_says, close_fields}
 use Rattle.scenario_reader.specs.line.Table.{MayAdd}
 use Rattle.scenario_reader.specs.line.Using.{request_value, is_closed_request}
-use Rattle.scenario_reader.proofs.PassingLines.{stated-ok}
-use Rattle.scenario_reader.proofs.ReadBefore.{longer-than-none, linked-by}
-use Rattle.scenario_reader.proofs.ReadByForms.{first-form, line-reads}
-use Rattle.scenario_reader.proofs.RulesBack.{stated-back}
-use Rattle.scenario_reader.proofs.SaysBack.{Reads, front, not-none}
+use Rattle.scenario_reader.proofs.Passing.PassingLines.{stated-ok}
+use Rattle.scenario_reader.proofs.Passing.ReadBefore.{longer-than-none, linked-by}
+use Rattle.scenario_reader.proofs.Passing.ReadByForms.{first-form, line-reads}
+use Rattle.scenario_reader.proofs.Back.RulesBack.{stated-back}
+use Rattle.scenario_reader.proofs.Back.SaysBack.{Reads, front, not-none}
 use Rattle.scenario_reader.proofs.kind.Using.{own-said, opened-channel, IsOpenHere, own-fits, not-closed}
 
 pub close-may : (version : Version) (said : Said) (values : Values) (what : Item) → IsDraft said → said.version ≡ Some version → (not (nat_eq (length said.callers) 0) && is_none said.rounds) ≡ true

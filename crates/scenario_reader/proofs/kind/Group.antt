@@ -29,13 +29,13 @@ use Rattle.scenario_reader.specs.declared.item.Item.{Item}
 use Rattle.scenario_reader.specs.declared.item.Item.TheVariants as item
 use Rattle.scenario_reader.specs.line.Group.{group_form, group_says, group_fields, group_name, as_group, group_value}
 use Rattle.scenario_reader.specs.line.Table.{is_before_callers, MayAdd}
-use Rattle.scenario_reader.proofs.NameLookup.{no-place, new-without-place}
-use Rattle.scenario_reader.proofs.NamedBack.{position-back}
-use Rattle.scenario_reader.proofs.PassingLines.{unless-passes, stated-ok, made-some}
-use Rattle.scenario_reader.proofs.ReadBefore.{stands-before, said-groups}
-use Rattle.scenario_reader.proofs.ReadByForms.{first-form, line-reads}
-use Rattle.scenario_reader.proofs.RulesBack.{unless-holds, stated-back}
-use Rattle.scenario_reader.proofs.SaysBack.{Reads, front, not-none}
+use Rattle.scenario_reader.proofs.Finding.NameLookup.{no-place, new-without-place}
+use Rattle.scenario_reader.proofs.Back.NamedBack.{position-back}
+use Rattle.scenario_reader.proofs.Passing.PassingLines.{unless-passes, stated-ok, made-some}
+use Rattle.scenario_reader.proofs.Passing.ReadBefore.{stands-before, said-groups}
+use Rattle.scenario_reader.proofs.Passing.ReadByForms.{first-form, line-reads}
+use Rattle.scenario_reader.proofs.Back.RulesBack.{unless-holds, stated-back}
+use Rattle.scenario_reader.proofs.Back.SaysBack.{Reads, front, not-none}
 
 -- ---- what a line says may be added
 

@@ -5,7 +5,7 @@ use Rattle.call_script.specs.declared.version.Version.TheVariants.{One, Two, Thr
 use Rattle.scenario_reader.specs.Drafts.{nothing_said}
 use Rattle.scenario_reader.specs.Grammar.{judge}
 use Rattle.scenario_reader.specs.line.Header.{header_fields}
-use Rattle.scenario_reader.proofs.SaysBack.{Reads, reads-one, front}
+use Rattle.scenario_reader.proofs.Back.SaysBack.{Reads, reads-one, front}
 use Rattle.scenario_reader.specs.declared.item.Item.TheVariants as item
 
 pub header-read : (version : Version) → Reads (header_fields version ∷ []) nothing_said (front version [] [] [] [])

@@ -46,13 +46,13 @@ use Rattle.scenario_reader.specs.declared.item.Item.{Item}
 use Rattle.scenario_reader.specs.declared.item.Item.TheVariants as item
 use Rattle.scenario_reader.specs.line.Link.{AreFigures, plain_form, best_form, link_forms, link_numbers, link_rule, link_with, link_said, link_says, bound_values, link_values, link_fields}
 use Rattle.scenario_reader.specs.line.Table.{line_word, MayAdd}
-use Rattle.scenario_reader.proofs.NameLookup.{no-place, new-without-place}
-use Rattle.scenario_reader.proofs.PassingLines.{all-pass, unless-passes, stated-ok, no-items, not-said}
-use Rattle.scenario_reader.proofs.ReadBefore.{headed-is}
-use Rattle.scenario_reader.proofs.ReadByForms.{first-form, later-form, line-reads}
-use Rattle.scenario_reader.proofs.RulesBack.{pass-all, unless-holds, stated-back}
-use Rattle.scenario_reader.proofs.SaysBack.{Reads, front}
-use Rattle.scenario_reader.proofs.ShapeOfNumbers.{IsShape, AreWithin, link-is, shape-is}
+use Rattle.scenario_reader.proofs.Finding.NameLookup.{no-place, new-without-place}
+use Rattle.scenario_reader.proofs.Passing.PassingLines.{all-pass, unless-passes, stated-ok, no-items, not-said}
+use Rattle.scenario_reader.proofs.Passing.ReadBefore.{headed-is}
+use Rattle.scenario_reader.proofs.Passing.ReadByForms.{first-form, later-form, line-reads}
+use Rattle.scenario_reader.proofs.Back.RulesBack.{pass-all, unless-holds, stated-back}
+use Rattle.scenario_reader.proofs.Back.SaysBack.{Reads, front}
+use Rattle.scenario_reader.proofs.Finding.ShapeOfNumbers.{IsShape, AreWithin, link-is, shape-is}
 
 -- ---- what a line says
 

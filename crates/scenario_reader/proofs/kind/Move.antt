@@ -29,13 +29,13 @@ use Rattle.scenario_reader.specs.declared.item.Item.TheVariants as item
 use Rattle.scenario_reader.specs.line.Move.{move_form, may_join, carried, move_for, move_says, move_fields}
 use Rattle.scenario_reader.specs.line.Table.{MayAdd}
 use Rattle.scenario_reader.specs.line.Using.{request_value, is_over_request, load_rule}
-use Rattle.scenario_reader.proofs.NamedByPlace.{own-is}
-use Rattle.scenario_reader.proofs.OwnOpenings.{own-opened}
-use Rattle.scenario_reader.proofs.PassingLines.{all-pass, unless-passes, stated-ok}
-use Rattle.scenario_reader.proofs.ReadBefore.{longer-than-none, linked-by}
-use Rattle.scenario_reader.proofs.ReadByForms.{first-form, line-reads}
-use Rattle.scenario_reader.proofs.RulesBack.{pass-all, unless-holds, stated-back}
-use Rattle.scenario_reader.proofs.SaysBack.{Reads, front, not-none}
+use Rattle.scenario_reader.proofs.Finding.NamedByPlace.{own-is}
+use Rattle.scenario_reader.proofs.Passing.OwnOpenings.{own-opened}
+use Rattle.scenario_reader.proofs.Passing.PassingLines.{all-pass, unless-passes, stated-ok}
+use Rattle.scenario_reader.proofs.Passing.ReadBefore.{longer-than-none, linked-by}
+use Rattle.scenario_reader.proofs.Passing.ReadByForms.{first-form, line-reads}
+use Rattle.scenario_reader.proofs.Back.RulesBack.{pass-all, unless-holds, stated-back}
+use Rattle.scenario_reader.proofs.Back.SaysBack.{Reads, front, not-none}
 use Rattle.scenario_reader.proofs.kind.Using.{own-said, still-open, load-passes, load-back, IsOpenHere, own-fits, IsUnleft, not-over}
 
 pub move-may : (version : Version) (said : Said) (values : Values) (what : Item) → IsDraft said → said.version ≡ Some version → (has_moves version && not (nat_eq (length said.callers) 0) && is_none said.rounds) ≡ true

@@ -33,12 +33,12 @@ use Rattle.scenario_reader.specs.declared.item.Item.TheVariants as item
 use Rattle.scenario_reader.specs.line.Pour.{pour_form, pour_over, pour_for, pour_says, pour_fields}
 use Rattle.scenario_reader.specs.line.Table.{MayAdd}
 use Rattle.scenario_reader.specs.line.Using.{load_rule}
-use Rattle.scenario_reader.proofs.NamedByPlace.{link-known}
-use Rattle.scenario_reader.proofs.PassingLines.{all-pass, unless-passes, stated-ok}
-use Rattle.scenario_reader.proofs.ReadBefore.{longer-than-none, linked-by}
-use Rattle.scenario_reader.proofs.ReadByForms.{first-form, line-reads}
-use Rattle.scenario_reader.proofs.RulesBack.{pass-all, unless-holds, stated-back}
-use Rattle.scenario_reader.proofs.SaysBack.{Reads, front, not-none}
+use Rattle.scenario_reader.proofs.Finding.NamedByPlace.{link-known}
+use Rattle.scenario_reader.proofs.Passing.PassingLines.{all-pass, unless-passes, stated-ok}
+use Rattle.scenario_reader.proofs.Passing.ReadBefore.{longer-than-none, linked-by}
+use Rattle.scenario_reader.proofs.Passing.ReadByForms.{first-form, line-reads}
+use Rattle.scenario_reader.proofs.Back.RulesBack.{pass-all, unless-holds, stated-back}
+use Rattle.scenario_reader.proofs.Back.SaysBack.{Reads, front, not-none}
 use Rattle.scenario_reader.proofs.kind.Using.{packets-said, load-passes, ArePackets, packets-fit-line, load-back}
 
 pub pour-may : (version : Version) (said : Said) (values : Values) (what : Item) → IsDraft said → said.version ≡ Some version → (has_best_effort version && not (nat_eq (length said.callers) 0) && is_none said.rounds) ≡ true

@@ -39,12 +39,12 @@ use Rattle.scenario_reader.specs.declared.item.Item.TheVariants as item
 use Rattle.scenario_reader.specs.line.Group.{group_name, values_if}
 use Rattle.scenario_reader.specs.line.Quota.{IsQuotaSmall, quota_form, in_eight, loads_said, quota_of, is_fit_quota, quota_for, quota_says, load_values, quota_values, quota_fields}
 use Rattle.scenario_reader.specs.line.Table.{is_before_callers, MayAdd}
-use Rattle.scenario_reader.proofs.NamedByPlace.{link-known}
-use Rattle.scenario_reader.proofs.PassingLines.{unless-passes, stated-ok}
-use Rattle.scenario_reader.proofs.ReadBefore.{stands-before, said-groups}
-use Rattle.scenario_reader.proofs.ReadByForms.{first-form, line-reads}
-use Rattle.scenario_reader.proofs.RulesBack.{unless-holds, stated-back}
-use Rattle.scenario_reader.proofs.SaysBack.{Reads}
+use Rattle.scenario_reader.proofs.Finding.NamedByPlace.{link-known}
+use Rattle.scenario_reader.proofs.Passing.PassingLines.{unless-passes, stated-ok}
+use Rattle.scenario_reader.proofs.Passing.ReadBefore.{stands-before, said-groups}
+use Rattle.scenario_reader.proofs.Passing.ReadByForms.{first-form, line-reads}
+use Rattle.scenario_reader.proofs.Back.RulesBack.{unless-holds, stated-back}
+use Rattle.scenario_reader.proofs.Back.SaysBack.{Reads}
 use Rattle.scenario_reader.proofs.kind.Group.{IsGroupHere, group-there}
 
 -- ---- eight loads

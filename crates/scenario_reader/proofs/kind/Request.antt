@@ -47,12 +47,12 @@ use Rattle.scenario_reader.specs.declared.item.Item.TheVariants as item
 use Rattle.scenario_reader.specs.declared.line.request.way.Routed.{Routed}
 use Rattle.scenario_reader.specs.line.Request.{AreTermsSmall, AreLinksThere, AreNodes, rate_form, jitter_form, found_rate_form, found_jitter_form, open_forms, is_found, both_nodes, nodes_said, terms_at, term, control_by, control_said, terms_said, contract_said, hop_before, hops_said, is_way, between_rule, nodes_rule, way_rule, found_said, routed_said, open_rule, request_of, open_said, open_says}
 use Rattle.scenario_reader.specs.line.Table.{MayAdd}
-use Rattle.scenario_reader.proofs.NameLookup.{new-without-place}
-use Rattle.scenario_reader.proofs.NamedByPlace.{link-known}
-use Rattle.scenario_reader.proofs.NodesByNumber.{found-route, named-equal}
-use Rattle.scenario_reader.proofs.PassingLines.{all-pass, both-pass, unless-passes, stated-ok, contract-passes, not-said}
-use Rattle.scenario_reader.proofs.ReadBefore.{headed-is, some-items, longer-than-none}
-use Rattle.scenario_reader.proofs.RulesBack.{pass-all, unless-holds, stated-back}
+use Rattle.scenario_reader.proofs.Finding.NameLookup.{new-without-place}
+use Rattle.scenario_reader.proofs.Finding.NamedByPlace.{link-known}
+use Rattle.scenario_reader.proofs.Finding.NodesByNumber.{found-route, named-equal}
+use Rattle.scenario_reader.proofs.Passing.PassingLines.{all-pass, both-pass, unless-passes, stated-ok, contract-passes, not-said}
+use Rattle.scenario_reader.proofs.Passing.ReadBefore.{headed-is, some-items, longer-than-none}
+use Rattle.scenario_reader.proofs.Back.RulesBack.{pass-all, unless-holds, stated-back}
 use Rattle.scenario_reader.proofs.kind.Link.{nothing-past}
 
 -- a number that isn't 0

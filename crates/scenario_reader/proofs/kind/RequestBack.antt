@@ -53,12 +53,12 @@ use Rattle.scenario_reader.specs.declared.item.Item.TheVariants as item
 use Rattle.scenario_reader.specs.declared.line.request.way.Routed.{Routed}
 use Rattle.scenario_reader.specs.line.Request.{rate_form, jitter_form, found_rate_form, found_jitter_form, open_forms, term, control_by, control_said, terms_said, contract_of, contract_said, hop_before, hops_said, is_way, way_rule, routed_said, open_rule, open_said, link_before, route_values, control_values, way_values, form_by, open_fields}
 use Rattle.scenario_reader.specs.line.Table.{line_word}
-use Rattle.scenario_reader.proofs.FoundNodes.{found-nodes}
-use Rattle.scenario_reader.proofs.NameLookup.{no-place}
-use Rattle.scenario_reader.proofs.ReadByForms.{first-form, later-form, line-reads}
-use Rattle.scenario_reader.proofs.RulesBack.{pass-all, unless-holds, stated-back, name-no-word}
-use Rattle.scenario_reader.proofs.SaysBack.{Reads, front, not-none}
-use Rattle.scenario_reader.proofs.ShapeOfNumbers.{actor-is, channel-is}
+use Rattle.scenario_reader.proofs.Finding.FoundNodes.{found-nodes}
+use Rattle.scenario_reader.proofs.Finding.NameLookup.{no-place}
+use Rattle.scenario_reader.proofs.Passing.ReadByForms.{first-form, later-form, line-reads}
+use Rattle.scenario_reader.proofs.Back.RulesBack.{pass-all, unless-holds, stated-back, name-no-word}
+use Rattle.scenario_reader.proofs.Back.SaysBack.{Reads, front, not-none}
+use Rattle.scenario_reader.proofs.Finding.ShapeOfNumbers.{actor-is, channel-is}
 use Rattle.scenario_reader.proofs.kind.Request.{not-zero}
 
 -- a hop over a link that is found by its name

@@ -19,11 +19,11 @@ use Rattle.scenario_reader.specs.declared.item.Item.{Item}
 use Rattle.scenario_reader.specs.declared.item.Item.TheVariants as item
 use Rattle.scenario_reader.specs.line.Rounds.{rounds_form, rounds_says, tail_form, tail_says, are_few_ticks, rounds_fields, tail_fields}
 use Rattle.scenario_reader.specs.line.Table.{MayAdd}
-use Rattle.scenario_reader.proofs.PassingLines.{judged-ok, unless-passes, not-said}
-use Rattle.scenario_reader.proofs.ReadBefore.{headed-is, some-items, is_some-said}
-use Rattle.scenario_reader.proofs.ReadByForms.{first-form, line-reads}
-use Rattle.scenario_reader.proofs.RulesBack.{unless-holds, judged-back}
-use Rattle.scenario_reader.proofs.SaysBack.{Reads, front, not-none, whole}
+use Rattle.scenario_reader.proofs.Passing.PassingLines.{judged-ok, unless-passes, not-said}
+use Rattle.scenario_reader.proofs.Passing.ReadBefore.{headed-is, some-items, is_some-said}
+use Rattle.scenario_reader.proofs.Passing.ReadByForms.{first-form, line-reads}
+use Rattle.scenario_reader.proofs.Back.RulesBack.{unless-holds, judged-back}
+use Rattle.scenario_reader.proofs.Back.SaysBack.{Reads, front, not-none, whole}
 
 -- ---- what a line says may be added
 

@@ -37,12 +37,12 @@ use Rattle.scenario_reader.specs.declared.item.Item.{Item}
 use Rattle.scenario_reader.specs.declared.item.Item.TheVariants as item
 use Rattle.scenario_reader.specs.line.Schedule.{schedule_form, do_form, actor_in, actor_said, do_by, do_says, do_fields, schedule_fields, schedule_lines, MayPutSchedule}
 use Rattle.scenario_reader.specs.line.Table.{MayAdd}
-use Rattle.scenario_reader.proofs.NamedBack.{position-back}
-use Rattle.scenario_reader.proofs.PassingLines.{judged-ok}
-use Rattle.scenario_reader.proofs.ReadBefore.{headed-is, is_some-said}
-use Rattle.scenario_reader.proofs.ReadByForms.{first-form, line-reads, line-judged}
-use Rattle.scenario_reader.proofs.SaysBack.{whole, Leads, leads-on, leads-more, leads-nothing, Reads}
-use Rattle.scenario_reader.proofs.ShapeOfNumbers.{actor-is}
+use Rattle.scenario_reader.proofs.Back.NamedBack.{position-back}
+use Rattle.scenario_reader.proofs.Passing.PassingLines.{judged-ok}
+use Rattle.scenario_reader.proofs.Passing.ReadBefore.{headed-is, is_some-said}
+use Rattle.scenario_reader.proofs.Passing.ReadByForms.{first-form, line-reads, line-judged}
+use Rattle.scenario_reader.proofs.Back.SaysBack.{whole, Leads, leads-on, leads-more, leads-nothing, Reads}
+use Rattle.scenario_reader.proofs.Finding.ShapeOfNumbers.{actor-is}
 
 -- ---- what a line says may be added
 

@@ -26,11 +26,11 @@ use Rattle.scenario_reader.specs.declared.item.Item.TheVariants as item
 use Rattle.scenario_reader.specs.line.Send.{send_form, send_on, send_for, send_says, send_fields}
 use Rattle.scenario_reader.specs.line.Table.{MayAdd}
 use Rattle.scenario_reader.specs.line.Using.{request_value, is_over_request, load_rule}
-use Rattle.scenario_reader.proofs.PassingLines.{all-pass, stated-ok}
-use Rattle.scenario_reader.proofs.ReadBefore.{longer-than-none, linked-by}
-use Rattle.scenario_reader.proofs.ReadByForms.{first-form, line-reads}
-use Rattle.scenario_reader.proofs.RulesBack.{pass-all, stated-back}
-use Rattle.scenario_reader.proofs.SaysBack.{Reads, front, not-none}
+use Rattle.scenario_reader.proofs.Passing.PassingLines.{all-pass, stated-ok}
+use Rattle.scenario_reader.proofs.Passing.ReadBefore.{longer-than-none, linked-by}
+use Rattle.scenario_reader.proofs.Passing.ReadByForms.{first-form, line-reads}
+use Rattle.scenario_reader.proofs.Back.RulesBack.{pass-all, stated-back}
+use Rattle.scenario_reader.proofs.Back.SaysBack.{Reads, front, not-none}
 use Rattle.scenario_reader.proofs.kind.Using.{own-said, packets-said, still-open, load-passes, ArePackets, packets-fit-line, load-back, IsOpenHere, own-fits, IsUnleft, not-over}
 
 pub send-may : (version : Version) (said : Said) (values : Values) (what : Item) → IsDraft said → said.version ≡ Some version → (not (nat_eq (length said.callers) 0) && is_none said.rounds) ≡ true

@@ -28,10 +28,10 @@ use Rattle.scenario_reader.specs.Kept.{IsDraft}
 use Rattle.scenario_reader.specs.Known.{channel_of, names_said}
 use Rattle.scenario_reader.specs.declared.cause.LineCause.TheVariants as cause
 use Rattle.scenario_reader.specs.line.Using.{SaysOwn, packets_end, is_closed_request, is_over_request, load_rule}
-use Rattle.scenario_reader.proofs.NamedByPlace.{own-is}
-use Rattle.scenario_reader.proofs.OwnOpenings.{own-opened}
-use Rattle.scenario_reader.proofs.PassingLines.{made-some, unless-passes}
-use Rattle.scenario_reader.proofs.RulesBack.{unless-holds}
+use Rattle.scenario_reader.proofs.Finding.NamedByPlace.{own-is}
+use Rattle.scenario_reader.proofs.Passing.OwnOpenings.{own-opened}
+use Rattle.scenario_reader.proofs.Passing.PassingLines.{made-some, unless-passes}
+use Rattle.scenario_reader.proofs.Back.RulesBack.{unless-holds}
 
 -- ---- what a line says
 

@@ -1,6 +1,6 @@
 use Rattle.std.proofs.Common.{◌++◌, ◌∷◌, [], map, take, ap, sym, ◌∙◌}
 use Rattle.scenario_reader.specs.Nodes.{edge_over}
-use Rattle.scenario_reader.proofs.NodeSteps.{edges-more, edges-all}
+use Rattle.scenario_reader.proofs.Finding.NodeSteps.{edges-more, edges-all}
 use Rattle.design_file.proofs.nodes.edges_of.Goals as goal
 
 pub loop-entry-preserved : goal.loop-entry-preserved

@@ -1,6 +1,6 @@
 use Rattle.std.proofs.Common.{◌≡◌, true, false, sym, ◌∙◌, arith}
 use Rattle.call_script.specs.Rules.{is_named}
-use Rattle.scenario_reader.proofs.NodeSteps.{node-first, node-second, node-later, node-none}
+use Rattle.scenario_reader.proofs.Finding.NodeSteps.{node-first, node-second, node-later, node-none}
 use Rattle.design_file.proofs.nodes.node_of.Goals as goal
 
 pub returns-then-eq-clause-value : goal.returns-then-eq-clause-value

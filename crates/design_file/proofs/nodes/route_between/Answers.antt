@@ -2,7 +2,7 @@ use Rattle.std.proofs.Common.{◌≡◌, Some, None, true, false, ap, sym, subst
 use Rattle.route_finder.specs.Walks.{IsNetwork}
 use Rattle.route_finder.specs.Finding.{Finds, Fails, IsUnreachable}
 use Rattle.scenario_reader.specs.Nodes.{node_of}
-use Rattle.scenario_reader.proofs.NodesByNumber.{are-network, node-same, node-known, named-equal, route-of}
+use Rattle.scenario_reader.proofs.Finding.NodesByNumber.{are-network, node-same, node-known, named-equal, route-of}
 use Rattle.design_file.proofs.nodes.route_between.Goals as goal
 
 pub least_route-requires-clause-apart : goal.least_route-requires-clause-apart

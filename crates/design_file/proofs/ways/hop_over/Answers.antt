@@ -1,6 +1,6 @@
 use Rattle.std.proofs.Common.{length, refl, sym, ◌∙◌}
 use Rattle.std.proofs.lemmas.Option.{slice_get_read}
-use Rattle.scenario_reader.proofs.NodesByNumber.{named-same}
+use Rattle.scenario_reader.proofs.Finding.NodesByNumber.{named-same}
 use Rattle.design_file.proofs.LinksOneByOne.{number-at}
 use Rattle.design_file.proofs.ways.hop_over.Goals as goal
 

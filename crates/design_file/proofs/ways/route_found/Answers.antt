@@ -1,6 +1,6 @@
 use Rattle.std.proofs.Common.{◌≡◌, Some, true, false, sym, ◌∙◌}
 use Rattle.scenario_reader.specs.Nodes.{is_node, route_between}
-use Rattle.scenario_reader.proofs.NodesByNumber.{found-route, named-equal}
+use Rattle.scenario_reader.proofs.Finding.NodesByNumber.{found-route, named-equal}
 use Rattle.design_file.proofs.ways.route_found.Goals as goal
 
 pub returns-in-Some : goal.returns-in-Some

@@ -1,10 +1,10 @@
 use Rattle.net_units.specs.Numbers.{channel_number}
 use Rattle.call_script.specs.declared.operations.Op.TheVariants.{Close}
 use Rattle.call_script.specs.declared.tasks.Task.TheVariants.{Closes}
-use Rattle.shared_network.proofs.CallsInTurn.{goes-none}
+use Rattle.shared_network.proofs.CallSteps.CallsInTurn.{goes-none}
 use Rattle.race_run.proofs.Lists.{there, missing}
-use Rattle.race_run.proofs.CloseOver.{close-owner, close-established, close-passed, close-over}
-use Rattle.race_run.proofs.OperationAtPlace.{hops-of, looked-off, looked-on, none-passed, request-none}
+use Rattle.race_run.proofs.Operations.CloseOver.{close-owner, close-established, close-passed, close-over}
+use Rattle.race_run.proofs.Operations.OperationAtPlace.{hops-of, looked-off, looked-on, none-passed, request-none}
 use Rattle.race_run.proofs.callers.close_channel.Goals as goal
 
 pub returns-in_default-clause-at : goal.returns-in_default-clause-at

@@ -1,5 +1,5 @@
 use Rattle.link_ledger.specs.Tokens.{stamps_drawn}
-use Rattle.race_run.proofs.StampsLeft.{stamps-left}
+use Rattle.race_run.proofs.Weave.StampsLeft.{stamps-left}
 use Rattle.race_run.proofs.callers.make_op.Goals as goal
 
 pub open_channel-requires-clause-few : goal.open_channel-requires-clause-few

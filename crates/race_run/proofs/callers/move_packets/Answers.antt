@@ -7,10 +7,10 @@ use Rattle.call_script.specs.declared.operations.Op.TheVariants.{Move}
 use Rattle.shared_network.specs.Calls.{OthersStay}
 use Rattle.call_script.specs.Channels.{AreTold}
 use Rattle.call_script.specs.declared.channels.Channel.{Channel}
-use Rattle.shared_network.proofs.CallsInTurn.{goes-none}
+use Rattle.shared_network.proofs.CallSteps.CallsInTurn.{goes-none}
 use Rattle.race_run.proofs.Lists.{there, missing}
-use Rattle.race_run.proofs.MoveOver.{move-none, move-none-new, move-passed, may-shift, move-over}
-use Rattle.race_run.proofs.OperationAtPlace.{kept-inside, looked-off, looked-on, none-passed}
+use Rattle.race_run.proofs.Operations.MoveOver.{move-none, move-none-new, move-passed, may-shift, move-over}
+use Rattle.race_run.proofs.Operations.OperationAtPlace.{kept-inside, looked-off, looked-on, none-passed}
 use Rattle.race_run.proofs.callers.move_packets.Goals as goal
 
 pub returns-in_default-clause-at : goal.returns-in_default-clause-at

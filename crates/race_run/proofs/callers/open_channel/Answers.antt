@@ -2,10 +2,10 @@ use Rattle.net_units.specs.Numbers.{channel_number}
 use Rattle.setup_protocol.specs.State.{outcome_of}
 use Rattle.call_script.specs.declared.operations.Op.TheVariants.{Open}
 use Rattle.call_script.specs.declared.tasks.Task.TheVariants.{Opens}
-use Rattle.shared_network.proofs.CallsInTurn.{goes-none}
+use Rattle.shared_network.proofs.CallSteps.CallsInTurn.{goes-none}
 use Rattle.race_run.proofs.Lists.{there, missing}
-use Rattle.race_run.proofs.OperationAtPlace.{hops-of, kept-inside, none-passed, request-none}
-use Rattle.race_run.proofs.OpenOver.{open-owner, open-new, open-over}
+use Rattle.race_run.proofs.Operations.OperationAtPlace.{hops-of, kept-inside, none-passed, request-none}
+use Rattle.race_run.proofs.Operations.OpenOver.{open-owner, open-new, open-over}
 use Rattle.race_run.proofs.callers.open_channel.Goals as goal
 
 pub setup-requires-clause-owned : goal.setup-requires-clause-owned

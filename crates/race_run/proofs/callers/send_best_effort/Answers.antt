@@ -1,7 +1,7 @@
 use Rattle.std.proofs.Common.{None, refl}
 use Rattle.call_script.specs.declared.tasks.Task.TheVariants.{Sends}
-use Rattle.race_run.proofs.OperationAtPlace.{here-with}
-use Rattle.race_run.proofs.SendOver.{best-there, best-fits, best-over}
+use Rattle.race_run.proofs.Operations.OperationAtPlace.{here-with}
+use Rattle.race_run.proofs.Operations.SendOver.{best-there, best-fits, best-over}
 use Rattle.race_run.proofs.callers.send_best_effort.Goals as goal
 
 pub submit-requires-clause-link : goal.submit-requires-clause-link

@@ -1,9 +1,9 @@
 use Rattle.net_units.specs.Numbers.{channel_number}
 use Rattle.call_script.specs.declared.operations.Op.TheVariants.{Send}
-use Rattle.shared_network.proofs.CallsInTurn.{goes-none}
+use Rattle.shared_network.proofs.CallSteps.CallsInTurn.{goes-none}
 use Rattle.race_run.proofs.Lists.{there, missing}
-use Rattle.race_run.proofs.OperationAtPlace.{kept-inside, looked-off, looked-on, none-passed, send-none}
-use Rattle.race_run.proofs.SendOver.{send-owner, send-there, send-fits, send-passed, send-over}
+use Rattle.race_run.proofs.Operations.OperationAtPlace.{kept-inside, looked-off, looked-on, none-passed, send-none}
+use Rattle.race_run.proofs.Operations.SendOver.{send-owner, send-there, send-fits, send-passed, send-over}
 use Rattle.race_run.proofs.callers.send_on.Goals as goal
 
 pub returns-in_default-clause-at : goal.returns-in_default-clause-at

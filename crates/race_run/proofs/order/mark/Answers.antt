@@ -1,5 +1,5 @@
 use Rattle.std.proofs.Common.{refl}
-use Rattle.race_run.proofs.StampTable.{marked-none, marked-more}
+use Rattle.race_run.proofs.Weave.StampTable.{marked-none, marked-more}
 use Rattle.race_run.proofs.order.mark.Goals as goal
 
 pub loop-entry-init : goal.loop-entry-init

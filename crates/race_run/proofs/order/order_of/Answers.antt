@@ -2,7 +2,7 @@ use Rattle.std.proofs.Common.{◌≡◌, length, replicate, refl, sym, ap, ◌�
 use Rattle.std.proofs.lemmas.List.{take_all, length-replicate}
 use Rattle.link_ledger.specs.declared.entries.Journal.{Journal}
 use Rattle.race_run.specs.Order.{AreBelow, HasOrder, IsMarked}
-use Rattle.race_run.proofs.StampTable.{order-none, order-more, all-below, journal-below}
+use Rattle.race_run.proofs.Weave.StampTable.{order-none, order-more, all-below, journal-below}
 use Rattle.race_run.proofs.order.order_of.Goals as goal
 
 pub loop-number-init : goal.loop-number-init

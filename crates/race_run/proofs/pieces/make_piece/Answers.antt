@@ -1,6 +1,6 @@
 use Rattle.std.proofs.Common.{subst}
 use Rattle.race_run.specs.Pieces.{Begins}
-use Rattle.race_run.proofs.RaceSizes.{rounds-left}
+use Rattle.race_run.proofs.PieceSteps.RaceSizes.{rounds-left}
 use Rattle.race_run.proofs.pieces.make_piece.Goals as goal
 
 pub make_rounds-requires-clause-until : goal.make_rounds-requires-clause-until

@@ -1,7 +1,7 @@
 use Rattle.std.proofs.Common.{get_or, sym, ◌∙◌, subst, arith}
 use Rattle.race_run.specs.Pieces.{IsMade}
 use Rattle.race_run.specs.declared.pieces.Piece.{Piece}
-use Rattle.race_run.proofs.RacePieces.{pairwise-at}
+use Rattle.race_run.proofs.PieceSteps.RacePieces.{pairwise-at}
 use Rattle.race_run.proofs.pieces.make_pieces.Goals as goal
 
 pub returns : goal.returns

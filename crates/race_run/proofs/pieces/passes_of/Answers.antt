@@ -1,7 +1,7 @@
 use Rattle.std.proofs.Common.{Ok, ap, ◌∙◌, subst}
 use Rattle.race_run.specs.Pieces.{AreInOrder, IsOfRounds}
 use Rattle.race_run.specs.declared.pieces.Piece.{Piece}
-use Rattle.race_run.proofs.RacePieces.{in-order}
+use Rattle.race_run.proofs.PieceSteps.RacePieces.{in-order}
 use Rattle.race_run.proofs.pieces.passes_of.Goals as goal
 
 pub unreachable-requires-in_default-2 : goal.unreachable-requires-in_default-2

@@ -1,15 +1,15 @@
 use Rattle.std.proofs.Common.{◌≡◌, suc, true, false, List, length, map, sym, subst, arith}
 use Rattle.link_steps.specs.Lists.{Each}
 use Rattle.shared_network.specs.Gathering.{AreAll, token_actor}
-use Rattle.shared_network.proofs.LinkNumbers.{numbered-length}
+use Rattle.shared_network.proofs.Numbering.LinkNumbers.{numbered-length}
 use Rattle.call_script.specs.Tasks.{network_of}
 use Rattle.link_ledger.specs.Tokens.{Token}
 use Rattle.race_run.specs.Pieces.{AreNew, MayBegin}
 use Rattle.race_run.specs.Tail.{GoesLast, own_in}
 use Rattle.race_run.specs.Whole.{HasMadeAll}
-use Rattle.race_run.proofs.RacePieces.{all-begin, last-own, last-plane, made-actors, made-all, made-are_all, made-in_order, made-of}
-use Rattle.race_run.proofs.RaceSizes.{plane-new}
-use Rattle.race_run.proofs.TailComesLast.{tail-last}
+use Rattle.race_run.proofs.PieceSteps.RacePieces.{all-begin, last-own, last-plane, made-actors, made-all, made-are_all, made-in_order, made-of}
+use Rattle.race_run.proofs.PieceSteps.RaceSizes.{plane-new}
+use Rattle.race_run.proofs.PieceSteps.TailComesLast.{tail-last}
 use Rattle.race_run.proofs.racing.make_all.Goals as goal
 
 pub unreachable-requires : goal.unreachable-requires

@@ -2,9 +2,9 @@ use Rattle.std.proofs.Common.{suc, List, length, subst}
 use Rattle.link_steps.specs.Split.{Link}
 use Rattle.call_script.specs.Tasks.{network_of}
 use Rattle.shared_network.specs.Closing.{IsClosed}
-use Rattle.race_run.proofs.GivenUp.{kept-whole}
-use Rattle.race_run.proofs.RaceSizes.{all-new, links-few, passes-as, seats-as}
-use Rattle.race_run.proofs.TailComesLast.{tail-kept}
+use Rattle.race_run.proofs.PieceSteps.GivenUp.{kept-whole}
+use Rattle.race_run.proofs.PieceSteps.RaceSizes.{all-new, links-few, passes-as, seats-as}
+use Rattle.race_run.proofs.PieceSteps.TailComesLast.{tail-kept}
 use Rattle.race_run.proofs.racing.race_over.Goals as goal
 
 pub open-requires-clause-seats : goal.open-requires-clause-seats

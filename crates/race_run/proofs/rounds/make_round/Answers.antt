@@ -1,8 +1,8 @@
 use Rattle.std.proofs.Common.{◌≡◌, ◌+◌, ◌⊎◌, ◌∙◌, subst, arith}
 use Rattle.tick_plane.specs.PlaneAccount.{PlaneAccount}
 use Rattle.call_script.specs.Tasks.{network_of}
-use Rattle.race_run.proofs.PlaneWithPass.{early-next}
-use Rattle.shared_network.proofs.CallsInTurn.{goes-both, above-both}
+use Rattle.race_run.proofs.PieceSteps.PlaneWithPass.{early-next}
+use Rattle.shared_network.proofs.CallSteps.CallsInTurn.{goes-both, above-both}
 use Rattle.race_run.proofs.rounds.make_round.Goals as goal
 
 pub loop-plane-preserved : goal.loop-plane-preserved

@@ -1,5 +1,5 @@
 use Rattle.std.proofs.Common.{◌∙◌, arith}
-use Rattle.shared_network.proofs.CallsInTurn.{goes-both, above-both}
+use Rattle.shared_network.proofs.CallSteps.CallsInTurn.{goes-both, above-both}
 use Rattle.race_run.proofs.rounds.make_rounds.Goals as goal
 
 pub loop-plane-preserved : goal.loop-plane-preserved

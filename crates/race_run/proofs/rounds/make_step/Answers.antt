@@ -3,7 +3,7 @@ use Rattle.link_steps.specs.Split.{Link}
 use Rattle.shared_network.specs.Planes.{IsPlanes}
 use Rattle.call_script.specs.Tasks.{network_of}
 use Rattle.call_script.proofs.PlansFit.{plan-fits}
-use Rattle.race_run.proofs.PlaneWithPass.{adds-one, few-drawn, on-next, on-ready, step-made, stepped-from}
+use Rattle.race_run.proofs.PieceSteps.PlaneWithPass.{adds-one, few-drawn, on-next, on-ready, step-made, stepped-from}
 use Rattle.race_run.proofs.rounds.make_step.Goals as goal
 
 pub plane_step-requires-clause-few : goal.plane_step-requires-clause-few

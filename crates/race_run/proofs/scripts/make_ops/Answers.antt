@@ -1,6 +1,6 @@
 use Rattle.std.proofs.Common.{refl, ◌∙◌, arith}
-use Rattle.shared_network.proofs.CallsInTurn.{goes-none, goes-both}
-use Rattle.race_run.proofs.ScriptEnds.{script-ends}
+use Rattle.shared_network.proofs.CallSteps.CallsInTurn.{goes-none, goes-both}
+use Rattle.race_run.proofs.Operations.ScriptEnds.{script-ends}
 use Rattle.race_run.proofs.scripts.make_ops.Goals as goal
 
 pub loop-place-init : goal.loop-place-init

@@ -1,7 +1,7 @@
 use Rattle.std.proofs.Common.{◌≡◌, ◌<◌, Some, length, refl, sym, ap, ◌∙◌, arith}
 use Rattle.std.proofs.lemmas.Option.{slice_get_read}
 use Rattle.std.specs.List.{slice_get}
-use Rattle.race_run.proofs.ScriptEnds.{script-begins}
+use Rattle.race_run.proofs.Operations.ScriptEnds.{script-begins}
 use Rattle.race_run.proofs.scripts.make_script.Goals as goal
 
 pub make_ops-requires-clause-at : goal.make_ops-requires-clause-at

@@ -2,7 +2,7 @@ use Rattle.std.proofs.Common.{subst, arith}
 use Rattle.std.proofs.lemmas.List.{take_all}
 use Rattle.std.proofs.Math.Nat.{le-max_left, le-max_right}
 use Rattle.race_run.specs.Tail.{AreUpTo}
-use Rattle.race_run.proofs.TailComesLast.{latest-more}
+use Rattle.race_run.proofs.PieceSteps.TailComesLast.{latest-more}
 use Rattle.race_run.proofs.tail.latest_of.Goals as goal
 
 pub loop-entry-preserved : goal.loop-entry-preserved

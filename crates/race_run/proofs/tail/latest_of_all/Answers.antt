@@ -4,7 +4,7 @@ use Rattle.link_steps.specs.Lists.{Each}
 use Rattle.link_steps.proofs.SearchAndFilter.{Each-map}
 use Rattle.link_ledger.specs.Tokens.{Token}
 use Rattle.race_run.specs.Tail.{AreUpTo, own_in}
-use Rattle.race_run.proofs.TailComesLast.{all-more}
+use Rattle.race_run.proofs.PieceSteps.TailComesLast.{all-more}
 use Rattle.race_run.proofs.tail.latest_of_all.Goals as goal
 
 pub loop-pass-preserved : goal.loop-pass-preserved

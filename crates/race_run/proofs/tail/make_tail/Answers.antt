@@ -1,9 +1,9 @@
 use Rattle.std.proofs.Common.{map, arith}
 use Rattle.run_engine.proofs.Keeping.NextStep.{has-few}
 use Rattle.race_run.specs.Tail.{own_in}
-use Rattle.shared_network.proofs.CallsInTurn.{goes-both}
-use Rattle.race_run.proofs.RaceSizes.{tail-left, tail-made}
-use Rattle.race_run.proofs.TailComesLast.{at-same, goes-last}
+use Rattle.shared_network.proofs.CallSteps.CallsInTurn.{goes-both}
+use Rattle.race_run.proofs.PieceSteps.RaceSizes.{tail-left, tail-made}
+use Rattle.race_run.proofs.PieceSteps.TailComesLast.{at-same, goes-last}
 use Rattle.race_run.proofs.tail.make_tail.Goals as goal
 
 pub overflow_add-all : goal.overflow_add-all

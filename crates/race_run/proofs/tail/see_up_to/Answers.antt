@@ -1,6 +1,6 @@
 use Rattle.std.proofs.Common.{ap, ◌∙◌}
 use Rattle.link_ledger.specs.Tokens.{Token}
-use Rattle.shared_network.proofs.CallsInTurn.{goes-both}
+use Rattle.shared_network.proofs.CallSteps.CallsInTurn.{goes-both}
 use Rattle.race_run.proofs.tail.see_up_to.Goals as goal
 
 pub returns-then-steps_seen-stamp-clause-ready : goal.returns-then-steps_seen-stamp-clause-ready

@@ -1,8 +1,8 @@
 use Rattle.std.proofs.Common.{[], refl, sym, subst, reverse, ◌∙◌, arith}
 use Rattle.call_script.specs.Tasks.{network_of}
 use Rattle.race_run.specs.Turns.{AreMaximalRuns, actors_of}
-use Rattle.race_run.proofs.OneMoreTurn.{runs-none}
-use Rattle.race_run.proofs.ToldInOrder.{counts-first, order-at, turns-few, weave-first}
+use Rattle.race_run.proofs.PieceSteps.OneMoreTurn.{runs-none}
+use Rattle.race_run.proofs.Weave.ToldInOrder.{counts-first, order-at, turns-few, weave-first}
 use Rattle.race_run.proofs.telling.tell.Goals as goal
 
 pub loop-number-init : goal.loop-number-init

@@ -1,7 +1,7 @@
 use Rattle.std.proofs.Common.{refl, arith}
 use Rattle.call_script.specs.Tasks.{network_of}
 use Rattle.race_run.specs.Telling.{weave_below}
-use Rattle.race_run.proofs.ToldInOrder.{goes-told, next-seen, next-told, reads-inside, reads-next, stays-told, whole-few}
+use Rattle.race_run.proofs.Weave.ToldInOrder.{goes-told, next-seen, next-told, reads-inside, reads-next, stays-told, whole-few}
 use Rattle.race_run.proofs.telling.tell_next.Goals as goal
 
 pub returns-then-place-journals-clause-told : goal.returns-then-place-journals-clause-told

@@ -1,6 +1,6 @@
 use Rattle.std.proofs.Common.{◌≡◌, ◌-◌, suc, length, true, false, sym, ap, ◌∙◌, arith}
 use Rattle.race_run.specs.Turns.{ends_with}
-use Rattle.race_run.proofs.OneMoreTurn.{runs-again, runs-new, ends-true, ends-some, ends-false, count-fits}
+use Rattle.race_run.proofs.PieceSteps.OneMoreTurn.{runs-again, runs-new, ends-true, ends-some, ends-false, count-fits}
 use Rattle.race_run.proofs.turns.add_turn.Goals as goal
 
 pub overflow_add-index_mut : goal.overflow_add-index_mut

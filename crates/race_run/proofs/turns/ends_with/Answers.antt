@@ -1,5 +1,5 @@
 use Rattle.std.proofs.Common.{◌-◌, length, refl, sym}
-use Rattle.race_run.proofs.OneMoreTurn.{ends-at}
+use Rattle.race_run.proofs.PieceSteps.OneMoreTurn.{ends-at}
 use Rattle.race_run.proofs.turns.ends_with.Goals as goal
 
 pub returns-in-Some : goal.returns-in-Some

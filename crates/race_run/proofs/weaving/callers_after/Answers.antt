@@ -7,7 +7,7 @@ use Rattle.run_engine.specs.schedules.Standing.{AreCallers}
 use Rattle.race_run.specs.Order.{HasOrder}
 use Rattle.race_run.specs.Tail.{AreUpTo, own_in}
 use Rattle.race_run.specs.Telling.{weave_below}
-use Rattle.race_run.proofs.ToldInOrder.{callers-after, callers-inside, front-has, run-front}
+use Rattle.race_run.proofs.Weave.ToldInOrder.{callers-after, callers-inside, front-has, run-front}
 use Rattle.race_run.proofs.weaving.callers_after.Goals as goal
 
 pub slice_bounds-latest_of_all-end : goal.slice_bounds-latest_of_all-end

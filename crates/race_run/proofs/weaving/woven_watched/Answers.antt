@@ -5,10 +5,10 @@ use Rattle.run_engine.specs.runs.Runs.{IsRun}
 use Rattle.run_engine.specs.schedules.Schedules.{FollowsTurns, turns_of}
 use Rattle.race_run.specs.Turns.{AreMaximalRuns, actors_of}
 use Rattle.race_run.specs.Whole.{weave_of}
-use Rattle.race_run.proofs.RunByActors.{run-follows, run-items}
-use Rattle.race_run.proofs.ScheduleCounts.{items-written}
-use Rattle.race_run.proofs.ToldInOrder.{whole-few, woven-by}
-use Rattle.race_run.proofs.WeaveIsRun.{whole-over, whole-run}
+use Rattle.race_run.proofs.Weave.RunByActors.{run-follows, run-items}
+use Rattle.race_run.proofs.Weave.ScheduleCounts.{items-written}
+use Rattle.race_run.proofs.Weave.ToldInOrder.{whole-few, woven-by}
+use Rattle.race_run.proofs.Weave.WeaveIsRun.{whole-over, whole-run}
 use Rattle.race_run.proofs.weaving.woven_watched.Goals as goal
 
 pub order_of-requires : goal.order_of-requires

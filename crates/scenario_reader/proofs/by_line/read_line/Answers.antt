@@ -1,5 +1,5 @@
 use Rattle.scenario_reader.specs.ReadSteps.{ReadsLine}
-use Rattle.scenario_reader.proofs.ReadingAhead.{cut-reads, end-reads, line-reads, over-reads, passes-fault, refused-reads, tells-handed}
+use Rattle.scenario_reader.proofs.Passing.ReadingAhead.{cut-reads, end-reads, line-reads, over-reads, passes-fault, refused-reads, tells-handed}
 use Rattle.scenario_reader.proofs.by_line.read_line.Goals as goal
 
 pub returns-in_err-take_line-in-Ok-Line-clause-reads : goal.returns-in_err-take_line-in-Ok-Line-clause-reads

@@ -2,7 +2,7 @@ use Rattle.std.proofs.Common.{rules, ◌+◌, ◌∙◌, ap, arith}
 use Rattle.std.proofs.lemmas.Bool.{both_ways}
 use Rattle.byte_ends.specs.Cutting.{Cutting}
 use Rattle.scenario_reader.specs.ReadSteps.{TellsLines}
-use Rattle.scenario_reader.proofs.ReadingAhead.{at_start, ended, ended-early, foretells-at_start, foretells-next, passes-at_start, passes-next, reads-to-fault, reads-too-many, tells-handed, tells-refused}
+use Rattle.scenario_reader.proofs.Passing.ReadingAhead.{at_start, ended, ended-early, foretells-at_start, foretells-next, passes-at_start, passes-next, reads-to-fault, reads-too-many, tells-handed, tells-refused}
 use Rattle.scenario_reader.proofs.by_line.read_lines.Goals as goal
 
 pub loop-lines-init : goal.loop-lines-init

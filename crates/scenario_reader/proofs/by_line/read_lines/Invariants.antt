@@ -1,7 +1,7 @@
 use Rattle.std.proofs.Common.{◌≡◌, ◌+◌, ◌-◌, ◌≤◌}
 use Rattle.byte_ends.specs.Cutting.{IsCutting, IsOf}
 use Rattle.scenario_reader.specs.ReadSteps.{Foretells, PassesOn, ahead}
-use Rattle.scenario_reader.proofs.ReadingAhead.{at_start}
+use Rattle.scenario_reader.proofs.Passing.ReadingAhead.{at_start}
 use Rattle.scenario_reader.specs.declared.reader.TheConstants.{MOST_BYTES}
 use Rattle.scenario_reader.proofs.by_line.read_lines.Given as goal
 

@@ -1,4 +1,4 @@
-use Rattle.scenario_reader.proofs.LeastRoutes.{finds-least-routes}
+use Rattle.scenario_reader.proofs.Finding.LeastRoutes.{finds-least-routes}
 use Rattle.scenario_reader.proofs.laws.a_found_route_is_the_least.Goals as goal
 
 pub returns : goal.returns

@@ -1,4 +1,4 @@
-use Rattle.scenario_reader.proofs.TextBack.{text-is-read}
+use Rattle.scenario_reader.proofs.Back.TextBack.{text-is-read}
 use Rattle.scenario_reader.proofs.laws.a_plans_text_is_read.Goals as goal
 
 pub returns : goal.returns

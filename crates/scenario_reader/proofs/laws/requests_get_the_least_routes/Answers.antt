@@ -1,4 +1,4 @@
-use Rattle.scenario_reader.proofs.ReadRoutes.{requests-get_least_routes}
+use Rattle.scenario_reader.proofs.Passing.ReadRoutes.{requests-get_least_routes}
 use Rattle.scenario_reader.proofs.laws.requests_get_the_least_routes.Goals as goal
 
 pub returns : goal.returns

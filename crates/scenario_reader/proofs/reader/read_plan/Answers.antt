@@ -1,7 +1,7 @@
 use Rattle.std.proofs.Common.{rules}
 use Rattle.scenario_reader.specs.Reading.{PlanRead, reading}
 use Rattle.scenario_reader.specs.ReadSteps.{TellsReading, scenarios}
-use Rattle.scenario_reader.proofs.ReadingAhead.{comes-to, complete-end, may-end, tells-handed}
+use Rattle.scenario_reader.proofs.Passing.ReadingAhead.{comes-to, complete-end, may-end, tells-handed}
 use Rattle.scenario_reader.proofs.reader.read_plan.Goals as goal
 
 pub into_plan-requires : goal.into_plan-requires

@@ -2,7 +2,7 @@ use Rattle.std.specs.List.{flat_map}
 use Rattle.text_writer.specs.Lines.{whole_line}
 use Rattle.scenario_reader.specs.line.Caller.{caller_fields}
 use Rattle.scenario_reader.specs.line.Operation.{op_text}
-use Rattle.scenario_reader.proofs.TextOfParts.{caller-text}
+use Rattle.scenario_reader.proofs.Back.TextOfParts.{caller-text}
 use Rattle.text_writer.proofs.TextsTold.{both-told, first-failed}
 use Rattle.scenario_reader.proofs.writer.write_caller.Goals as goal
 

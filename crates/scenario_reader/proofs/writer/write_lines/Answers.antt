@@ -1,6 +1,6 @@
 use Rattle.std.proofs.Common.{◌++◌}
 use Rattle.scenario_reader.specs.PlanText.{head_text, split_text, rest_text}
-use Rattle.scenario_reader.proofs.TextOfParts.{parts-text}
+use Rattle.scenario_reader.proofs.Back.TextOfParts.{parts-text}
 use Rattle.text_writer.proofs.TextsTold.{both-told, first-failed}
 use Rattle.scenario_reader.proofs.writer.write_lines.Goals as goal
 

@@ -2,7 +2,7 @@ use Rattle.std.proofs.Common.{rules}
 use Rattle.std.specs.List.{flat_map}
 use Rattle.text_writer.specs.Lines.{whole_line}
 use Rattle.scenario_reader.specs.line.Schedule.{schedule_fields, do_text}
-use Rattle.scenario_reader.proofs.TextOfParts.{schedule-text, no-schedule-text}
+use Rattle.scenario_reader.proofs.Back.TextOfParts.{schedule-text, no-schedule-text}
 use Rattle.text_writer.proofs.TextsTold.{told-nothing, both-told, first-failed}
 use Rattle.scenario_reader.proofs.writer.write_schedule.Goals as goal
 

@@ -35,7 +35,7 @@ impl Hops {
     }
 
     // Adds a hop at the end. There were fewer than 16.
-    #[tactic(auto, using(crate::proofs::HopsInCells::hops_more, crate::proofs::HopsInCells::hops_few))]
+    #[tactic(auto, using(crate::proofs::Finding::HopsInCells::hops_more, crate::proofs::Finding::HopsInCells::hops_few))]
     pub(crate) fn push(&mut self, hop: Hop)
         requires { length self.old < 16 }
         ensures { self.new ≡ self.old ++ hop ∷ [] }

@@ -1,7 +1,7 @@
 use Rattle.std.proofs.Common.{◌≡◌, ℕ, List, [], ◌∷◌, ◌++◌, length, sym, ap, ◌∙◌, arith}
 use Rattle.shared_network.proofs.Words.{append_assoc, length-append, into_iter_items, Token}
 use Rattle.shared_network.specs.Ready.{MayStep}
-use Rattle.shared_network.proofs.SeatsJoined.{gathered-first, gathered-next, given-none, given-more, after}
+use Rattle.shared_network.proofs.Numbering.SeatsJoined.{gathered-first, gathered-next, given-none, given-more, after}
 use Rattle.shared_network.proofs.closing.gather.Goals as goal
 
 pub loop-pass-init : goal.loop-pass-init

@@ -2,8 +2,8 @@ use Rattle.std.proofs.Common.{◌<◌, length, sym, ap, ◌∙◌, subst, rules}
 use Rattle.shared_network.proofs.Words.{◌≡◌, List, IsNonDecreasingBy-from_sort_by_key, length_permutation, Each, up_to, Journal}
 use Rattle.shared_network.specs.Closing.{number_of}
 use Rattle.shared_network.specs.Gathering.{IsBelow}
-use Rattle.shared_network.proofs.NumberOrder.{ordered-numbers}
-use Rattle.shared_network.proofs.PermutedLists.{differ-permuted}
+use Rattle.shared_network.proofs.Numbering.NumberOrder.{ordered-numbers}
+use Rattle.shared_network.proofs.Numbering.PermutedLists.{differ-permuted}
 use Rattle.shared_network.proofs.closing.put_in_order.Goals as goal
 use Rattle.link_steps.proofs.ListParts.{Each-permuted}
 

@@ -4,7 +4,7 @@ use Rattle.link_steps.proofs.SearchAndFilter.{Each-append}
 use Rattle.step_stamp.proofs.ListMembers.{has-left, has-right, has-split, differ-both}
 use Rattle.shared_network.specs.Closing.{number_of}
 use Rattle.shared_network.specs.Gathering.{IsBelow, IsSettled}
-use Rattle.shared_network.proofs.SeatsJoined.{settled-next}
+use Rattle.shared_network.proofs.Numbering.SeatsJoined.{settled-next}
 use Rattle.shared_network.proofs.closing.take_journals.Goals as goal
 
 pub loop-link-preserved : goal.loop-link-preserved

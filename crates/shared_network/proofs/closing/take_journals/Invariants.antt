@@ -2,7 +2,7 @@ use Rattle.std.proofs.Common.{◌≡◌, ℕ, ◌≤◌, ◌+◌, length, map, v
 use Rattle.shared_network.proofs.Words.{into_iter_items, Each, Has, Differ, pass_table, pass_view}
 use Rattle.shared_network.specs.Closing.{number_of}
 use Rattle.shared_network.specs.Gathering.{IsBelow, IsSettled}
-use Rattle.shared_network.proofs.SeatsJoined.{StaysGathered}
+use Rattle.shared_network.proofs.Numbering.SeatsJoined.{StaysGathered}
 use Rattle.shared_network.proofs.closing.take_journals.Given as goal
 
 -- some journals are there, of different links, whose lists the joined seat has; of the other links it knows what it knew

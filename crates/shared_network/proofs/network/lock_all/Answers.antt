@@ -1,7 +1,7 @@
 use Rattle.std.proofs.Common.{◌≡◌, ℕ, List, [], ◌∷◌, ◌++◌, length, map, rules, sym, ap, ◌∙◌, subst, arith}
 use Rattle.shared_network.proofs.Words.{map-append, same_from_all_zip, into_iter_items, link_number, Each, Link, seat_link}
 use Rattle.shared_network.specs.Sight.{IsUnusedLink}
-use Rattle.shared_network.proofs.NumbersFromZero.{none-left}
+use Rattle.shared_network.proofs.Numbering.NumbersFromZero.{none-left}
 use Rattle.shared_network.proofs.NetworkOpened.{Locking, locking-start, locking-left, locking-link, locking-next, locking-end}
 use Rattle.shared_network.proofs.network.lock_all.Goals as goal
 

@@ -3,7 +3,7 @@ use Rattle.setup_protocol.specs.Laws.{is_accepted}
 use Rattle.setup_protocol.specs.State.{outcome_of}
 use Rattle.link_ledger.specs.Tokens.{Token}
 use Rattle.shared_network.specs.Calls.{IsEstablished}
-use Rattle.shared_network.proofs.CallsInTurn.{goes-both}
+use Rattle.shared_network.proofs.CallSteps.CallsInTurn.{goes-both}
 use Rattle.shared_network_tests.proofs.calls.calls.Goals as goal
 
 pub submit-requires-clause-pass : goal.submit-requires-clause-pass

@@ -8,8 +8,8 @@ use Rattle.hop_reservation.proofs.OneMoreOffer.{AreLevels-push}
 use Rattle.scenario_reader.specs.Fields.{field_at}
 use Rattle.scenario_reader.specs.AuditLines.{are_level_fields}
 use Rattle.scenario_reader.specs.Decimal.{value_of}
-use Rattle.scenario_reader.proofs.AuditKeeps.{level-is}
-use Rattle.scenario_reader.proofs.LevelFields.{after-words, level-there, level-passes, level-read, level-refused, level-stops, levels-over, levels-more, none-are}
+use Rattle.scenario_reader.proofs.Auditing.AuditKeeps.{level-is}
+use Rattle.scenario_reader.proofs.Auditing.LevelFields.{after-words, level-there, level-passes, level-read, level-refused, level-stops, levels-over, levels-more, none-are}
 use Rattle.scenario_reader.proofs.audit.accepting.levels_told.Goals as goal
 
 pub loop-index-init : goal.loop-index-init

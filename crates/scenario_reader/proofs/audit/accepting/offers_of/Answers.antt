@@ -2,7 +2,7 @@ use Rattle.std.proofs.Common.{◌≡◌, ◌+◌, ◌-◌, ◌∙◌, ap, arith,
 use Rattle.std.proofs.lemmas.List.{length-take-le}
 use Rattle.net_units.specs.Allotted.{levels_of}
 use Rattle.net_units.specs.Numbers.{level_number}
-use Rattle.scenario_reader.proofs.LevelFields.{level-next}
+use Rattle.scenario_reader.proofs.Auditing.LevelFields.{level-next}
 use Rattle.scenario_reader.proofs.audit.accepting.offers_of.Goals as goal
 
 pub push_offer-requires-clause-left : goal.push_offer-requires-clause-left

@@ -1,8 +1,8 @@
 use Rattle.std.specs.Prelude.{IfErr}
 use Rattle.scenario_reader.specs.AuditReading.{AuditRead, audit_reading}
 use Rattle.scenario_reader.specs.AuditSteps.{AuditBytes, RefusesReading, audits}
-use Rattle.scenario_reader.proofs.AuditEnd.{may-end, table-end}
-use Rattle.scenario_reader.proofs.ReadingAhead.{comes-to, tells-handed}
+use Rattle.scenario_reader.proofs.Auditing.AuditEnd.{may-end, table-end}
+use Rattle.scenario_reader.proofs.Passing.ReadingAhead.{comes-to, tells-handed}
 use Rattle.scenario_reader.proofs.audit.reader.read_audit.Goals as goal
 
 pub into_parts-requires : goal.into_parts-requires

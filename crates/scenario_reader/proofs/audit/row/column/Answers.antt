@@ -1,6 +1,6 @@
 use Rattle.std.proofs.Common.{◌∙◌, ap, option_map, sym}
 use Rattle.csv.specs.Records.{fields_of}
-use Rattle.scenario_reader.proofs.TableReading.{field-is, field-missing}
+use Rattle.scenario_reader.proofs.Auditing.TableReading.{field-is, field-missing}
 use Rattle.scenario_reader.proofs.audit.row.column.Goals as goal
 
 pub returns-in-Some : goal.returns-in-Some

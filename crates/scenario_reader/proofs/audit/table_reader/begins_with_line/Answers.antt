@@ -1,5 +1,5 @@
 use Rattle.std.proofs.Common.{[], rules, inl, inr}
-use Rattle.scenario_reader.proofs.TableReading.{agree-more, line-begins}
+use Rattle.scenario_reader.proofs.Auditing.TableReading.{agree-more, line-begins}
 use Rattle.scenario_reader.proofs.audit.table_reader.begins_with_line.Goals as goal
 
 pub loop-mine-init : goal.loop-mine-init

@@ -1,4 +1,4 @@
-use Rattle.scenario_reader.proofs.TableReading.{AgreeUpTo}
+use Rattle.scenario_reader.proofs.Auditing.TableReading.{AgreeUpTo}
 use Rattle.scenario_reader.proofs.audit.table_reader.begins_with_line.Given as goal
 
 -- the bytes so far agree

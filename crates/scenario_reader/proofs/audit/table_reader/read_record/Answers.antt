@@ -1,4 +1,4 @@
-use Rattle.scenario_reader.proofs.TableReading.{line-read}
+use Rattle.scenario_reader.proofs.Auditing.TableReading.{line-read}
 use Rattle.scenario_reader.proofs.audit.table_reader.read_record.Goals as goal
 
 pub returns : goal.returns

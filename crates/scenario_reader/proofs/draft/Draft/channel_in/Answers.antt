@@ -4,8 +4,8 @@ use Rattle.std.proofs.lemmas.Option.{slice_get_read}
 use Rattle.call_script.specs.declared.entries.RequestEntry.{RequestEntry}
 use Rattle.scenario_reader.specs.AuditLines.{channel_in}
 use Rattle.scenario_reader.specs.Drafts.{Said}
-use Rattle.scenario_reader.proofs.AuditKeeps.{channel-none, channel-some}
-use Rattle.scenario_reader.proofs.NamedByPlace.{request-at-place, no-request-there}
+use Rattle.scenario_reader.proofs.Auditing.AuditKeeps.{channel-none, channel-some}
+use Rattle.scenario_reader.proofs.Finding.NamedByPlace.{request-at-place, no-request-there}
 use Rattle.scenario_reader.proofs.draft.Draft.channel_in.Goals as goal
 
 pub returns-in_err-number : goal.returns-in_err-number

@@ -1,6 +1,6 @@
 -- One hop more over the next link.
 use Rattle.std.proofs.Common.{◌<◌, ◌++◌, ◌∷◌, [], length, length-append, ap, sym, ◌∙◌, arith}
-use Rattle.scenario_reader.proofs.HopsInCells.{run-more, whole-run}
+use Rattle.scenario_reader.proofs.Finding.HopsInCells.{run-more, whole-run}
 use Rattle.scenario_reader.proofs.draft.Draft.hops_said.Goals as goal
 
 pub loop-place-init : goal.loop-place-init

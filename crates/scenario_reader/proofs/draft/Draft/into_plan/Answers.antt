@@ -1,6 +1,6 @@
 use Rattle.std.proofs.Common.{◌∙◌, ap}
 use Rattle.scenario_reader.specs.Drafts.{Said, is_complete}
-use Rattle.scenario_reader.proofs.DraftBecomesPlan.{complete-draft}
+use Rattle.scenario_reader.proofs.Passing.DraftBecomesPlan.{complete-draft}
 use Rattle.scenario_reader.proofs.draft.Draft.into_plan.Goals as goal
 
 pub of_kept-plan-requires : goal.of_kept-plan-requires

@@ -3,7 +3,7 @@ use Rattle.std.proofs.lemmas.List.{length-map}
 use Rattle.std.proofs.lemmas.Option.{slice_get_read}
 use Rattle.call_script.specs.declared.entries.LinkEntry.{LinkEntry}
 use Rattle.scenario_reader.specs.Drafts.{Said, link_named, shape_in}
-use Rattle.scenario_reader.proofs.NamedByPlace.{link-at-place, no-link-there}
+use Rattle.scenario_reader.proofs.Finding.NamedByPlace.{link-at-place, no-link-there}
 use Rattle.scenario_reader.proofs.draft.Draft.link_named.Goals as goal
 
 pub returns-in_err-number : goal.returns-in_err-number

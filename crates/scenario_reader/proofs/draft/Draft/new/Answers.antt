@@ -1,5 +1,5 @@
-use Rattle.scenario_reader.proofs.DraftBecomesPlan.{draft-begins}
-use Rattle.scenario_reader.proofs.KeptBesideDraft.{kept-begins}
+use Rattle.scenario_reader.proofs.Passing.DraftBecomesPlan.{draft-begins}
+use Rattle.scenario_reader.proofs.Passing.KeptBesideDraft.{kept-begins}
 use Rattle.scenario_reader.proofs.draft.Draft.new.Goals as goal
 
 pub invariant_of-result : goal.invariant_of-result

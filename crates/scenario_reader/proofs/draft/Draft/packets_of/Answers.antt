@@ -3,7 +3,7 @@ use Rattle.std.proofs.Common.{ℕ, ◌*◌, List, sym, ap, ◌∙◌}
 use Rattle.call_script.specs.Rules.{load_at, load_of, loads_in}
 use Rattle.scenario_reader.specs.Uses.{use_at}
 use Rattle.scenario_reader.specs.declared.uses.Uses.{Uses}
-use Rattle.scenario_reader.proofs.RequestUses.{move-carries}
+use Rattle.scenario_reader.proofs.Passing.RequestUses.{move-carries}
 use Rattle.scenario_reader.proofs.draft.Draft.packets_of.Goals as goal
 
 pub returns-in-Move : goal.returns-in-Move

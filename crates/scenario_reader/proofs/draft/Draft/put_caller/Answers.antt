@@ -2,8 +2,8 @@ use Rattle.std.proofs.Common.{sym, subst}
 use Rattle.scenario_reader.specs.Drafts.{Said}
 use Rattle.scenario_reader.specs.line.Table.{MayAdd}
 use Rattle.scenario_reader.specs.declared.item.Item.TheVariants as item
-use Rattle.scenario_reader.proofs.DraftBecomesPlan.{draft-more}
-use Rattle.scenario_reader.proofs.KeptBesideDraft.{kept-caller}
+use Rattle.scenario_reader.proofs.Passing.DraftBecomesPlan.{draft-more}
+use Rattle.scenario_reader.proofs.Passing.KeptBesideDraft.{kept-caller}
 use Rattle.scenario_reader.proofs.draft.Draft.put_caller.Goals as goal
 
 pub invariant_of-self-2 : goal.invariant_of-self-2

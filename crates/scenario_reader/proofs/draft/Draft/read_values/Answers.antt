@@ -6,7 +6,7 @@ use Rattle.scenario_reader.specs.Known.{names_said}
 use Rattle.scenario_reader.specs.declared.cause.LineCause.TheVariants.{Word}
 use Rattle.scenario_reader.specs.line.Table.{line_word}
 use Rattle.scenario_reader.proofs.LineKinds.{values-read}
-use Rattle.scenario_reader.proofs.PassingLines.{unless-passes}
+use Rattle.scenario_reader.proofs.Passing.PassingLines.{unless-passes}
 use Rattle.scenario_reader.proofs.draft.Draft.read_values.Goals as goal
 
 pub returns : goal.returns

@@ -1,7 +1,7 @@
 use Rattle.std.proofs.Common.{subst}
 use Rattle.scenario_reader.specs.Drafts.{parts_said}
 use Rattle.scenario_reader.specs.Kept.{IsDraft}
-use Rattle.scenario_reader.proofs.AuditKeeps.{request-stands}
+use Rattle.scenario_reader.proofs.Auditing.AuditKeeps.{request-stands}
 use Rattle.scenario_reader.proofs.draft.Draft.request_in.Goals as goal
 
 pub returns-clause-there : goal.returns-clause-there

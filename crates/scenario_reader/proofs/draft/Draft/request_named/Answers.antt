@@ -3,7 +3,7 @@ use Rattle.std.proofs.lemmas.List.{length-map}
 use Rattle.std.proofs.lemmas.Option.{slice_get_read}
 use Rattle.call_script.specs.declared.entries.RequestEntry.{RequestEntry}
 use Rattle.scenario_reader.specs.Drafts.{Said, request_named}
-use Rattle.scenario_reader.proofs.NamedByPlace.{request-at-place, no-request-there}
+use Rattle.scenario_reader.proofs.Finding.NamedByPlace.{request-at-place, no-request-there}
 use Rattle.scenario_reader.proofs.draft.Draft.request_named.Goals as goal
 
 pub returns-in_err-number : goal.returns-in_err-number

@@ -1,5 +1,5 @@
 use Rattle.std.proofs.Common.{refl, arith}
-use Rattle.scenario_reader.proofs.ShapeOfNumbers.{actor-is}
+use Rattle.scenario_reader.proofs.Finding.ShapeOfNumbers.{actor-is}
 use Rattle.scenario_reader.proofs.draft.Draft.say_do.Goals as goal
 
 pub returns : goal.returns

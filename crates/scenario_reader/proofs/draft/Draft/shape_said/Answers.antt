@@ -7,7 +7,7 @@ use Rattle.scenario_reader.specs.Drafts.{Said}
 use Rattle.scenario_reader.specs.Entries.{LinkNumbers, has_bounds, shape_of}
 use Rattle.scenario_reader.specs.declared.cause.LineCause.TheVariants.{Levels}
 use Rattle.scenario_reader.specs.line.Link.{link_numbers}
-use Rattle.scenario_reader.proofs.ShapeOfNumbers.{AreWithin, link-is, made-shape}
+use Rattle.scenario_reader.proofs.Finding.ShapeOfNumbers.{AreWithin, link-is, made-shape}
 use Rattle.scenario_reader.proofs.kind.Link.{figures-within}
 use Rattle.scenario_reader.proofs.draft.Draft.shape_said.Goals as goal
 

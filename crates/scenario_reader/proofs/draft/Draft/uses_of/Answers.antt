@@ -2,7 +2,7 @@ use Rattle.std.proofs.Common.{List, ◌∙◌, ap}
 use Rattle.scenario_reader.specs.Drafts.{Said, own_request, uses_said}
 use Rattle.scenario_reader.specs.Uses.{use_at}
 use Rattle.scenario_reader.specs.declared.uses.Uses.{Uses}
-use Rattle.scenario_reader.proofs.RequestUses.{own-use}
+use Rattle.scenario_reader.proofs.Passing.RequestUses.{own-use}
 use Rattle.scenario_reader.proofs.draft.Draft.uses_of.Goals as goal
 
 pub returns-clause-value : goal.returns-clause-value

@@ -2,7 +2,7 @@
 use Rattle.std.proofs.Common.{◌<◌, ◌++◌, ◌∷◌, [], List, length, length-append, ap, sym, ◌∙◌, arith}
 use Rattle.line_forms.specs.declared.value.FieldValue.{FieldValue}
 use Rattle.line_forms.specs.declared.value.FieldValue.TheVariants as value
-use Rattle.scenario_reader.proofs.NumbersInCells.{bounds-more}
+use Rattle.scenario_reader.proofs.Finding.NumbersInCells.{bounds-more}
 use Rattle.scenario_reader.proofs.line.link.bound_values.Goals as goal
 
 pub loop-index-preserved : goal.loop-index-preserved

@@ -1,6 +1,6 @@
 use Rattle.std.proofs.Common.{◌≡◌, ◌+◌, ◌-◌, ◌<◌, length, refl, arith}
 use Rattle.std.proofs.lemmas.Option.{slice_get_read}
-use Rattle.scenario_reader.proofs.KeptBesideDraft.{on-ok, set-last}
+use Rattle.scenario_reader.proofs.Passing.KeptBesideDraft.{on-ok, set-last}
 use Rattle.scenario_reader.proofs.line.operation.add_op.Goals as goal
 
 pub returns-clause-ok : goal.returns-clause-ok

@@ -2,7 +2,7 @@
 use Rattle.std.proofs.Common.{◌≡◌, ◌<◌, List, ◌∷◌, [], length, get_or, ◌∙◌, ap, arith}
 use Rattle.line_forms.specs.Values.{number_in}
 use Rattle.line_forms.specs.declared.value.FieldValue.{FieldValue}
-use Rattle.scenario_reader.proofs.NumbersInCells.{cells-filled, all-filled}
+use Rattle.scenario_reader.proofs.Finding.NumbersInCells.{cells-filled, all-filled}
 use Rattle.scenario_reader.proofs.line.quota.loads_said.Goals as goal
 
 pub loop-place-preserved : goal.loop-place-preserved

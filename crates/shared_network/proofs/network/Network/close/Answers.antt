@@ -3,8 +3,8 @@ use Rattle.shared_network.proofs.Words.{link_number, Has, pass_view}
 use Rattle.shared_network.specs.Closing.{IsClosed}
 use Rattle.shared_network.proofs.ToldAtClosing.{closed-told}
 use Rattle.shared_network.specs.Gathering.{token_actor}
-use Rattle.shared_network.proofs.ActorOrder.{actors-there}
-use Rattle.shared_network.proofs.LinkNumbers.{numbered-length}
+use Rattle.shared_network.proofs.Numbering.ActorOrder.{actors-there}
+use Rattle.shared_network.proofs.Numbering.LinkNumbers.{numbered-length}
 use Rattle.shared_network.proofs.network.Network.close.Goals as goal
 
 pub settle-journals-requires-clause-acts : goal.settle-journals-requires-clause-acts

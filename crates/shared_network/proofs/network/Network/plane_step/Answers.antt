@@ -1,9 +1,9 @@
 use Rattle.std.proofs.Common.{[], ◌∷◌, sym, subst}
 use Rattle.shared_network.proofs.Words.{channel_number, IsOff}
-use Rattle.shared_network.proofs.SetupUnderWay.{ok-no-err, on-ok}
-use Rattle.shared_network.proofs.OtherChannels.{established-stays}
-use Rattle.shared_network.proofs.CallsInTurn.{above-step}
-use Rattle.shared_network.proofs.RoundSteps.{may-ask, expected, later, planes-next, makes-round}
+use Rattle.shared_network.proofs.CallSteps.SetupUnderWay.{ok-no-err, on-ok}
+use Rattle.shared_network.proofs.Held.OtherChannels.{established-stays}
+use Rattle.shared_network.proofs.CallSteps.CallsInTurn.{above-step}
+use Rattle.shared_network.proofs.PlaneSteps.RoundSteps.{may-ask, expected, later, planes-next, makes-round}
 use Rattle.shared_network.proofs.network.Network.plane_step.Goals as goal
 
 pub step_at-requires-clause-link : goal.step_at-requires-clause-link

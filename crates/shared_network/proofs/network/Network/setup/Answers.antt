@@ -1,8 +1,8 @@
 use Rattle.std.proofs.Common.{map, sym, ap, ◌∙◌, arith}
 use Rattle.shared_network.proofs.Words.{next_ask, Request}
 use Rattle.shared_network.specs.Calls.{reply_in}
-use Rattle.shared_network.proofs.SetupUnderWay.{setting-first, to-below, fits-there, owned-there, next-there, expected-there, left-less, setting-next, setup-established, drew-some, ok-no-err, on-ok}
-use Rattle.shared_network.proofs.OtherChannels.{setup-others}
+use Rattle.shared_network.proofs.CallSteps.SetupUnderWay.{setting-first, to-below, fits-there, owned-there, next-there, expected-there, left-less, setting-next, setup-established, drew-some, ok-no-err, on-ok}
+use Rattle.shared_network.proofs.Held.OtherChannels.{setup-others}
 use Rattle.shared_network.proofs.network.Network.setup.Goals as goal
 
 pub loop-link-init : goal.loop-link-init

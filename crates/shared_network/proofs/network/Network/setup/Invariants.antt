@@ -1,4 +1,4 @@
-use Rattle.shared_network.proofs.SetupUnderWay.{SettingUp, setup_left}
+use Rattle.shared_network.proofs.CallSteps.SetupUnderWay.{SettingUp, setup_left}
 use Rattle.shared_network.proofs.network.Network.setup.Given as goal
 
 abbrev pub invariant-loop-link : goal.invariant-loop-link

@@ -2,9 +2,9 @@ use Rattle.std.proofs.Common.{map, sym, ap, ◌∙◌, refl}
 use Rattle.shared_network.proofs.Words.{Move, next_of_move, shifted_of}
 use Rattle.channel_move.specs.Standing.{move_of}
 use Rattle.shared_network.specs.Calls.{reply_in}
-use Rattle.shared_network.proofs.SetupUnderWay.{ok-no-err, on-ok}
-use Rattle.shared_network.proofs.OtherChannels.{move-others}
-use Rattle.shared_network.proofs.MoveGoesOn.{shifting-first, to-below, fits-there, owned-there, next-there, expected-there, fewer-left, shifting-next}
+use Rattle.shared_network.proofs.CallSteps.SetupUnderWay.{ok-no-err, on-ok}
+use Rattle.shared_network.proofs.Held.OtherChannels.{move-others}
+use Rattle.shared_network.proofs.CallSteps.MoveGoesOn.{shifting-first, to-below, fits-there, owned-there, next-there, expected-there, fewer-left, shifting-next}
 use Rattle.shared_network.proofs.network.Network.shift.Goals as goal
 
 pub loop-link-init : goal.loop-link-init

@@ -1,7 +1,7 @@
 use Rattle.std.proofs.Common.{length}
 use Rattle.channel_move.specs.Standing.{move_of}
-use Rattle.shared_network.proofs.MoveSteps.{asks_left}
-use Rattle.shared_network.proofs.MoveGoesOn.{Shifting}
+use Rattle.shared_network.proofs.CallSteps.MoveSteps.{asks_left}
+use Rattle.shared_network.proofs.CallSteps.MoveGoesOn.{Shifting}
 use Rattle.shared_network.proofs.network.Network.shift.Given as goal
 
 abbrev pub invariant-loop-link : goal.invariant-loop-link

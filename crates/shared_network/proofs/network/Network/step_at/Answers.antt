@@ -4,8 +4,8 @@ use Rattle.std.proofs.lemmas.Result.{IfOk-weaker}
 use Rattle.link_ledger.specs.Order.{AreInOrder}
 use Rattle.shared_network.specs.Ready.{PassGoesOn}
 use Rattle.shared_network.specs.Sight.{FitsAt}
-use Rattle.shared_network.proofs.LinkNumbers.{numbered-length, numbered-at, fits-shape, both-ok, ok-then}
-use Rattle.shared_network.proofs.PassAfterStep.{drew-one, goes-on}
+use Rattle.shared_network.proofs.Numbering.LinkNumbers.{numbered-length, numbered-at, fits-shape, both-ok, ok-then}
+use Rattle.shared_network.proofs.CallSteps.PassAfterStep.{drew-one, goes-on}
 use Rattle.shared_network.proofs.network.Network.step_at.Goals as goal
 
 pub index-requires : goal.index-requires

@@ -1,4 +1,4 @@
-use Rattle.shared_network.proofs.PassAfterStep.{seen-goes}
+use Rattle.shared_network.proofs.CallSteps.PassAfterStep.{seen-goes}
 use Rattle.shared_network.proofs.network.Network.steps_seen.Goals as goal
 
 pub returns-clause-ready : goal.returns-clause-ready

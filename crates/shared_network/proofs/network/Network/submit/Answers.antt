@@ -1,11 +1,11 @@
 use Rattle.std.proofs.Common.{[], ◌∷◌, sym, subst}
 use Rattle.shared_network.proofs.Words.{channel_number, IsOff}
 use Rattle.std.proofs.lemmas.Result.{IfOk-weaker}
-use Rattle.shared_network.proofs.ContractKept.{keeps-contract, ok-where}
-use Rattle.shared_network.proofs.LinkNumbers.{ok-then}
-use Rattle.shared_network.proofs.OtherChannels.{sent-established, unopened-stays}
-use Rattle.shared_network.proofs.CallsInTurn.{above-step}
-use Rattle.shared_network.proofs.PassAfterStep.{adds-one}
+use Rattle.shared_network.proofs.Held.ContractKept.{keeps-contract, ok-where}
+use Rattle.shared_network.proofs.Numbering.LinkNumbers.{ok-then}
+use Rattle.shared_network.proofs.Held.OtherChannels.{sent-established, unopened-stays}
+use Rattle.shared_network.proofs.CallSteps.CallsInTurn.{above-step}
+use Rattle.shared_network.proofs.CallSteps.PassAfterStep.{adds-one}
 use Rattle.shared_network.proofs.network.Network.submit.Goals as goal
 
 pub returns-clause-made : goal.returns-clause-made

@@ -2,9 +2,9 @@ use Rattle.std.proofs.Common.{map, sym, ap, ◌∙◌, arith}
 use Rattle.shared_network.proofs.Words.{Some, next_release}
 use Rattle.std.specs.Option.{unwrap_or}
 use Rattle.shared_network.specs.Calls.{reply_in}
-use Rattle.shared_network.proofs.SetupUnderWay.{drew-some, ok-no-err, on-ok}
-use Rattle.shared_network.proofs.OtherChannels.{teardown-others}
-use Rattle.shared_network.proofs.TeardownGoesOn.{tearing-first, to-below, fits-there, owned-there, next-there, closing-there, made-more, tearing-next}
+use Rattle.shared_network.proofs.CallSteps.SetupUnderWay.{drew-some, ok-no-err, on-ok}
+use Rattle.shared_network.proofs.Held.OtherChannels.{teardown-others}
+use Rattle.shared_network.proofs.CallSteps.TeardownGoesOn.{tearing-first, to-below, fits-there, owned-there, next-there, closing-there, made-more, tearing-next}
 use Rattle.shared_network.proofs.network.Network.teardown.Goals as goal
 
 pub loop-link-init : goal.loop-link-init

@@ -1,5 +1,5 @@
 use Rattle.std.proofs.Common.{◌-◌, length}
-use Rattle.shared_network.proofs.TeardownGoesOn.{TearingDown}
+use Rattle.shared_network.proofs.CallSteps.TeardownGoesOn.{TearingDown}
 use Rattle.shared_network.proofs.network.Network.teardown.Given as goal
 
 abbrev pub invariant-loop-link : goal.invariant-loop-link

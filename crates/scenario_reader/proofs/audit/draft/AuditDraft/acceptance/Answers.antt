@@ -6,7 +6,7 @@ use Rattle.hop_reservation.specs.Offers.{delay_over}
 use Rattle.setup_protocol.specs.Laws.{KeepsRequest}
 use Rattle.call_script.specs.declared.entries.RequestEntry.{RequestEntry}
 use Rattle.scenario_reader.specs.AuditReading.{AuditSaid}
-use Rattle.scenario_reader.proofs.AuditKeeps.{report-count, within-keeps}
+use Rattle.scenario_reader.proofs.Auditing.AuditKeeps.{report-count, within-keeps}
 use Rattle.scenario_reader.proofs.audit.draft.AuditDraft.acceptance.Goals as goal
 
 pub returns-then-are_within-clause-within : goal.returns-then-are_within-clause-within

@@ -3,7 +3,7 @@ use Rattle.scenario_reader.specs.AuditKept.{IsAuditDraft}
 use Rattle.scenario_reader.specs.AuditReading.{AuditSaid, audit_said, report_begun}
 use Rattle.scenario_reader.specs.Drafts.{is_complete}
 use Rattle.scenario_reader.specs.declared.audit.place.Section.TheVariants as place
-use Rattle.scenario_reader.proofs.AuditKeeps.{none-given, report-kept}
+use Rattle.scenario_reader.proofs.Auditing.AuditKeeps.{none-given, report-kept}
 use Rattle.scenario_reader.proofs.audit.draft.AuditDraft.begin_report.Goals as goal
 
 pub invariant_of-self : goal.invariant_of-self

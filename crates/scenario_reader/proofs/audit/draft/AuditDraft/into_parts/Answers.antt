@@ -1,6 +1,6 @@
 use Rattle.std.proofs.Common.{◌∙◌, ap, refl}
 use Rattle.scenario_reader.specs.AuditReading.{AuditSaid}
-use Rattle.scenario_reader.proofs.AuditKeeps.{accepted-from}
+use Rattle.scenario_reader.proofs.Auditing.AuditKeeps.{accepted-from}
 use Rattle.scenario_reader.proofs.audit.draft.AuditDraft.into_parts.Goals as goal
 
 pub returns-clause-accepted : goal.returns-clause-accepted

@@ -3,7 +3,7 @@ use Rattle.std.proofs.lemmas.List.{map-set}
 use Rattle.net_units.specs.Allotted.{levels_of}
 use Rattle.scenario_reader.specs.AuditKept.{IsAuditDraft, KeepsTold, levels_given, told_of}
 use Rattle.scenario_reader.specs.AuditReading.{AuditSaid, audit_said}
-use Rattle.scenario_reader.proofs.AuditKeeps.{report-told, told-kept}
+use Rattle.scenario_reader.proofs.Auditing.AuditKeeps.{report-told, told-kept}
 use Rattle.scenario_reader.proofs.audit.draft.AuditDraft.take_report.Goals as goal
 
 pub invariant_of-self-in-Some : goal.invariant_of-self-in-Some

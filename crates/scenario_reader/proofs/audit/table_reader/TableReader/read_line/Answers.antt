@@ -1,6 +1,6 @@
 use Rattle.std.proofs.Common.{◌∙◌, rules, subst}
 use Rattle.scenario_reader.specs.TableReading.{StandsAt}
-use Rattle.scenario_reader.proofs.TableReading.{after-line}
+use Rattle.scenario_reader.proofs.Auditing.TableReading.{after-line}
 use Rattle.scenario_reader.proofs.audit.table_reader.TableReader.read_line.Goals as goal
 
 pub invariant_of-self : goal.invariant_of-self

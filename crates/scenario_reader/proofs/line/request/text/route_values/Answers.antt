@@ -4,7 +4,7 @@ use Rattle.std.specs.List.{slice_get}
 use Rattle.net_units.specs.Numbers.{link_number}
 use Rattle.line_forms.specs.declared.value.FieldValue.{FieldValue}
 use Rattle.scenario_reader.specs.line.Request.{link_before}
-use Rattle.scenario_reader.proofs.HopsInCells.{values-more, before-few}
+use Rattle.scenario_reader.proofs.Finding.HopsInCells.{values-more, before-few}
 use Rattle.scenario_reader.proofs.line.request.text.route_values.Goals as goal
 
 pub loop-index-preserved : goal.loop-index-preserved
