@@ -5,7 +5,7 @@ ghost use Rattle.link_steps.specs.Account.{account_reply, account_after};
 ghost use Rattle.link_steps.specs.Split.{whole};
 ghost use Rattle.link_server.specs.State.{account_in};
 
-mod resting;
+pub(crate) mod resting;
 
 use crate::link_state::LinkState;
 use crate::tick::resting::next_due;

@@ -9,6 +9,7 @@ ghost use Rattle.link_server.specs.State.{account_in};
 use crate::link_state::LinkState;
 use crate::planned::Planned;
 use crate::table::served_row::busy_with;
+use crate::tick::resting::due_after;
 use link_steps::{Packet, Refusal, Reply};
 use net_units::ChanNo;
 
@@ -79,8 +80,8 @@ impl LinkState {
         let number = self.queue.taken() + 1;
         match self.table.take(packet, number, clock) {
             Ok(taken) => {
-                self.due = 0;
                 self.queue.push(&taken, clock);
+                self.due = due_after(taken.eligible, clock, &self.table, &self.queue);
                 *reply = Reply::Taken {
                     clock,
                     eligible: taken.eligible,

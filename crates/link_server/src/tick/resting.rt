@@ -75,3 +75,16 @@ pub(crate) fn next_due(table: &Table, queue: &Queue) -> u64
 {
     queue.rests_until().min(table.rests_until())
 }
+
+// The same once a packet has come that is eligible at this tick, for a link whose clock this is. Where that is now, the next tick looks
+// at all of them anyway, so nothing is looked at here.
+pub(crate) fn due_after(eligible: u64, clock: u64, table: &Table, queue: &Queue) -> u64
+    ensures rows { clock < result → (t : ℕ) → table.now.looked ≤ t → Each (RowRests table.now.server.bounds t result) table.now.rows }
+    ensures best { clock < result → Each (IsPlannedFrom result) queue.now.best }
+    ensures service { clock < result → ServiceRests queue.now.rate result queue.now.here queue.now.on }
+{
+    if eligible <= clock {
+        return 0;
+    }
+    next_due(table, queue)
+}

@@ -1,6 +1,6 @@
 -- The row of the packet's channel is found, and judges it; the row takes it, and it is put after those here.
 use Rattle.std.proofs.Common.{◌≡◌, ◌++◌, ◌∷◌, [], ◌+◌, ◌<◌, ◌≤◌, ◌^◌, ℕ, Option, None, Some, suc, refl, sym, ap, ◌∙◌, subst, arith}
-use Rattle.link_server.proofs.Words.{find, newest, Arrive, Packet, LinkShape, LinkState, whole, account, QueueAccount, TableAccount, account_in}
+use Rattle.link_server.proofs.Words.{find, newest, Arrive, Each, Packet, LinkShape, LinkState, whole, account, QueueAccount, RowRests, TableAccount, account_in}
 use Rattle.link_steps.specs.declared.replies.Reply.TheVariants.{Taken}
 use Rattle.link_steps.specs.Account.{Account, AccountRow, is_account_of, account_reply, account_after, account_arrived, account_arrived_row, account_arrived_tick, account_with_arrival}
 use Rattle.link_steps.proofs.AccountOfRows.{eligible-from}
@@ -14,7 +14,7 @@ use Rattle.link_server.proofs.Replies.Arrive.{arrive-refused, arrive-taken, arri
 use Rattle.link_server.specs.Departed.{AreCounted}
 use Rattle.link_server.proofs.Departed.Packets.{counted-arrived}
 use Rattle.link_server.proofs.Departed.Tick.{rows-led, sound-led}
-use Rattle.link_server.proofs.LinkRests.{due-now}
+use Rattle.link_steps.specs.Quiet.{ServiceRests}
 use Rattle.link_server.proofs.Sound.Taking.{sound-arrive}
 use Rattle.link_server.proofs.Sound.Stood.{all-ready, newest-stood, numbers-left, still-stood}
 use Rattle.link_server.proofs.RowsOfTable.Parts.{still-of}
@@ -164,7 +164,15 @@ invariant_of-self c =
           (subst (λ n. AreCounted now (change_first (is_account_of c.args.packet.now.chan) (account_arrived_row link.clock n c.args.packet.now) link.table.rows) link.table.departed) (omega (arith, c.taken-number.ensures))
           (counted-arrived link.clock link.queue.taken c.args.packet.now link.queue.here link.table.rows link.table.departed row.row
           (sound-led _ link.queue.taken link.queue.here link.sound.packets) link.sound.apart (rows-led _ link.clock link.queue.taken link.table.rows link.sound.rows) row.found link.counted)));
-      rests = due-now _ _;
+      rests = λ before. record {
+        rows =
+            subst (λ bounds. Each (RowRests bounds link.clock c.due_after-self.result) c.take.new.self.rows) (ap (λ (table : TableAccount). table.server.bounds) took ∙ bounds-is link)
+            (c.due_after-self.ensures.rows before link.clock (let looked = ap (λ (table : TableAccount). table.looked) took in omega (arith, looked)));
+        best = c.due_after-self.ensures.best before;
+        service =
+            subst (λ rate. ServiceRests rate c.due_after-self.result c.push.new.self.here c.push.new.self.on) (ap (λ (queue : QueueAccount). queue.rate) c.push.ensures.kept ∙ link.same_rate)
+            (c.due_after-self.ensures.service before);
+      };
     }
 
 pub returns-in-Ok-clause-reply : goal.returns-in-Ok-clause-reply
