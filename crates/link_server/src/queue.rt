@@ -125,6 +125,7 @@ impl Queue {
     }
 
     // Takes a packet, after those that are here, which isn't eligible before the tick of the clock. It takes no memory.
+    #[inline(always)]
     pub(crate) fn push(&mut self, packet: &HeldPacket, clock: u64)
         requires room { length self.old.here < self.old.room }
         requires next { packet.now.place ≡ self.old.taken + 1 }

@@ -188,6 +188,7 @@ fn pass_watched<W: Watch>(
 }
 
 // Makes the plane's next step, which asks this link this, and shows it to the watcher. The plane asks for arrivals and ticks alone.
+#[inline(always)]
 fn step_watched<W: Watch>(
     engine: &mut Engine,
     watch: &mut W,
