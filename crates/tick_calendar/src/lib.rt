@@ -79,7 +79,9 @@ impl<T: Copy> Calendar<T> {
         self.reserve_more(more)
     }
 
-    // The same, where there isn't that room. It stands apart, so that the test alone is made where it is called.
+    // The same, where there isn't that room. Memory comes in larger pieces than were asked for, and the room is that of all
+    // the places, so that a caller which asks for a few more before each put seldom comes here. It stands apart, so that the
+    // test alone is made where it is called.
     #[inline(never)]
     fn reserve_more(&mut self, more: usize) -> Result<(), OutOfMemory>
         requires { self.old.spare < more }
@@ -89,7 +91,7 @@ impl<T: Copy> Calendar<T> {
     {
         let room = self.waiting.checked_add(more).ok_or(OutOfMemory)?;
         self.wheel.reserve(room)?;
-        self.room = room;
+        self.room = room.max(self.wheel.room());
         Ok(())
     }
 

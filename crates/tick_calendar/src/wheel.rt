@@ -69,6 +69,13 @@ impl<T: Copy> Wheel<T> {
         Ok(())
     }
 
+    // How many entries its places are for: two places an entry, beside one for each slot of a turn.
+    pub(crate) fn room(&self) -> usize
+        ensures { result ≤ vec_capacity self.now.places }
+    {
+        self.places.capacity().saturating_sub(1_024) / 2
+    }
+
     // Clears the places that keys have left where no other place is free.
     pub(crate) fn clear_if_full(&mut self)
         requires wheel { IsWheel self.old.places.items self.old.firsts.items self.old.lasts.items self.old.base }
