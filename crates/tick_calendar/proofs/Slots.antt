@@ -2,6 +2,7 @@
 use Rattle.std.proofs.lemmas.Bool.{true≢false}
 use Rattle.std.proofs.Common.{◌≡◌, ℕ, suc, ◌+◌, ◌<◌, ◌≤◌, true, false, Option, Some, None, List, [], ◌∷◌, ◌++◌, get_or, refl, sym, ap, ◌∙◌, subst, arith, inl, inr, min}
 use Rattle.std.proofs.lemmas.Bool.{cases_lt}
+use Rattle.std.proofs.lemmas.List.{get_or_read}
 use Rattle.tick_calendar.specs.Calendar.{EntryOf}
 use Rattle.tick_calendar.specs.declared.place.Place.{Place}
 use Rattle.tick_calendar.specs.Wheel.{entries_in, IsWheel, AreAllFrom, IsLeastBy}
@@ -23,6 +24,14 @@ module _ {T : Type 0} where
       → AreAllFrom (base + slot) (entries_in places) → AreAllFrom (suc (base + slot)) (entries_in places)
   slot-empty places firsts lasts base slot wheel low empty all =
       all-after (base + slot) places (none-first_at (base + slot) 0 places (sym (wheel.firsts_at slot low) ∙ empty)) all
+
+  -- a slot that was read to be empty is passed
+  pub slot-passed : (places : List (Place T)) (firsts : List (Option ℕ)) (lasts : List ℕ) (base slot next : ℕ) (first : Option ℕ) → IsWheel places firsts lasts base → slot < 1024 → next ≡ suc slot → first ≡ get_or firsts slot first → is_some first ≡ false
+      → AreAllFrom (base + slot) (entries_in places) → AreAllFrom (base + next) (entries_in places)
+  slot-passed places firsts lasts base slot next first wheel low follows read none all =
+      let empty : get_or firsts slot None ≡ None = sym (get_or_read firsts slot first (omega (arith, low, wheel.slots)) read None) ∙ none-of first none in
+      let passed : suc (base + slot) ≡ base + next = omega (arith, follows) in
+      subst (λ t. AreAllFrom t (entries_in places)) passed (slot-empty places firsts lasts base slot wheel low empty all)
 
   -- the slots have no entry up to this tick's
   pub none-in-turn : (places : List (Place T)) (firsts : List (Option ℕ)) (lasts : List ℕ) (base slot last now : ℕ) → IsWheel places firsts lasts base → slot < 1024 → get_or firsts slot None ≡ None

@@ -247,12 +247,44 @@ impl<T: Copy> Wheel<T> {
         ensures ahead { AreAllFrom (self.now.base + result) (entries_in self.now.places.items) }
         ensures found { result < last → is_some (get_or self.now.firsts.items result None) ≡ true }
     {
-        for slot in self.slot..last {
+        for slot in self.skip_empty(last)..last {
             if self.firsts[slot].is_some() {
                 return slot;
             }
         }
         last
+    }
+
+    // A slot up to `last`, before which none from the slot at hand on has an entry. Most slots have none, so four are looked at
+    // in one step; where it stops, one of the next four may be the first with an entry.
+    fn skip_empty(&self, last: usize) -> usize
+        requires wheel { IsWheel self.now.places.items self.now.firsts.items self.now.lasts.items self.now.base }
+        requires last { last < 1024 }
+        requires slot { self.now.slot ≤ last }
+        requires ahead { AreAllFrom (self.now.base + self.now.slot) (entries_in self.now.places.items) }
+        ensures from { self.now.slot ≤ result }
+        ensures within { result ≤ last }
+        ensures ahead { AreAllFrom (self.now.base + result) (entries_in self.now.places.items) }
+    {
+        let mut slot = self.slot;
+        while slot + 4 <= last && self.four_are_empty(slot) {
+            slot += 4;
+        }
+        slot
+    }
+
+    // Whether this slot and the three after it have no entry. It looks at all four, which is quicker than to decide after each.
+    #[inline(always)]
+    fn four_are_empty(&self, slot: usize) -> bool
+        requires wheel { IsWheel self.now.places.items self.now.firsts.items self.now.lasts.items self.now.base }
+        requires slot { slot + 4 ≤ 1024 }
+        requires ahead { AreAllFrom (self.now.base + slot) (entries_in self.now.places.items) }
+        ensures { result ≡ true → AreAllFrom (self.now.base + (slot + 4)) (entries_in self.now.places.items) }
+    {
+        self.firsts[slot].is_none()
+            & self.firsts[slot + 1].is_none()
+            & self.firsts[slot + 2].is_none()
+            & self.firsts[slot + 3].is_none()
     }
 
     // A tick before which no entry is due: that of the first slot from `slot` on with an entry, or of the last slot.

@@ -1,13 +1,12 @@
 -- An empty slot lies after, and the slot that is answered isn't empty.
-use Rattle.std.proofs.Common.{◌≡◌, ◌+◌, ◌<◌, suc, true, None, get_or, length, sym, ◌∙◌, subst, arith}
-use Rattle.std.proofs.lemmas.List.{get_or_read}
+use Rattle.std.proofs.Common.{◌≡◌, ◌+◌, ◌<◌, true, length, sym, ◌∙◌, subst, arith}
 use Rattle.tick_calendar.specs.Wheel.{entries_in, AreAllFrom}
 use Rattle.tick_calendar.proofs.TurnKeepsWaiting.{some-read}
-use Rattle.tick_calendar.proofs.Slots.{slot-empty, none-of}
+use Rattle.tick_calendar.proofs.Slots.{slot-passed}
 use Rattle.tick_calendar.proofs.wheel.Wheel.next_slot.Goals as goal
 
 pub loop-slot-init : goal.loop-slot-init
-loop-slot-init g c = c.requires.ahead
+loop-slot-init g c = c.skip_empty-slot.ensures.ahead
 
 pub index-requires : goal.index-requires
 index-requires g c = omega (arith, c.requires.wheel.slots, c.args.self.now.firsts.ok)
@@ -25,13 +24,7 @@ returns-then-is_some-clause-found g c =
 
 pub loop-slot-preserved : goal.loop-slot-preserved
 loop-slot-preserved g c =
-    let low : c.loop-slot.slot < 1024 = omega arith in
-    let in_slots : c.loop-slot.slot < length c.args.self.now.firsts.items = omega (arith, c.requires.wheel.slots) in
-    let empty : get_or c.args.self.now.firsts.items c.loop-slot.slot None ≡ None =
-    sym (get_or_read c.args.self.now.firsts.items c.loop-slot.slot c.index.result.now in_slots c.index.ensures None) ∙ none-of c.index.result.now (sym c.is_some.ensures ∙ c.if-is_some.false) in
-    let next : suc (c.args.self.now.base + c.loop-slot.slot) ≡ c.args.self.now.base + (c.loop-slot.slot + 1) = omega arith in
-    subst (λ t. AreAllFrom t (entries_in c.args.self.now.places.items)) next
-    (slot-empty c.args.self.now.places.items c.args.self.now.firsts.items c.args.self.now.lasts.items c.args.self.now.base c.loop-slot.slot c.requires.wheel low empty c.loop-slot.invariant)
+    slot-passed c.args.self.now.places.items c.args.self.now.firsts.items c.args.self.now.lasts.items c.args.self.now.base c.loop-slot.slot (c.loop-slot.slot + 1) c.index.result.now c.requires.wheel (omega arith) (omega arith) c.index.ensures (sym c.is_some.ensures ∙ c.if-is_some.false) c.loop-slot.invariant
 
 pub returns-clause-within : goal.returns-clause-within
 returns-clause-within g c = omega arith
