@@ -4,6 +4,8 @@ ghost use Rattle.tick_plane.specs.Planes.{IsDueLater};
 
 use link_steps::{Ask, Packet, Reply, Sent, Unexpected};
 use net_units::{ChanNo, LinkNo};
+use std::alloc::Global;
+use std::fmt::Debug;
 use std::process::Abort;
 use std::test::Fail;
 use tick_plane::Plane;
@@ -36,15 +38,25 @@ fn is_later(reply: &Reply, round: u64) -> bool
     }
 }
 
+// What was found is what is due. A comparison is dear to prove for what it prints, so it stands by itself.
+fn is_due<T: PartialEq + Debug>(rt: &impl Abort, found: &T, due: &T) {
+    assert_eq!(rt; found, due);
+}
+
+// The same of lists.
+fn are_due<T: PartialEq + Debug>(rt: &impl Abort, found: &[T], due: &[T]) {
+    assert_eq!(rt; found, due);
+}
+
 // The plane asks this next, and gets this reply.
 fn asks(rt: &impl Abort, plane: &mut Plane, step: &Step) -> Result<(), Fail> {
     let (link, ask, reply) = *step;
     plane.ready()?;
     match plane.next_ask() {
         Some((to, next)) => {
-            assert_eq!(rt; (to.get(), next), (link, ask));
+            is_due(rt, &(to.get(), next), &(link, ask));
             assert!(rt; is_later(&reply, plane.round()));
-            assert_eq!(rt; plane.take(reply), Ok(()));
+            is_due(rt, &plane.take(reply), &Ok(()));
             Ok(())
         }
         None => Err(Fail::from("no ask is left")),
@@ -63,7 +75,7 @@ fn asks_in_turn(rt: &impl Abort, plane: &mut Plane, steps: &[Step]) -> Result<()
 fn a_round_of_one_link_is_a_tick(rt: HostRuntime) -> Result<(), Fail> {
     let mut plane = Plane::new(rt.alloc(), 1, 1)?;
     asks(&rt, &mut plane, &tick(0, 0, None))?;
-    assert_eq!(rt; plane.next_ask(), None);
+    is_due(&rt, &plane.next_ask(), &None);
     Ok(())
 }
 
@@ -76,7 +88,7 @@ fn a_reply_of_another_ask_changes_nothing(rt: HostRuntime) -> Result<(), Fail> {
     };
     plane.ready()?;
     match plane.next_ask() {
-        Some(_) => assert_eq!(rt; plane.take(Reply::Denied), Err(odd)),
+        Some(_) => is_due(&rt, &plane.take(Reply::Denied), &Err(odd)),
         None => assert!(rt; false, "a tick is next"),
     }
     asks(&rt, &mut plane, &tick(0, 0, None))
@@ -118,8 +130,16 @@ fn a_packet_arrives_before_the_ticks_of_its_round(rt: HostRuntime) -> Result<(),
     ];
     let mut plane = Plane::new(rt.alloc(), 2, 3)?;
     asks_in_turn(&rt, &mut plane, &steps)?;
-    assert_eq!(rt; plane.next_ask(), None);
+    is_due(&rt, &plane.next_ask(), &None);
     Ok(())
+}
+
+// What a window of so many rounds asks of a link.
+fn asked_in_window(alloc: Global, plane: &Plane, rounds: u64, link: u8) -> Result<Vec<Ask>, Fail> {
+    let mut asks = Vec::new(alloc);
+    let window = plane.window(alloc, rounds)?;
+    window.asks(alloc, LinkNo::new(link).ok_or("a link")?, &mut asks)?;
+    Ok(asks)
 }
 
 // What a window of three rounds asks of link 1 once the first round is made.
@@ -129,13 +149,21 @@ fn a_window_has_the_arrivals_of_its_rounds(rt: HostRuntime) -> Result<(), Fail> 
     let packet = sent.packet;
     let mut plane = Plane::new(rt.alloc(), 2, 3)?;
     asks_in_turn(&rt, &mut plane, &[tick(0, 0, Some(sent)), tick(1, 0, None)])?;
-    let mut left = Vec::new(rt.alloc());
-    let window = plane.window(rt.alloc(), 3)?;
-    window.asks(rt.alloc(), LinkNo::new(1).ok_or("a link")?, &mut left)?;
-    assert_eq!(rt;
-        left.as_slice(),
-        [Ask::Tick, Ask::Arrive { packet }, Ask::Tick].as_slice()
-    );
+    let left = asked_in_window(rt.alloc(), &plane, 3, 1)?;
+    let due = [Ask::Tick, Ask::Arrive { packet }, Ask::Tick];
+    are_due(&rt, left.as_slice(), &due);
+    Ok(())
+}
+
+// What is left of the round is this.
+fn are_left(
+    rt: &impl Abort,
+    alloc: Global,
+    plane: &Plane,
+    due: &[(LinkNo, Ask)],
+) -> Result<(), Fail> {
+    let rest = plane.rest(alloc)?;
+    are_due(rt, rest.as_slice(), due);
     Ok(())
 }
 
@@ -152,19 +180,14 @@ fn what_is_left_is_known_before_it_is_asked(rt: HostRuntime) -> Result<(), Fail>
     ];
     let mut plane = Plane::new(rt.alloc(), 2, 3)?;
     asks_in_turn(&rt, &mut plane, &steps)?;
-    let rest = plane.rest(rt.alloc())?;
     let (first, second) = (
         LinkNo::new(0).ok_or("a link")?,
         LinkNo::new(1).ok_or("a link")?,
     );
-    assert_eq!(rt;
-        rest.as_slice(),
-        [
-            (second, Ask::Arrive { packet }),
-            (first, Ask::Tick),
-            (second, Ask::Tick),
-        ]
-        .as_slice()
-    );
-    Ok(())
+    let due = [
+        (second, Ask::Arrive { packet }),
+        (first, Ask::Tick),
+        (second, Ask::Tick),
+    ];
+    are_left(&rt, rt.alloc(), &plane, &due)
 }
