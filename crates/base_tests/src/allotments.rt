@@ -2,6 +2,7 @@
 //! offered level 1, so the delay offered is 24.
 ghost use Rattle.std.specs.Prelude.{◌≡◌, ◌∷◌, [], IfOk, length};
 
+use crate::due::is_due;
 use hop_reservation::{Hop, Itinerary, Route};
 use net_units::{Bounds, Level, Levels, LinkNo};
 use relaxation::{EndDenial, allot};
@@ -42,23 +43,23 @@ fn allotted(delay: u64, jitter: Option<u64>) -> Result<Result<(u8, u8), EndDenia
 #[test]
 fn the_slack_is_shared_from_the_last_hop_on(rt: HostRuntime) -> Result<(), Fail> {
     // The last hop may go to 10 + 26 / 2, and the first then to 10 + 16.
-    assert_eq!(rt; allotted(50, None)?, Ok((2, 2)));
+    is_due(&rt, &allotted(50, None)?, &Ok((2, 2)));
     // The last hop may go to 10 + 10 / 2, and the first then to 10 + 10.
-    assert_eq!(rt; allotted(34, None)?, Ok((2, 1)));
+    is_due(&rt, &allotted(34, None)?, &Ok((2, 1)));
     // No slack.
-    assert_eq!(rt; allotted(24, None)?, Ok((1, 1)));
+    is_due(&rt, &allotted(24, None)?, &Ok((1, 1)));
     let late = EndDenial::Delay { sum: 24, bound: 23 };
-    assert_eq!(rt; allotted(23, None)?, Err(late));
+    is_due(&rt, &allotted(23, None)?, &Err(late));
     Ok(())
 }
 
 #[test]
 fn the_last_hop_keeps_the_jitter_bound(rt: HostRuntime) -> Result<(), Fail> {
-    assert_eq!(rt; allotted(50, Some(15))?, Ok((2, 1)));
-    assert_eq!(rt; allotted(50, Some(20))?, Ok((2, 2)));
+    is_due(&rt, &allotted(50, Some(15))?, &Ok((2, 1)));
+    is_due(&rt, &allotted(50, Some(20))?, &Ok((2, 2)));
     let uneven = EndDenial::Jitter { last: 10, bound: 9 };
-    assert_eq!(rt; allotted(50, Some(9))?, Err(uneven));
+    is_due(&rt, &allotted(50, Some(9))?, &Err(uneven));
     let late = EndDenial::Delay { sum: 24, bound: 23 };
-    assert_eq!(rt; allotted(23, Some(9))?, Err(late));
+    is_due(&rt, &allotted(23, Some(9))?, &Err(late));
     Ok(())
 }

@@ -1,4 +1,6 @@
 //! A contract's numbers, worked by hand.
+use crate::due::is_due;
+use std::process::Abort;
 use std::test::Fail;
 use traffic_contract::{BadContract, Contract, ContractField};
 
@@ -7,20 +9,23 @@ fn paced() -> Result<Contract, BadContract> {
     Contract::new(5, 10, 20, 2)
 }
 
+// In windows of so many ticks there are at most so many packets.
+fn bounds(rt: &impl Abort, contract: &Contract, due: &[(u64, u64)]) {
+    for (window, packets) in due {
+        assert!(rt; *window <= 80);
+        is_due(rt, &contract.bound(*window), packets);
+    }
+}
+
 #[test]
 fn bounds_the_packets_of_a_window(rt: HostRuntime) -> Result<(), Fail> {
     let contract = paced()?;
-    assert_eq!(rt; contract.burst(), 2);
-    assert_eq!(rt;
-        (
-            contract.xmin(),
-            contract.xave(),
-            contract.interval(),
-            contract.smax()
-        ),
-        (5, 10, 20, 2)
-    );
-    for (window, packets) in [
+    is_due(&rt, &contract.burst(), &2);
+    is_due(&rt, &contract.xmin(), &5);
+    is_due(&rt, &contract.xave(), &10);
+    is_due(&rt, &contract.interval(), &20);
+    is_due(&rt, &contract.smax(), &2);
+    let due = [
         (0, 0),
         (1, 1),
         (5, 1),
@@ -31,10 +36,8 @@ fn bounds_the_packets_of_a_window(rt: HostRuntime) -> Result<(), Fail> {
         (23, 3),
         (40, 4),
         (80, 8),
-    ] {
-        assert!(rt; window <= 80);
-        assert_eq!(rt; contract.bound(window), packets, "in {window} ticks");
-    }
+    ];
+    bounds(&rt, &contract, &due);
     Ok(())
 }
 

@@ -1,26 +1,16 @@
 //! Lines that are cut from a source, and pieces that a sink takes.
 //!
-//! What a call ensures stays known after it, and a comparison is dear for what it prints. So each stands in a function of its own, which is
-//! proved once, and a test hands it what is called and what is due.
+//! What a call ensures stays known after it. So each call stands in a function of its own, which is proved once, and a test hands it what is
+//! called and what is due.
+use crate::due::{are_due, is_due};
 use byte_ends::{
     Cut, Gather, LineRefusal, Lines, MemSink, MemSource, Sink, Source, SureSink, SureSource,
     WriteFault, put_all,
 };
-use std::fmt::Debug;
 use std::process::Abort;
 use std::test::Fail;
 
 mod standard;
-
-// What was found is what is due.
-fn is_due<T: PartialEq + Debug>(rt: &impl Abort, found: &T, due: &T) {
-    assert_eq!(rt; found, due);
-}
-
-// The same of lists.
-fn are_due<T: PartialEq + Debug>(rt: &impl Abort, found: &[T], due: &[T]) {
-    assert_eq!(rt; found, due);
-}
 
 // The next call answers so.
 fn answers<S: Source>(

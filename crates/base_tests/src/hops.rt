@@ -1,6 +1,7 @@
 //! Routes and offers worked by hand.
 ghost use Rattle.std.specs.Prelude.{◌≡◌, ◌∷◌, [], IfOk};
 
+use crate::due::is_due;
 use hop_reservation::{Hop, Itinerary, Route};
 use net_units::{Bounds, Level, LinkNo};
 use std::process::Abort;
@@ -19,8 +20,9 @@ fn hop(link: u8) -> Result<Hop, Fail>
     })
 }
 
-fn place_of(hops: &[Hop]) -> Option<u8> {
-    Route::new(hops).err().map(|bad| bad.place)
+// A route of these hops is refused at this place, or is one.
+fn refuses(rt: &impl Abort, hops: &[Hop], place: Option<u8>) {
+    is_due(rt, &Route::new(hops).err().map(|bad| bad.place), &place);
 }
 
 #[test]
@@ -31,38 +33,36 @@ fn a_route_has_some_hops_and_no_link_twice(rt: HostRuntime) -> Result<(), Fail> 
     }
     let hops = hops.as_slice();
     assert!(rt; hops.len() == 17);
-    assert_eq!(rt; place_of(&hops[..0]), Some(0));
-    assert_eq!(rt; place_of(&hops[..1]), None);
-    assert_eq!(rt; place_of(&hops[..16]), None);
-    assert_eq!(rt; place_of(hops), Some(17));
+    refuses(&rt, &hops[..0], Some(0));
+    refuses(&rt, &hops[..1], None);
+    refuses(&rt, &hops[..16], None);
+    refuses(&rt, hops, Some(17));
     let (first, second) = (hop(7)?, hop(3)?);
-    assert_eq!(rt; place_of(&[first, second]), None);
-    assert_eq!(rt; place_of(&[first, second, second, first]), Some(3));
+    refuses(&rt, &[first, second], None);
+    refuses(&rt, &[first, second, second, first], Some(3));
     Ok(())
 }
 
-// How many hops have offered, the reach of the last one and the delay of all.
-fn so_far(itinerary: &Itinerary) -> (u8, u64, u64) {
-    (
-        itinerary.offers(),
-        itinerary.reach_before(),
-        itinerary.delay_sum(),
-    )
+// So many hops have offered, with this reach of the last one and this delay of all.
+fn comes_to(rt: &impl Abort, itinerary: &Itinerary, offers: u8, reach: u64, delay: u64) {
+    is_due(rt, &itinerary.offers(), &offers);
+    is_due(rt, &itinerary.reach_before(), &reach);
+    is_due(rt, &itinerary.delay_sum(), &delay);
 }
 
 #[test]
 #[tactic(auto, unfolding(hop_reservation::specs::Offers::next_levels))]
 fn offers_add_up(rt: HostRuntime) -> Result<(), Fail> {
     let route = Route::new(&[hop(0)?, hop(1)?])?;
-    assert_eq!(rt; route.len(), 2);
-    assert_eq!(rt; route.hop(2).link.get(), 1);
+    is_due(&rt, &route.len(), &2);
+    is_due(&rt, &route.hop(2).link.get(), &1);
     let mut itinerary = Itinerary::new(route);
-    assert!(rt; so_far(&itinerary) == (0, 0, 0));
+    comes_to(&rt, &itinerary, 0, 0, 0);
     let reach = Level::new(3).ok_or("level")?;
     itinerary.push_offer(Level::LEAST, reach);
-    assert!(rt; so_far(&itinerary) == (1, 40, 12));
+    comes_to(&rt, &itinerary, 1, 40, 12);
     itinerary.push_offer(Level::LEAST, Level::LEAST);
-    assert!(rt; so_far(&itinerary) == (2, 10, 24));
-    assert_eq!(rt; itinerary.offer(2).level, Level::LEAST);
+    comes_to(&rt, &itinerary, 2, 10, 24);
+    is_due(&rt, &itinerary.offer(2).level, &Level::LEAST);
     Ok(())
 }

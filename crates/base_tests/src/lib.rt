@@ -11,6 +11,8 @@ mod budgets;
 #[cfg(test)]
 mod contracts;
 #[cfg(test)]
+mod due;
+#[cfg(test)]
 mod ends;
 #[cfg(test)]
 mod holds;

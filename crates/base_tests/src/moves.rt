@@ -1,4 +1,5 @@
 //! Moves that were worked by hand. Channel 1 goes over the links 0 and 1, channel 2 over link 5.
+use crate::due::is_due;
 use channel_move::{MoveOdd, Mover, Shifted};
 use hop_reservation::{Hop, Route};
 use link_steps::{Ask, Refusal, Reply};
@@ -39,13 +40,19 @@ fn release(upstream: Option<u64>) -> Result<Ask, Fail> {
 fn asks(rt: &impl Abort, mover: &mut Mover, link: u8, ask: &Ask, reply: Reply) -> Result<(), Fail> {
     match mover.next_ask() {
         Some((to, next)) => {
-            assert_eq!(rt; (to.get(), next), (link, *ask));
-            assert_eq!(rt; mover.shifted(), None);
-            assert_eq!(rt; mover.take(reply), Ok(()));
+            is_due(rt, &(to.get(), next), &(link, *ask));
+            is_due(rt, &mover.shifted(), &None);
+            is_due(rt, &mover.take(reply), &Ok(()));
             Ok(())
         }
         None => Err(Fail::from("an ask is left")),
     }
+}
+
+// No ask is left, and so many packets were kept and shifted.
+fn has_shifted(rt: &impl Abort, mover: &Mover, kept: u64, shifted: u64) {
+    is_due(rt, &mover.next_ask(), &None);
+    is_due(rt, &mover.shifted(), &Some(Shifted { kept, shifted }));
 }
 
 #[test]
@@ -70,14 +77,7 @@ fn packets_that_were_not_taken_are_planned_on_the_other_channel(
         cancelled: 0,
     };
     asks(&rt, &mut mover, 1, &release(Some(3))?, further)?;
-    assert_eq!(rt; mover.next_ask(), None);
-    assert_eq!(rt;
-        mover.shifted(),
-        Some(Shifted {
-            kept: 3,
-            shifted: 4
-        })
-    );
+    has_shifted(&rt, &mover, 3, 4);
     Ok(())
 }
 
@@ -90,14 +90,7 @@ fn where_all_were_taken_nothing_is_submitted(rt: HostRuntime) -> Result<(), Fail
     };
     asks(&rt, &mut mover, 0, &release(None)?, told)?;
     asks(&rt, &mut mover, 1, &release(Some(7))?, told)?;
-    assert_eq!(rt; mover.next_ask(), None);
-    assert_eq!(rt;
-        mover.shifted(),
-        Some(Shifted {
-            kept: 7,
-            shifted: 0
-        })
-    );
+    has_shifted(&rt, &mover, 7, 0);
     Ok(())
 }
 
@@ -107,8 +100,8 @@ fn a_reply_to_another_ask_changes_nothing(rt: HostRuntime) -> Result<(), Fail> {
     let odd = Reply::Refused(Refusal::NoSuch);
     match mover.next_ask() {
         Some((to, ask)) => {
-            assert_eq!(rt; mover.take(odd), Err(MoveOdd { ask, reply: odd }));
-            assert_eq!(rt; mover.next_ask(), Some((to, release(None)?)));
+            is_due(&rt, &mover.take(odd), &Err(MoveOdd { ask, reply: odd }));
+            is_due(&rt, &mover.next_ask(), &Some((to, release(None)?)));
             Ok(())
         }
         None => Err(Fail::from("an ask is left")),

@@ -1,6 +1,7 @@
 //! Keys that are picked, by hand and beside a plain list.
 ghost use Rattle.std.specs.Prelude.{◌≡◌, length};
 
+use crate::due::is_due;
 use net_units::Level;
 use static_priority::LevelQueues;
 use std::alloc::Global;
@@ -57,7 +58,7 @@ fn call(
     ensures { length queues.new.queues ≡ 3 }
 {
     if number >> 63 == 0 {
-        assert_eq!(rt; queues.pick(), pick_listed(listed));
+        is_due(rt, &queues.pick(), &pick_listed(listed));
         return Ok(());
     }
     let level = Level::new(1 + ((number >> 50) % 3) as u8).ok_or("a level")?;

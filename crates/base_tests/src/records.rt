@@ -3,6 +3,7 @@ ghost use Rattle.std.specs.Prelude.{IfOk, OnOk};
 ghost use Rattle.link_steps.specs.Lists.{Each};
 ghost use Rattle.run_record.specs.Rows.{IsEarly};
 
+use crate::due::is_due;
 use link_steps::{Ask, Packet, Reply, Sent};
 use net_units::{ActorNo, ChanNo, Kind, Level, LinkNo, OutOfMemory};
 use run_record::{Done, HopRow, HopRows, HopTable, Record};
@@ -137,11 +138,11 @@ fn rows_are_told_by_channel_packet_and_hop(rt: HostRuntime) -> Result<(), Fail> 
     ];
     let rows = rows_of_steps(rt.alloc(), &steps)?;
     let rows = rows.as_slice();
-    assert_eq!(rt; rows.len(), 4);
-    assert_eq!(rt; rows[0], row(&other, 1)?);
-    assert_eq!(rt; rows[1], row(&first, 1)?);
-    assert_eq!(rt; rows[2], row(&second, 2)?);
-    assert_eq!(rt; rows[3], row(&later, 1)?);
+    assert!(rt; rows.len() == 4);
+    is_due(&rt, &rows[0], &row(&other, 1)?);
+    is_due(&rt, &rows[1], &row(&first, 1)?);
+    is_due(&rt, &rows[2], &row(&second, 2)?);
+    is_due(&rt, &rows[3], &row(&later, 1)?);
     Ok(())
 }
 
@@ -160,8 +161,8 @@ fn hops_may_be_told_after_the_rows(rt: HostRuntime) -> Result<(), Fail> {
     let steps = [tick(&early)?, offer(1, 0)?, offer(1, 1)?, tick(&second)?];
     let mut hops = HopTable::new(rt.alloc());
     let told = told_by(&hops, &steps[0])?;
-    assert_eq!(rt; told, row(&early, 0)?);
-    assert!(rt; hops.row_of(&steps[1]).is_none());
+    is_due(&rt, &told, &row(&early, 0)?);
+    is_due(&rt, &hops.row_of(&steps[1]), &None);
     hops.note(&steps[2])?;
     hops.note(&steps[1])?;
     let later = told_by(&hops, &steps[3])?;
@@ -170,9 +171,9 @@ fn hops_may_be_told_after_the_rows(rt: HostRuntime) -> Result<(), Fail> {
     rows.push(later)?;
     let rows = hops.in_order(rows)?;
     let rows = rows.as_slice();
-    assert_eq!(rt; rows.len(), 2);
-    assert_eq!(rt; rows[0], row(&second, 1)?);
-    assert_eq!(rt; rows[1], row(&early, 2)?);
+    assert!(rt; rows.len() == 2);
+    is_due(&rt, &rows[0], &row(&second, 1)?);
+    is_due(&rt, &rows[1], &row(&early, 2)?);
     Ok(())
 }
 
@@ -180,8 +181,8 @@ fn hops_may_be_told_after_the_rows(rt: HostRuntime) -> Result<(), Fail> {
 fn a_link_without_an_offer_is_no_hop(rt: HostRuntime) -> Result<(), Fail> {
     let only = packet(3, 1, 0, 0, 2);
     let rows = rows_of_steps(rt.alloc(), &[tick(&only)?])?.into_vec();
-    assert_eq!(rt; rows.len(), 1);
-    assert_eq!(rt; rows[0], row(&only, 0)?);
+    assert!(rt; rows.len() == 1);
+    is_due(&rt, &rows[0], &row(&only, 0)?);
     Ok(())
 }
 
@@ -211,8 +212,8 @@ fn keeps_the_order(rt: HostRuntime) -> Result<(), Fail> {
     record.push(first);
     record.push(second);
     let entries = record.entries();
-    assert_eq!(rt; entries.len(), 2);
-    assert_eq!(rt; entries[0], first);
-    assert_eq!(rt; entries[1], second);
+    is_due(&rt, &entries.len(), &2);
+    is_due(&rt, &entries[0], &first);
+    is_due(&rt, &entries[1], &second);
     Ok(())
 }

@@ -2,6 +2,7 @@
 ghost use Rattle.std.specs.Prelude.{IsTrue};
 ghost use Rattle.route_finder.specs.Walks.{IsNetwork};
 
+use crate::due::{are_due, is_due};
 use hop_reservation::{Hop, Route};
 use net_units::{Bounds, LinkNo};
 use route_finder::{Edge, RouteFault, check_route, least_route};
@@ -173,7 +174,7 @@ fn a_walk_has_sixteen_links_at_most(rt: HostRuntime) -> Result<(), Fail> {
         lines[index as usize] = line_of(index, index + 1, 1);
     }
     let found = way_of(rt.alloc(), &lines, 3, 19)?.ok_or("a way")?;
-    assert_eq!(rt; found.prop, 16);
+    is_due(&rt, &found.prop, &16);
     assert!(rt; way_of(rt.alloc(), &lines, 3, 20)?.is_none());
     Ok(())
 }
@@ -186,10 +187,9 @@ fn of_many_equal_walks_the_first_is_found(rt: HostRuntime) -> Result<(), Fail> {
         lines[index as usize] = line_of(index / 2, index / 2 + 1, u32::MAX);
     }
     let found = way_of(rt.alloc(), &lines, 0, 16)?.ok_or("a way")?;
-    assert_eq!(rt; found.prop, 16 * u64::from(u32::MAX));
-    for (place, link) in found.links.iter().enumerate() {
-        assert_eq!(rt; usize::from(*link), 2 * place);
-    }
+    is_due(&rt, &found.prop, &(16 * u64::from(u32::MAX)));
+    let firsts = [0, 2, 4, 6, 8, 10, 12, 14, 16, 18, 20, 22, 24, 26, 28, 30];
+    are_due(&rt, found.links.as_slice(), &firsts);
     Ok(())
 }
 
@@ -199,17 +199,17 @@ fn a_check_refuses_what_was_changed(rt: HostRuntime) -> Result<(), Fail> {
     let edges = edges_of(rt.alloc(), &LINES)?;
     assert!(rt; are_network(&edges));
     let mut found = least_route(rt.alloc(), &edges, 0, 3).ok().ok_or("a way")?;
-    assert!(rt; check_route(&edges, 0, 3, &found));
-    assert!(rt; !check_route(&edges, 0, 1, &found));
-    assert!(rt; !check_route(&edges, 2, 3, &found));
+    is_due(&rt, &check_route(&edges, 0, 3, &found), &true);
+    is_due(&rt, &check_route(&edges, 0, 1, &found), &false);
+    is_due(&rt, &check_route(&edges, 2, 3, &found), &false);
     found.prop = 5;
-    assert!(rt; !check_route(&edges, 0, 3, &found));
+    is_due(&rt, &check_route(&edges, 0, 3, &found), &false);
     found.route = Route::new(&[hop(4, 5)?])?;
-    assert!(rt; !check_route(&edges, 0, 3, &found));
+    is_due(&rt, &check_route(&edges, 0, 3, &found), &false);
     found.prop = 4;
     found.route = Route::new(&[hop(2, 1)?, hop(3, 3)?])?;
-    assert!(rt; check_route(&edges, 0, 3, &found));
+    is_due(&rt, &check_route(&edges, 0, 3, &found), &true);
     found.route = Route::new(&[hop(2, 2)?, hop(3, 2)?])?;
-    assert!(rt; !check_route(&edges, 0, 3, &found));
+    is_due(&rt, &check_route(&edges, 0, 3, &found), &false);
     Ok(())
 }

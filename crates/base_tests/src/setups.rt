@@ -1,5 +1,6 @@
 //! Setups and a teardown over two links, worked by hand. Each link has levels of 10, 20 and 40 ticks and a propagation of
 //! 2, and offers level 1, so the delay offered is 24.
+use crate::due::is_due;
 use hop_reservation::{Hop, Route};
 use link_steps::{Ask, Refusal, Reply, Unexpected};
 use net_units::{Bounds, ChanNo, Kind, Level, LinkNo};
@@ -58,11 +59,30 @@ fn reserve(request: &Request, up_reach: u64, first: bool, next: Option<u8>) -> A
 fn asks(rt: &impl Abort, setup: &mut Setup, link: u8, ask: &Ask, reply: Reply) -> Result<(), Fail> {
     match setup.next_ask() {
         Some((to, next)) => {
-            assert_eq!(rt; (to.get(), next), (link, *ask));
-            assert_eq!(rt; setup.take(reply), Ok(()));
+            is_due(rt, &(to.get(), next), &(link, *ask));
+            is_due(rt, &setup.take(reply), &Ok(()));
             Ok(())
         }
         None => Err(Fail::from("no ask is left")),
+    }
+}
+
+// The request is accepted with these levels of two hops, and this delay.
+fn accepts(rt: &impl Abort, setup: &Setup, first: Level, second: Level, end: u64) {
+    match setup.verdict() {
+        Some(Verdict::Accepted { levels, delay }) if levels.len() == 2 => {
+            is_due(rt, &(levels.at(1), levels.at(2)), &(first, second));
+            is_due(rt, &delay, &end);
+        }
+        _ => assert!(rt; false, "the request is accepted"),
+    }
+}
+
+// The request is denied so.
+fn denies(rt: &impl Abort, setup: &Setup, deny: &Deny) {
+    match setup.verdict() {
+        Some(Verdict::Denied(denied)) => is_due(rt, &denied, deny),
+        _ => assert!(rt; false, "the request is denied"),
     }
 }
 
@@ -95,15 +115,7 @@ fn a_request_is_relaxed_over_two_hops(rt: HostRuntime) -> Result<(), Fail> {
     asks(&rt, &mut setup, 1, &relax(level(2)?, 20), relaxed)?;
     asks(&rt, &mut setup, 0, &relax(level(2)?, 0), relaxed)?;
     assert!(rt; setup.next_ask().is_none());
-    match setup.verdict() {
-        Some(Verdict::Accepted { levels, delay }) if levels.len() == 2 => {
-            assert_eq!(rt;
-                (levels.at(1), levels.at(2), delay),
-                (level(2)?, level(2)?, 44)
-            );
-        }
-        _ => assert!(rt; false, "the request is accepted"),
-    }
+    accepts(&rt, &setup, level(2)?, level(2)?, 44);
     Ok(())
 }
 
@@ -128,12 +140,7 @@ fn a_refusal_undoes_the_hops_before_it(rt: HostRuntime) -> Result<(), Fail> {
         Reply::Refused(refusal),
     )?;
     asks(&rt, &mut setup, 0, &deny, Reply::Denied)?;
-    match setup.verdict() {
-        Some(Verdict::Denied(denied)) => {
-            assert_eq!(rt; denied, Deny::Hop { hop: 2, refusal });
-        }
-        _ => assert!(rt; false, "the request is denied"),
-    }
+    denies(&rt, &setup, &Deny::Hop { hop: 2, refusal });
     Ok(())
 }
 
@@ -158,13 +165,11 @@ fn the_destination_denies_from_the_last_hop_on(rt: HostRuntime) -> Result<(), Fa
     )?;
     asks(&rt, &mut setup, 1, &deny, Reply::Denied)?;
     asks(&rt, &mut setup, 0, &deny, Reply::Denied)?;
-    match setup.verdict() {
-        Some(Verdict::Denied(denied)) => {
-            let late = EndDenial::Delay { sum: 24, bound: 23 };
-            assert_eq!(rt; denied, Deny::End(late));
-        }
-        _ => assert!(rt; false, "the request is denied"),
-    }
+    denies(
+        &rt,
+        &setup,
+        &Deny::End(EndDenial::Delay { sum: 24, bound: 23 }),
+    );
     Ok(())
 }
 
@@ -177,7 +182,7 @@ fn a_reply_of_another_ask_changes_nothing(rt: HostRuntime) -> Result<(), Fail> {
         reply: Reply::Denied,
     };
     match setup.next_ask() {
-        Some(_) => assert_eq!(rt; setup.take(Reply::Denied), Err(odd)),
+        Some(_) => is_due(&rt, &setup.take(Reply::Denied), &Err(odd)),
         None => assert!(rt; false, "a reserve is next"),
     }
     asks(
@@ -200,12 +205,12 @@ fn a_release_passes_on_the_first_count(rt: HostRuntime) -> Result<(), Fail> {
         };
         match teardown.next_ask() {
             Some((to, next)) => {
-                assert_eq!(rt; (to.get(), next), (link, ask));
+                is_due(&rt, &(to.get(), next), &(link, ask));
                 let reply = Reply::Closing {
                     count: 3,
                     cancelled: 0,
                 };
-                assert_eq!(rt; teardown.take(reply), Ok(()));
+                is_due(&rt, &teardown.take(reply), &Ok(()));
             }
             None => assert!(rt; false, "a release is next"),
         }

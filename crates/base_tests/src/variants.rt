@@ -1,6 +1,8 @@
 //! Variants of two links and three requests.
+use crate::due::is_due;
 use network_variants::{BadChange, Form, Variants, variants_of};
 use std::alloc::Global;
+use std::process::Abort;
 use std::test::Fail;
 
 const NETWORK: &str = "\
@@ -251,36 +253,56 @@ fn the_last_change_is_the_fastest(rt: HostRuntime) -> Result<(), Fail> {
     Ok(())
 }
 
+// These words are refused so.
+fn refuses(rt: &impl Abort, alloc: Global, words: &str, told: &str) -> Result<(), Fail> {
+    is_due(rt, &refusal(alloc, words)?.as_str(), &told);
+    Ok(())
+}
+
 #[test]
 fn changes_that_say_nothing_are_refused(rt: HostRuntime) -> Result<(), Fail> {
-    assert_eq!(rt;
-        refusal(rt.alloc(), "A.D1")?.as_str(),
-        "0: wanted is WHERE=VALUES, as in L34.D1=20..26 or *.buffer=1000,2000"
-    );
-    assert_eq!(rt;
-        refusal(rt.alloc(), "A.D1=5 C.D1=4")?.as_str(),
-        "1: the scenario has no link or request C; it has A, B, r1, r2"
-    );
-    assert_eq!(rt;
-        refusal(rt.alloc(), "A.best=4")?.as_str(),
-        "0: A has no best; a link has rate, cap, prop, buffer, best (where it has one), levels and D1 to D8"
-    );
-    assert_eq!(rt;
-        refusal(rt.alloc(), "A.D1=x")?.as_str(),
-        "0: x isn't a number; wanted are 1 to 18 digits without a leading 0, a list as 10,20,50 or a range as 20..40/5"
-    );
-    assert_eq!(rt;
-        refusal(rt.alloc(), "A.D1=5..4")?.as_str(),
-        "0: 5..4 isn't a range; wanted is LOW..HIGH or LOW..HIGH/STEP, as in 20..40/5, with whole numbers, LOW at most HIGH"
-    );
-    assert_eq!(rt;
-        refusal(rt.alloc(), "A.D2=4 *.levels=4:5")?.as_str(),
-        "1: another change has a place of *.levels=4:5 already; one of them has to go, or to name less"
-    );
-    assert_eq!(rt;
-        refusal(rt.alloc(), "A.D1=1..1000 B.D1=1..101")?.as_str(),
-        "1: with this change there are more than 100,000 variants; wanted are fewer values"
-    );
+    refuses(
+        &rt,
+        rt.alloc(),
+        "A.D1",
+        "0: wanted is WHERE=VALUES, as in L34.D1=20..26 or *.buffer=1000,2000",
+    )?;
+    refuses(
+        &rt,
+        rt.alloc(),
+        "A.D1=5 C.D1=4",
+        "1: the scenario has no link or request C; it has A, B, r1, r2",
+    )?;
+    refuses(
+        &rt,
+        rt.alloc(),
+        "A.best=4",
+        "0: A has no best; a link has rate, cap, prop, buffer, best (where it has one), levels and D1 to D8",
+    )?;
+    refuses(
+        &rt,
+        rt.alloc(),
+        "A.D1=x",
+        "0: x isn't a number; wanted are 1 to 18 digits without a leading 0, a list as 10,20,50 or a range as 20..40/5",
+    )?;
+    refuses(
+        &rt,
+        rt.alloc(),
+        "A.D1=5..4",
+        "0: 5..4 isn't a range; wanted is LOW..HIGH or LOW..HIGH/STEP, as in 20..40/5, with whole numbers, LOW at most HIGH",
+    )?;
+    refuses(
+        &rt,
+        rt.alloc(),
+        "A.D2=4 *.levels=4:5",
+        "1: another change has a place of *.levels=4:5 already; one of them has to go, or to name less",
+    )?;
+    refuses(
+        &rt,
+        rt.alloc(),
+        "A.D1=1..1000 B.D1=1..101",
+        "1: with this change there are more than 100,000 variants; wanted are fewer values",
+    )?;
     Ok(())
 }
 

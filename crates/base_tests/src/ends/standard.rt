@@ -1,5 +1,6 @@
 //! What the adapters ask of a reader and a writer, over one that notes it and whose first calls fail.
-use super::{are_due, is_due, puts};
+use super::puts;
+use crate::due::{are_due, is_due};
 use byte_ends::{Put, Sink, Source, StdSink, StdSource, Took, WriteFault};
 use std::alloc::Global;
 use std::io::{self, Error, ErrorKind, Read, Write};
