@@ -1,5 +1,5 @@
 //! Rounds worked by hand: what the plane asks, in turn, and what is left before it is asked.
-ghost use Rattle.std.specs.Prelude.{IsTrue};
+ghost use Rattle.std.specs.Prelude.{◌≡◌, IsTrue, OnOk};
 ghost use Rattle.tick_plane.specs.Planes.{IsDueLater};
 
 use link_steps::{Ask, Packet, Reply, Sent, Unexpected};
@@ -8,7 +8,7 @@ use std::alloc::Global;
 use std::fmt::Debug;
 use std::process::Abort;
 use std::test::Fail;
-use tick_plane::Plane;
+use tick_plane::{Asked, Plane};
 
 // What a link is asked, and what it replies.
 type Step = (u8, Ask, Reply);
@@ -152,6 +152,74 @@ fn a_window_has_the_arrivals_of_its_rounds(rt: HostRuntime) -> Result<(), Fail> 
     let left = asked_in_window(rt.alloc(), &plane, 3, 1)?;
     let due = [Ask::Tick, Ask::Arrive { packet }, Ask::Tick];
     are_due(&rt, left.as_slice(), &due);
+    Ok(())
+}
+
+// How many ticks are asked for, or which packet arrives.
+fn in_short(asked: &Asked) -> (u64, Option<Packet>) {
+    match *asked {
+        Asked::Ticks(count) => (count, None),
+        Asked::Arrives(packet) => (0, Some(packet)),
+    }
+}
+
+// What a window of so many rounds asks of a link, with its ticks counted.
+fn counted_in_window(
+    alloc: Global,
+    plane: &Plane,
+    rounds: u64,
+    link: u8,
+) -> Result<Vec<(u64, Option<Packet>)>, Fail>
+    requires starts { plane.now.at.ticked ≡ 0 }
+{
+    let mut asked = Vec::new(alloc);
+    let window = plane.window(alloc, rounds)?;
+    window.asked(alloc, LinkNo::new(link).ok_or("a link")?, &mut asked)?;
+    let mut short = Vec::new(alloc);
+    for next in asked.as_slice() {
+        short.push(in_short(next))?;
+    }
+    Ok(short)
+}
+
+// The same window: the second round's tick, the arrival, the third round's tick.
+#[test]
+fn a_window_counts_the_ticks_between_arrivals(rt: HostRuntime) -> Result<(), Fail> {
+    let sent = crossing()?;
+    let mut plane = Plane::new(rt.alloc(), 2, 3)?;
+    asks_in_turn(&rt, &mut plane, &[tick(0, 0, Some(sent)), tick(1, 0, None)])?;
+    assert!(rt; plane.ticked() == 0);
+    let left = counted_in_window(rt.alloc(), &plane, 3, 1)?;
+    let due = [(1, None), (0, Some(sent.packet)), (1, None)];
+    are_due(&rt, left.as_slice(), &due);
+    Ok(())
+}
+
+// Two packets leave in a window that is over when round 3 begins. One was due in it, and the other one is on its way.
+#[test]
+fn a_window_that_was_made_is_skipped(rt: HostRuntime) -> Result<(), Fail> {
+    let sent = crossing()?;
+    let late = Sent { arrives: 5, ..sent };
+    let mut plane = Plane::new(rt.alloc(), 2, 9)?;
+    send(&rt, &mut plane, &sent)?;
+    send(&rt, &mut plane, &late)?;
+    is_due(&rt, &plane.flights(), &2);
+    plane.skip_to(3);
+    is_due(
+        &rt,
+        &(plane.round(), plane.ticked(), plane.flights()),
+        &(3, 0, 1),
+    );
+    Ok(())
+}
+
+// It is on its way.
+fn send(rt: &impl Abort, plane: &mut Plane, sent: &Sent) -> Result<(), Fail>
+    ensures round { OnOk result (plane.new.at.round ≡ plane.old.at.round) }
+    ensures rounds { OnOk result (plane.new.rounds ≡ plane.old.rounds) }
+{
+    assert!(rt; plane.round() < sent.arrives);
+    plane.send(&Some(*sent))?;
     Ok(())
 }
 

@@ -1,7 +1,7 @@
 -- The packets on their way to one link, in the order of their rounds: a stable sort of them is that order, and they are found by
 -- going once from front to end.
 use Rattle.std.proofs.Common.{◌≡◌, ◌≢◌, ℕ, zero, suc, ◌+◌, ◌-◌, ◌<◌, ◌≤◌, Bool, true, false, not, cond, ◌&&◌, List, [], ◌∷◌, ◌++◌, map, filter, length, drop, get_or, refl, sym, ap, ◌∙◌, subst, inl, inr, arith}
-use Rattle.std.proofs.lemmas.Bool.{cases_Bool, cases_lt, eqb-false, eqb-true, eq-eqb, ne_eqb, lt-ltb, ltb-false}
+use Rattle.std.proofs.lemmas.Bool.{cases_Bool, cases_lt, eqb-false, eqb-true, eq-eqb, ne_eqb, lt-ltb, ltb-false, ltb-true}
 use Rattle.std.proofs.lemmas.Bool.Decides.{nat_tests}
 use Rattle.std.proofs.lemmas.Cmp.{nat_cmp_total}
 use Rattle.std.proofs.lemmas.List.{append_assoc, append-nil, drop_more}
@@ -16,12 +16,13 @@ use Rattle.std.specs.List.Sorted.{IsSortedByKey, IsStableByKey}
 use Rattle.net_units.specs.Numbers.{link_at, channel_at, link_number}
 use Rattle.link_steps.specs.Lists.{Each}
 use Rattle.link_steps.proofs.SearchAndFilter.{Each-filter, Each-from, Each-if, filter-filter, filter-map, filter-none}
+use Rattle.link_steps.proofs.FoundElements.{Each-passes}
 use Rattle.link_steps.proofs.ListParts.{Each-at, Each-by_index, stands-at}
 use Rattle.link_steps.specs.declared.asks.Ask.{Ask}
 use Rattle.link_steps.specs.declared.asks.Ask.TheVariants.{Arrive, Tick}
 use Rattle.tick_plane.specs.declared.flight.Flight.{Flight}
 use Rattle.tick_plane.specs.Carried.{Way, flight_at, flights_at}
-use Rattle.tick_plane.specs.Coming.{IsDueFrom, Rise, is_before, is_to, AreByLink, AreComing, AreListed, arrivals_in, rounds_in, AreLeft}
+use Rattle.tick_plane.specs.Coming.{IsDueBefore, IsDueFrom, Rise, is_before, is_to, AreByLink, AreComing, AreListed, arrivals_in, rounds_in, AreLeft}
 use Rattle.tick_plane.specs.Planes.{Plane, is_due}
 use Rattle.tick_plane.specs.Windows.{arrive_of, is_bound, arrivals_at, rounds_at, tick_left, window_at}
 
@@ -63,6 +64,13 @@ due-stable round own coming stable =
     ap (λ (test : Flight → Bool). filter test coming) (λ i f. sym (tie f) i) ∙ stable (some_flight round)
     ∙ ap (λ (test : Flight → Bool). filter test own) (λ i f. tie f i)
 
+none-after : (f : Flight) (fs : List Flight) (round : ℕ) → filter (is_due round) (f ∷ fs) ≡ [] → filter (is_due round) fs ≡ []
+none-after f fs round is =
+    elim (cases_Bool (is_due round f)) [
+      | inl due ↦ absurd (let clash : f ∷ filter (is_due round) fs ≡ [] = rw due at is in cc)
+      | inr off ↦ rw off at is
+    ]
+
 -- none is early where none of a round before is among them
 each-from : (from : ℕ) (flights : List Flight) → ((round : ℕ) → round < from → filter (is_due round) flights ≡ []) → Each (IsDueFrom from) flights
 each-from from [] none = tt
@@ -71,14 +79,19 @@ each-from from (f ∷ fs) none = (
     | inl early ↦ absurd (let clash : f ∷ filter (is_due f.round) fs ≡ [] = rw (eq-eqb f.round f.round refl) at (none f.round early) in cc)
     | inr due ↦ due
   ],
-  each-from from fs (λ round early. rest round (none round early)),
-) where
-  rest : (round : ℕ) → filter (is_due round) (f ∷ fs) ≡ [] → filter (is_due round) fs ≡ []
-  rest round is =
-      elim (cases_Bool (is_due round f)) [
-        | inl due ↦ absurd (let clash : f ∷ filter (is_due round) fs ≡ [] = rw due at is in cc)
-        | inr off ↦ rw off at is
-      ]
+  each-from from fs (λ round early. none-after f fs round (none round early)),
+)
+
+-- and none is late where none of a round after is among them
+each-before : (until : ℕ) (flights : List Flight) → ((round : ℕ) → until ≤ round → filter (is_due round) flights ≡ []) → Each (IsDueBefore until) flights
+each-before until [] none = tt
+each-before until (f ∷ fs) none = (
+  elim (cases_lt f.round until) [
+    | inl early ↦ early
+    | inr late ↦ absurd (let clash : f ∷ filter (is_due f.round) fs ≡ [] = rw (eq-eqb f.round f.round refl) at (none f.round late) in cc)
+  ],
+  each-before until fs (λ round late. none-after f fs round (none round late)),
+)
 
 -- a stable sort of those that are due from a round on leaves all of them
 pub left-sorted : (from : ℕ) (flights sorted : List Flight) → Each (IsDueFrom from) flights → IsSortedByKey round_of nat_cmp sorted → IsStableByKey round_of nat_cmp flights sorted → AreLeft from flights sorted
@@ -89,6 +102,12 @@ left-sorted from flights sorted ahead up stable = record {
 } where
   none-early : (round : ℕ) → round < from → filter (is_due round) flights ≡ []
   none-early round early = filter-none (is_due round) flights (Each-if (IsDueFrom from) (λ f. is_due round f ≡ false) flights (λ f due. ne_eqb f.round round (λ same. omega (arith, due, same, early))) ahead)
+
+-- what is left is due before a round where all were
+pub left-before : (from until : ℕ) (flights left : List Flight) → from ≤ until → AreLeft from flights left → Each (IsDueBefore until) flights → Each (IsDueBefore until) left
+left-before from until flights left past are before =
+    each-before until left (λ round late. are.all round (omega (arith, past, late))
+    ∙ filter-none (is_due round) flights (Each-if (IsDueBefore until) (λ f. is_due round f ≡ false) flights (λ f early. ne_eqb f.round round (λ same. omega (arith, early, same, late))) before))
 
 -- ---- before a round
 
@@ -132,6 +151,12 @@ coming-listed items n until at lists own sorted are found left = record {
 pub own-ahead : {X : Type 0} (items : X → List Flight) (n until : ℕ) (at : Plane) (lists : List X) (own : X) → AreListed items until at lists → slice_get lists n ≡ Some own → Each (IsDueFrom at.round) (items own)
 own-ahead items n until at lists own are found =
     subst (Each (IsDueFrom at.round)) (sym (are.by_link.own n own found)) (Each-filter (IsDueFrom at.round) (is_to n) (filter (is_before until) at.flights) are.ahead)
+
+pub own-before : {X : Type 0} (items : X → List Flight) (n until : ℕ) (at : Plane) (lists : List X) (own : X) → AreListed items until at lists → slice_get lists n ≡ Some own → Each (IsDueBefore until) (items own)
+own-before items n until at lists own are found =
+    subst (Each (IsDueBefore until)) (sym (are.by_link.own n own found))
+    (Each-filter (IsDueBefore until) (is_to n) (filter (is_before until) at.flights)
+    (Each-if (λ f. is_before until f ≡ true) (IsDueBefore until) (filter (is_before until) at.flights) (λ f early. ltb-true f.round until early) (Each-passes (is_before until) at.flights)))
 
 -- no flight is listed yet
 pub none-listed : {X : Type 0} (items : X → List Flight) (lists : List X) → length lists ≡ 32 → Each (λ own. items own ≡ []) lists → AreByLink items [] lists

@@ -1,7 +1,9 @@
 pub mod QuietRounds
 mod ComingInOrder
 mod FirstDueFlight
-mod WithoutFirst
+pub mod WithoutFirst
+mod LaterFlights
+mod AskedRuns
 pub mod PlaneFlights
 mod RestOfRound
 pub mod TicksPerLink

@@ -1,6 +1,6 @@
 -- The packets that are on their way to one link, in the order of the rounds in which they reach it. Those of one round stand in the
 -- order of their departures. So they are found by going once from front to end, round by round.
-use Rattle.std.specs.Prelude.{◌≡◌, ℕ, zero, suc, ◌<◌, ◌≤◌, Bool, nat_eq, nat_lt, Some, List, [], ◌∷◌, ◌++◌, map, filter, length}
+use Rattle.std.specs.Prelude.{◌≡◌, ℕ, zero, suc, ◌<◌, ◌≤◌, Bool, not, nat_eq, nat_lt, Some, List, [], ◌∷◌, ◌++◌, map, filter, length}
 use Rattle.std.specs.List.{slice_get}
 use Rattle.net_units.specs.Numbers.{link_number}
 use Rattle.link_steps.specs.Lists.{Each}
@@ -13,6 +13,9 @@ use Rattle.tick_plane.specs.Windows.{arrive_of, is_bound}
 abbrev pub IsDueFrom : ℕ → Flight → Type 0
 IsDueFrom round flight = round ≤ flight.round
 
+abbrev pub IsDueBefore : ℕ → Flight → Type 0
+IsDueBefore until flight = flight.round < until
+
 -- none is due before one that stands ahead of it
 abbrev pub Rise : List Flight → Type 0
 Rise [] = Unit {0}
@@ -21,6 +24,10 @@ Rise (flight ∷ flights) = Each (IsDueFrom flight.round) flights × Rise flight
 -- whether a flight is due before a round
 abbrev pub is_before : ℕ → Flight → Bool
 is_before until flight = nat_lt flight.round until
+
+-- or when it begins, or later
+abbrev pub is_from : ℕ → Flight → Bool
+is_from until flight = not (is_before until flight)
 
 -- whether it goes to link n
 abbrev pub is_to : ℕ → Flight → Bool

@@ -5,3 +5,4 @@ pub mod Rounds
 pub mod Windows
 pub mod Coming
 pub mod QuietRounds
+pub mod AskedRuns

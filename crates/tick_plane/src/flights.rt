@@ -1,8 +1,8 @@
 //! The packets on their way, in the order of their departures, found by the round in which they are due.
 ghost use Rattle.std.specs.Prelude.{◌≡◌, ◌+◌, ◌-◌, ◌^◌, ◌≤◌, ◌<◌, ◌++◌, ◌∷◌, [], suc, None, IsOk, IsSome, OnOk, OnErr, IfOk, is_some, length, find, filter};
 ghost use Rattle.tick_plane.specs.Planes.{is_due};
-ghost use Rattle.tick_plane.specs.Carried.{flights_at};
-ghost use Rattle.tick_plane.specs.Coming.{IsDueFrom, is_before};
+ghost use Rattle.tick_plane.specs.Carried.{ArePunctual, flights_at};
+ghost use Rattle.tick_plane.specs.Coming.{IsDueFrom, is_before, is_from};
 ghost use Rattle.link_steps.specs.Lists.{Each, without_first};
 
 use crate::flight::{Flight, OnWay};
@@ -125,6 +125,15 @@ impl Flights {
         self.ways.go_on(round);
     }
 
+    // Begins round `until`: those that are due before it are gone.
+    pub(crate) fn drop_before(&mut self, until: u64)
+        requires { self.old.round ≤ until }
+        ensures round { self.new.round ≡ until }
+        ensures list { self.new.list ≡ filter (is_from until) self.old.list }
+    {
+        drop_due(&mut self.ways, until);
+    }
+
     // All of them, in their order.
     pub(crate) fn list(&self, alloc: Global) -> Result<Vec<Flight>, OutOfMemory>
         ensures { IfOk result (λ all. all.items ≡ self.now.list) }
@@ -164,4 +173,20 @@ fn listed(alloc: Global, entries: &[(u64, OnWay)]) -> Result<Vec<Flight>, OutOfM
         })?;
     }
     Ok(all)
+}
+
+// Takes out the entries that are due before round `until`, the earliest first, and goes on to it.
+fn drop_due(ways: &mut Calendar<OnWay>, until: u64)
+    requires early { ways.old.clock ≤ until }
+    requires punctual { ArePunctual ways.old }
+    ensures clock { ways.new.clock ≡ until }
+    ensures punctual { ArePunctual ways.new }
+    ensures left { flights_at ways.new.entries ≡ filter (is_from until) (flights_at ways.old.entries) }
+{
+    if ways.clock() == until {
+        return;
+    }
+    let last = until - 1;
+    while ways.take_due(last).is_some() {}
+    ways.go_on(until);
 }

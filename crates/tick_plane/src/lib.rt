@@ -5,6 +5,7 @@
 //! replies that it has got so far. A round is a tick of every link.
 #![tactic(auto)]
 
+pub mod asked;
 pub mod flight;
 mod flights;
 pub mod laws;
@@ -12,6 +13,7 @@ pub mod plane;
 mod rest;
 pub mod window;
 
+pub use asked::Asked;
 pub use flight::Flight;
 pub use plane::Plane;
 pub use window::Window;

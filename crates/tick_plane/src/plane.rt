@@ -1,7 +1,8 @@
 //! The rounds of arrivals and ticks.
-ghost use Rattle.std.specs.Prelude.{◌≡◌, ◌+◌, ◌-◌, ◌^◌, ◌<◌, ◌≤◌, ◌↔◌, ◌⊎◌, ◌++◌, [], true, None, Some, IsTrue, IsOk, IsSome, IsNone, OnOk, OnErr, IfOk, IfErr, IfSome, length, option_map};
+ghost use Rattle.std.specs.Prelude.{◌≡◌, ◌+◌, ◌-◌, ◌^◌, ◌<◌, ◌≤◌, ◌↔◌, ◌⊎◌, ◌++◌, [], true, None, Some, IsTrue, IsOk, IsSome, IsNone, OnOk, OnErr, IfOk, IfErr, IfSome, length, option_map, filter};
 ghost use Rattle.link_steps.specs.declared.asks.Ask.TheVariants.{Tick as AskTick};
 ghost use Rattle.link_steps.specs.Lists.{Each};
+ghost use Rattle.tick_plane.specs.Coming.{is_from};
 ghost use Rattle.tick_plane.specs.QuietRounds.{HasQuietRounds, rounds_later};
 ghost use Rattle.tick_plane.specs.Rounds.{rest_of};
 ghost use Rattle.tick_plane.specs.Planes.{flight_of, next_due, tick_made, plane_ask, plane_after, plane_expects, plane_start, IsDueLater};
@@ -227,6 +228,34 @@ impl Plane {
         self.round += rounds;
     }
 
+    /// The packet that has left a link with a tick that was made in a window is on its way, where there is a next link. It has to be
+    /// due there after this round. An `Err` comes only for want of memory.
+    #[inline(always)]
+    pub fn send(&mut self, sent: &Option<Sent>) -> Result<(), OutOfMemory>
+        requires later { Each (λ flight. self.old.at.round < flight.round) (flight_of sent.now) }
+        ensures sent { OnOk result (self.new.at ≡ record self.old.at { flights = self.old.at.flights ++ flight_of sent.now }) }
+        ensures links { self.new.links ≡ self.old.links }
+        ensures rounds { self.new.rounds ≡ self.old.rounds }
+    {
+        self.flights.reserve(1)?;
+        self.depart(sent);
+        Ok(())
+    }
+
+    /// Goes on to the start of round `until`, where the rounds before it have been made in a window: the packets that were due in them
+    /// have reached their links.
+    pub fn skip_to(&mut self, until: u64)
+        requires early { self.old.at.round ≤ until }
+        requires all { until ≤ self.old.rounds }
+        ensures at { self.new.at ≡ record { round = until; ticked = 0; flights = filter (is_from until) self.old.at.flights } }
+        ensures links { self.new.links ≡ self.old.links }
+        ensures rounds { self.new.rounds ≡ self.old.rounds }
+    {
+        self.flights.drop_before(until);
+        self.round = until;
+        self.ticked = 0;
+    }
+
     /// The window from here until round `until` begins. An `Err` comes only for want of memory.
     pub fn window(&self, alloc: Global, until: u64) -> Result<Window<'_>, OutOfMemory>
         ensures { IfOk result (λ made. made ≡ record { at = self.now.at; until = until }) }
@@ -242,8 +271,8 @@ impl Plane {
         self.round
     }
 
-    // How many links have made the tick of the round.
-    pub(crate) fn ticked(&self) -> u32
+    /// How many links have made the tick of the round.
+    pub fn ticked(&self) -> u32
         ensures { result ≡ self.now.at.ticked }
     {
         self.ticked

@@ -4,9 +4,11 @@ ghost use Rattle.std.specs.List.{slice_get};
 ghost use Rattle.link_steps.specs.Lists.{Each};
 ghost use Rattle.link_steps.specs.declared.asks.Ask.TheVariants.{Tick};
 ghost use Rattle.net_units.specs.Numbers.{link_number};
-ghost use Rattle.tick_plane.specs.Coming.{AreByLink, AreLeft, IsDueFrom, Rise, arrivals_in, is_before, rounds_in};
+ghost use Rattle.tick_plane.specs.AskedRuns.{asks_in, ticks};
+ghost use Rattle.tick_plane.specs.Coming.{AreByLink, AreLeft, IsDueBefore, IsDueFrom, Rise, arrivals_in, is_before, rounds_in};
 ghost use Rattle.tick_plane.specs.Windows.{window_at};
 
+use crate::asked::Asked;
 use crate::flight::Flight;
 use crate::plane::Plane;
 use link_steps::Ask;
@@ -72,6 +74,26 @@ impl<'a> Window<'a> {
         let next = add_arrivals(&coming, 0, round, asks)?;
         add_tick(link, self.plane.ticked(), asks)?;
         add_rounds(&coming, next, round + 1, self.until, asks)
+    }
+
+    /// Adds what a link is asked in these rounds, as [`Window::asks`] does, with its ticks counted. The plane stands at the start of a
+    /// round. An `Err`, which comes for want of memory alone, may leave some of it added.
+    pub fn asked(
+        &self,
+        alloc: Global,
+        link: LinkNo,
+        asked: &mut Vec<Asked>,
+    ) -> Result<(), OutOfMemory>
+        requires starts { self.now.at.ticked ≡ 0 }
+        ensures { OnOk result (asks_in asked.new.items ≡ asks_in asked.old.items ++ window_at (link_number link) self.now.until self.now.at) }
+    {
+        let round = self.plane.round();
+        if round >= self.until {
+            return Ok(());
+        }
+        let own = &self.coming[usize::from(link.get())];
+        let coming = sorted(alloc, own, round)?;
+        add_asked(&coming, round, self.until, asked)
     }
 }
 
@@ -176,4 +198,38 @@ fn add_arrivals(
         asks.push(Ask::Arrive { packet })?;
     }
     Ok(coming.len())
+}
+
+// Adds what is asked in whole rounds, from one until another begins, with its ticks counted. These flights are due in them.
+fn add_asked(
+    coming: &[Flight],
+    from: u64,
+    until: u64,
+    asked: &mut Vec<Asked>,
+) -> Result<(), OutOfMemory>
+    requires rounds { from ≤ until }
+    requires rise { Rise coming.now }
+    requires ahead { Each (IsDueFrom from) coming.now }
+    requires due { Each (IsDueBefore until) coming.now }
+    ensures { OnOk result (asks_in asked.new.items ≡ asks_in asked.old.items ++ rounds_in from (until - from) coming.now) }
+{
+    let mut made = from;
+    for flight in coming {
+        count_ticks(made, flight.round, asked)?;
+        made = flight.round;
+        let packet = flight.packet;
+        asked.push(Asked::Arrives(packet))?;
+    }
+    count_ticks(made, until, asked)
+}
+
+// Adds the ticks of the rounds from one until another begins.
+fn count_ticks(from: u64, until: u64, asked: &mut Vec<Asked>) -> Result<(), OutOfMemory>
+    requires { from ≤ until }
+    ensures { OnOk result (asks_in asked.new.items ≡ asks_in asked.old.items ++ ticks (until - from)) }
+{
+    if from < until {
+        asked.push(Asked::Ticks(until - from))?;
+    }
+    Ok(())
 }
