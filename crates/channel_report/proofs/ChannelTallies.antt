@@ -1,5 +1,5 @@
 -- What is kept of all sources after one more entry of a run.
-use Rattle.std.proofs.Common.{◌≡◌, ℕ, ◌+◌, ◌^◌, ◌<◌, ◌≤◌, Some, List, [], ◌∷◌, ◌++◌, length, set, refl, sym, ap, ◌∙◌, subst, inl, inr, arith, length-set, zero-add}
+use Rattle.std.proofs.Common.{◌≡◌, ℕ, ◌+◌, ◌^◌, ◌<◌, ◌≤◌, None, Some, List, [], ◌∷◌, ◌++◌, length, set, refl, sym, ap, ◌∙◌, subst, inl, inr, arith, length-set, zero-add}
 use Rattle.std.proofs.lemmas.Bool.{cases_eq, eq-eqb, ne_eqb}
 use Rattle.std.proofs.lemmas.Option.{same_Some}
 use Rattle.std.specs.List.{slice_get}
@@ -62,6 +62,10 @@ sources-same requests past done tallies are off = record {
   all = are.all;
   tells = λ n entry tally found at. same-source n (first_link entry.request.route) done past tally (λ on chan of own. off n entry chan found on of own) (are.tells n entry tally found at);
 }
+
+-- it is for none
+pub for-none : (act : Act) (chan : ChanNo) → act ≡ Nothing → chan_of act ≡ Some chan → ⊥
+for-none act chan nothing of = (let clash : None ≡ Some chan = sym (ap chan_of nothing) ∙ of in cc)
 
 -- one source is kept after the entry
 pub sources-more : (requests : List RequestEntry) (past : List Done) (done : Done) (old : List ChannelTally) (place : ℕ) (was new : ChannelTally) (own : ChanNo) → AreChannelTallies requests past old → slice_get old place ≡ Some was

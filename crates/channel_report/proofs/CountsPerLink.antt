@@ -113,9 +113,10 @@ tally-same h ask reply old nothing is =
     tally-more h ask reply old old.clock old.sent old.dropped old.best_sent old.best_lost old.pours_refused is (sym (nothing.clock old.clock)) (omega (arith, nothing.sent)) (omega (arith, nothing.dropped)) (omega (arith, nothing.dropped))
     (omega (arith, nothing.best_sent)) (omega (arith, nothing.best_lost)) (omega (arith, nothing.pours))
 
-no-pour : (packet : Packet) (reply : Reply) → pours_refused_by (Arrive packet) reply ≡ 0
-no-pour packet (Is.Refused refusal) = refl
-no-pour packet _ = refl
+-- no pour is refused
+pub no-pours : (ask : Ask) (reply : Reply) → asks_best ask ≡ false → pours_refused_by ask reply ≡ 0
+no-pours ask (Is.Refused refusal) none = ap one_if none
+no-pours ask _ none = refl
 
 -- an arrival is one, whose reply tells no tick
 pub arrival-nothing : (packet : Packet) (reply : Reply) → sent_by reply ≡ 0 → dropped_by reply ≡ 0 → best_sent_by reply ≡ 0 → best_lost_by reply ≡ 0 → ((run : List Done) (link : LinkNo) → rows_by run link reply ≡ []) → TellsNothing (Arrive packet) reply
@@ -125,7 +126,7 @@ arrival-nothing packet reply sent dropped best_sent best_lost rows = record {
   dropped = dropped;
   best_sent = best_sent;
   best_lost = best_lost;
-  pours = no-pour packet reply;
+  pours = no-pours (Arrive packet) reply refl;
   source = refl;
   offer = refl;
   rows = rows;

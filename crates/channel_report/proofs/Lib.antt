@@ -13,6 +13,7 @@ pub mod FlowsKept
 pub mod RowsStayKept
 pub mod StepTallies
 pub mod RestTallies
+pub mod LaggingTallies
 pub mod PlainFields
 pub mod PagesTold
 mod Worked

@@ -1,7 +1,6 @@
 -- What is kept of a run after quiet rounds: the clocks and the step counts go on, and all else stays.
-use Rattle.std.proofs.Common.{◌≡◌, ℕ, zero, suc, ◌+◌, ◌*◌, ◌^◌, ◌<◌, ◌≤◌, Bool, List, [], ◌∷◌, length, get_or, set, reverse, refl, sym, ap, ◌∙◌, subst, inl, inr, arith, get_or-set_same, get_or-set_other, length-set}
-use Rattle.std.proofs.lemmas.Bool.{cases_eq}
-use Rattle.std.proofs.lemmas.List.{get_or_default, reverse-append}
+use Rattle.std.proofs.Common.{◌≡◌, ℕ, zero, suc, ◌+◌, ◌*◌, ◌^◌, ◌<◌, ◌≤◌, Bool, List, [], ◌∷◌, length, get_or, set, reverse, refl, sym, ap, ◌∙◌, subst, arith}
+use Rattle.std.proofs.lemmas.List.{reverse-append}
 use Rattle.net_units.specs.declared.numbers.ActorNo.{ActorNo}
 use Rattle.link_steps.specs.declared.asks.Ask.TheVariants.{Tick}
 use Rattle.link_steps.specs.declared.replies.Entry.{Entry}
@@ -40,7 +39,7 @@ use Rattle.channel_report.proofs.FlowsKept.{flows-stay}
 use Rattle.channel_report.proofs.RowsStayKept.{row-none}
 use Rattle.channel_report.proofs.CountsPerLink.{are-small, tally-more}
 use Rattle.channel_report.proofs.LinkTallies.{part-short}
-use Rattle.channel_report.proofs.StepTallies.{replies-few}
+use Rattle.channel_report.proofs.StepTallies.{replies-few, steps-by}
 use Rattle.std.proofs.lemmas.Option.{none-some}
 
 -- ---- what no quiet tick changes
@@ -103,19 +102,9 @@ rested-replies network n run few =
     (length network.links) (plane_at network run).round n run
 
 steps-rest : (network : Network) (n : ℕ) (run : List Done) (old : List ℕ) (more : ℕ) → plane_no network ≤ 64 → GoesOnAtRest network n run → AreStepCounts run old → ((d : ℕ) → more ≡ get_or old (plane_no network) d + n * length network.links) → AreStepCounts (rested network n run) (set old (plane_no network) more)
-steps-rest network n run old more few goes are is = record {
-  all = length-set old (plane_no network) more ∙ are.all;
-  tells = λ k d inside. elim (cases_eq k (plane_no network)) [
-    | inl here ↦
-        (let put : get_or (set old (plane_no network) more) (plane_no network) d ≡ more = get_or-set_same old (plane_no network) more d (omega (arith, are.all, few)) in
-        let was = are.tells (plane_no network) d (omega (arith, few)) in
-        let own = rested-replies network n run few in
-        rw here (omega (arith, put, own, was, is d)))
-    | inr apart ↦
-        (let kept : get_or (set old (plane_no network) more) k d ≡ get_or old k d = get_or-set_other old (plane_no network) k more d apart in
-        kept ∙ are.tells k d inside ∙ ap length (sym (goes.callers k apart)))
-  ];
-}
+steps-rest network n run old more few goes are is =
+    let own = rested-replies network n run few in
+    steps-by run (rested network n run) old (plane_no network) (n * length network.links) more (omega (arith, few)) are (omega (arith, own)) goes.callers is
 
 -- ---- the counts of a link
 
@@ -137,29 +126,6 @@ links-rested network n run old new goes are have = record {
   tells = λ k d inside.
       subst (λ h. IsTally h (get_or new k d)) (sym (goes.parts k inside))
       (subst (IsTally (quiet_ticks n (plane_at network run).round (part_of k run))) (sym (have.each k d (omega (arith, are.all, inside)))) (tally-rests n (plane_at network run).round (part_of k run) (get_or old k d) (are.tells k d inside)));
-}
-
--- the links so far
-pub record HaveRestedTo (n : ℕ) (old new : List LinkTally) (i : ℕ) : Type 0 where
-  pub same : length new ≡ length old
-  pub made : (k : ℕ) (d : LinkTally) → k < i → k < length old → get_or new k d ≡ ticks_later n (get_or old k d)
-  pub left : (k : ℕ) (d : LinkTally) → i ≤ k → get_or new k d ≡ get_or old k d
-
-pub rested-more : (n : ℕ) (old mid : List LinkTally) (i : ℕ) (none : LinkTally) → i < length mid → HaveRestedTo n old mid i → HaveRestedTo n old (set mid i (ticks_later n (get_or mid i none))) (i + 1)
-rested-more n old mid i none within before = let item = get_or mid i none in record {
-  same = length-set mid i (ticks_later n item) ∙ before.same;
-  made = λ k d less inside. elim (cases_eq k i) [
-    | inl here ↦
-        (let put : get_or (set mid i (ticks_later n item)) i d ≡ ticks_later n item = get_or-set_same mid i (ticks_later n item) d within in
-        let own : item ≡ get_or old i d = get_or_default mid i none d within ∙ before.left i d (omega arith) in
-        rw here (put ∙ ap (ticks_later n) own))
-    | inr apart ↦
-        (let kept : get_or (set mid i (ticks_later n item)) k d ≡ get_or mid k d = get_or-set_other mid i k (ticks_later n item) d apart in
-        kept ∙ before.made k d (omega (arith, less, apart)) inside)
-  ];
-  left = λ k d from.
-      let kept : get_or (set mid i (ticks_later n item)) k d ≡ get_or mid k d = get_or-set_other mid i k (ticks_later n item) d (λ same. absurd (omega (arith, same, from))) in
-      kept ∙ before.left k d (omega (arith, from));
 }
 
 -- ---- a tally

@@ -1,5 +1,5 @@
--- The steps of the actors after one more entry of a run.
-use Rattle.std.proofs.Common.{◌≡◌, ℕ, ◌+◌, ◌<◌, ◌≤◌, List, [], ◌∷◌, length, get_or, set, replicate, sym, ap, ◌∙◌, inl, inr, arith, get_or-set_same, get_or-set_other, length-set}
+-- The steps of the actors after one more entry of a run, and after more steps of one of them.
+use Rattle.std.proofs.Common.{◌≡◌, ◌≢◌, ℕ, ◌+◌, ◌<◌, ◌≤◌, List, [], ◌∷◌, length, get_or, set, replicate, sym, ap, ◌∙◌, inl, inr, arith, get_or-set_same, get_or-set_other, length-set}
 use Rattle.std.proofs.lemmas.Bool.{cases_Bool, cases_eq}
 use Rattle.std.proofs.lemmas.List.{get_or-replicate, length-replicate}
 use Rattle.net_units.specs.Numbers.{actor_number}
@@ -27,6 +27,22 @@ steps-more past done old at more are same within is = record {
     | inr apart ↦
         (let kept : get_or (set old at more) n d ≡ get_or old n d = get_or-set_other old at n more d apart in
         kept ∙ are.tells n d inside ∙ ap length (sym (replies-off n done past (λ e. apart (sym e ∙ same)))))
+  ];
+}
+
+-- so many more steps of one actor
+pub steps-by : (past run : List Done) (old : List ℕ) (at steps more : ℕ) → at < 65 → AreStepCounts past old → length (replies_to at run) ≡ length (replies_to at past) + steps → ((n : ℕ) → n ≢ at → replies_to n run ≡ replies_to n past) → ((d : ℕ) → more ≡ get_or old at d + steps)
+    → AreStepCounts run (set old at more)
+steps-by past run old at steps more within are own others is = record {
+  all = length-set old at more ∙ are.all;
+  tells = λ n d inside. elim (cases_eq n at) [
+    | inl here ↦
+        (let put : get_or (set old at more) at d ≡ more = get_or-set_same old at more d (omega (arith, are.all, within)) in
+        let was = are.tells at d within in
+        rw here (omega (arith, put, own, was, is d)))
+    | inr apart ↦
+        (let kept : get_or (set old at more) n d ≡ get_or old n d = get_or-set_other old at n more d apart in
+        kept ∙ are.tells n d inside ∙ ap length (sym (others n apart)))
   ];
 }
 

@@ -14,7 +14,7 @@ use Rattle.channel_report.specs.ChannelTallies.{AreChannelTallies}
 use Rattle.channel_report.specs.Flows.{AreFlows}
 use Rattle.channel_report.specs.KeptRows.{AreKeptIf}
 use Rattle.channel_report.specs.StepCounts.{AreStepCounts}
-use Rattle.channel_report.specs.Tallies.{AreLinkTallies}
+use Rattle.channel_report.specs.Tallies.{AreLinkTallies, AreToldTallies}
 use Rattle.channel_report.specs.declared.tally.Tally.{Tally}
 
 -- a tally of the run
@@ -27,6 +27,17 @@ pub record IsTallied (parts : PlanParts) (run : List Done) (tally : Tally) : Typ
   pub rows : AreKeptIf tally.packets (reverse run) tally.rows.items
   pub made : AreStepCounts run tally.made.items
   pub steps : tally.steps ≡ length run
+
+-- a tally of the run, but for what steps that tell nothing change: of the steps since an earlier run none is counted, and no clock of a link
+-- goes on
+pub record IsLagging (parts : PlanParts) (past run : List Done) (tally : Tally) : Type 0 where
+  pub links : AreToldTallies (length parts.links) run tally.links.items
+  pub channels : AreChannelTallies parts.requests run tally.channels.items
+  pub flows : (whole : List Done) → AreFlows parts.requests (reverse (departures_in whole (reverse run))) tally.flows.items
+  pub hops : AreHops (reverse run) tally.hops.channels.items
+  pub rows : AreKeptIf tally.packets (reverse run) tally.rows.items
+  pub made : AreStepCounts past tally.made.items
+  pub steps : tally.steps ≡ length past
 
 -- the callers stand for a run of the plan, and the tally is of it
 pub record IsTalliedRun (parts : PlanParts) (callers : Callers) (tally : Tally) (run : List Done) : Type 0 where

@@ -29,6 +29,21 @@ pub record AreLinkTallies (count : ℕ) (run : List Done) (tallies : List LinkTa
   pub all : length tallies ≡ count
   pub tells : (n : ℕ) (d : LinkTally) → n < count → IsTally (part_of n run) (slice_index_or tallies n d)
 
+-- ---- of links whose clocks lag
+
+-- with another clock
+abbrev pub at_clock : ℕ → LinkTally → LinkTally
+at_clock clock tally = record tally { clock = clock }
+
+-- all but the clock is that of the history
+abbrev pub IsToldTally : List Entry → LinkTally → Type 0
+IsToldTally h tally = IsTally h (at_clock (clock_of h) tally)
+
+-- so it is of the first n links
+pub record AreToldTallies (count : ℕ) (run : List Done) (tallies : List LinkTally) : Type 0 where
+  pub all : length tallies ≡ count
+  pub tells : (n : ℕ) (d : LinkTally) → n < count → IsToldTally (part_of n run) (slice_index_or tallies n d)
+
 -- ---- quiet ticks
 
 -- the counts with this many quiet ticks more
@@ -39,3 +54,10 @@ ticks_later n tally = record tally { clock = tally.clock + n }
 pub record HaveRested (n : ℕ) (old new : List LinkTally) : Type 0 where
   pub same : length new ≡ length old
   pub each : (k : ℕ) (d : LinkTally) → k < length old → slice_index_or new k d ≡ ticks_later n (slice_index_or old k d)
+
+-- ---- clocks that catch up
+
+-- each of these links has this clock, and its counts are as they were
+pub record HaveClock (clock : ℕ) (old new : List LinkTally) : Type 0 where
+  pub same : length new ≡ length old
+  pub each : (k : ℕ) (d : LinkTally) → k < length old → slice_index_or new k d ≡ at_clock clock (slice_index_or old k d)

@@ -5,7 +5,7 @@ ghost use Rattle.link_steps.specs.Scan.{clock_with};
 ghost use Rattle.link_steps.specs.declared.asks.Ask.TheVariants.{Tick as AskTick};
 ghost use Rattle.link_steps.specs.declared.replies.Entry.{Entry};
 ghost use Rattle.channel_report.specs.Links.{asks_best, one_if};
-ghost use Rattle.channel_report.specs.Tallies.{IsTally};
+ghost use Rattle.channel_report.specs.Tallies.{IsTally, IsToldTally};
 
 use link_steps::{Ask, Reply};
 
@@ -58,6 +58,27 @@ impl LinkTally {
             }
             Reply::Refused(_) => self.pours_refused += pours(ask),
             _ => {}
+        }
+    }
+
+    // Counts what a tick tells, and leaves the clock.
+    #[inline(always)]
+    pub(crate) fn tell(&mut self, reply: &Reply)
+        requires { (h : List Entry) × (IsToldTally h self.old × (length h < 2 ^ 60)) }
+        ensures { (h : List Entry) → IsToldTally h self.old → IsToldTally (record { ask = AskTick; reply = reply.now } ∷ h) self.new }
+    {
+        if let Reply::Ticked {
+            full,
+            sent,
+            best_sent,
+            best_lost,
+            ..
+        } = reply
+        {
+            self.sent += one(sent.is_some());
+            self.dropped += wide(*full);
+            self.best_sent += one(*best_sent);
+            self.best_lost += one(*best_lost);
         }
     }
 

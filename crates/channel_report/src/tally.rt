@@ -13,9 +13,9 @@ ghost use Rattle.channel_report.specs.Links.{best_lost_by, best_sent_by, dropped
 ghost use Rattle.channel_report.specs.Sources.{act_of};
 ghost use Rattle.channel_report.specs.StepCounts.{AreStepCounts};
 ghost use Rattle.channel_report.specs.declared.source_act.Act.TheVariants.{Nothing};
-ghost use Rattle.channel_report.specs.Tallied.{IsTallied};
+ghost use Rattle.channel_report.specs.Tallied.{IsLagging, IsTallied};
 ghost use Rattle.channel_report.specs.TellsNothing.{TellsNothing};
-ghost use Rattle.channel_report.specs.Tallies.{AreLinkTallies, HaveRested};
+ghost use Rattle.channel_report.specs.Tallies.{AreLinkTallies, HaveClock, HaveRested};
 ghost use Rattle.channel_report.specs.declared.link_tally.LinkTally.{LinkTally as Counts};
 
 use crate::channel_tally::ChannelTally;
@@ -79,6 +79,8 @@ impl Tally {
 // A tally sees a run by keeping what the report tells.
 impl Watch for Tally {
     ghost saw = { λ tally parts run. IsTallied parts run tally };
+
+    ghost lags = { λ tally parts past run. IsLagging parts past run tally };
 
     ghost has_table = { λ tally. tally.packets };
 
@@ -149,6 +151,24 @@ impl Watch for Tally {
         Ok(())
     }
 
+    fn may_lag(&self) -> bool {
+        true
+    }
+
+    #[inline(always)]
+    fn see_told(&mut self, _plan: &Plan, link: LinkNo, reply: &Reply) -> Result<(), OutOfMemory> {
+        self.links[usize::from(link.get())].tell(reply);
+        pair(&mut self.flows, link, reply)?;
+        keep_row(&mut self.rows, &self.hops, self.packets, link, reply)?;
+        Ok(())
+    }
+
+    fn catch_up(&mut self, plan: &Plan, clock: u64, steps: u64) {
+        set_clocks(&mut self.links, clock);
+        self.made[plan.callers().len()] += steps;
+        self.steps += steps as usize;
+    }
+
     fn steps_of(&self, actor: ActorNo) -> u64 {
         steps_at(self.made.as_slice(), actor)
     }
@@ -190,6 +210,15 @@ fn rest_links(links: &mut [LinkTally], ticks: u64)
 {
     for link in links.iter_mut() {
         link.clock += ticks;
+    }
+}
+
+// Each link's clock is this.
+fn set_clocks(links: &mut [LinkTally], clock: u64)
+    ensures { HaveClock clock links.old links.new }
+{
+    for link in links.iter_mut() {
+        link.clock = clock;
     }
 }
 

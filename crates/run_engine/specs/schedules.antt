@@ -5,3 +5,4 @@ pub mod Watching
 pub mod Quiet
 pub mod Resting
 pub mod PlaneSteps
+pub mod Lagging

@@ -1,5 +1,5 @@
 //! The links and the actors of a plan on their way through a run, which they don't record.
-ghost use Rattle.std.specs.Prelude.{◌≡◌, ◌-◌, ◌≤◌, ◌∷◌, [], true, List, IfOk, OnErr, length};
+ghost use Rattle.std.specs.Prelude.{◌≡◌, ◌-◌, ◌≤◌, ◌∷◌, [], true, List, IfOk, OnErr, length, nat_eq};
 ghost use Rattle.net_units.specs.Numbers.{actor_number};
 ghost use Rattle.net_units.specs.declared.numbers.ActorNo.{ActorNo as Actor};
 ghost use Rattle.link_server.specs.Asks.{IsArriveOrTick};
@@ -124,6 +124,13 @@ impl Engine {
         ensures { result ≡ self.now.actors.plane.at.round }
     {
         self.actors.plane.round()
+    }
+
+    /// Whether the plane's round hasn't begun: no link has made its tick.
+    pub fn starts_round(&self) -> bool
+        ensures { result ≡ nat_eq self.now.actors.plane.at.ticked 0 }
+    {
+        self.actors.plane.ticked() == 0
     }
 
     /// How many packets are on their way.

@@ -3,6 +3,7 @@ ghost use Rattle.std.specs.Prelude.{◌≡◌, ◌*◌, ◌∷◌, Bool, true, L
 ghost use Rattle.net_units.specs.Numbers.{actor_number};
 ghost use Rattle.call_script.specs.Parts.{PlanParts};
 ghost use Rattle.call_script.specs.Tasks.{network_of};
+ghost use Rattle.run_engine.specs.schedules.Lagging.{IsNextTold, LagsBy, MayLag};
 ghost use Rattle.run_engine.specs.schedules.PlaneSteps.{plane_step};
 ghost use Rattle.run_engine.specs.schedules.Quiet.{rested, the_plane};
 ghost use Rattle.run_engine.specs.schedules.Resting.{EngineRests};
@@ -24,6 +25,10 @@ use run_record::{Done, Record};
 pub trait Watch: Drop {
     /// Whether it has seen this run of a plan, newest first.
     ghost saw: { Self → PlanParts → List Entry → Type 0 };
+
+    /// Whether it has seen the first of these runs whole, and what the plane's steps have told from there to the second. One that never
+    /// lags has seen the second whole.
+    ghost lags: { Self → PlanParts → List Entry → List Entry → Type 0 };
 
     /// Whether it keeps what a table of the run's packets tells. That never changes.
     ghost has_table: { Self → Bool };
@@ -78,6 +83,24 @@ pub trait Watch: Drop {
         ensures seen { OnOk result ((past : List Entry) → IsRestSeen saw plan.now self.old past first rounds → saw self.new plan.now (rested (network_of plan.now) rounds past)) }
         ensures table { OnOk result (has_table self.new ≡ has_table self.old) };
 
+    /// Whether it may lag: of the plane's steps it need only see the ticks that tell something ([`Watch::see_told`]), and catches up with
+    /// the others later ([`Watch::catch_up`]).
+    fn may_lag(&self) -> bool
+        ensures { result ≡ true → MayLag saw lags };
+
+    /// Sees the plane's tick of this link, which tells this, while it lags. An `Err` comes only for want of memory, and then nothing
+    /// more is said of the watcher.
+    fn see_told(&mut self, plan: &Plan, link: LinkNo, reply: &Reply) -> Result<(), OutOfMemory>
+        requires { (past : List Entry) × ((run : List Entry) × IsNextTold lags plan.now self.old past run link reply.now) }
+        ensures seen { OnOk result ((past run : List Entry) → IsNextTold lags plan.now self.old past run link reply.now → lags self.new plan.now past (plane_step (network_of plan.now) link AskTick reply.now ∷ run)) }
+        ensures table { OnOk result (has_table self.new ≡ has_table self.old) };
+
+    /// Catches up with so many of the plane's steps, after which each link's clock is this.
+    fn catch_up(&mut self, plan: &Plan, clock: u64, steps: u64)
+        requires { (past : List Entry) × ((run : List Entry) × LagsBy lags plan.now self.old past run clock steps) }
+        ensures seen { (past run : List Entry) → LagsBy lags plan.now self.old past run clock steps → saw self.new plan.now run }
+        ensures table { has_table self.new ≡ has_table self.old };
+
     /// How many steps this actor made in the run that it has seen.
     fn steps_of(&self, actor: ActorNo) -> u64
         ensures { (parts : PlanParts) (run : List Entry) → saw self.now parts run → result ≡ length (replies_to (actor_number actor) run) };
@@ -86,6 +109,8 @@ pub trait Watch: Drop {
 // A record sees a run by recording it.
 impl Watch for Record {
     ghost saw = { λ kept parts run. reverse kept.entries ≡ run };
+
+    ghost lags = { λ kept parts past run. reverse kept.entries ≡ run };
 
     ghost has_table = { λ kept. true };
 
@@ -99,6 +124,17 @@ impl Watch for Record {
         let links = plan.links().len() as u32;
         record_rounds(self, plane_of(plan), links, first, rounds)
     }
+
+    fn may_lag(&self) -> bool {
+        false
+    }
+
+    fn see_told(&mut self, plan: &Plan, link: LinkNo, reply: &Reply) -> Result<(), OutOfMemory> {
+        self.see_plane(plan, link, &Ask::Tick, reply)
+    }
+
+    // It has seen all of them.
+    fn catch_up(&mut self, _plan: &Plan, _clock: u64, _steps: u64) {}
 
     fn steps_of(&self, actor: ActorNo) -> u64 {
         steps_among(self.entries(), actor)

@@ -1,14 +1,12 @@
 -- One more link has its ticks, and then all.
-use Rattle.std.proofs.Common.{◌≡◌, get_or, refl, ap, arith}
+use Rattle.std.proofs.Common.{◌≡◌, get_or, ap, arith}
 use Rattle.channel_report.specs.declared.link_tally.LinkTally.{LinkTally}
-use Rattle.channel_report.proofs.RestTallies.{rested-more}
+use Rattle.channel_report.proofs.LinkTallies.{changed-more, none-changed, nothing}
+use Rattle.channel_report.specs.Tallies.{ticks_later}
 use Rattle.channel_report.proofs.tally.rest_links.Goals as goal
 
-abbrev nothing : LinkTally
-nothing = record { clock = 0; sent = 0; dropped = 0; best_sent = 0; best_lost = 0; pours_refused = 0 }
-
 pub loop-link-init : goal.loop-link-init
-loop-link-init c = record { same = refl; made = λ k d less inside. absurd (omega (arith, less)); left = λ k d from. refl }
+loop-link-init c = none-changed (ticks_later c.args.ticks) c.args.links.now
 
 pub overflow_add-link : goal.overflow_add-link
 overflow_add-link c =
@@ -20,7 +18,7 @@ overflow_add-link c =
 
 pub loop-link-preserved : goal.loop-link-preserved
 loop-link-preserved c =
-    rested-more c.args.ticks c.args.links.now c.loop-link.links c.loop-link.link-index nothing
+    changed-more (ticks_later c.args.ticks) c.args.links.now c.loop-link.links c.loop-link.link-index nothing
     (let same = c.loop-link.auto.links in let below = c.loop-link-test.true in omega (arith, same, below)) c.loop-link.invariant
 
 pub returns : goal.returns

@@ -1,6 +1,7 @@
-use Rattle.channel_report.proofs.RestTallies.{HaveRestedTo}
+use Rattle.channel_report.specs.Tallies.{ticks_later}
+use Rattle.channel_report.proofs.LinkTallies.{HaveChangedTo}
 use Rattle.channel_report.proofs.tally.rest_links.Given as goal
 
 -- the links so far have their ticks more
 abbrev pub invariant-loop-link : goal.invariant-loop-link
-invariant-loop-link l = HaveRestedTo l.ticks l.initial.links l.links l.link-index
+invariant-loop-link l = HaveChangedTo (ticks_later l.ticks) l.initial.links l.links l.link-index

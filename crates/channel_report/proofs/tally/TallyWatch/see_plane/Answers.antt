@@ -1,9 +1,8 @@
 -- The counts and the rows have the new entry, and there is nothing else to keep of it; or it is seen as any other.
-use Rattle.std.proofs.Common.{◌≡◌, ◌<◌, None, Some, List, [], ◌∷◌, ◌++◌, length, refl, reverse, sym, ap, subst, ◌∙◌, arith}
+use Rattle.std.proofs.Common.{◌≡◌, ◌<◌, List, [], ◌∷◌, ◌++◌, length, refl, reverse, sym, ap, subst, ◌∙◌, arith}
 use Rattle.std.proofs.lemmas.List.{reverse-append}
 use Rattle.net_units.specs.Numbers.{actor_number}
 use Rattle.net_units.specs.declared.numbers.ActorNo.{ActorNo}
-use Rattle.net_units.specs.declared.numbers.ChanNo.{ChanNo}
 use Rattle.call_script.specs.Tasks.{network_of}
 use Rattle.run_engine.specs.schedules.PlaneSteps.{plane_step}
 use Rattle.call_script.specs.Parts.{PlanParts}
@@ -15,13 +14,10 @@ use Rattle.run_record.specs.Rows.{departures_in}
 use Rattle.run_record.specs.Runs.{part_of}
 use Rattle.run_record.specs.declared.done.Done.{Done}
 use Rattle.channel_report.specs.KeptRows.{AreKeptIf}
-use Rattle.channel_report.specs.Sources.{chan_of}
-use Rattle.channel_report.specs.declared.source_act.Act.{Act}
-use Rattle.channel_report.specs.declared.source_act.Act.TheVariants.{Nothing}
 use Rattle.channel_report.specs.Tallied.{IsTallied}
 use Rattle.channel_report.specs.Tallies.{IsTally}
 use Rattle.channel_report.specs.declared.tally.Tally.{Tally}
-use Rattle.channel_report.proofs.ChannelTallies.{sources-same}
+use Rattle.channel_report.proofs.ChannelTallies.{for-none, sources-same}
 use Rattle.channel_report.proofs.CountsPerLink.{tally-same}
 use Rattle.channel_report.proofs.EarlyTicks.{next-early}
 use Rattle.channel_report.proofs.FlowsKept.{flows-go_on, flows-stay, rows-few}
@@ -67,10 +63,6 @@ add-requires c =
     let within = link-within c.args.plan.now past (plane_step (network_of c.args.plan.now) c.args.link c.args.ask.now c.args.reply.now) next.next in
     let tally = next.seen.links.tells place c.index_mut.result.now (omega (arith, c.from.ensures, c.get.ensures.value, within)) in
     (part_of place past, (subst (IsTally (part_of place past)) (sym c.index_mut.ensures.value) tally, omega (arith, part-short place past, run-short c.args.plan.now past next.plan next.run)))
-
--- it is for no source
-for-none : (act : Act) (chan : ChanNo) → act ≡ Nothing → chan_of act ≡ Some chan → ⊥
-for-none act chan nothing of = (let clash : None ≡ Some chan = sym (ap chan_of nothing) ∙ of in cc)
 
 -- ---- a step that tells nothing
 
