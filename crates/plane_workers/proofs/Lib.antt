@@ -15,3 +15,7 @@ pub mod LinkAnswers
 pub mod WindowRests
 pub mod LanesHandOn
 pub mod StepHandedOn
+pub mod ToldInTurn
+pub mod LinkTells
+mod ShownInTurn
+mod WindowShown

@@ -11,7 +11,8 @@ use Rattle.link_steps.specs.declared.asks.Ask.TheVariants.{Tick}
 use Rattle.link_steps.specs.declared.replies.Reply.{Reply}
 use Rattle.run_engine.specs.schedules.Resting.{HasRested}
 use Rattle.plane_workers.specs.Answered.{answered, replies_along, ticks_in, HasStepped, IsAnswered}
-use Rattle.plane_workers.specs.Said.{quiets, ticks}
+use Rattle.plane_workers.specs.Said.{quiets}
+use Rattle.tick_plane.specs.AskedRuns.{ticks}
 use Rattle.plane_workers.proofs.AsksInTurn.{ticks-append}
 use Rattle.plane_workers.proofs.QuietReplies.{answered-both, replies-both, ticks-answered, ticks-replied, quiets-long, ticks-long, ticks-last}
 

@@ -10,7 +10,8 @@ use Rattle.link_steps.specs.declared.replies.Entry.{Entry}
 use Rattle.link_steps.specs.declared.replies.Reply.{Reply}
 use Rattle.link_steps.proofs.QuietTicks.{more-quiet}
 use Rattle.plane_workers.specs.Answered.{answered, entry_after, replies_along}
-use Rattle.plane_workers.specs.Said.{quiets, said_in, ticks}
+use Rattle.plane_workers.specs.Said.{quiets, said_in}
+use Rattle.tick_plane.specs.AskedRuns.{ticks}
 use Rattle.plane_workers.specs.declared.lane.Said.{Said}
 use Rattle.plane_workers.specs.declared.lane.Said.TheVariants.{Quiet, Replied}
 

@@ -8,7 +8,7 @@ use Rattle.tick_plane.specs.Planes.{Plane}
 use Rattle.tick_plane.specs.Windows.{is_bound, arrive_of, arrivals_at, rounds_at, window_at}
 use Rattle.tick_plane.specs.declared.flight.Flight.{Flight}
 use Rattle.link_steps.proofs.SearchAndFilter.{Each-if, filter-none}
-use Rattle.plane_workers.specs.Said.{ticks}
+use Rattle.tick_plane.specs.AskedRuns.{ticks}
 use Rattle.plane_workers.proofs.QuietReplies.{no-ticks, ticks-first}
 
 abbrev starting : ℕ → List Flight → Plane

@@ -31,7 +31,8 @@ use Rattle.run_engine.proofs.Keeping.Lookups.{held}
 use Rattle.run_engine.proofs.Keeping.NextStep.{callers-few}
 use Rattle.run_engine.proofs.Runs.RunLength.{follows-longer, repeated-long}
 use Rattle.run_engine.proofs.Watched.QuietRounds.{plane-is, quiet-rounds}
-use Rattle.plane_workers.specs.Said.{quiets, ticks}
+use Rattle.plane_workers.specs.Said.{quiets}
+use Rattle.tick_plane.specs.AskedRuns.{ticks}
 use Rattle.plane_workers.specs.Windows.{GoesOnBy, IsInWindow, LinkIsAhead}
 use Rattle.plane_workers.proofs.QuietReplies.{no-quiets, no-ticks, quiet-front, quiets-first, ticks-first}
 use Rattle.plane_workers.proofs.QuietWindow.{window-quiet}

@@ -6,3 +6,5 @@ pub mod Batches
 pub mod Desks
 pub mod Said
 pub mod Lanes
+pub mod Tracks
+pub mod Showing

@@ -1,17 +1,10 @@
 -- What a link has replied, with its quiet ticks counted and not written out.
 use Rattle.std.specs.Prelude.{ℕ, zero, suc, Option, Some, None, List, [], ◌∷◌, ◌++◌}
 use Rattle.link_steps.specs.Quiet.{quiet_reply}
-use Rattle.link_steps.specs.declared.asks.Ask.{Ask}
-use Rattle.link_steps.specs.declared.asks.Ask.TheVariants.{Tick}
 use Rattle.link_steps.specs.declared.replies.Reply.{Reply}
 use Rattle.plane_workers.specs.declared.quiet_run.QuietRun.{QuietRun}
 use Rattle.plane_workers.specs.declared.lane.Said.{Said}
 use Rattle.plane_workers.specs.declared.lane.Said.TheVariants.{Quiet, Replied}
-
--- so many ticks
-unfoldable pub ticks : ℕ → List Ask
-ticks zero = []
-ticks (suc n) = Tick ∷ ticks n
 
 -- the replies to so many quiet ticks, the first of them at this clock
 unfoldable pub quiets : ℕ → ℕ → List Reply

@@ -9,7 +9,8 @@ ghost use Rattle.link_steps.specs.Quiet.{quiet_reply};
 ghost use Rattle.link_steps.specs.Scan.{clock_with};
 ghost use Rattle.link_steps.specs.declared.replies.Reply.{Reply as Replies};
 ghost use Rattle.plane_workers.specs.Answered.{HasStepped, IsAnswered, ticks_in};
-ghost use Rattle.plane_workers.specs.Said.{quiets, said_in, ticks};
+ghost use Rattle.plane_workers.specs.Said.{quiets, said_in};
+ghost use Rattle.tick_plane.specs.AskedRuns.{ticks};
 ghost use Rattle.run_engine.specs.schedules.Resting.{HasRested, RestsBy};
 
 use crate::lane::Said;

@@ -6,7 +6,7 @@ ghost use Rattle.std.specs.Prelude.{◌≡◌, ◌+◌, ◌<◌, ◌≤◌, ◌^
 const TICKS_EACH: u64 = 4_000;
 
 // A window has at most this many times as many rounds as were busy before it.
-const BUSY_AHEAD: u64 = 4;
+const BUSY_AHEAD: u64 = 32;
 
 // A round at rest takes back so many busy ones.
 const BUSY_LOST: u64 = 1;

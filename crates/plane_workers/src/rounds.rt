@@ -2,6 +2,7 @@
 ghost use Rattle.std.specs.Prelude.{◌≡◌, ◌^◌, ◌+◌, ◌<◌, ◌≤◌, List, IfOk, OnOk, length};
 ghost use Rattle.net_units.specs.Numbers.{actor_at};
 ghost use Rattle.call_script.specs.Tasks.{network_of};
+ghost use Rattle.run_engine.specs.schedules.Lagging.{MayLag};
 ghost use Rattle.run_engine.specs.schedules.Quiet.{the_plane};
 ghost use Rattle.run_engine.specs.schedules.Watching.{PlaysOut, WatchStands};
 ghost use Rattle.plane_workers.specs.Seen.{PlaysMore};
@@ -12,6 +13,8 @@ use crate::alone::make_alone;
 use crate::gap::least_gap;
 use crate::lane::{lanes_of, links_in};
 use crate::pace::{Pace, Part};
+use crate::showing::show_windows;
+use crate::track::{links_on, tracks_of};
 use crate::window::make_windows;
 use call_script::Plan;
 use net_units::{ActorNo, Gate, OutOfMemory};
@@ -89,8 +92,98 @@ fn make_part<R: Threads + Sync, W: Watch, G: Gate + Sync>(
     Ok(engine)
 }
 
-// The same by several workers, for whom the links are taken out of the engine.
+// The same by several workers. A watcher that may lag is shown the ticks that tell something, and another one all steps.
 fn make_apart<R: Threads + Sync, W: Watch, G: Gate + Sync>(
+    rt: &R,
+    alloc: Global,
+    plan: &Plan,
+    engine: Engine,
+    watch: &mut W,
+    actor: ActorNo,
+    gap: u64,
+    rounds: u64,
+    part: &Part,
+    pace: &mut Pace,
+    gate: &G,
+) -> Result<Engine, OutOfMemory>
+    requires actor { actor ≡ the_plane (network_of plan.now) }
+    requires keeps { KeepsGap (network_of plan.now) gap }
+    requires stand { (run : List Step) × WatchStands W.saw plan.now engine watch.old run }
+    requires workers { 0 < part.now.workers }
+    requires early { engine.actors.plane.at.round < part.now.until }
+    requires all { part.now.until ≤ (network_of plan.now).rounds }
+    requires near { part.now.until ≤ engine.actors.plane.at.round + gap + 1 }
+    requires rounds { rounds ≡ (network_of plan.now).rounds }
+    requires gap { pace.old.gap ≡ gap }
+    requires small { gap < 2 ^ 60 }
+    ensures plays { IfOk result (λ made. (past : List Step) → WatchStands W.saw plan.now engine watch.old past → PlaysMore W.saw plan.now made watch.new past actor 0) }
+    ensures at { IfOk result (λ made. part.now.until ≤ made.actors.plane.at.round) }
+    ensures gap { OnOk result (pace.new.gap ≡ gap) }
+    ensures table { OnOk result (W.has_table watch.new ≡ W.has_table watch.old) }
+{
+    if watch.may_lag() && engine.starts_round() {
+        return make_lagging(
+            rt, alloc, plan, engine, watch, actor, gap, rounds, part, pace, gate,
+        );
+    }
+    make_seen(
+        rt, alloc, plan, engine, watch, actor, gap, rounds, part, pace, gate,
+    )
+}
+
+// The same for a watcher that may lag, from the start of a round. The links are taken out of the engine.
+fn make_lagging<R: Threads + Sync, W: Watch, G: Gate + Sync>(
+    rt: &R,
+    alloc: Global,
+    plan: &Plan,
+    engine: Engine,
+    watch: &mut W,
+    actor: ActorNo,
+    gap: u64,
+    rounds: u64,
+    part: &Part,
+    pace: &mut Pace,
+    gate: &G,
+) -> Result<Engine, OutOfMemory>
+    requires laws { MayLag W.saw W.lags }
+    requires starts { engine.actors.plane.at.ticked ≡ 0 }
+    requires actor { actor ≡ the_plane (network_of plan.now) }
+    requires keeps { KeepsGap (network_of plan.now) gap }
+    requires stand { (run : List Step) × WatchStands W.saw plan.now engine watch.old run }
+    requires workers { 0 < part.now.workers }
+    requires early { engine.actors.plane.at.round < part.now.until }
+    requires all { part.now.until ≤ (network_of plan.now).rounds }
+    requires near { part.now.until ≤ engine.actors.plane.at.round + gap + 1 }
+    requires rounds { rounds ≡ (network_of plan.now).rounds }
+    requires gap { pace.old.gap ≡ gap }
+    requires small { gap < 2 ^ 60 }
+    ensures plays { IfOk result (λ made. (past : List Step) → WatchStands W.saw plan.now engine watch.old past → PlaysMore W.saw plan.now made watch.new past actor 0) }
+    ensures at { IfOk result (λ made. part.now.until ≤ made.actors.plane.at.round) }
+    ensures gap { OnOk result (pace.new.gap ≡ gap) }
+    ensures table { OnOk result (W.has_table watch.new ≡ W.has_table watch.old) }
+{
+    let (links, mut plane, callers) = engine.into_parts();
+    let mut tracks = tracks_of(alloc, links)?;
+    show_windows(
+        rt,
+        alloc,
+        plan,
+        &mut plane,
+        &mut tracks,
+        watch,
+        actor,
+        gap,
+        rounds,
+        part,
+        pace,
+        gate,
+    )?;
+    let links = links_on(alloc, tracks)?;
+    Ok(Engine::from_parts(links, plane, callers))
+}
+
+// The same for a watcher that is shown all steps. The links are taken out of the engine.
+fn make_seen<R: Threads + Sync, W: Watch, G: Gate + Sync>(
     rt: &R,
     alloc: Global,
     plan: &Plan,

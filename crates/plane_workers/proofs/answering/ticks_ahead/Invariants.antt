@@ -1,5 +1,5 @@
 use Rattle.std.proofs.Common.{◌≡◌, ◌++◌, ◌-◌, ◌≤◌, take}
-use Rattle.plane_workers.specs.Said.{ticks}
+use Rattle.tick_plane.specs.AskedRuns.{ticks}
 use Rattle.plane_workers.proofs.answering.ticks_ahead.Given as goal
 
 -- all of these so far are ticks

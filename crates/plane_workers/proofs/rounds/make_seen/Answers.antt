@@ -4,7 +4,7 @@ use Rattle.std.proofs.lemmas.List.{with_items_is}
 use Rattle.tick_plane.specs.PlaneAccount.{PlaneAccount}
 use Rattle.plane_workers.specs.declared.lane.Lane.{Lane}
 use Rattle.plane_workers.proofs.LinksAtDesks.{engine-again, plane-actor, seen-first}
-use Rattle.plane_workers.proofs.rounds.make_apart.Goals as goal
+use Rattle.plane_workers.proofs.rounds.make_seen.Goals as goal
 
 pub make_windows-requires-clause-actor : goal.make_windows-requires-clause-actor
 make_windows-requires-clause-actor g c κs within = plane-actor c.args.plan.now c.args.actor c.requires.stand.1.stands.plan c.requires.actor
