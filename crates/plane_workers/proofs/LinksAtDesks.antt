@@ -6,7 +6,6 @@ use Rattle.std.proofs.lemmas.Option.{slice_get-map, slice_get_within, none-some}
 use Rattle.std.specs.List.{slice_get}
 use Rattle.net_units.specs.Numbers.{actor_at, actor_number}
 use Rattle.net_units.specs.declared.numbers.ActorNo.{ActorNo}
-use Rattle.net_units.proofs.KnownByNumber.{same-actor}
 use Rattle.link_quota.specs.Any.{any_rules, AnyStands}
 use Rattle.link_quota.specs.declared.any_link.AnyLink.{AnyLink}
 use Rattle.link_steps.specs.Lists.{Each}
@@ -35,7 +34,6 @@ use Rattle.run_engine.specs.declared.callers.Callers.{Callers}
 use Rattle.run_engine.specs.declared.engine.Engine.{Engine}
 use Rattle.run_engine.proofs.Keeping.KeptActors.{plane-number}
 use Rattle.run_engine.proofs.Keeping.NextStep.{callers-few}
-use Rattle.run_engine.proofs.Keeping.NextPlaneStep.{own-number}
 use Rattle.run_engine.proofs.Watched.QuietRounds.{plane-is}
 use Rattle.run_engine.proofs.Runs.RunLegal.{asked-plane}
 use Rattle.plane_workers.specs.Gaps.{IsSpaced, TaskSpaced, AreSpaced}
@@ -66,10 +64,6 @@ plane-actor parts actor plan is =
     let place = plane-number parts in
     let few = callers-few parts plan in
     ap actor_number is ∙ plane-is (network_of parts) (omega (arith, place, few)) ∙ place
-
--- the actor of that number is the plane
-pub plane-of-number : (parts : PlanParts) (actor : ActorNo) → IsPlan parts → actor_number actor ≡ length parts.callers → actor ≡ the_plane (network_of parts)
-plane-of-number parts actor plan by = same-actor actor (the_plane (network_of parts)) (by ∙ sym (own-number parts plan))
 
 pub plane-of-callers : (parts : PlanParts) (count : ℕ) → count ≡ length parts.callers → actor_at count ≡ the_plane (network_of parts)
 plane-of-callers parts count is = ap actor_at (is ∙ sym (plane-number parts))

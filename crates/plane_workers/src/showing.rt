@@ -2,7 +2,6 @@
 //! order in which the plane asks for them.
 ghost use Rattle.std.specs.Prelude.{◌≡◌, ◌≢◌, ℕ, ◌+◌, ◌-◌, ◌^◌, ◌<◌, ◌≤◌, ◌++◌, ◌∷◌, suc, List, Some, OnOk, false, drop, length};
 ghost use Rattle.std.specs.List.{slice_get};
-ghost use Rattle.net_units.specs.Numbers.{actor_number};
 ghost use Rattle.call_script.specs.Tasks.{network_of};
 ghost use Rattle.link_quota.specs.Any.{any_clock, any_rules, AnyStands};
 ghost use Rattle.link_steps.specs.Legal.{AskFits};
@@ -12,6 +11,7 @@ ghost use Rattle.plane_workers.specs.Answered.{ticks_in};
 ghost use Rattle.plane_workers.specs.Seen.{GoesTo, SeenBetween};
 ghost use Rattle.plane_workers.specs.Showing.{Shows};
 ghost use Rattle.plane_workers.specs.Tracks.{HasTold, next_clock, track_left, track_rules, track_stands};
+ghost use Rattle.plane_workers.specs.Windows.{IsJobOf};
 ghost use Rattle.plane_workers.specs.declared.track.Track.{Track as TrackAt};
 ghost use Rattle.run_engine.specs.schedules.Lagging.{MayLag};
 ghost use Rattle.run_engine.specs.schedules.Quiet.{the_plane};
@@ -20,86 +20,70 @@ ghost use Rattle.tick_plane.specs.Planes.{flight_in, IsDueLater};
 ghost use Rattle.tick_plane.specs.Windows.{window_at};
 
 use crate::desk::link_of;
+use crate::job::Job;
 use crate::pace::{Pace, Part};
 use crate::track::Track;
 use call_script::Plan;
 use link_steps::Reply;
-use net_units::{ActorNo, Gate, OutOfMemory};
+use net_units::{Gate, OutOfMemory};
 use run_engine::Watch;
-use std::alloc::Global;
 use std::thread;
 use std::thread::Threads;
 use tick_plane::{Plane, Window};
 
 // The window of the part, and then more of them, as long as they pay.
 pub(crate) fn show_windows<R: Threads + Sync, W: Watch, G: Gate + Sync>(
-    rt: &R,
-    alloc: Global,
-    plan: &Plan,
+    job: &Job<R, G>,
     plane: &mut Plane,
     tracks: &mut [Track],
     watch: &mut W,
-    actor: ActorNo,
-    gap: u64,
-    rounds: u64,
     part: &Part,
     pace: &mut Pace,
-    gate: &G,
 ) -> Result<(), OutOfMemory>
     requires laws { MayLag W.saw W.lags }
     requires starts { plane.old.at.ticked ≡ 0 }
     requires workers { 0 < part.now.workers }
-    requires actor { actor_number actor ≡ length plan.now.callers }
-    requires between { (run : List Step) × SeenBetween track_rules track_stands W.saw plan.now gap tracks.old plane.old watch.old run }
+    requires job { IsJobOf job.now.plan.now job.now.actor job.now.gap job.now.rounds }
+    requires between { (run : List Step) × SeenBetween track_rules track_stands W.saw job.now.plan.now job.now.gap tracks.old plane.old watch.old run }
     requires early { plane.old.at.round < part.now.until }
-    requires near { part.now.until ≤ plane.old.at.round + gap + 1 }
-    requires all { part.now.until ≤ rounds }
-    requires rounds { plane.old.rounds ≡ rounds }
-    requires gap { pace.old.gap ≡ gap }
-    requires small { gap < 2 ^ 60 }
-    ensures goes { OnOk result ((past : List Step) → SeenBetween track_rules track_stands W.saw plan.now gap tracks.old plane.old watch.old past → GoesTo (network_of plan.now) actor past (SeenBetween track_rules track_stands W.saw plan.now gap tracks.new plane.new watch.new)) }
+    requires near { part.now.until ≤ plane.old.at.round + job.now.gap + 1 }
+    requires all { part.now.until ≤ job.now.rounds }
+    requires rounds { plane.old.rounds ≡ job.now.rounds }
+    requires gap { pace.old.gap ≡ job.now.gap }
+    ensures goes { OnOk result ((past : List Step) → SeenBetween track_rules track_stands W.saw job.now.plan.now job.now.gap tracks.old plane.old watch.old past → GoesTo (network_of job.now.plan.now) job.now.actor past (SeenBetween track_rules track_stands W.saw job.now.plan.now job.now.gap tracks.new plane.new watch.new)) }
     ensures at { OnOk result (part.now.until ≤ plane.new.at.round) }
-    ensures gap { OnOk result (pace.new.gap ≡ gap) }
+    ensures gap { OnOk result (pace.new.gap ≡ job.now.gap) }
     ensures table { OnOk result (W.has_table watch.new ≡ W.has_table watch.old) }
 {
-    show_noted(
-        rt, alloc, plan, plane, tracks, watch, actor, gap, part, pace, gate,
-    )?;
-    while plane.round() < rounds {
-        let next = pace.next(plane.round(), rounds, plane.flights());
+    show_noted(job, plane, tracks, watch, part, pace)?;
+    while plane.round() < job.rounds {
+        let next = pace.next(plane.round(), job.rounds, plane.flights());
         if next.workers < 2 {
             return Ok(());
         }
-        show_noted(
-            rt, alloc, plan, plane, tracks, watch, actor, gap, &next, pace, gate,
-        )?;
+        show_noted(job, plane, tracks, watch, &next, pace)?;
     }
     Ok(())
 }
 
 // The window of the part, which is noted.
 fn show_noted<R: Threads + Sync, W: Watch, G: Gate + Sync>(
-    rt: &R,
-    alloc: Global,
-    plan: &Plan,
+    job: &Job<R, G>,
     plane: &mut Plane,
     tracks: &mut [Track],
     watch: &mut W,
-    actor: ActorNo,
-    gap: u64,
     part: &Part,
     pace: &mut Pace,
-    gate: &G,
 ) -> Result<(), OutOfMemory>
     requires laws { MayLag W.saw W.lags }
     requires starts { plane.old.at.ticked ≡ 0 }
     requires workers { 0 < part.now.workers }
-    requires actor { actor_number actor ≡ length plan.now.callers }
-    requires between { (run : List Step) × SeenBetween track_rules track_stands W.saw plan.now gap tracks.old plane.old watch.old run }
+    requires job { IsJobOf job.now.plan.now job.now.actor job.now.gap job.now.rounds }
+    requires between { (run : List Step) × SeenBetween track_rules track_stands W.saw job.now.plan.now job.now.gap tracks.old plane.old watch.old run }
     requires early { plane.old.at.round < part.now.until }
-    requires near { part.now.until ≤ plane.old.at.round + gap + 1 }
+    requires near { part.now.until ≤ plane.old.at.round + job.now.gap + 1 }
     requires all { part.now.until ≤ plane.old.rounds }
-    ensures goes { OnOk result ((past : List Step) → SeenBetween track_rules track_stands W.saw plan.now gap tracks.old plane.old watch.old past → GoesTo (network_of plan.now) actor past (SeenBetween track_rules track_stands W.saw plan.now gap tracks.new plane.new watch.new)) }
+    ensures goes { OnOk result ((past : List Step) → SeenBetween track_rules track_stands W.saw job.now.plan.now job.now.gap tracks.old plane.old watch.old past → GoesTo (network_of job.now.plan.now) job.now.actor past (SeenBetween track_rules track_stands W.saw job.now.plan.now job.now.gap tracks.new plane.new watch.new)) }
     ensures at { OnOk result (plane.new.at.round ≡ part.now.until) }
     ensures starts { OnOk result (plane.new.at.ticked ≡ 0) }
     ensures rounds { OnOk result (plane.new.rounds ≡ plane.old.rounds) }
@@ -107,31 +91,19 @@ fn show_noted<R: Threads + Sync, W: Watch, G: Gate + Sync>(
     ensures table { OnOk result (W.has_table watch.new ≡ W.has_table watch.old) }
 {
     let round = plane.round();
-    tell_until(
-        rt,
-        alloc,
-        plane,
-        tracks,
-        part.until,
-        part.workers,
-        gate,
-        actor,
-    )?;
-    let busy = show_window(plan, plane, tracks, watch, part.until)?;
+    tell_until(job, plane, tracks, part.until, part.workers)?;
+    let busy = show_window(job.plan, plane, tracks, watch, part.until)?;
     pace.note(part.until.saturating_sub(round), busy);
     Ok(())
 }
 
 // Each link answers what the plane asks of it until a round begins, as far as the packets on their way tell that.
 fn tell_until<R: Threads + Sync, G: Gate + Sync>(
-    rt: &R,
-    alloc: Global,
+    job: &Job<R, G>,
     plane: &Plane,
     tracks: &mut [Track],
     until: u64,
     workers: usize,
-    gate: &G,
-    actor: ActorNo,
 ) -> Result<(), OutOfMemory>
     requires starts { plane.now.at.ticked ≡ 0 }
     requires workers { 0 < workers }
@@ -142,8 +114,8 @@ fn tell_until<R: Threads + Sync, G: Gate + Sync>(
     ensures long { OnOk result (length tracks.new ≡ length tracks.old) }
     ensures told { OnOk result ((n : ℕ) (x y : _) → slice_get tracks.old n ≡ Some x → slice_get tracks.new n ≡ Some y → HasTold any_rules AnyStands x.link y.link (window_at n until plane.now.at) (track_left y)) }
 {
-    let window = plane.window(alloc, until)?;
-    tell_windows(rt, alloc, tracks, &window, workers, gate, actor);
+    let window = plane.window(job.alloc, until)?;
+    tell_windows(job, tracks, &window, workers);
     if any_wanted(tracks) {
         return Err(OutOfMemory);
     }
@@ -152,13 +124,10 @@ fn tell_until<R: Threads + Sync, G: Gate + Sync>(
 
 // Each link answers what it is asked in the window, by this many workers.
 fn tell_windows<R: Threads + Sync, G: Gate + Sync>(
-    rt: &R,
-    alloc: Global,
+    job: &Job<R, G>,
     tracks: &mut [Track],
     window: &Window,
     workers: usize,
-    gate: &G,
-    actor: ActorNo,
 )
     requires starts { window.now.at.ticked ≡ 0 }
     requires workers { 0 < workers }
@@ -169,8 +138,9 @@ fn tell_windows<R: Threads + Sync, G: Gate + Sync>(
     ensures long { length tracks.new ≡ length tracks.old }
     ensures told { (n : ℕ) (x y : _) → slice_get tracks.old n ≡ Some x → slice_get tracks.new n ≡ Some y → y.wanted ≡ false → HasTold any_rules AnyStands x.link y.link (window_at n window.now.until window.now.at) (track_left y) }
 {
+    let (alloc, gate, actor) = (job.alloc, job.gate, job.actor);
     thread::for_each_mut(
-        rt,
+        job.rt,
         tracks,
         workers,
         &move |place: usize, track: &mut Track|

@@ -3,35 +3,31 @@ ghost use Rattle.std.specs.Prelude.{◌≡◌, ℕ, ◌+◌, ◌^◌, ◌<◌, �
 ghost use Rattle.std.specs.List.{slice_get};
 ghost use Rattle.link_steps.specs.Legal.{AskFits};
 ghost use Rattle.link_steps.specs.Lists.{Each};
-ghost use Rattle.net_units.specs.Numbers.{actor_number};
 ghost use Rattle.call_script.specs.Tasks.{network_of};
 ghost use Rattle.link_quota.specs.Any.{any_clock, any_rules, AnyStands};
 ghost use Rattle.plane_workers.specs.Lanes.{lane_left, lane_rules, lane_stands};
 ghost use Rattle.plane_workers.specs.Answered.{IsAnswered, ticks_in};
 ghost use Rattle.plane_workers.specs.Seen.{GoesTo, SeenBetween};
+ghost use Rattle.plane_workers.specs.Windows.{IsJobOf};
 ghost use Rattle.run_record.specs.declared.done.Done.{Done as Step};
 ghost use Rattle.tick_plane.specs.Windows.{window_at};
 
+use crate::job::Job;
 use crate::lane::Lane;
 use crate::pace::{Pace, Part};
 use crate::telling::tell_all;
-use call_script::Plan;
-use net_units::{ActorNo, Gate, OutOfMemory};
+use net_units::{Gate, OutOfMemory};
 use run_engine::Watch;
-use std::alloc::Global;
 use std::thread;
 use std::thread::Threads;
 use tick_plane::{Plane, Window};
 
 // Each link answers what it is asked in the window, by this many workers.
 pub(crate) fn answer_windows<R: Threads + Sync, G: Gate + Sync>(
-    rt: &R,
-    alloc: Global,
+    job: &Job<R, G>,
     lanes: &mut [Lane],
     window: &Window,
     workers: usize,
-    gate: &G,
-    actor: ActorNo,
 )
     requires workers { 0 < workers }
     requires few { length lanes.old ≤ 32 }
@@ -40,8 +36,9 @@ pub(crate) fn answer_windows<R: Threads + Sync, G: Gate + Sync>(
     ensures long { length lanes.new ≡ length lanes.old }
     ensures answered { (n : ℕ) (x y : _) → slice_get lanes.old n ≡ Some x → slice_get lanes.new n ≡ Some y → y.wanted ≡ false → IsAnswered any_rules AnyStands x.link y.link (window_at n window.now.until window.now.at) (lane_left y) }
 {
+    let (alloc, gate, actor) = (job.alloc, job.gate, job.actor);
     thread::for_each_mut(
-        rt,
+        job.rt,
         lanes,
         workers,
         &move |place: usize, lane: &mut Lane|
@@ -53,14 +50,11 @@ pub(crate) fn answer_windows<R: Threads + Sync, G: Gate + Sync>(
 
 // Each link answers what the plane asks of it until a round begins, as far as the packets on their way tell that.
 fn answer_until<R: Threads + Sync, G: Gate + Sync>(
-    rt: &R,
-    alloc: Global,
+    job: &Job<R, G>,
     plane: &Plane,
     lanes: &mut [Lane],
     until: u64,
     workers: usize,
-    gate: &G,
-    actor: ActorNo,
 ) -> Result<(), OutOfMemory>
     requires workers { 0 < workers }
     requires few { length lanes.old ≤ 32 }
@@ -69,8 +63,8 @@ fn answer_until<R: Threads + Sync, G: Gate + Sync>(
     ensures long { OnOk result (length lanes.new ≡ length lanes.old) }
     ensures answered { OnOk result ((n : ℕ) (x y : _) → slice_get lanes.old n ≡ Some x → slice_get lanes.new n ≡ Some y → IsAnswered any_rules AnyStands x.link y.link (window_at n until plane.now.at) (lane_left y)) }
 {
-    let window = plane.window(alloc, until)?;
-    answer_windows(rt, alloc, lanes, &window, workers, gate, actor);
+    let window = plane.window(job.alloc, until)?;
+    answer_windows(job, lanes, &window, workers);
     if any_wanted(lanes) {
         return Err(OutOfMemory);
     }
@@ -81,118 +75,85 @@ fn answer_until<R: Threads + Sync, G: Gate + Sync>(
 // this many workers, and then the steps are shown to the watcher of the run in the order in which the plane asks. Answers in how many
 // of the rounds something happened.
 fn make_window<R: Threads + Sync, W: Watch, G: Gate + Sync>(
-    rt: &R,
-    alloc: Global,
-    plan: &Plan,
+    job: &Job<R, G>,
     plane: &mut Plane,
     lanes: &mut [Lane],
     watch: &mut W,
-    actor: ActorNo,
-    gap: u64,
     until: u64,
     workers: usize,
-    gate: &G,
 ) -> Result<u64, OutOfMemory>
     requires workers { 0 < workers }
-    requires actor { actor_number actor ≡ length plan.now.callers }
-    requires between { (run : List Step) × SeenBetween lane_rules lane_stands W.saw plan.now gap lanes.old plane.old watch.old run }
+    requires job { IsJobOf job.now.plan.now job.now.actor job.now.gap job.now.rounds }
+    requires between { (run : List Step) × SeenBetween lane_rules lane_stands W.saw job.now.plan.now job.now.gap lanes.old plane.old watch.old run }
     requires early { plane.old.at.round < until }
-    requires near { until ≤ plane.old.at.round + gap + 1 }
+    requires near { until ≤ plane.old.at.round + job.now.gap + 1 }
     requires all { until ≤ plane.old.rounds }
-    ensures goes { OnOk result ((past : List Step) → SeenBetween lane_rules lane_stands W.saw plan.now gap lanes.old plane.old watch.old past → GoesTo (network_of plan.now) actor past (SeenBetween lane_rules lane_stands W.saw plan.now gap lanes.new plane.new watch.new)) }
+    ensures goes { OnOk result ((past : List Step) → SeenBetween lane_rules lane_stands W.saw job.now.plan.now job.now.gap lanes.old plane.old watch.old past → GoesTo (network_of job.now.plan.now) job.now.actor past (SeenBetween lane_rules lane_stands W.saw job.now.plan.now job.now.gap lanes.new plane.new watch.new)) }
     ensures at { OnOk result (until ≤ plane.new.at.round) }
     ensures rounds { OnOk result (plane.new.rounds ≡ plane.old.rounds) }
     ensures table { OnOk result (W.has_table watch.new ≡ W.has_table watch.old) }
 {
     let from = plane.round();
-    answer_until(rt, alloc, plane, lanes, until, workers, gate, actor)?;
-    tell_all(plan, plane, lanes, watch, from, until)
+    answer_until(job, plane, lanes, until, workers)?;
+    tell_all(job.plan, plane, lanes, watch, from, until)
 }
 
 // The window of the part, and then more of them, as long as they pay.
 pub(crate) fn make_windows<R: Threads + Sync, W: Watch, G: Gate + Sync>(
-    rt: &R,
-    alloc: Global,
-    plan: &Plan,
+    job: &Job<R, G>,
     plane: &mut Plane,
     lanes: &mut [Lane],
     watch: &mut W,
-    actor: ActorNo,
-    gap: u64,
-    rounds: u64,
     part: &Part,
     pace: &mut Pace,
-    gate: &G,
 ) -> Result<(), OutOfMemory>
     requires workers { 0 < part.now.workers }
-    requires actor { actor_number actor ≡ length plan.now.callers }
-    requires between { (run : List Step) × SeenBetween lane_rules lane_stands W.saw plan.now gap lanes.old plane.old watch.old run }
+    requires job { IsJobOf job.now.plan.now job.now.actor job.now.gap job.now.rounds }
+    requires between { (run : List Step) × SeenBetween lane_rules lane_stands W.saw job.now.plan.now job.now.gap lanes.old plane.old watch.old run }
     requires early { plane.old.at.round < part.now.until }
-    requires near { part.now.until ≤ plane.old.at.round + gap + 1 }
-    requires all { part.now.until ≤ rounds }
-    requires rounds { plane.old.rounds ≡ rounds }
-    requires gap { pace.old.gap ≡ gap }
-    requires small { gap < 2 ^ 60 }
-    ensures goes { OnOk result ((past : List Step) → SeenBetween lane_rules lane_stands W.saw plan.now gap lanes.old plane.old watch.old past → GoesTo (network_of plan.now) actor past (SeenBetween lane_rules lane_stands W.saw plan.now gap lanes.new plane.new watch.new)) }
+    requires near { part.now.until ≤ plane.old.at.round + job.now.gap + 1 }
+    requires all { part.now.until ≤ job.now.rounds }
+    requires rounds { plane.old.rounds ≡ job.now.rounds }
+    requires gap { pace.old.gap ≡ job.now.gap }
+    ensures goes { OnOk result ((past : List Step) → SeenBetween lane_rules lane_stands W.saw job.now.plan.now job.now.gap lanes.old plane.old watch.old past → GoesTo (network_of job.now.plan.now) job.now.actor past (SeenBetween lane_rules lane_stands W.saw job.now.plan.now job.now.gap lanes.new plane.new watch.new)) }
     ensures at { OnOk result (part.now.until ≤ plane.new.at.round) }
-    ensures gap { OnOk result (pace.new.gap ≡ gap) }
+    ensures gap { OnOk result (pace.new.gap ≡ job.now.gap) }
     ensures table { OnOk result (W.has_table watch.new ≡ W.has_table watch.old) }
 {
-    make_noted(
-        rt, alloc, plan, plane, lanes, watch, actor, gap, part, pace, gate,
-    )?;
-    while plane.round() < rounds {
-        let next = pace.next(plane.round(), rounds, plane.flights());
+    make_noted(job, plane, lanes, watch, part, pace)?;
+    while plane.round() < job.rounds {
+        let next = pace.next(plane.round(), job.rounds, plane.flights());
         if next.workers < 2 {
             return Ok(());
         }
-        make_noted(
-            rt, alloc, plan, plane, lanes, watch, actor, gap, &next, pace, gate,
-        )?;
+        make_noted(job, plane, lanes, watch, &next, pace)?;
     }
     Ok(())
 }
 
 // The window of the part, which is noted.
 fn make_noted<R: Threads + Sync, W: Watch, G: Gate + Sync>(
-    rt: &R,
-    alloc: Global,
-    plan: &Plan,
+    job: &Job<R, G>,
     plane: &mut Plane,
     lanes: &mut [Lane],
     watch: &mut W,
-    actor: ActorNo,
-    gap: u64,
     part: &Part,
     pace: &mut Pace,
-    gate: &G,
 ) -> Result<(), OutOfMemory>
     requires workers { 0 < part.now.workers }
-    requires actor { actor_number actor ≡ length plan.now.callers }
-    requires between { (run : List Step) × SeenBetween lane_rules lane_stands W.saw plan.now gap lanes.old plane.old watch.old run }
+    requires job { IsJobOf job.now.plan.now job.now.actor job.now.gap job.now.rounds }
+    requires between { (run : List Step) × SeenBetween lane_rules lane_stands W.saw job.now.plan.now job.now.gap lanes.old plane.old watch.old run }
     requires early { plane.old.at.round < part.now.until }
-    requires near { part.now.until ≤ plane.old.at.round + gap + 1 }
+    requires near { part.now.until ≤ plane.old.at.round + job.now.gap + 1 }
     requires all { part.now.until ≤ plane.old.rounds }
-    ensures goes { OnOk result ((past : List Step) → SeenBetween lane_rules lane_stands W.saw plan.now gap lanes.old plane.old watch.old past → GoesTo (network_of plan.now) actor past (SeenBetween lane_rules lane_stands W.saw plan.now gap lanes.new plane.new watch.new)) }
+    ensures goes { OnOk result ((past : List Step) → SeenBetween lane_rules lane_stands W.saw job.now.plan.now job.now.gap lanes.old plane.old watch.old past → GoesTo (network_of job.now.plan.now) job.now.actor past (SeenBetween lane_rules lane_stands W.saw job.now.plan.now job.now.gap lanes.new plane.new watch.new)) }
     ensures at { OnOk result (part.now.until ≤ plane.new.at.round) }
     ensures rounds { OnOk result (plane.new.rounds ≡ plane.old.rounds) }
     ensures gap { OnOk result (pace.new.gap ≡ pace.old.gap) }
     ensures table { OnOk result (W.has_table watch.new ≡ W.has_table watch.old) }
 {
     let round = plane.round();
-    let busy = make_window(
-        rt,
-        alloc,
-        plan,
-        plane,
-        lanes,
-        watch,
-        actor,
-        gap,
-        part.until,
-        part.workers,
-        gate,
-    )?;
+    let busy = make_window(job, plane, lanes, watch, part.until, part.workers)?;
     pace.note(part.until.saturating_sub(round), busy);
     Ok(())
 }

@@ -6,14 +6,11 @@ use Rattle.plane_workers.specs.declared.lane.Lane.{Lane}
 use Rattle.plane_workers.proofs.LinksAtDesks.{engine-again, plane-actor, seen-first}
 use Rattle.plane_workers.proofs.rounds.make_seen.Goals as goal
 
-pub make_windows-requires-clause-actor : goal.make_windows-requires-clause-actor
-make_windows-requires-clause-actor g c κs within = plane-actor c.args.plan.now c.args.actor c.requires.stand.1.stands.plan c.requires.actor
-
 pub make_windows-requires-clause-between : goal.make_windows-requires-clause-between
 make_windows-requires-clause-between g c κs within = (
   c.requires.stand.0,
-  seen-first (λ (d : Lane). d.link) g.W.Watch.saw c.args.plan.now c.args.engine c.args.gap c.into_parts-links.result.0.items c.into_parts-links.result.1 c.deref_mut.result.now c.args.watch.now c.requires.stand.0 c.requires.stand.1
-      (ap (λ links. links.items) c.into_parts-links.ensures.links) c.into_parts-links.ensures.plane (ap (map (λ (d : Lane). d.link)) c.deref_mut.ensures.value ∙ c.in_ok-lanes.ensures) c.requires.keeps,
+  seen-first (λ (d : Lane). d.link) g.W.Watch.saw c.args.job.now.plan.now c.args.engine c.args.job.now.gap c.into_parts-links.result.0.items c.into_parts-links.result.1 c.deref_mut.result.now c.args.watch.now c.requires.stand.0 c.requires.stand.1
+      (ap (λ links. links.items) c.into_parts-links.ensures.links) c.into_parts-links.ensures.plane (ap (map (λ (d : Lane). d.link)) c.deref_mut.ensures.value ∙ c.in_ok-lanes.ensures) c.requires.job.keeps,
 )
 
 pub make_windows-requires-clause-early : goal.make_windows-requires-clause-early
@@ -22,32 +19,26 @@ make_windows-requires-clause-early g c κs within = (let same = ap (λ (p : Plan
 pub make_windows-requires-clause-near : goal.make_windows-requires-clause-near
 make_windows-requires-clause-near g c κs within = (let same = ap (λ (p : PlaneAccount). p.at.round) c.into_parts-links.ensures.plane in let near = c.requires.near in omega (arith, same, near))
 
-pub make_windows-requires-clause-all : goal.make_windows-requires-clause-all
-make_windows-requires-clause-all g c κs within =
-    let rounds = c.requires.rounds in
-    let all = c.requires.all in
-    omega (arith, rounds, all)
-
 pub make_windows-requires-clause-rounds : goal.make_windows-requires-clause-rounds
 make_windows-requires-clause-rounds g c κs within =
     let same = ap (λ (p : PlaneAccount). p.rounds) c.into_parts-links.ensures.plane in
     let stands = c.requires.stand.1.stands.actors.plane.rounds in
-    let rounds = c.requires.rounds in
+    let rounds = c.requires.job.all in
     omega (arith, same, stands, rounds)
 
 pub returns-clause-plays : goal.returns-clause-plays
 returns-clause-plays g c = λ past stand.
     let v = c.in_ok-lanes.lanes in
     let new = c.make_windows.new.lanes in
-    let first = seen-first (λ (d : Lane). d.link) g.W.Watch.saw c.args.plan.now c.args.engine c.args.gap c.into_parts-links.result.0.items c.into_parts-links.result.1 c.deref_mut.result.now c.args.watch.now past stand
-    (ap (λ links. links.items) c.into_parts-links.ensures.links) c.into_parts-links.ensures.plane (ap (map (λ (d : Lane). d.link)) c.deref_mut.ensures.value ∙ c.in_ok-lanes.ensures) c.requires.keeps in
+    let first = seen-first (λ (d : Lane). d.link) g.W.Watch.saw c.args.job.now.plan.now c.args.engine c.args.job.now.gap c.into_parts-links.result.0.items c.into_parts-links.result.1 c.deref_mut.result.now c.args.watch.now past stand
+    (ap (λ links. links.items) c.into_parts-links.ensures.links) c.into_parts-links.ensures.plane (ap (map (λ (d : Lane). d.link)) c.deref_mut.ensures.value ∙ c.in_ok-lanes.ensures) c.requires.job.keeps in
     let goes = c.in_ok-make_windows.ensures.goes past first in
     let before = first.between.kept.same in
     let after = goes.comes.between.kept.same in
     let value = ap length c.deref_mut.ensures.value in
     let long : length new ≡ v.len = omega (arith, before, after, value, v.ok.0) in
-    let high = plane-actor c.args.plan.now c.args.actor stand.stands.plan c.requires.actor in
-    engine-again (λ (d : Lane). d.link) g.W.Watch.saw c.args.plan.now c.args.engine c.args.gap c.into_parts-links.result.2 new c.make_windows.new.plane c.from_parts.result c.args.watch.now c.make_windows.new.watch past c.args.actor stand (omega (arith, high))
+    let high = plane-actor c.args.job.now.plan.now c.args.job.now.actor stand.stands.plan c.requires.job.plane in
+    engine-again (λ (d : Lane). d.link) g.W.Watch.saw c.args.job.now.plan.now c.args.engine c.args.job.now.gap c.into_parts-links.result.2 new c.make_windows.new.plane c.from_parts.result c.args.watch.now c.make_windows.new.watch past c.args.job.now.actor stand (omega (arith, high))
     c.into_parts-links.ensures.callers
     (ap (λ links. links.items) c.from_parts.ensures.links ∙ c.in_ok-links.ensures ∙ ap (map (λ (d : Lane). d.link)) (with_items_is v new long))
     c.from_parts.ensures.plane c.from_parts.ensures.callers goes
