@@ -3,7 +3,10 @@ ghost use Rattle.std.specs.Prelude.{◌≡◌, ◌+◌, ◌<◌, ◌≤◌, ◌^
 
 // For each worker a window has at least this many ticks. Starting one takes as long as some 600 ticks, and the window's asks and
 // replies are kept until they are told.
-const TICKS_EACH: u64 = 4_000;
+const TICKS_EACH: u64 = 10_000;
+
+// A window has at least this many workers: what a second one brings is spent on what one thread does before and after a window.
+const LEAST_WORKERS: u64 = 3;
 
 // A window has at most this many times as many rounds as were busy before it.
 const BUSY_AHEAD: u64 = 32;
@@ -92,19 +95,20 @@ impl Pace {
     // way, since all of these are looked through for it.
     fn worth(&self, rounds: u64, flights: usize) -> usize {
         let ticks = rounds.saturating_mul(self.links);
-        if ticks < flights as u64 {
+        let workers = (ticks / TICKS_EACH).min(self.workers).min(self.links);
+        if ticks < flights as u64 || workers < LEAST_WORKERS {
             return 1;
         }
-        (ticks / TICKS_EACH).min(self.workers).min(self.links) as usize
+        workers as usize
     }
 
     // For how many rounds one worker goes on: as many as the shortest window that is worth it has, or all where there is none.
     fn alone(&self) -> u64
         ensures { 1 ≤ result }
     {
-        let least = (2 * TICKS_EACH).div_ceil(self.links.max(1));
+        let least = (LEAST_WORKERS * TICKS_EACH).div_ceil(self.links.max(1));
         let longest = self.gap.saturating_add(1);
-        if self.workers < 2 || self.links < 2 || least > longest {
+        if self.workers < LEAST_WORKERS || self.links < LEAST_WORKERS || least > longest {
             return u64::MAX;
         }
         least.max(1)
