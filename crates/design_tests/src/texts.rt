@@ -1,7 +1,8 @@
 //! Designs, and files that aren't.
 
-use design_text::{BadDesign, File, Mistake, read_design};
+use design_text::{BadDesign, DesignLink, DesignPour, DesignStream, File, Mistake, read_design};
 use std::alloc::Global;
+use std::process::Abort;
 use std::test::Fail;
 use std::vec::Vec;
 
@@ -51,6 +52,55 @@ fn lines_of(alloc: Global, list: &[Mistake]) -> Result<String, Fail> {
     Ok(told)
 }
 
+/// What was told is what is due.
+fn is_told(rt: &impl Abort, told: &str, due: &str) {
+    assert_eq!(rt; told, due);
+}
+
+/// Of each link the name, its two nodes and the rate, on a line.
+fn ways_of(alloc: Global, links: &[DesignLink]) -> Result<String, Fail> {
+    let mut told = String::new(alloc);
+    for link in links {
+        let (name, from, to) = (link.name, link.from, link.to);
+        let line = format!(in alloc; "{name} {from} {to} {}\n", link.rate)?;
+        told.push_str(line.as_str())?;
+    }
+    Ok(told)
+}
+
+/// Of each stream the name and the size of its packets, on a line.
+fn sizes_of(alloc: Global, streams: &[DesignStream]) -> Result<String, Fail> {
+    let mut told = String::new(alloc);
+    for stream in streams {
+        let name = stream.name;
+        let line = format!(in alloc; "{name} {}\n", stream.source.size)?;
+        told.push_str(line.as_str())?;
+    }
+    Ok(told)
+}
+
+/// Of each stream the name, the group and the start, on a line.
+fn starts_of(alloc: Global, streams: &[DesignStream]) -> Result<String, Fail> {
+    let mut told = String::new(alloc);
+    for stream in streams {
+        let (name, group, start) = (stream.name, stream.group, stream.start);
+        let line = format!(in alloc; "{name} {group} {start}\n")?;
+        told.push_str(line.as_str())?;
+    }
+    Ok(told)
+}
+
+/// Of each best-effort stream the name, its link, the time from packet to packet and their number, on a line.
+fn paces_of(alloc: Global, pours: &[DesignPour]) -> Result<String, Fail> {
+    let mut told = String::new(alloc);
+    for pour in pours {
+        let (name, link, pace, count) = (pour.name, pour.link, pour.pace, pour.count);
+        let line = format!(in alloc; "{name} {link} {pace} {count}\n")?;
+        told.push_str(line.as_str())?;
+    }
+    Ok(told)
+}
+
 #[test]
 fn a_design_is_read(rt: HostRuntime) -> Result<(), Fail> {
     let file = File {
@@ -86,7 +136,8 @@ size = 1000
 \"with in\" = \"2 ms\"
 ";
     let told = mistakes(rt.alloc(), text)?;
-    assert_eq!(rt;
+    is_told(
+        &rt,
         told.as_str(),
         "net.toml:2: unit = 1 bite: its unit isn't known; wanted is a size in bit, kbit, Mbit, B, bytes, kB, KiB, MB or MiB, as in 1538 B
 net.toml:4: levels is missing: a time in ps, ns, us, ms, s, min, h or d, as in 0.5 ms
@@ -94,7 +145,7 @@ net.toml:7: rate = 100 Mb/s: its unit isn't known; wanted is a rate in bit/s, kb
 net.toml:9: within is missing: a time in ps, ns, us, ms, s, min, h or d, as in 0.5 ms
 net.toml:13: size = 1000: its unit isn't known; wanted is a size in bit, kbit, Mbit, B, bytes, kB, KiB, MB or MiB, as in 1538 B
 net.toml:14: with in = 2 ms: no such key; did you mean within?
-"
+",
     );
     Ok(())
 }
@@ -127,31 +178,20 @@ within = \"20 ms\"
         text,
     };
     let design = read_design(rt.alloc(), &file, &[])?;
-    let mut told = String::new(rt.alloc());
-    for link in &design.links {
-        let (name, from, to) = (link.name, link.from, link.to);
-        let line = format!(in rt.alloc(); "{name} {from} {to} {}\n", link.rate)?;
-        told.push_str(line.as_str())?;
-    }
-    for stream in &design.streams {
-        let name = stream.name;
-        let line = format!(in rt.alloc(); "{name} {}\n", stream.source.size)?;
-        told.push_str(line.as_str())?;
-    }
-    assert_eq!(rt;
-        told.as_str(),
+    let links = ways_of(rt.alloc(), design.links.as_slice())?;
+    is_told(
+        &rt,
+        links.as_str(),
         "es1_sw es1 sw 100 Mbit/s
 es2_sw es2 sw 100 Mbit/s
 es3_sw es3 sw 100 Mbit/s
 up sw server 1 Gbit/s
 up_back server sw 1 Gbit/s
-sensor1 100 B
-sensor2 100 B
-sensor3 100 B
-a1b 166 B
-a2b 166 B
-"
+",
     );
+    let sizes = sizes_of(rt.alloc(), design.streams.as_slice())?;
+    let due = "sensor1 100 B\nsensor2 100 B\nsensor3 100 B\na1b 166 B\na2b 166 B\n";
+    is_told(&rt, sizes.as_str(), due);
     Ok(())
 }
 
@@ -171,7 +211,8 @@ size = \"100 B\"
 within = \"20 seconds\"
 ";
     let told = mistakes(rt.alloc(), text)?;
-    assert_eq!(rt;
+    is_told(
+        &rt,
         told.as_str(),
         "net.toml:4: sice = 1 B: no such key; did you mean size?
 net.toml:5: class = fast: a class that the design has
@@ -179,7 +220,7 @@ net.toml:5: size is missing: a size in bit, kbit, Mbit, B, bytes, kB, KiB, MB or
 net.toml:5: within is missing: a time in ps, ns, us, ms, s, min, h or d, as in 0.5 ms
 net.toml:5: every is missing: a time, or packets, in and apart in its place
 net.toml:11: within = 20 seconds: its unit isn't known; wanted is a time in ps, ns, us, ms, s, min, h or d, as in 0.5 ms
-"
+",
     );
     let told = mistakes(rt.alloc(), "tick = \"10 us\"\nunit = 1 byte\n")?;
     assert!(rt; told.as_str().starts_with("net.toml:2: "), "{told}");
@@ -204,11 +245,12 @@ fn links_stand_in_a_sheet(rt: HostRuntime) -> Result<(), Fail> {
             told.push_str(line.as_str())?;
         }
     }
-    assert_eq!(rt;
+    is_told(
+        &rt,
         told.as_str(),
         "net.toml:4: streams = streams.csv: the name of a sheet that is there
 links.csv:3: rate = fast: no number comes first; wanted is a rate in bit/s, kbit/s, Mbit/s, Gbit/s, B/s, kB/s or MB/s, as in 100 Mbit/s
-"
+",
     );
     Ok(())
 }
@@ -223,9 +265,10 @@ fn a_tick_and_a_unit_stand_together(rt: HostRuntime) -> Result<(), Fail> {
     let design = read_design(rt.alloc(), &file, &[])?;
     assert!(rt; design.scale.is_none());
     let told = mistakes(rt.alloc(), "tick = \"10 us\"\n")?;
-    assert_eq!(rt;
+    is_told(
+        &rt,
         told.as_str(),
-        "net.toml:1: unit is missing: a size in bit, kbit, Mbit, B, bytes, kB, KiB, MB or MiB, as in 1538 B\n"
+        "net.toml:1: unit is missing: a size in bit, kbit, Mbit, B, bytes, kB, KiB, MB or MiB, as in 1538 B\n",
     );
     Ok(())
 }
@@ -257,25 +300,14 @@ fn streams_come_and_go(rt: HostRuntime) -> Result<(), Fail> {
         text: CALLS,
     };
     let design = read_design(rt.alloc(), &file, &[])?;
-    let mut told = String::new(rt.alloc());
-    for stream in &design.streams {
-        let (name, group, start) = (stream.name, stream.group, stream.start);
-        let line = format!(in rt.alloc(); "{name} {group} {start}\n")?;
-        told.push_str(line.as_str())?;
-    }
-    for pour in &design.pours {
-        let (name, link, pace, count) = (pour.name, pour.link, pour.pace, pour.count);
-        let line = format!(in rt.alloc(); "{name} {link} {pace} {count}\n")?;
-        told.push_str(line.as_str())?;
-    }
-    assert_eq!(rt;
-        told.as_str(),
-        "video 0 10 ms
-early 1 0 ps
-call 1 20 ms
-web a_b 20 ms 100
-"
+    let streams = starts_of(rt.alloc(), design.streams.as_slice())?;
+    is_told(
+        &rt,
+        streams.as_str(),
+        "video 0 10 ms\nearly 1 0 ps\ncall 1 20 ms\n",
     );
+    let pours = paces_of(rt.alloc(), design.pours.as_slice())?;
+    is_told(&rt, pours.as_str(), "web a_b 20 ms 100\n");
     let quota = design.links.first().and_then(|link| link.quotas.first());
     assert_eq!(rt;
         quota.map(|quota| (quota.group, quota.buffer.bits, quota.levels.len())),
@@ -318,7 +350,8 @@ size = \"200 B\"
 within = \"10 ms\"
 ";
     let told = mistakes(rt.alloc(), text)?;
-    assert_eq!(rt;
+    is_told(
+        &rt,
         told.as_str(),
         "net.toml:2: test = whole: least, since a stream has from and to in place of route
 net.toml:2: test = whole: least, since streams have groups
@@ -336,7 +369,7 @@ net.toml:17: start = 2 s: a time within the run of 1 s
 net.toml:18: within = 1 ms: nothing, since `best_effort` stands beside it
 net.toml:18: best_effort = true: a link where best-effort packets may wait; give cd a best of at least 1
 net.toml:19: every = 1 ms: nothing, since `in` stands beside it
-"
+",
     );
     Ok(())
 }

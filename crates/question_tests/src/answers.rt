@@ -3,6 +3,7 @@
 //! A channel sends at most 4 units in any 10 ticks or 20, and 8 in any 40; the largest packet on the link takes 4 ticks. So level 1, of 10
 //! ticks, holds one channel (4 + 4), levels 1 and 2, of 20 ticks, hold four (4 + 4 * 4), and all levels, up to 40 ticks, four (4 + 4 * 8).
 use super::points::read;
+use crate::due::is_due;
 use link_steps::{Ask, Refusal, Reply};
 use net_units::{ActorNo, ChanNo, Level, LinkNo};
 use one_link_plans::moved;
@@ -86,8 +87,8 @@ fn the_least_delays(rt: HostRuntime) -> Result<(), Fail> {
     assert_eq!(rt; plan.requests().len(), 2);
     let first = least_delay(alloc, &plan, 0)?;
     let second = least_delay(alloc, &plan, 1)?;
-    assert_eq!(rt; delay_in(&first), Some(12));
-    assert_eq!(rt; delay_in(&second), Some(22));
+    is_due(&rt, delay_in(&first), Some(12));
+    is_due(&rt, delay_in(&second), Some(22));
     Ok(())
 }
 
@@ -101,9 +102,10 @@ fn what_is_wanted_is_judged(rt: HostRuntime) -> Result<(), Fail> {
         delay: 21,
     };
     let verdict = verdict_with(alloc, &plan, &short, 1)?;
-    assert_eq!(rt;
+    is_due(
+        &rt,
         denied_at_end(&verdict),
-        Some(EndDenial::Delay { sum: 22, bound: 21 })
+        Some(EndDenial::Delay { sum: 22, bound: 21 }),
     );
     let even = Change::Jitter {
         number: 0,
@@ -121,7 +123,7 @@ fn room_for_two_more(rt: HostRuntime) -> Result<(), Fail> {
     let plan = moved(alloc, 42)?;
     assert_eq!(rt; plan.requests().len(), 2);
     let room = room_for(alloc, &plan, 1)?;
-    assert_eq!(rt; room.count, 2);
+    is_due(&rt, room.count, 2);
     let refused = match room.next {
         Next::Refused(verdict) => has_no_level(&verdict, 1),
         Next::Full => false,
@@ -137,7 +139,7 @@ fn a_request_that_is_denied_takes_no_room(rt: HostRuntime) -> Result<(), Fail> {
     let (plan, _schedule) = read(alloc, DENIED)?;
     assert_eq!(rt; plan.requests().len(), 2);
     let room = room_for(alloc, &plan, 0)?;
-    assert_eq!(rt; room.count, 3);
+    is_due(&rt, room.count, 3);
     Ok(())
 }
 

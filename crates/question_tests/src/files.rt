@@ -1,4 +1,5 @@
 //! Texts with ticks, and the scenarios that they become, worked out by hand.
+use crate::due::is_due;
 use std::alloc::Global;
 use std::test::Fail;
 use timed_files::{refusal_of_timed, schedule_text};
@@ -73,7 +74,8 @@ at 850us open r3 route A B C contract 5 10 20 2 delay 36 jitter 10
 at 1 ms end
 ",
     )?;
-    assert_eq!(rt;
+    is_due(
+        &rt,
         from_word(text.as_str(), "caller"),
         "\
 caller calls
@@ -94,12 +96,13 @@ do plane 195
 # at 85
 do calls 6
 do plane 45
-"
+",
     );
-    assert_eq!(rt; text.as_str().lines().next(), Some("# tick 10 us"));
-    assert_eq!(rt;
+    is_due(&rt, text.as_str().lines().next(), Some("# tick 10 us"));
+    is_due(
+        &rt,
         text.as_str().lines().nth(1),
-        Some("# line 8: 205 us is rounded up to tick 21")
+        Some("# line 8: 205 us is rounded up to tick 21"),
     );
     Ok(())
 }
@@ -120,7 +123,8 @@ rounds 10
 tail 2
 ",
     )?;
-    assert_eq!(rt;
+    is_due(
+        &rt,
         from_word(text.as_str(), "schedule"),
         "\
 schedule
@@ -134,7 +138,7 @@ do plane 6
 # at 7
 do k1 1
 do plane 15
-"
+",
     );
     Ok(())
 }
@@ -146,35 +150,40 @@ fn lines_that_are_refused(rt: HostRuntime) -> Result<(), Fail> {
         &rt,
         "at 3 open r1 route A contract 5 10 20 2 delay 12 rate\nat 2 close r1\nat 9 end\n",
     )?;
-    assert_eq!(rt;
+    is_due(
+        &rt,
         text.as_str(),
-        "net:7: refused: at 2 close r1\n  an operation of this caller above comes at tick 3; its ticks may not fall\n"
+        "net:7: refused: at 2 close r1\n  an operation of this caller above comes at tick 3; its ticks may not fall\n",
     );
     let text = text_of(
         &rt,
         "at 3 open r1 route A contract 5 10 20 2 delay 12 rate\nat 12 close r1\nat 9 end\n",
     )?;
-    assert_eq!(rt;
+    is_due(
+        &rt,
         text.as_str(),
-        "net:7: refused: at 12 close r1\n  the last round is 9; nothing comes after it\n"
+        "net:7: refused: at 12 close r1\n  the last round is 9; nothing comes after it\n",
     );
     let text = text_of(
         &rt,
         "at 3 open r1 route A contract 5 10 20 2 delay 12 rate\nat 4 close r2\nat 9 end\n",
     )?;
-    assert_eq!(rt;
+    is_due(
+        &rt,
         text.as_str().lines().next(),
-        Some("net:7: refused: close r2")
+        Some("net:7: refused: close r2"),
     );
     let text = text_of(&rt, "at 3 ells open r1\n")?;
-    assert_eq!(rt;
+    is_due(
+        &rt,
         text.as_str().lines().next(),
-        Some("net:6: refused: at 3 ells open r1")
+        Some("net:6: refused: at 3 ells open r1"),
     );
     let text = text_of(&rt, "at 9 end\nrounds 3\n")?;
-    assert_eq!(rt;
+    is_due(
+        &rt,
         text.as_str(),
-        "net:7: refused: rounds 3\n  at TIME end has to be the last line, notes aside\n"
+        "net:7: refused: rounds 3\n  at TIME end has to be the last line, notes aside\n",
     );
     Ok(())
 }
@@ -199,7 +208,8 @@ start = \"1 ms\"
 end = \"2 ms\"
 ",
     )?;
-    assert_eq!(rt;
+    is_due(
+        &rt,
         from_word(text.as_str(), "schedule"),
         "\
 schedule
@@ -210,7 +220,7 @@ do plane 100
 # at 200
 do streams 1
 do plane 100
-"
+",
     );
     Ok(())
 }
@@ -234,7 +244,8 @@ at 5 both go2 back2
 at 6 end
 ",
     )?;
-    assert_eq!(rt;
+    is_due(
+        &rt,
         from_word(text.as_str(), "caller"),
         "\
 caller calls
@@ -252,11 +263,12 @@ do plane 10
 # at 5
 do calls 4
 do plane 2
-"
+",
     );
-    assert_eq!(rt;
+    is_due(
+        &rt,
         text.as_str().lines().next(),
-        Some("# line 9: not both go2 and back2 are accepted, so go2 is closed")
+        Some("# line 9: not both go2 and back2 are accepted, so go2 is closed"),
     );
     Ok(())
 }
@@ -266,7 +278,8 @@ do plane 2
 #[test]
 fn both_or_none_of_streams(rt: HostRuntime) -> Result<(), Fail> {
     let text = text_of_file(rt.alloc(), PAIRS)?;
-    assert_eq!(rt;
+    is_due(
+        &rt,
         from_word(text.as_str(), "caller"),
         "\
 caller streams
@@ -285,11 +298,12 @@ do plane 10
 # at 5
 do streams 4
 do plane 10
-"
+",
     );
-    assert_eq!(rt;
+    is_due(
+        &rt,
         text.as_str().lines().nth(1),
-        Some("# not both go2 and back2 are accepted, so go2 is closed")
+        Some("# not both go2 and back2 are accepted, so go2 is closed"),
     );
     Ok(())
 }

@@ -2,6 +2,7 @@
 //!
 //! A packet of r1 takes a tick on each link. Under delay-jitter control it is eligible at B 10 + 3 ticks after it was at A, the bound and the
 //! propagation there. So it arrives 13 + 1 + 2 = 16 ticks after that, where its promise is 10 + 3 + 10 + 2 = 25, and its jitter less than 10.
+use crate::due::is_due;
 use answer_grids::{Answer, Format, bytes_of};
 use network_files::{Network, read_network};
 use packet_questions::{Audit, BadLine, audit_of, channels_of};
@@ -91,11 +92,12 @@ fn told(alloc: Global, line: u64, text: &str) -> Result<String, Fail> {
 #[test]
 fn what_came_of_two_channels(rt: HostRuntime) -> Result<(), Fail> {
     let (text, holds) = channels_csv(rt.alloc(), NETWORK)?;
-    assert_eq!(rt;
+    is_due(
+        &rt,
         text.as_str(),
         "request,verdict,source,arrived,wanted,promised,worst,to_spare,left,wanted_time,promised_time,worst_time,to_spare_time,left_time,longest_at,why\n\
 r1,accept,keeps,3,30,25,16,5,9,300 us,250 us,160 us,50 us,90 us,B,\n\
-r2,deny,,,20,,,,,200 us,,,,,,end delay 25 20\n"
+r2,deny,,,20,,,,,200 us,,,,,,end delay 25 20\n",
     );
     assert!(rt; !holds);
     Ok(())
@@ -104,10 +106,11 @@ r2,deny,,,20,,,,,200 us,,,,,,end delay 25 20\n"
 #[test]
 fn a_source_that_breaks_its_contract(rt: HostRuntime) -> Result<(), Fail> {
     let (text, holds) = channels_csv(rt.alloc(), BROKEN)?;
-    assert_eq!(rt;
+    is_due(
+        &rt,
         text.as_str(),
         "request,verdict,source,breaks_from,arrived,wanted,promised,worst,to_spare,left,longest_at,why\n\
-r1,accept,breaks,2,3,30,25,28,5,-3,A,\n"
+r1,accept,breaks,2,3,30,25,28,5,-3,A,\n",
     );
     assert!(rt; holds);
     Ok(())
@@ -125,7 +128,8 @@ r9,1,0,3\n\
 r1,5,41,60\n\
 r1,6,100,200\n";
     let (text, said) = audited(rt.alloc(), NETWORK, table)?;
-    assert_eq!(rt;
+    is_due(
+        &rt,
         text.as_str(),
         "line,channel,packet,fault,by,limit,by_time,limit_time\n\
 3,r1,2,late,2,25,20 us,250 us\n\
@@ -133,9 +137,9 @@ r1,6,100,200\n";
 5,r1,3,arrived before it was sent,,,,\n\
 6,r1,4,uneven,15,10,150 us,100 us\n\
 7,r9,1,unknown channel,,,,\n\
-8,r1,5,breaks the contract,,,,\n"
+8,r1,5,breaks the contract,,,,\n",
     );
-    assert_eq!(rt; said.as_str(), "8 packets: 6 at fault\n");
+    is_due(&rt, said.as_str(), "8 packets: 6 at fault\n");
     Ok(())
 }
 
@@ -149,15 +153,17 @@ r1,3,200 us,460 us\n\
 r1,4,0.4 ms,510 us\n\
 r1,5,0.6 ms,750 us\n";
     let (text, said) = audited(rt.alloc(), NETWORK, table)?;
-    assert_eq!(rt;
+    is_due(
+        &rt,
         text.as_str(),
         "line,channel,packet,fault,by,limit,by_time,limit_time\n\
 4,r1,3,late,1,25,10 us,250 us\n\
-5,r1,4,uneven,15,10,150 us,100 us\n"
+5,r1,4,uneven,15,10,150 us,100 us\n",
     );
-    assert_eq!(rt;
+    is_due(
+        &rt,
         said.as_str(),
-        "5 packets: 2 at fault\nnot all moments are whole ticks: a delay counts in whole ticks, and two may differ by 2 ticks more than promised\n"
+        "5 packets: 2 at fault\nnot all moments are whole ticks: a delay counts in whole ticks, and two may differ by 2 ticks more than promised\n",
     );
     Ok(())
 }
@@ -172,15 +178,16 @@ r1,x,0,5\n\
 r1,3,a,5\n\
 r1,4,5,7.0001 ps\n";
     let (text, said) = audited(rt.alloc(), NETWORK, table)?;
-    assert_eq!(rt; text.as_str(), "bad, and 0 more");
-    assert_eq!(rt;
+    is_due(&rt, text.as_str(), "bad, and 0 more");
+    is_due(
+        &rt,
         said.as_str(),
         "2: 4 fields are wanted, channel,packet,sent,arrived, and there are 3\n\
 3: channel r 1: a name is a letter followed by letters, digits and _, at most 16 characters in all\n\
 4: packet 2: the next packet of this channel is 1; they are numbered from 1, in the order in which they are sent\n\
 5: packet x: packets are numbered from 1, in the order in which they are sent\n\
 6: sent a: a moment is a whole number of ticks, of at most 18 digits, or a number with a unit, as 1.25 ms\n\
-7: arrived 7.0001 ps: a moment is a whole number of ticks, of at most 18 digits, or a number with a unit, as 1.25 ms\n"
+7: arrived 7.0001 ps: a moment is a whole number of ticks, of at most 18 digits, or a number with a unit, as 1.25 ms\n",
     );
     Ok(())
 }
@@ -189,15 +196,17 @@ r1,4,5,7.0001 ps\n";
 fn a_time_without_a_tick(rt: HostRuntime) -> Result<(), Fail> {
     let table = "channel,packet,sent,arrived\nr1,1,0,1 ms\n";
     let (text, said) = audited(rt.alloc(), BROKEN, table)?;
-    assert_eq!(rt; text.as_str(), "bad, and 0 more");
-    assert_eq!(rt;
+    is_due(&rt, text.as_str(), "bad, and 0 more");
+    is_due(
+        &rt,
         said.as_str(),
-        "2: arrived 1 ms: how long a tick is isn't known, so a moment is a whole number of ticks; a note # tick 10 us in the scenario would say it\n"
+        "2: arrived 1 ms: how long a tick is isn't known, so a moment is a whole number of ticks; a note # tick 10 us in the scenario would say it\n",
     );
     let (_, said) = audited(rt.alloc(), BROKEN, "")?;
-    assert_eq!(rt;
+    is_due(
+        &rt,
         said.as_str(),
-        "1: the first line has to be channel,packet,sent,arrived\n"
+        "1: the first line has to be channel,packet,sent,arrived\n",
     );
     Ok(())
 }

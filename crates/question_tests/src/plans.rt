@@ -1,5 +1,6 @@
 //! Plans of questions, worked out by hand from plans over one link.
 use super::points::{CLOSING, SPLIT, read};
+use crate::due::is_due;
 use call_script::{BadPlan, CallerEntry, Op, Plan, RequestEntry};
 use one_link_plans::{moved, opened};
 use question_plans::{Change, requests_alone, with_change, with_more, with_more_after};
@@ -53,7 +54,7 @@ fn requests_alone_are_opened(rt: HostRuntime) -> Result<(), Fail> {
         delay: 77,
     };
     let alone = requests_alone(alloc, &plan, &change)?;
-    assert_eq!(rt; alone.rounds(), 0);
+    is_due(&rt, alone.rounds(), 0);
     assert_eq!(rt; alone.links().len(), 1);
     let first = alone.requests().get(0).ok_or("first")?;
     let second = alone.requests().get(1).ok_or("second")?;
@@ -75,8 +76,8 @@ fn a_jitter_is_wanted_of_one(rt: HostRuntime) -> Result<(), Fail> {
     let alone = requests_alone(alloc, &plan, &change)?;
     let first = alone.requests().get(0).ok_or("first")?;
     let second = alone.requests().get(1).ok_or("second")?;
-    assert_eq!(rt; first.request.control, Control::Jitter(9));
-    assert_eq!(rt; second.request.control, Control::Rate);
+    is_due(&rt, first.request.control, Control::Jitter(9));
+    is_due(&rt, second.request.control, Control::Rate);
     Ok(())
 }
 
@@ -93,7 +94,7 @@ fn copies_come_after_all_others(rt: HostRuntime) -> Result<(), Fail> {
     assert!(rt; is_asked(copy, b"ask0_00002", 4, 14));
     assert_eq!(rt; more.callers().len(), 2);
     let opener = more.callers().get(1).ok_or("opener")?;
-    assert_eq!(rt; opener.name.as_bytes(), b"ask0_00000".as_slice());
+    is_due(&rt, opener.name.as_bytes(), b"ask0_00000".as_slice());
     assert!(rt; opens_only(opener, &[2, 3, 4]));
     Ok(())
 }
@@ -108,12 +109,12 @@ fn a_plan_that_breaks_a_rule_is_refused(rt: HostRuntime) -> Result<(), Fail> {
         delay: 0,
     };
     let alone = requests_alone(alloc, &plan, &change);
-    assert_eq!(rt; broken_rule(&alone), Some(8));
+    is_due(&rt, broken_rule(&alone), Some(8));
     assert_eq!(rt; plan.requests().len(), 1);
     let most = with_more(alloc, &plan, 0, 1_023);
     assert!(rt; most.is_ok());
     let more = with_more(alloc, &plan, 0, 1_024);
-    assert_eq!(rt; broken_rule(&more), Some(9));
+    is_due(&rt, broken_rule(&more), Some(9));
     Ok(())
 }
 
@@ -127,7 +128,7 @@ fn all_else_is_kept(rt: HostRuntime) -> Result<(), Fail> {
         delay: 77,
     };
     let made = with_change(alloc, &plan, &change)?;
-    assert_eq!(rt; made.rounds(), 40);
+    is_due(&rt, made.rounds(), 40);
     let first = made.requests().get(0).ok_or("first")?;
     let second = made.requests().get(1).ok_or("second")?;
     assert!(rt; is_asked(first, b"r1", 0, 12));
@@ -143,7 +144,7 @@ fn copies_come_after_all_that_is_done(rt: HostRuntime) -> Result<(), Fail> {
     let plan = moved(alloc, 14)?;
     assert_eq!(rt; plan.requests().len(), 2);
     let more = with_more_after(alloc, &plan, 1, 2)?;
-    assert_eq!(rt; more.rounds(), 40);
+    is_due(&rt, more.rounds(), 40);
     assert_eq!(rt; more.requests().len(), 4);
     let copy = more.requests().get(3).ok_or("copy")?;
     assert!(rt; is_asked(copy, b"ask0_00001", 3, 14));
@@ -174,7 +175,7 @@ fn copies_have_the_group_of_their_request(rt: HostRuntime) -> Result<(), Fail> {
     let more = with_more(alloc, &plan, 4, 1)?;
     let own = plan.callers().get(1).ok_or("own")?;
     let opener = more.callers().get(2).ok_or("opener")?;
-    assert_eq!(rt; own.group, 2);
-    assert_eq!(rt; opener.group, 2);
+    is_due(&rt, own.group, 2);
+    is_due(&rt, opener.group, 2);
     Ok(())
 }

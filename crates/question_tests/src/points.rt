@@ -4,6 +4,7 @@
 //! holds one channel (4 + 4), and a second one there is offered level 2, of 20 ticks.
 ghost use Rattle.std.specs.Prelude.{◌≡◌};
 
+use crate::due::is_due;
 use answer_tables::{LeastJitter, NextTogether, RoomTogether};
 use byte_ends::SureSource;
 use call_script::{Plan, Schedule};
@@ -176,11 +177,11 @@ fn where_setups_begin(rt: HostRuntime) -> Result<(), Fail> {
     let (plan, schedule) = read(alloc, CLOSING)?;
     assert_eq!(rt; plan.requests().len(), 3);
     let run = ScheduledRun::play(alloc, &plan, &schedule)?;
-    assert_eq!(rt; run.start_of(&plan, 0), Some(0));
-    assert_eq!(rt; run.start_of(&plan, 1), Some(7 + 66));
-    assert_eq!(rt; run.start_of(&plan, 2), Some(7 + 66 + 1 + 3 + 5 + 195));
+    is_due(&rt, run.start_of(&plan, 0), Some(0));
+    is_due(&rt, run.start_of(&plan, 1), Some(7 + 66));
+    is_due(&rt, run.start_of(&plan, 2), Some(7 + 66 + 1 + 3 + 5 + 195));
     let second = run.verdict(&plan, 1).ok_or("second")?;
-    assert_eq!(rt; late(&second), Some((66, 36)));
+    is_due(&rt, late(&second), Some((66, 36)));
     let offers = run.offers(alloc, &plan, 2)?;
     assert!(rt; are(&offers, &[1, 1, 1]));
     Ok(())
@@ -193,16 +194,16 @@ fn items_up_to_a_step(rt: HostRuntime) -> Result<(), Fail> {
     let (_plan, schedule) = read(alloc, CLOSING)?;
     let front = items_until(alloc, schedule.items.as_slice(), 75)?;
     let first = front.get(0).ok_or("first")?;
-    assert_eq!(rt; first.count, 7);
+    is_due(&rt, first.count, 7);
     let third = front.get(2).ok_or("third")?;
-    assert_eq!(rt; third.count, 1);
+    is_due(&rt, third.count, 1);
     let fourth = front.get(3).ok_or("fourth")?;
-    assert_eq!(rt; fourth.count, 1);
+    is_due(&rt, fourth.count, 1);
     let mut steps: u64 = 0;
     for item in &front {
         steps = steps.saturating_add(item.count);
     }
-    assert_eq!(rt; steps, 75);
+    is_due(&rt, steps, 75);
     Ok(())
 }
 
@@ -215,10 +216,10 @@ fn a_request_is_asked_among_those_that_are_held(rt: HostRuntime) -> Result<(), F
     assert_eq!(rt; plan.requests().len(), 3);
     let second = asked_at(alloc, &plan, items, 73, &Change::Nothing, 1)?;
     assert!(rt; are(&second.offers, &[2, 2, 2]));
-    assert_eq!(rt; late(&second.verdict), Some((66, 36)));
+    is_due(&rt, late(&second.verdict), Some((66, 36)));
     let third = asked_at(alloc, &plan, items, 277, &Change::Nothing, 2)?;
     assert!(rt; are(&third.offers, &[1, 1, 1]));
-    assert_eq!(rt; promised(&third.verdict), Some(36));
+    is_due(&rt, promised(&third.verdict), Some(36));
     Ok(())
 }
 
@@ -236,9 +237,9 @@ fn the_least_at_a_point(rt: HostRuntime) -> Result<(), Fail> {
     assert_eq!(rt; loose.requests().len(), 3);
     let delay = question(73, 1, Sought::Delay);
     let near = least_at(alloc, &loose, items, delay, 66)?;
-    assert_eq!(rt; ticks_in(&near), Some(66));
+    is_due(&rt, ticks_in(&near), Some(66));
     let far = least_at(alloc, &loose, items, delay, 0)?;
-    assert_eq!(rt; ticks_in(&far), Some(66));
+    is_due(&rt, ticks_in(&far), Some(66));
     let shortened = Change::Delay {
         number: 1,
         delay: 66,
@@ -246,7 +247,7 @@ fn the_least_at_a_point(rt: HostRuntime) -> Result<(), Fail> {
     let short = with_change(alloc, &plan, &shortened)?;
     assert_eq!(rt; short.requests().len(), 3);
     let jitter = least_at(alloc, &short, items, question(73, 1, Sought::Jitter), 20)?;
-    assert_eq!(rt; ticks_in(&jitter), Some(20));
+    is_due(&rt, ticks_in(&jitter), Some(20));
     Ok(())
 }
 
@@ -278,12 +279,12 @@ fn each_group_is_asked_within_its_share(rt: HostRuntime) -> Result<(), Fail> {
     let items = schedule.items.as_slice();
     assert_eq!(rt; plan.requests().len(), 6);
     let run = ScheduledRun::play(alloc, &plan, &schedule)?;
-    assert_eq!(rt; run.start_of(&plan, 2), Some(9));
-    assert_eq!(rt; run.start_of(&plan, 5), Some(8));
+    is_due(&rt, run.start_of(&plan, 2), Some(9));
+    is_due(&rt, run.start_of(&plan, 5), Some(8));
     let third = asked_at(alloc, &plan, items, 9, &Change::Nothing, 2)?;
-    assert_eq!(rt; full(&third.verdict), Some((24, 20)));
+    is_due(&rt, full(&third.verdict), Some((24, 20)));
     let sixth = asked_at(alloc, &plan, items, 8, &Change::Nothing, 5)?;
-    assert_eq!(rt; full(&sixth.verdict), Some((24, 16)));
+    is_due(&rt, full(&sixth.verdict), Some((24, 16)));
     Ok(())
 }
 
@@ -294,9 +295,9 @@ fn no_room_at_the_end(rt: HostRuntime) -> Result<(), Fail> {
     let (plan, schedule) = read(alloc, CLOSING)?;
     assert_eq!(rt; plan.requests().len(), 3);
     let room = room_after(alloc, &plan, schedule.items.as_slice(), &[2])?;
-    assert_eq!(rt; room.count, 0);
-    assert_eq!(rt; refused(&room), Some(2));
-    assert_eq!(rt; late_in(&room), Some((66, 36)));
+    is_due(&rt, room.count, 0);
+    is_due(&rt, refused(&room), Some(2));
+    is_due(&rt, late_in(&room), Some((66, 36)));
     Ok(())
 }
 
@@ -327,16 +328,16 @@ fn room_for_two_groups(rt: HostRuntime) -> Result<(), Fail> {
     let run = ScheduledRun::play(alloc, &plan, &schedule)?;
     let items = schedule.items.as_slice();
     assert_eq!(rt; plan.requests().len(), 6);
-    assert_eq!(rt; run.end_of(&plan, 1), Some(4));
-    assert_eq!(rt; run.end_of(&plan, 3), Some(6));
-    assert_eq!(rt; run.end_of_all(&plan, &[3, 1]), 6);
+    is_due(&rt, run.end_of(&plan, 1), Some(4));
+    is_due(&rt, run.end_of(&plan, 3), Some(6));
+    is_due(&rt, run.end_of_all(&plan, &[3, 1]), 6);
     let front = items_until(alloc, items, 6)?;
     let room = room_after(alloc, &plan, front.as_slice(), &[4, 2])?;
-    assert_eq!(rt; room.count, 0);
-    assert_eq!(rt; refused(&room), Some(2));
-    assert_eq!(rt; full_in(&room), Some((24, 20)));
+    is_due(&rt, room.count, 0);
+    is_due(&rt, refused(&room), Some(2));
+    is_due(&rt, full_in(&room), Some((24, 20)));
     let alone = room_after(alloc, &plan, front.as_slice(), &[4])?;
-    assert_eq!(rt; alone.count, 1);
+    is_due(&rt, alone.count, 1);
     Ok(())
 }
 
@@ -360,7 +361,7 @@ fn a_row_at_a_point(rt: HostRuntime) -> Result<(), Fail> {
     let ranges = ranges_at(alloc, &loose, items, 73, 1)?;
     assert_eq!(rt; ranges.len(), 1);
     let range = ranges.get(0).ok_or("range")?;
-    assert_eq!(rt; range.first, 66);
-    assert_eq!(rt; range.last, MOST_DELAY);
+    is_due(&rt, range.first, 66);
+    is_due(&rt, range.last, MOST_DELAY);
     Ok(())
 }

@@ -1,4 +1,5 @@
 //! Schedules that were worked out by hand: the steps of each item, with its actor and the tick at which it begins.
+use crate::due::is_due;
 use byte_ends::SureSource;
 use call_script::Plan;
 use call_times::{Made, Times, TimesFault, schedule_at};
@@ -73,9 +74,10 @@ fn shown(alloc: Global, made: &Made) -> Result<String, Fail> {
 #[test]
 fn calls_that_come_and_go(rt: HostRuntime) -> Result<(), Fail> {
     let text = items_of(&rt, THREE, "0 0 21 21 85")?;
-    assert_eq!(rt;
+    is_due(
+        &rt,
         text.as_str(),
-        "0 0 7, 0 1 66, 21 0 9, 21 1 195, 85 0 6, 85 1 45, "
+        "0 0 7, 0 1 66, 21 0 9, 21 1 195, 85 0 6, 85 1 45, ",
     );
     Ok(())
 }
@@ -83,11 +85,15 @@ fn calls_that_come_and_go(rt: HostRuntime) -> Result<(), Fail> {
 #[test]
 fn ticks_that_make_no_schedule(rt: HostRuntime) -> Result<(), Fail> {
     let fault = items_of(&rt, THREE, "0 0 21 20 85")?;
-    assert_eq!(rt; fault.as_str(), "Falls { caller: 0, place: 3 }");
+    is_due(&rt, fault.as_str(), "Falls { caller: 0, place: 3 }");
     let fault = items_of(&rt, THREE, "0 0 21 21 101")?;
-    assert_eq!(rt; fault.as_str(), "Late { caller: 0, place: 4, rounds: 100 }");
+    is_due(
+        &rt,
+        fault.as_str(),
+        "Late { caller: 0, place: 4, rounds: 100 }",
+    );
     let fault = items_of(&rt, THREE, "0 0 21 21")?;
-    assert_eq!(rt; fault.as_str(), "Missing { caller: 0, place: 4 }");
+    is_due(&rt, fault.as_str(), "Missing { caller: 0, place: 4 }");
     Ok(())
 }
 
@@ -113,7 +119,7 @@ tail 0
 #[test]
 fn packets_that_move(rt: HostRuntime) -> Result<(), Fail> {
     let text = items_of(&rt, RING, "0 0 21 21 21")?;
-    assert_eq!(rt; text.as_str(), "0 0 5, 0 1 86, 21 0 7, 21 1 160, ");
+    is_due(&rt, text.as_str(), "0 0 5, 0 1 86, 21 0 7, 21 1 160, ");
     Ok(())
 }
 
@@ -121,7 +127,7 @@ fn packets_that_move(rt: HostRuntime) -> Result<(), Fail> {
 #[test]
 fn a_move_of_nothing(rt: HostRuntime) -> Result<(), Fail> {
     let text = items_of(&rt, RING, "0 0 55 55 55")?;
-    assert_eq!(rt; text.as_str(), "0 0 5, 0 1 226, 55 0 6, 55 1 20, ");
+    is_due(&rt, text.as_str(), "0 0 5, 0 1 226, 55 0 6, 55 1 20, ");
     Ok(())
 }
 
@@ -136,9 +142,10 @@ fn a_move_that_is_not_made(rt: HostRuntime) -> Result<(), Fail> {
         "NW WS contract 5 10 20 2 delay 23",
     )?;
     let text = items_of(&rt, text.as_str(), "0 0 21 21 30")?;
-    assert_eq!(rt;
+    is_due(
+        &rt,
         text.as_str(),
-        "0 0 5, 0 1 86, 21 0 4, 21 1 37, 30 0 2, 30 1 120, "
+        "0 0 5, 0 1 86, 21 0 4, 21 1 37, 30 0 2, 30 1 120, ",
     );
     Ok(())
 }
@@ -161,6 +168,10 @@ tail 5
 ",
         "/3 3 15",
     )?;
-    assert_eq!(rt; text.as_str(), "0 2 3, 3 1 3, 3 2 12, 15 1 1, 15 2 10, ");
+    is_due(
+        &rt,
+        text.as_str(),
+        "0 2 3, 3 1 3, 3 2 12, 15 1 1, 15 2 10, ",
+    );
     Ok(())
 }
